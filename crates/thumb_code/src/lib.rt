@@ -1,0 +1,20 @@
+//! The instructions of ARMv6-M that a program without privilege can use (ARM DDI 0419): one value for each, its halfwords, and both ways
+//! between them.
+//!
+//! The definitions in specs/ are the model that other crates stand on: the table of spellings, what
+//! each instruction does over any memory, the map of addresses, the machine with one RAM, and its steps.
+#![tactic(auto)]
+
+mod decoding;
+mod encoding;
+mod halfwords;
+mod instructions;
+mod register_file;
+#[cfg(test)]
+mod tests;
+
+pub use decoding::{decode, is_wide};
+pub use encoding::encode;
+pub use halfwords::Half;
+pub use instructions::Instr;
+pub use register_file::Registers;
