@@ -1,0 +1,21 @@
+-- The laws that proofs of other crates cite.
+
+-- worlds at rest, and runs one behind the other
+pub use Rattle.board_world.proofs.Stays.{over_stays, busy_stays, run_over, run_sum}
+-- idle moves: they settle the world, one may be made first, and where the clock stops
+pub use Rattle.board_world.proofs.Settle.{settles, idled_first, jump_from, jump_soonest, some_due}
+-- lists that are related one by one
+pub use Rattle.board_world.proofs.Pairs.{paired_append, paired_length, paired_map, paired_weaken, paired_if, paired_chosen, paired_left, paired_least, paired_some, paired_many, paired_none}
+-- those that are chosen of a list, and those that are left
+pub use Rattle.board_world.proofs.Pairs.{chosen-append, left-append, length_chosen_left}
+-- no answer and no act takes words of the arena
+pub use Rattle.board_world.proofs.Lift.{used_answer, used_arrive}
+-- simulations: lifted to runs, under arrivals, ending in time
+pub use Rattle.board_world.proofs.Lift.{lifts}
+pub use Rattle.board_world.proofs.Arrive.{lifts_with}
+pub use Rattle.board_world.proofs.Whole.{ends_in_time, ends_in_time_with}
+-- one behind the other, and lagging
+pub use Rattle.board_world.proofs.Compose.{compose}
+pub use Rattle.board_world.proofs.Lag.{up_to_date, onward_lagging, catch_up}
+-- what every move of the world keeps of the board
+pub use Rattle.board_world.proofs.Boards.{kept_run, kept_arrive, ends_soundly, extends_run, extends_arrive}

@@ -1,0 +1,17 @@
+pub mod Observations
+pub mod Transcript
+pub mod Rules
+pub mod Frame
+pub mod Board
+pub mod Kinds
+pub mod Waiting
+pub mod Activities
+pub mod World
+pub mod Requests
+pub mod Simulation
+pub mod Composed
+pub mod Arrivals
+pub mod Invariants
+pub mod Sample
+pub mod Target
+pub mod Rows
