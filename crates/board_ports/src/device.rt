@@ -1,0 +1,45 @@
+// A device, by the log of what was written to it and a count of its faults.
+ghost use Rattle.std.specs.Prelude.{◌≡◌, ◌≤◌, ◌∷◌, [], List, ℕ, None, slice_get};
+ghost use Rattle.std.specs.Bool.{OnTrue, OnFalse};
+ghost use Rattle.std.specs.Option.{ForSome};
+ghost use Rattle.std.specs.declared.option.Option.{Option};
+ghost use Rattle.sts_base.specs.Faults.{Rose};
+ghost use Rattle.board_ports.specs.Logs.{Logs};
+
+/// A device that words are written to. Moments are in milliseconds.
+pub trait Device: Drop {
+    /// The moments and words that were written, where the device tells.
+    ghost log: { Self → Option (List (ℕ × ℕ)) };
+
+    /// How often the device has failed.
+    ghost faults: { Self → ℕ };
+
+    /// The moment and the word at a place of the log. None comes exactly past its end, and always where the device
+    /// tells no log.
+    fn logged(&self, at: usize) -> Option<(u32, u32)>
+        ensures told { ForSome (log self.now) (λ entries. result ≡ slice_get entries at) }
+        ensures untold { log self.now ≡ None → result ≡ None };
+
+    /// Writes a word at a moment. Where it answers true the pair was appended to the log. It answers false only
+    /// where the count of faults rose, and then the log is unchanged.
+    fn write(&mut self, now: u32, word: u32) -> bool
+        ensures logged { OnTrue result (Logs (log self.old) (log self.new) ((now, word) ∷ [])) }
+        ensures stays { OnFalse result (log self.new ≡ log self.old) }
+        ensures later { faults self.old ≤ faults self.new }
+        ensures failed { OnFalse result (Rose (faults self.old) (faults self.new)) };
+}
+
+/// A box of a device is that device, so that code over one type of device serves a list of boxes.
+impl Device for Box<dyn Device> {
+    ghost log = { λ boxed. (Device-box boxed).log boxed.value };
+
+    ghost faults = { λ boxed. (Device-box boxed).faults boxed.value };
+
+    fn logged(&self, at: usize) -> Option<(u32, u32)> {
+        (**self).logged(at)
+    }
+
+    fn write(&mut self, now: u32, word: u32) -> bool {
+        (**self).write(now, word)
+    }
+}

@@ -1,0 +1,61 @@
+// Standard output, or another stream of the operating system.
+ghost use Rattle.std.specs.Prelude.{◌≡◌, OnOk, OnErr};
+ghost use Rattle.tool_io.specs.Putting.{Took, TookPart};
+
+use crate::{PutFailed, Sink};
+use std::io::{ErrorKind, Write};
+
+/// A stream, such as standard output. It tells what the stream tells of its bytes, which is nothing of one of the
+/// operating system. A write that takes nothing of a piece that isn't empty is a fault, and so is every error but an
+/// interruption.
+#[derive(Drop)]
+pub struct StdSink<W: Write + Drop> {
+    writer: W,
+    faults: u64,
+}
+
+impl<W: Write + Drop> StdSink<W> {
+    /// The sink, without faults.
+    pub fn new(writer: W) -> StdSink<W>
+        ensures writer { result.writer ≡ writer }
+        ensures faults { result.faults ≡ 0 }
+    {
+        StdSink { writer, faults: 0 }
+    }
+}
+
+/// Writes a piece to its end, or a prefix of it.
+fn write_whole<W: Write>(writer: &mut W, piece: &[u8]) -> Result<(), PutFailed>
+    ensures took { OnOk result (Took (W.contents writer.old) (W.contents writer.new) piece.now) }
+    ensures part { OnErr result (TookPart (W.contents writer.old) (W.contents writer.new) piece.now) }
+{
+    let mut done = 0;
+    'writing: for _ in 0..u64::MAX {
+        if done == piece.len() {
+            return Ok(());
+        }
+        match writer.write(&piece[done..]) {
+            Ok(0) => return Err(PutFailed),
+            Ok(count) => done += count,
+            Err(error) if error.kind() == ErrorKind::Interrupted => continue 'writing,
+            Err(_) => return Err(PutFailed),
+        }
+    }
+    Err(PutFailed)
+}
+
+impl<W: Write + Drop> Sink for StdSink<W> {
+    ghost taken = { λ sink. W.contents sink.writer };
+
+    ghost faults = { λ sink. sink.faults };
+
+    fn put(&mut self, piece: &[u8]) -> Result<(), PutFailed> {
+        match write_whole(&mut self.writer, piece) {
+            Ok(()) => Ok(()),
+            Err(PutFailed) => {
+                self.faults = self.faults.saturating_add(1);
+                Err(PutFailed)
+            }
+        }
+    }
+}
