@@ -1,0 +1,13 @@
+pub mod LineLemmas
+pub mod CellLemmas
+pub mod ListLemmas
+pub mod GivenLemmas
+pub mod FlashLemmas
+pub mod RecordLemmas
+pub mod ProgressLemmas
+pub mod SoundLemmas
+pub mod AnswerLemmas
+pub mod LoopLemmas
+pub mod TextLemmas
+pub mod WrittenLemmas
+pub mod RoundLemmas

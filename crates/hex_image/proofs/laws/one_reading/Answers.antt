@@ -1,0 +1,5 @@
+use Rattle.hex_image.proofs.AnswerLemmas.{one_reading-of}
+use Rattle.hex_image.proofs.laws.one_reading.Goals as goal
+
+pub returns : goal.returns
+returns c = one_reading-of

@@ -1,0 +1,10 @@
+pub mod Codes
+pub mod Records
+pub mod Image
+pub mod Said
+pub mod Spells
+pub mod Writing
+pub mod Answers
+pub mod Reading
+pub mod Reader
+pub mod Laws
