@@ -1,0 +1,9 @@
+pub mod Answers
+pub mod Turns
+pub mod Transfers
+pub mod Steps
+pub mod Words
+pub mod Lending
+pub mod MachineLending
+pub mod RamLaws
+pub mod Contents

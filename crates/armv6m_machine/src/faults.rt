@@ -1,0 +1,39 @@
+//! Faults, and what a step comes to.
+ghost use Rattle.std.specs.Prelude.{◌≡◌};
+ghost use Rattle.armv6m_machine.specs.Answers.{number_of};
+
+/// Why an instruction can't be executed.
+#[derive(Clone, Copy, PartialEq, Eq, Debug, Drop)]
+pub enum Fault {
+    /// No row of the table spells what stands at PC, or it is UDF.
+    Undefined,
+    /// The address of a word or a halfword is no multiple of its size.
+    Unaligned,
+    /// The address is outside the map, or a store is to flash.
+    OutOfMap,
+    /// A branch's target has bit 0 clear.
+    NotThumb,
+    /// SP would be below the stack region or above the base.
+    StackRange,
+    /// A store in the stack region is at or above the base.
+    AboveBase,
+    /// BKPT.
+    Breakpoint,
+    /// A service that is asked for isn't there, or its arguments aren't sound.
+    BadService,
+}
+
+/// What a step comes to: it went on, it asks for the service of this number, or it is a fault with this address.
+#[derive(Clone, Copy, PartialEq, Eq, Debug, Drop)]
+pub enum Turn {
+    Went,
+    Service(u8),
+    Fault(Fault, u32),
+}
+
+/// The number of a fault, from 1, as it is printed.
+pub fn number(fault: Fault) -> u8
+    ensures { result ≡ number_of fault }
+{
+    fault as u8 + 1
+}

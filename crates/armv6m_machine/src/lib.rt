@@ -1,0 +1,27 @@
+//! A machine that runs images: the registers of one fiber, flash, RAM in its three regions, and the base.
+//!
+//! The model is `thumb_code`'s machine with one RAM. `execute` is one instruction over any memory, and `Machine::step` fetches,
+//! decodes and executes one over the machine's own.
+#![tactic(auto)]
+
+mod arithmetic;
+#[cfg(test)]
+mod emulated;
+mod execution;
+mod faults;
+mod laws;
+mod machine;
+mod mapped_memory;
+mod memory;
+mod operands;
+mod parts;
+mod rows;
+#[cfg(test)]
+mod tests;
+mod transfers;
+
+pub use execution::execute;
+pub use faults::{Fault, Turn, number};
+pub use laws::steps_keep_the_stack_pointer;
+pub use machine::Machine;
+pub use memory::Memory;

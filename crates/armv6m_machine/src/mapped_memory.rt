@@ -1,0 +1,253 @@
+//! Flash and one RAM, by the map of addresses.
+ghost use Rattle.std.specs.Prelude.{◌≡◌, ◌+◌, ◌-◌, ◌*◌, ◌/◌, ◌%◌, ◌^◌, ◌<◌, ◌≤◌, vec_len, length, ◌==◌, refl, None, true, false, IfOk, replicate};
+ghost use Rattle.thumb_code.specs.Map.{flash_byte, flash_half, flash_word, is_base, access_fault, in_ram, in_flash, sp_in_range};
+ghost use Rattle.thumb_code.specs.Ram.{Ram, IsWhole, ram_memory, ram_word, ram_store};
+ghost use Rattle.thumb_code.specs.Machine.{reset};
+ghost use Rattle.armv6m_machine.specs.Answers.{IsSize, IsHeld};
+ghost use Rattle.armv6m_machine.specs.RamLaws.{store_keeps_base};
+ghost use Rattle.std.proofs.Common.{ap};
+
+use crate::faults::Fault;
+use crate::memory::Memory;
+use crate::parts::{merged, part};
+use std::alloc::Global;
+use std::marker::Model;
+use sts_base::NoMemory;
+
+pub const FLASH_END: u32 = 0x0004_0000;
+
+const GLOBALS: u32 = 0x2000_0000;
+
+const ARENA: u32 = 0x2000_0400;
+
+const STACK: u32 = 0x2000_3000;
+
+const RAM_END: u32 = 0x2000_4000;
+
+/// Flash, the words of the three regions of RAM, and the base.
+#[derive(Drop)]
+pub struct MappedMemory {
+    flash: Vec<u8>,
+    globals: Vec<u32>,
+    arena: Vec<u32>,
+    stack: Vec<u32>,
+    base: u32,
+}
+
+impl Model for MappedMemory {
+    ghost Value = { Ram };
+
+    ghost view = { λ m. record { flash = m.flash.items; globals = m.globals.items; arena = m.arena.items; stack = m.stack.items; base = m.base } };
+
+    ghost invariant = { λ m. (vec_len m.globals ≡ 256) × (vec_len m.arena ≡ 2816) × (vec_len m.stack ≡ 1024) };
+}
+
+/// So many words of 0.
+fn zeros(alloc: Global, n: usize) -> Result<Vec<u32>, NoMemory>
+    requires { n ≤ 4096 }
+    ensures { IfOk result (λ v. v.items ≡ replicate n 0) }
+{
+    match vec![in alloc; 0u32; n] {
+        Ok(words) => Ok(words),
+        Err(_) => Err(NoMemory),
+    }
+}
+
+impl MappedMemory {
+    ghost use Rattle.std.specs.Borrow.{sem};
+    ghost use Rattle.armv6m_machine.specs.Lending.{LendsStack};
+
+    /// This image in flash, its word 0 as the base, and RAM of zeros.
+    pub fn reset(alloc: Global, flash: Vec<u8>) -> Result<MappedMemory, NoMemory>
+        ensures { IfOk result (λ m. m ≡ (reset flash.items).memory) }
+    {
+        let base = flash_word(&flash, 0);
+        Ok(MappedMemory {
+            flash,
+            globals: zeros(alloc, 256)?,
+            arena: zeros(alloc, 2816)?,
+            stack: zeros(alloc, 1024)?,
+            base,
+        })
+    }
+
+    /// The halfword of flash at an address.
+    #[inline(always)]
+    pub fn flash_half(&self, at: u32) -> u16
+        requires { at < 2 ^ 31 }
+        ensures { result ≡ flash_half self.now.flash at }
+    {
+        flash_half(&self.flash, at)
+    }
+
+    /// The word of flash at an address.
+    pub fn flash_word(&self, at: u32) -> u32
+        requires { at < 2 ^ 31 }
+        ensures { result ≡ flash_word self.now.flash at }
+    {
+        flash_word(&self.flash, at)
+    }
+
+    pub fn base(&self) -> u32
+        ensures { result ≡ self.now.base }
+    {
+        self.base
+    }
+
+    pub fn set_base(&mut self, base: u32)
+        ensures { self.new ≡ record self.old { base = base } }
+    {
+        self.base = base;
+    }
+
+    /// Whether the base is a multiple of 4 from the start of the stack region to its end.
+    #[inline(always)]
+    pub fn has_base(&self) -> bool
+        ensures { result ≡ is_base self.now.base }
+    {
+        self.base % 4 == 0 && self.base >= STACK && self.base <= RAM_END
+    }
+
+    pub fn stack(&self) -> &[u32]
+        ensures value { result.now ≡ self.now.stack }
+        ensures size { length result.now ≡ 1024 }
+    {
+        &self.stack
+    }
+
+    pub fn stack_mut(&mut self) -> &mut [u32]
+        ensures* writes_back { sem 𝓛 (LendsStack self.entry result) }
+        ensures value { result.now ≡ self.old.stack }
+        ensures size { length result.now ≡ 1024 }
+    {
+        self.stack.as_mut_slice()
+    }
+
+    /// The word that holds the byte at an address of flash or RAM.
+    #[inline(always)]
+    pub fn word(&self, address: u32) -> u32
+        requires { IsHeld address }
+        ensures { result ≡ ram_word self.now address }
+    {
+        if address < GLOBALS {
+            self.flash_word(address / 4 * 4)
+        } else if address < ARENA {
+            self.globals[((address - GLOBALS) / 4) as usize]
+        } else if address < STACK {
+            self.arena[((address - ARENA) / 4) as usize]
+        } else {
+            self.stack[((address - STACK) / 4) as usize]
+        }
+    }
+
+    /// Sets bytes of RAM.
+    #[inline(always)]
+    pub fn put(&mut self, address: u32, bytes: u8, value: u32)
+        requires size { IsSize bytes }
+        requires aligned { address % bytes ≡ 0 }
+        requires there { in_ram address ≡ true }
+        ensures after { self.new ≡ ram_store self.old (record { at = address; bytes = bytes }) value }
+        ensures whole { IsWhole self.old }
+    {
+        let word = merged(self.word(address), address, bytes, value);
+        if address < ARENA {
+            self.globals[((address - GLOBALS) / 4) as usize] = word;
+        } else if address < STACK {
+            self.arena[((address - ARENA) / 4) as usize] = word;
+        } else {
+            self.stack[((address - STACK) / 4) as usize] = word;
+        }
+    }
+}
+
+/// Whether the address is a multiple of the size.
+fn is_aligned(address: u32, bytes: u8) -> bool
+    requires { IsSize bytes }
+    ensures { result ≡ (address % bytes == 0) }
+{
+    match bytes {
+        1 => true,
+        2 => address % 2 == 0,
+        _ => address % 4 == 0,
+    }
+}
+
+/// Whether the address is in RAM.
+pub fn is_ram(address: u32) -> bool
+    ensures { result ≡ in_ram address }
+{
+    address >= GLOBALS && address < RAM_END
+}
+
+fn flash_byte(flash: &[u8], at: u32) -> u8
+    ensures { result ≡ flash_byte flash.now at }
+{
+    if (at as usize) < flash.len() {
+        flash[at as usize]
+    } else {
+        0xff
+    }
+}
+
+fn flash_half(flash: &[u8], at: u32) -> u16
+    requires { at < 2 ^ 32 - 1 }
+    ensures { result ≡ flash_half flash.now at }
+{
+    let place = at as usize;
+    if place + 1 < flash.len() {
+        u16::from(flash[place]) + u16::from(flash[place + 1]) * (1 << 8)
+    } else {
+        u16::from(flash_byte(flash, at)) + u16::from(flash_byte(flash, at + 1)) * (1 << 8)
+    }
+}
+
+fn flash_word(flash: &[u8], at: u32) -> u32
+    requires { at < 2 ^ 31 }
+    ensures { result ≡ flash_word flash.now at }
+{
+    u32::from(flash_half(flash, at)) + u32::from(flash_half(flash, at + 2)) * (1 << 16)
+}
+
+impl Memory for MappedMemory {
+    ghost memory = { ram_memory };
+
+    ghost load_keeps = { λ m a b s. refl };
+
+    ghost store_keeps = { λ m a b v s. ap (λ n. access_fault n s b) (store_keeps_base m a v) };
+
+    ghost load_keeps_sp = { λ m a n. refl };
+
+    ghost store_keeps_sp = { λ m a v n. ap (λ k. sp_in_range k n) (store_keeps_base m a v) };
+
+    #[inline(always)]
+    fn check(&self, address: u32, bytes: u8, store: bool) -> Option<Fault> {
+        if !is_aligned(address, bytes) {
+            Some(Fault::Unaligned)
+        } else if is_ram(address) {
+            if store && address >= STACK && address >= self.base {
+                Some(Fault::AboveBase)
+            } else {
+                None
+            }
+        } else if store || address >= FLASH_END {
+            Some(Fault::OutOfMap)
+        } else {
+            None
+        }
+    }
+
+    #[inline(always)]
+    fn load(&mut self, address: u32, bytes: u8) -> u32 {
+        part(self.word(address), address, bytes)
+    }
+
+    #[inline(always)]
+    fn store(&mut self, address: u32, bytes: u8, word: u32) {
+        self.put(address, bytes, word);
+    }
+
+    #[inline(always)]
+    fn stack_in_range(&self, sp: u32) -> bool {
+        sp >= STACK && sp <= self.base
+    }
+}
