@@ -1,0 +1,4 @@
+pub mod Parts
+pub mod BankRefines
+pub mod RamSteps
+pub mod Laws
