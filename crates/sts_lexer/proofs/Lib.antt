@@ -1,0 +1,12 @@
+pub mod WordTable
+pub mod MarkTable
+pub mod LongestMark
+pub mod Numbering
+pub mod Bodies
+pub mod Digits
+pub mod Gaps
+pub mod Lexing
+pub mod Growing
+pub mod Steps
+pub mod Unique
+pub mod Refusing

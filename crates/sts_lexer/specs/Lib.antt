@@ -1,0 +1,12 @@
+pub mod Bytes
+pub mod Classes
+pub mod Words
+pub mod Marks
+pub mod Spaces
+pub mod Lexemes
+pub mod Tokens
+pub mod Tables
+pub mod Uses
+pub mod Entries
+pub mod Refusals
+pub mod Laws

@@ -1,0 +1,12 @@
+// Laws of tokens.
+ghost use Rattle.sts_lexer.specs.Laws.{OneReading, SpellingsStay};
+
+/// A text has one list of tokens by given tables, or one refusal, and never both.
+pub fn one_reading()
+    ensures { OneReading }
+{}
+
+/// Tokens stay tokens of their text when the tables grow.
+pub fn spellings_stay()
+    ensures { SpellingsStay }
+{}
