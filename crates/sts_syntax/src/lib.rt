@@ -1,0 +1,23 @@
+//! The trees of a program: the tree that its tokens spell, and the typed tree that names and types make of it.
+//! Contracts speak of trees without pointers (specs/Trees.antt, specs/TypedTrees.antt), to which a tree in memory
+//! is mapped by `tree`, `statement`, `unit_of`, `typed_tree` and their like.
+#![tactic(auto)]
+
+mod board_calls;
+pub mod operators;
+mod shapes;
+#[cfg(test)]
+mod tests;
+mod trees;
+mod typed;
+mod types;
+mod units;
+
+pub use board_calls::BoardCall;
+pub use shapes::Shape;
+pub use trees::{Binding, Body, Expr, Form, Node, Param, Stmt};
+pub use typed::{
+    Callee, Spot, Typed, TypedBinding, TypedBody, TypedClass, TypedExpr, TypedNode, TypedStmt,
+};
+pub use types::Ty;
+pub use units::{Item, Member, Unit};
