@@ -1,0 +1,4 @@
+pub mod Buttons
+pub mod Display
+pub mod Font
+pub mod Places

@@ -1,0 +1,12 @@
+//! The drivers of what a person sees and presses: the two buttons, the display's frame, and the font.
+#![tactic(auto)]
+
+mod buttons;
+mod display;
+mod font;
+#[cfg(test)]
+mod tests;
+
+pub use buttons::Buttons;
+pub use display::Display;
+pub use font::{glyph, glyphs_are_lit_as_drawn};

@@ -1,0 +1,4 @@
+mod Counting
+mod Soundness
+mod Exactly
+mod Members

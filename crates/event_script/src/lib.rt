@@ -1,0 +1,14 @@
+//! The script of a run: what comes from outside, and when. A script is a JSON object (RFC 8259); `docs/FORMATS.md` has
+//! its form. Contracts say which bytes are which script, and for which others each code stands.
+#![tactic(auto)]
+
+mod form;
+mod script;
+mod shapes;
+#[cfg(test)]
+mod tests;
+mod verdict;
+
+pub use script::{Act, Entry, Script, ScriptCode, ScriptRefused};
+pub use shapes::{lists_of_entries_are_scripts, members_are_exact, rows_are_entries};
+pub use verdict::read_script;

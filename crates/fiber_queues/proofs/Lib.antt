@@ -1,0 +1,2 @@
+mod Chosen
+pub mod ListLaws

@@ -1,0 +1,11 @@
+-- The lists of a world.
+use Rattle.std.specs.Prelude.{true, false}
+use Rattle.board_world.specs.Activities.{Activity, World}
+use Rattle.fiber_queues.specs.Lists.{ListsOf}
+
+abbrev pub lists_of : {A S : Type 0} → World A S → ListsOf (Activity A)
+lists_of w = record { ready = w.ready; sleepers = w.sleepers; waiters = w.waiters }
+
+-- an activity as it goes to sleep or begins to wait: it has a seat
+abbrev pub blocked_as : {A : Type 0} → Activity A → A → Activity A
+blocked_as a self = record a { self = self; seated = true; suspended = false }
