@@ -1,0 +1,6 @@
+mod Literals
+mod Running
+mod Runs
+mod Steps
+mod Sums
+mod Texts

@@ -1,0 +1,4 @@
+pub mod Form
+pub mod Image
+pub mod Services
+pub mod First
