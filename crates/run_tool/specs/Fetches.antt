@@ -1,0 +1,17 @@
+-- What a fetch of a file may come to.
+use Rattle.std.specs.Prelude.{◌≡◌, ◌<◌, ◌≤◌, ℕ, List, length, Option, Some, None}
+use Rattle.std.specs.Option.{ForSome}
+use Rattle.run_tool.specs.declared.fetched.Fetched.{Fetched}
+use Rattle.run_tool.specs.declared.fetched.Fetched.TheVariants.{Text, Absent, Long, Failed}
+
+-- the most bytes that a file may have
+abbrev pub limit : ℕ
+limit = 1048576
+
+-- What a fetch may come to of a file of which the folder tells this: its bytes within the limit, that it is absent or too
+-- long, or a failure where the folder's count of faults rose.
+abbrev pub MayFetch : Option (Option (List ℕ)) → Type 0 → Fetched → Type 0
+MayFetch told rose (Text bytes) = ForSome told (λ content. content ≡ Some bytes.items) × (length bytes.items ≤ limit)
+MayFetch told rose Absent = ForSome told (λ content. content ≡ None)
+MayFetch told rose Long = ForSome told (λ content. (bytes : List ℕ) × (content ≡ Some bytes) × (limit < length bytes))
+MayFetch told rose Failed = rose

@@ -1,0 +1,4 @@
+pub mod Words
+pub mod Fetches
+pub mod Answers
+pub mod Rows

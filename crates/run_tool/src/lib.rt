@@ -1,0 +1,13 @@
+//! The top call: what the words ask for, done over a folder and a sink.
+#![tactic(auto)]
+
+mod commands;
+mod ending;
+mod fetched;
+mod said;
+#[cfg(test)]
+mod tests;
+mod words;
+
+pub use commands::sts_main;
+pub use ending::{Ending, Status};

@@ -1,0 +1,1 @@
+serial.writeNumber(2147483647 + 1)

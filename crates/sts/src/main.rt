@@ -1,0 +1,31 @@
+//! The command `sts`: the top call over the files of the operating system and standard output.
+#![tactic(auto)]
+
+use board_ports::Device;
+use run_tool::sts_main;
+use std::alloc::Global;
+use std::env;
+use std::process::ExitCode;
+use tool_io::{DiskFolder, StdSink};
+
+/// The status where no memory is found before the top call.
+const NO_MEMORY: u8 = 30;
+
+/// The words behind the program's name, or none where some word isn't text. Nothing where there is no memory for them.
+fn words_given(rt: &HostRuntime) -> Option<Vec<String>> {
+    match env::args(rt) {
+        Ok(words) => words.skip(1).collect(rt.alloc()).ok(),
+        Err(_) => Some(Vec::new(rt.alloc())),
+    }
+}
+
+fn main(rt: HostRuntime) -> ExitCode {
+    let alloc: Global = rt.alloc();
+    let Some(words) = words_given(&rt) else {
+        return ExitCode::from(NO_MEMORY);
+    };
+    let mut out = StdSink::new(rt.stdout());
+    let mut folder = DiskFolder::new(rt);
+    let mut plugs: Vec<Option<Box<dyn Device>>> = Vec::new(alloc);
+    ExitCode::from(sts_main(alloc, words.as_slice(), &mut folder, &mut out, &mut plugs))
+}
