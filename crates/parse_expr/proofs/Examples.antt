@@ -1,4 +1,4 @@
--- `a + b * c`, read by the grammar.
+-- Worked readings by the grammar.
 use Rattle.std.proofs.Common.{◌≡◌, ℕ, ◌+◌, ◌≤◌, List, [], ◌∷◌, refl, arith, inr}
 use Rattle.std.specs.Prelude.{true, false, None, pos}
 use Rattle.sts_lexer.specs.declared.marks.Mark.TheVariants as m
@@ -12,6 +12,7 @@ use Rattle.parse_expr.specs.Spells.{IsExpression, IsStatement}
 abbrev token : Kind → ℕ → Token
 token kind at = record { kind = kind; span = record { from = at; upto = at + 1 }; broken = false }
 
+-- `a + b * c`
 abbrev source : Source
 source = record { tokens = token (k.Name 0) 0 ∷ token (k.Mark m.Plus) 2 ∷ token (k.Name 1) 4 ∷ token (k.Mark m.Star) 6 ∷ token (k.Name 2) 8 ∷ token k.Finish 9 ∷ []; names = [] }
 
