@@ -1,4 +1,7 @@
-pub mod Parts
-pub mod BankRefines
-pub mod RamSteps
+mod Parts
+mod BankRefines
+mod RamSteps
+mod FollowsRam
+mod OneStep
+mod OneFiber
 pub mod Laws

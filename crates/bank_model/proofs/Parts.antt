@@ -1,6 +1,6 @@
 -- Parts of a list.
-use Rattle.std.proofs.Common.{zero, suc, ◌≡◌, ◌≢◌, ℕ, ◌+◌, ◌*◌, ◌-◌, ◌/◌, ◌%◌, ◌<◌, ◌≤◌, List, [], ◌∷◌, ◌++◌, length, get_or, take, drop, set, slice_index, slice_set, Bool, true, false, nat_eq, nat_lt, refl, sym, ap, ◌∙◌, subst, arith, ◌⊎◌, inl, inr, length-set, length-drop}
-use Rattle.std.proofs.lemmas.List.{get_or-set_same, get_or-set_other, get_or-drop}
+use Rattle.std.proofs.Common.{zero, suc, ◌≡◌, ◌≢◌, ℕ, ◌+◌, ◌<◌, ◌≤◌, List, ◌∷◌, length, get_or, drop, set, slice_index, true, false, nat_eq, refl, sym, ap, ◌∙◌, arith, ◌⊎◌, inl, inr, length-set, length-drop}
+use Rattle.std.proofs.lemmas.List.{get_or-set_other, get_or-drop}
 use Rattle.std.proofs.lemmas.Grind.{get_or-set_at}
 use Rattle.std.proofs.lemmas.Bool.Decides.{nat_tests}
 use Rattle.bank_model.specs.Shows.{IsPart}

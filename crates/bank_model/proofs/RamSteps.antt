@@ -1,5 +1,5 @@
 -- The steps of the machine with one RAM are a run over that RAM.
-use Rattle.std.proofs.Common.{zero, suc, ◌≡◌, ℕ, List, [], ◌∷◌, Bool, true, false, cond, nat_lt, Option, Some, None, refl, sym, ap, ◌∙◌}
+use Rattle.std.proofs.Common.{zero, suc, ◌≡◌, ℕ, List, [], ◌∷◌, Bool, true, false, cond, nat_lt, Option, Some, None, refl, ap, ◌∙◌}
 use Rattle.thumb_code.specs.declared.register_file.Registers.{Registers}
 use Rattle.thumb_code.specs.Forms.{Access, Effect, Outcome, Goes, Asks, Stops}
 use Rattle.thumb_code.specs.Effect.{effect}
@@ -7,13 +7,13 @@ use Rattle.thumb_code.specs.Map.{arena_at, stack_at}
 use Rattle.thumb_code.specs.Memory.{Executed, Done, Asked, Stopped, or_else, first_fault, load_all, store_all, finished, execute}
 use Rattle.thumb_code.specs.Ram.{Ram, ram_memory, ram_store}
 use Rattle.thumb_code.specs.Step.{Fetched, Found, Missed, fetched, ran, placed}
-use Rattle.thumb_code.specs.Machine.{State, step}
+use Rattle.thumb_code.specs.Machine.{State}
 use Rattle.thumb_code.specs.Run.{runs, from_step}
 use Rattle.thumb_code.specs.Refines.{over}
 use Rattle.bank_model.specs.Steps.{ram_steps}
 
 -- Flash and the base are the same.
-record SameMap (m t : Ram) : Type 0 where
+pub record SameMap (m t : Ram) : Type 0 where
   pub flash : t.flash ≡ m.flash
   pub base : t.base ≡ m.base
 
@@ -33,7 +33,7 @@ stores_leave : (ps : List (Access × ℕ)) (m t : Ram) → SameMap m t → SameM
 stores_leave [] m t h = h
 stores_leave (p ∷ ps) m t h = stores_leave ps m (ram_store t p.0 p.1) (stored m t p.0 p.1 h)
 
-abbrev Leaves : Ram → Executed Ram → Type 0
+abbrev pub Leaves : Ram → Executed Ram → Type 0
 Leaves m (Done r t) = SameMap m t
 Leaves m (Asked n r t) = SameMap m t
 Leaves m (Stopped k) = Unit {0}
@@ -52,7 +52,7 @@ range_leaves m true x k h = h
 range_leaves m false x k h = tt
 
 -- An instruction leaves flash and the base.
-execute_leaves : (m : Ram) (e : Effect) → Leaves m (execute ram_memory m e)
+pub execute_leaves : (m : Ram) (e : Effect) → Leaves m (execute ram_memory m e)
 execute_leaves m e =
     range_leaves m (ram_memory.has_sp m e.sp) _ _ (else_leaves m (first_fault ram_memory m false e.loads) _ (else_leaves m _ _
     (finish_leaves m (store_all ram_memory (load_all ram_memory m e.loads).1 e.stores) e.sp (e.after (load_all ram_memory m e.loads).0)

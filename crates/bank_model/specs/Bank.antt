@@ -1,5 +1,5 @@
 -- The memory of a fiber that has a bank of its own.
-use Rattle.std.specs.Prelude.{ℕ, zero, suc, ◌+◌, ◌*◌, ◌/◌, ◌-◌, List, [], ◌∷◌, length, drop, Bool, false, nat_lt, if◌then◌else◌}
+use Rattle.std.specs.Prelude.{ℕ, zero, suc, ◌*◌, ◌/◌, ◌-◌, List, [], ◌∷◌, length, drop, Bool, false, nat_lt, if◌then◌else◌}
 use Rattle.thumb_code.specs.RegisterFile.{aligned}
 use Rattle.thumb_code.specs.Forms.{Access}
 use Rattle.thumb_code.specs.Map.{globals_at, arena_at, stack_at, access_fault, sp_in_range, part, flash_word, word_in, changed}

@@ -1,3 +1,9 @@
 pub mod Bank
-pub mod Shows
 pub mod Steps
+pub mod Shows
+pub mod Division
+pub mod Fibers
+pub mod Services
+pub mod BankMachine
+pub mod Lone
+pub mod Rows

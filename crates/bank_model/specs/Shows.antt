@@ -1,6 +1,6 @@
 -- What one RAM shows of a bank.
-use Rattle.std.specs.Prelude.{◌≡◌, ℕ, ◌+◌, ◌*◌, ◌%◌, ◌<◌, ◌≤◌, List, length, slice_index}
-use Rattle.thumb_code.specs.Map.{stack_at, ram_end, place}
+use Rattle.std.specs.Prelude.{◌≡◌, ℕ, ◌+◌, ◌*◌, ◌%◌, ◌<◌, ◌≤◌, true, List, length, slice_index}
+use Rattle.thumb_code.specs.Map.{stack_at, ram_end, place, is_base}
 use Rattle.thumb_code.specs.Ram.{Ram}
 use Rattle.bank_model.specs.Bank.{Bank, bank_sp}
 
@@ -22,3 +22,11 @@ pub record Shows (sp : ℕ) (m : Ram) (b : Bank) : Type 0 where
   pub size : length m.stack ≡ 1024
   pub sp_is : bank_sp b ≡ sp
   pub words : IsPart m.stack (place stack_at (bank_sp b)) b.words
+
+-- The image is in flash, the base is the same, and the RAM shows the bank where the base is one; where it isn't, every step is that
+-- fault.
+pub record Agrees (image : List ℕ) (sp : ℕ) (m : Ram) (b : Bank) : Type 0 where
+  pub flash : m.flash ≡ image
+  pub bank_flash : b.flash ≡ image
+  pub base : b.base ≡ m.base
+  pub shows : is_base m.base ≡ true → Shows sp m b

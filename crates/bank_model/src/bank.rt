@@ -5,17 +5,24 @@ ghost use Rattle.thumb_code.specs.declared.register_file.Registers.{Registers};
 ghost use Rattle.thumb_code.specs.Effect.{effect};
 ghost use Rattle.thumb_code.specs.Memory.{execute, execute_moving};
 ghost use Rattle.thumb_code.specs.Ram.{Ram, ram_memory};
-ghost use Rattle.thumb_code.specs.Machine.{State};
+ghost use Rattle.thumb_code.specs.Machine.{State, step};
 ghost use Rattle.thumb_code.specs.Refines.{Follows, FollowsRan};
 ghost use Rattle.bank_model.specs.Bank.{Bank, bank_memory, bank_move};
-ghost use Rattle.bank_model.specs.Steps.{ram_steps, bank_steps};
-ghost use Rattle.bank_model.specs.Shows.{Shows};
+ghost use Rattle.bank_model.specs.Steps.{ram_steps, bank_step, bank_steps, FollowsStep};
+ghost use Rattle.bank_model.specs.Shows.{Shows, Agrees};
 
 /// What an instruction does over one RAM, it does over the bank that the RAM shows, with some list of free words and whatever
 /// stands behind it, which stays.
 pub fn bank_follows_ram_at_one_instruction()
     ensures { (i : Instr) (next : ℕ) (s : Registers) (m : Ram) (b : Bank) → Shows s.sp m b
         → (used : List ℕ) × Follows Shows (execute ram_memory m (effect next s i)) (λ rest. execute_moving bank_memory bank_move (b, used ++ rest) s.sp (effect next s i)) }
+{}
+
+/// What a fiber does over one RAM in one step, fetch and faults included, it does over a bank that agrees, with some list of free
+/// words and whatever stands behind it, which stays.
+pub fn bank_follows_ram_at_one_step()
+    ensures { (image : List ℕ) (s : State) (b : Bank) → Agrees image s.registers.sp s.memory b
+        → (used : List ℕ) × FollowsStep (Agrees image) (step s) (λ rest. bank_step s.registers (b, used ++ rest)) }
 {}
 
 /// What a fiber does over one RAM in so many steps, it does over the bank that the RAM shows, with some list of free words and

@@ -1,1 +1,4 @@
-mod Examples
+pub mod Rows
+pub mod Turns
+pub mod Lasts
+pub mod Longest

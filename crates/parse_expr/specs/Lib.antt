@@ -1,7 +1,6 @@
-pub mod Source
-pub mod Operators
+pub mod Gives
 pub mod Headings
-pub mod Ends
-pub mod Operands
-pub mod Spells
-pub mod Longest
+pub mod Written
+pub mod Nests
+pub mod Lasts
+pub mod Answers

@@ -1,25 +1,26 @@
 -- Endings that are handed on.
-use Rattle.std.proofs.Common.{◌≡◌, ◌≤◌, ℕ, List, [], inl, inr, length, refl, subst, ap, ◌∙◌, arith}
-use Rattle.std.specs.Prelude.{Option, Some, None, Err}
+use Rattle.std.proofs.Common.{◌≡◌, ◌+◌, ℕ, List, [], inl, inr, refl, subst}
+use Rattle.std.specs.Prelude.{Option, Some, Err}
 use Rattle.std.specs.declared.vec.Vec.{Vec}
 use Rattle.std.specs.declared.alloc.Global.{Global}
 use Rattle.sts_base.specs.declared.refused.Code.TheVariants.{NotThisForm}
 use Rattle.tool_io.specs.Putting.{Took}
 use Rattle.tool_io.proofs.Laws.{took-then, part-then}
-use Rattle.sts_whole.specs.Form.{IsSum}
 use Rattle.sts_whole.specs.First.{IsNoSum, Runs}
 use Rattle.sts_whole.specs.declared.first.First.{First}
-use Rattle.sts_whole.specs.declared.first.First.TheVariants.{NotThisForm as NotOfForm}
-use Rattle.run_tool.specs.declared.ending.Status.{Status}
-use Rattle.run_tool.specs.declared.ending.Status.TheVariants.{Done}
+use Rattle.sts_whole.specs.declared.first.First.TheVariants.{NotThisForm as NotOfForm, SinkFault as SinkFailed}
 use Rattle.run_tool.specs.declared.ending.Ending.{Ending}
 use Rattle.run_tool.specs.declared.ending.Ending.TheVariants.{Gave, Cut, NoMemory}
 use Rattle.run_tool.specs.declared.fetched.Fetched.{Fetched}
 use Rattle.run_tool.specs.declared.fetched.Fetched.TheVariants.{Text, Absent, Long, Failed}
+use Rattle.run_tool.specs.Fetches.{MayFetch}
+use Rattle.run_tool.specs.Answers.{Answer, says, Ends}
+use Rattle.run_tool.specs.Programs.{Refuses, RunsText}
+use Rattle.sts_base.specs.Int32.{to_int32}
+use Rattle.sts_whole.specs.First.{number_transcript}
+use Rattle.run_tool.specs.declared.ending.Status.TheVariants.{Done}
 use Rattle.run_tool.specs.Words.{Asked}
-use Rattle.run_tool.specs.Fetches.{limit, MayFetch}
-use Rattle.run_tool.specs.Answers.{Answer, says, Ends, ending_number, status_number}
-use Rattle.run_tool.specs.Rows.{Refuses, RunsText, AnswersFetched, AnswersFile, MayAnswer, Completes}
+use Rattle.run_tool.specs.Rows.{AnswersFetched, AnswersFile, AnswersNoText, AnswersText, MayAnswer, file_of}
 
 -- an ending where more answers may be given
 pub ends-more : (may more : Answer → Type 0) (a b : Option (List ℕ)) (ending : Ending) → ((answer : Answer) → may answer → more answer)
@@ -43,41 +44,35 @@ pub refused-ends : (text : List ℕ) (a b c : Option (List ℕ)) (ending : Endin
 refused-ends text a b c ending none t s =
     ends-after (RunsText text) a b c ending t (ends-more (Refuses text NotThisForm 0) (RunsText text) b c ending (λ answer r. inr (none, r)) s)
 
--- a text that was fetched is answered
-pub text-ends : (told : Option (Option (List ℕ))) (rose : Type 0) (bytes : Vec ℕ Global) (text : List ℕ) (fetched : Fetched) (a b : Option (List ℕ)) (ending : Ending)
-    → fetched ≡ Text bytes → text ≡ bytes.items → MayFetch told rose fetched → Ends (RunsText text) a b ending → Ends (AnswersFile RunsText told rose) a b ending
-text-ends told rose bytes text fetched a b ending e f m s =
-    ends-more (RunsText text) (AnswersFile RunsText told rose) a b ending
-    (λ answer h. (Text bytes, subst (MayFetch told rose) e m, subst (λ t. RunsText t answer) f h)) s
+-- a text that was fetched is answered, and nothing was written before
+pub text-ends : (answers : List ℕ → Answer → Type 0) (told : Option (Option (List ℕ))) (rose : Type 0) (bytes : Vec ℕ Global) (text : List ℕ) (a b c : Option (List ℕ)) (ending : Ending)
+    → b ≡ a → text ≡ bytes.items → MayFetch told rose (Text bytes) → Ends (answers text) b c ending → Ends (AnswersFile answers told rose) a c ending
+text-ends answers told rose bytes text a b c ending same f m s =
+    ends-more (answers text) (AnswersFile answers told rose) a c ending
+    (λ answer h. (Text bytes, m, subst (λ t. answers t answer) f h)) (subst (λ x. Ends (answers text) x c ending) same s)
 
--- the status of an answer
-abbrev status_of : Answer → Status
-status_of (says status output) = status
+-- where no text was fetched, the answer is one of each command
+no-text : (answers : List ℕ → Answer → Type 0) (told : Option (Option (List ℕ))) (rose : Type 0) (answer : Answer) (fetched : Fetched)
+    → MayFetch told rose fetched → AnswersFetched (λ text more. ⊥) fetched answer → AnswersFile answers told rose answer
+no-text answers told rose answer (Text bytes) m h = absurd h
+no-text answers told rose answer Absent m h = (Absent, m, h)
+no-text answers told rose answer Long m h = (Long, m, h)
+no-text answers told rose answer Failed m h = (Failed, m, h)
 
--- the file that the folder tells is the one that is fetched
-same-text : (told : Option (Option (List ℕ))) (rose : Type 0) (text : List ℕ) (answer : Answer) (fetched : Fetched) → told ≡ Some (Some text) → length text ≤ limit
-    → ¬ rose → MayFetch told rose fetched → AnswersFetched RunsText fetched answer → RunsText text answer
-same-text told rose text answer (Text bytes) h small quiet m r =
-    let e : Some text ≡ Some bytes.items = m.0 (Some text) h in
-    let f : bytes.items ≡ text = cc in
-    subst (λ t. RunsText t answer) f r
-same-text told rose text answer Absent h small quiet m r = let e : Some text ≡ None = m (Some text) h in absurd (cc)
-same-text told rose text answer Long h small quiet m r =
-    let w = m (Some text) h in
-    let e : text ≡ w.0 = let f : Some text ≡ Some w.0 = w.1 in cc in
-    let n : length text ≡ length w.0 = ap length e in
-    absurd (omega (arith, w.2))
-same-text told rose text answer Failed h small quiet m r = absurd (quiet m)
+pub no-text-ends : (answers : List ℕ → Answer → Type 0) (told : Option (Option (List ℕ))) (rose : Type 0) (a b : Option (List ℕ)) (ending : Ending)
+    → Ends (AnswersNoText told rose) a b ending → Ends (AnswersFile answers told rose) a b ending
+no-text-ends answers told rose a b ending s =
+    ends-more (AnswersNoText told rose) (AnswersFile answers told rose) a b ending (λ answer h. no-text answers told rose answer h.0 h.1 h.2) s
 
-sum-is-done : (text : List ℕ) (left right : ℕ) (answer : Answer) → IsSum text left right → RunsText text answer → status_of answer ≡ Done
-sum-is-done text left right answer s (inl r) = ap status_of r.3
-sum-is-done text left right answer s (inr r) = absurd (r.0 left right s)
+-- a run of a sum that the sink cut short
+pub sum-cut : (text : List ℕ) (a b : Option (List ℕ)) (m n : ℕ) (why : First) → why ≡ SinkFailed → Runs text a b m n (Err why) → Ends (RunsText text) a b Cut
+sum-cut text a b m n why e r =
+    let ran : Runs text a b m n (Err SinkFailed) = subst (λ x. Runs text a b m n (Err x)) e r in
+    (Done, number_transcript (to_int32 (ran.0 + ran.1)), inl (ran.0, ran.1, ran.2, refl), ran.3.0)
 
-pub completes : (told : List ℕ → Option (Option (List ℕ))) (rose sink_rose : Type 0) (asked : Option Asked) (a b : Option (List ℕ)) (ending : Ending) (status : ℕ)
-    → status ≡ ending_number ending → Ends (MayAnswer told rose asked) a b ending → (ending ≡ Cut → sink_rose) → Completes told asked rose sink_rose status
-completes told rose sink_rose asked a b (Gave given) n e s cut name text left right o h small sum quiet calm =
-    let answers : AnswersFile RunsText (told name) rose (says given s.0) = subst (λ x. MayAnswer told rose x (says given s.0)) o s.1 in
-    inl (e ∙ ap status_number (sum-is-done text left right (says given s.0) sum
-    (same-text (told name) rose text (says given s.0) answers.0 h small quiet answers.1 answers.2)))
-completes told rose sink_rose asked a b Cut n e s cut name text left right o h small sum quiet calm = absurd (calm (cut refl))
-completes told rose sink_rose asked a b NoMemory n e s cut name text left right o h small sum quiet calm = inr e
+-- an order that was read is the one that the words give
+pub order-ends : (told : List ℕ → Option (Option (List ℕ))) (rose : Type 0) (order : Option Asked) (asked : Asked) (a b : Option (List ℕ)) (ending : Ending)
+    → Some asked ≡ order → Ends (AnswersFile (AnswersText asked) (told (file_of asked)) rose) a b ending → Ends (MayAnswer told rose order) a b ending
+order-ends told rose order asked a b ending e s =
+    ends-more (AnswersFile (AnswersText asked) (told (file_of asked)) rose) (MayAnswer told rose order) a b ending
+    (λ answer h. subst (λ o. MayAnswer told rose o answer) e h) s

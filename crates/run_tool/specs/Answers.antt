@@ -2,7 +2,7 @@
 use Rattle.std.specs.Prelude.{ℕ, List, [], Option}
 use Rattle.tool_io.specs.Putting.{Took, TookPart}
 use Rattle.run_tool.specs.declared.ending.Status.{Status}
-use Rattle.run_tool.specs.declared.ending.Status.TheVariants.{Done, Usage, Refused, FolderFailed, Missing, TooLong}
+use Rattle.run_tool.specs.declared.ending.Status.TheVariants.{Done, Usage, Panicked, OutOfBudget, Refused, ImageRefused, Faulted, FolderFailed, Missing, TooLong}
 use Rattle.run_tool.specs.declared.ending.Ending.{Ending}
 use Rattle.run_tool.specs.declared.ending.Ending.TheVariants.{Gave, Cut, NoMemory}
 
@@ -14,7 +14,11 @@ pub data Answer : Type 0 where
 abbrev pub status_number : Status → ℕ
 status_number Done = 0
 status_number Usage = 2
+status_number Panicked = 3
+status_number OutOfBudget = 4
 status_number Refused = 10
+status_number ImageRefused = 12
+status_number Faulted = 13
 status_number FolderFailed = 20
 status_number Missing = 21
 status_number TooLong = 23

@@ -1,52 +1,19 @@
-// The commands and the top call.
+// The top call.
 ghost use Rattle.std.specs.Prelude.{◌≡◌, ◌≤◌, List, ℕ, map, string_bytes};
 ghost use Rattle.sts_base.specs.Faults.{Rose};
 ghost use Rattle.run_tool.specs.declared.ending.Ending.{Ending};
 ghost use Rattle.run_tool.specs.Words.{order_of};
 ghost use Rattle.run_tool.specs.Answers.{Ends, ending_number};
-ghost use Rattle.run_tool.specs.Rows.{RunsText, AnswersFile, MayAnswer, Completes};
+ghost use Rattle.run_tool.specs.Rows.{MayAnswer, Completes, AsksForImage};
 
 use crate::ending::{Ending, Status};
-use crate::fetched::{Fetched, fetch};
-use crate::said::{say, say_refused};
+use crate::images::run_hex;
+use crate::programs::{check, run};
+use crate::said::say;
 use crate::words::{Order, read_words};
 use board_ports::Device;
 use std::alloc::Global;
-use sts_base::Code;
-use sts_whole::{First, first_run};
 use tool_io::{Folder, Sink};
-
-/// Builds and runs a text.
-fn run_text<K: Sink>(alloc: Global, text: &[u8], out: &mut K) -> Ending
-    ensures ends { Ends (RunsText text.now) (K.taken out.old) (K.taken out.new) result }
-    ensures later { K.faults out.old ≤ K.faults out.new }
-    ensures cut { result ≡ Ending.Cut → Rose (K.faults out.old) (K.faults out.new) }
-{
-    match first_run(alloc, text, out) {
-        Ok(()) => Ending::Gave(Status::Done),
-        Err(First::NotThisForm) => say_refused(out, text, Code::NotThisForm, 0),
-        Err(First::SinkFault) => Ending::Cut,
-        Err(First::NoMemory) => Ending::NoMemory,
-    }
-}
-
-/// The command `run`.
-fn run<F: Folder, K: Sink>(alloc: Global, name: &str, folder: &mut F, out: &mut K) -> Ending
-    ensures ends { Ends (AnswersFile RunsText (F.holds folder.old name.now) (Rose (F.faults folder.old) (F.faults folder.new))) (K.taken out.old) (K.taken out.new) result }
-    ensures folder_later { F.faults folder.old ≤ F.faults folder.new }
-    ensures later { K.faults out.old ≤ K.faults out.new }
-    ensures cut { result ≡ Ending.Cut → Rose (K.faults out.old) (K.faults out.new) }
-{
-    let Ok(fetched) = fetch(alloc, name, folder) else {
-        return Ending::NoMemory;
-    };
-    match fetched {
-        Fetched::Text(text) => run_text(alloc, &text, out),
-        Fetched::Absent => say(out, Status::Missing, b"missing\n"),
-        Fetched::Long => say(out, Status::TooLong, b"too long\n"),
-        Fetched::Failed => say(out, Status::FolderFailed, b"folder failed\n"),
-    }
-}
 
 /// Does what the words ask for.
 fn perform<F: Folder, K: Sink>(
@@ -63,15 +30,30 @@ fn perform<F: Folder, K: Sink>(
     match read_words(words) {
         None => say(out, Status::Usage, b"usage\n"),
         Some(Order::Run(name)) => run(alloc, name, folder, out),
+        Some(Order::RunHex(name, budget)) => run_hex(alloc, name, budget, folder, out),
+        Some(Order::Check(name)) => check(alloc, name, folder, out),
     }
 }
 
-/// Does what the words, those behind the program's name, ask for: `run P` builds the program of that name in the folder,
-/// runs its image, and writes the transcript to the sink. Answers the status:
+/// Does what the words, those behind the program's name, ask for:
 ///
-/// - 0 where the command was done and the whole output was taken;
+/// - `run P` builds the program of that name in the folder, runs its image, and writes the transcript to the sink;
+/// - `run-hex H` reads the image that the HEX file of that name spells, runs it, and writes the transcript;
+/// - `run-hex H --budget M` does so within a budget of M instructions. M is one to ten decimal digits, with a value from 1 to
+///   2147483648; without it the budget is 50000000;
+/// - `check P` writes `spelled` where the tokens of the program spell a tree.
+///
+/// Answers the status:
+///
+/// - 0 where the command was done and the whole output was taken; of a run, where it ended quiet;
 /// - 2, `usage`, exactly where the words aren't taken;
-/// - 10, `refused C L K`, exactly where the program can't be built, with the code, the line and the column;
+/// - 3, the transcript that `panic T C` closes, by `run-hex` exactly where the run panics within the budget;
+/// - 4, the transcript that `budget T` closes, by `run-hex` exactly where the run hasn't ended after the budget;
+/// - 10, `refused C L K`, exactly where the program is refused, with the code, the line and the column: by `run` where the text
+///   isn't of the form that can be built, by `check` where it spells no program;
+/// - 12, `image refused C`, by `run-hex` exactly where the file spells no image, with the code of the rule that it breaks first;
+/// - 13, the transcript that `fault T K A` closes, by `run-hex` exactly where the run faults within the budget, and by no other
+///   command;
 /// - 20, `folder failed`, only where the folder's count of faults rose in this call;
 /// - 21, `missing`, where the folder has no file of that name;
 /// - 22 only where the sink's count of faults rose in this call; a prefix of the output was taken;
@@ -90,6 +72,8 @@ pub fn sts_main<F: Folder, K: Sink>(
         × Ends (MayAnswer (F.holds folder.old) (Rose (F.faults folder.old) (F.faults folder.new)) (order_of (map string_bytes words.now))) (K.taken out.old) (K.taken out.new) ending }
     ensures completes { Completes (F.holds folder.old) (order_of (map string_bytes words.now))
         (Rose (F.faults folder.old) (F.faults folder.new)) (Rose (K.faults out.old) (K.faults out.new)) result }
+    ensures image_refused { result ≡ 12 → AsksForImage (order_of (map string_bytes words.now)) }
+    ensures faulted { result ≡ 13 → AsksForImage (order_of (map string_bytes words.now)) }
     ensures folder_failed { result ≡ 20 → Rose (F.faults folder.old) (F.faults folder.new) }
     ensures sink_failed { result ≡ 22 → Rose (K.faults out.old) (K.faults out.new) }
     ensures plugs_stay { plugs.new ≡ plugs.old }

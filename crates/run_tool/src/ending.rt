@@ -8,8 +8,16 @@ pub enum Status {
     Done,
     /// The words aren't taken.
     Usage,
+    /// The run ended by a panic.
+    Panicked,
+    /// The run's budget ended before the run did.
+    OutOfBudget,
     /// The program is refused.
     Refused,
+    /// The file spells no image.
+    ImageRefused,
+    /// The run ended by a fault.
+    Faulted,
     /// The folder failed.
     FolderFailed,
     /// The folder has no file of that name.
@@ -38,7 +46,11 @@ impl Ending {
         match self {
             Ending::Gave(Status::Done) => 0,
             Ending::Gave(Status::Usage) => 2,
+            Ending::Gave(Status::Panicked) => 3,
+            Ending::Gave(Status::OutOfBudget) => 4,
             Ending::Gave(Status::Refused) => 10,
+            Ending::Gave(Status::ImageRefused) => 12,
+            Ending::Gave(Status::Faulted) => 13,
             Ending::Gave(Status::FolderFailed) => 20,
             Ending::Gave(Status::Missing) => 21,
             Ending::Gave(Status::TooLong) => 23,

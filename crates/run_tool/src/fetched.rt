@@ -1,11 +1,16 @@
 // The file that a command names.
-ghost use Rattle.std.specs.Prelude.{◌≡◌, ◌≤◌, IfOk};
+ghost use Rattle.std.specs.Prelude.{◌≡◌, ◌≤◌, IfOk, IfErr, OnOk, IsErrOf, Ok};
 ghost use Rattle.sts_base.specs.Faults.{Rose};
 ghost use Rattle.run_tool.specs.Fetches.{MayFetch};
+ghost use Rattle.run_tool.specs.Answers.{Ends};
+ghost use Rattle.run_tool.specs.Rows.{AnswersNoText};
+ghost use Rattle.run_tool.specs.declared.ending.Ending.{Ending};
 
+use crate::ending::{Ending, Status};
+use crate::said::say;
 use std::alloc::Global;
 use sts_base::NoMemory;
-use tool_io::{FetchFault, Folder, Found};
+use tool_io::{FetchFault, Folder, Found, Sink};
 
 /// The most bytes that a file may have.
 const LIMIT: usize = 1_048_576;
@@ -20,7 +25,7 @@ pub enum Fetched {
 }
 
 /// Fetches the file of that name.
-pub fn fetch<F: Folder>(alloc: Global, name: &str, folder: &mut F) -> Result<Fetched, NoMemory>
+fn fetch<F: Folder>(alloc: Global, name: &str, folder: &mut F) -> Result<Fetched, NoMemory>
     ensures fetched { IfOk result (λ fetched. MayFetch (F.holds folder.old name.now) (Rose (F.faults folder.old) (F.faults folder.new)) fetched) }
     ensures later { F.faults folder.old ≤ F.faults folder.new }
 {
@@ -30,5 +35,30 @@ pub fn fetch<F: Folder>(alloc: Global, name: &str, folder: &mut F) -> Result<Fet
         Ok(Found::TooLong) => Ok(Fetched::Long),
         Err(FetchFault::Failed) => Ok(Fetched::Failed),
         Err(FetchFault::NoMemory) => Err(NoMemory),
+    }
+}
+
+/// The text of the file of that name, with nothing written. Where there is none, the answer that says so was given.
+pub fn text_of<F: Folder, K: Sink>(
+    alloc: Global,
+    name: &str,
+    folder: &mut F,
+    out: &mut K,
+) -> Result<Vec<u8>, Ending>
+    ensures text { IfOk result (λ text. MayFetch (F.holds folder.old name.now) (Rose (F.faults folder.old) (F.faults folder.new)) (Fetched.Text text)) }
+    ensures unwritten { OnOk result (K.taken out.new ≡ K.taken out.old) }
+    ensures none { IfErr result (Ends (AnswersNoText (F.holds folder.old name.now) (Rose (F.faults folder.old) (F.faults folder.new))) (K.taken out.old) (K.taken out.new)) }
+    ensures folder_later { F.faults folder.old ≤ F.faults folder.new }
+    ensures later { K.faults out.old ≤ K.faults out.new }
+    ensures cut { IsErrOf result Ending.Cut → Rose (K.faults out.old) (K.faults out.new) }
+{
+    let Ok(fetched) = fetch(alloc, name, folder) else {
+        return Err(Ending::NoMemory);
+    };
+    match fetched {
+        Fetched::Text(text) => Ok(text),
+        Fetched::Absent => Err(say(out, Status::Missing, b"missing\n")),
+        Fetched::Long => Err(say(out, Status::TooLong, b"too long\n")),
+        Fetched::Failed => Err(say(out, Status::FolderFailed, b"folder failed\n")),
     }
 }

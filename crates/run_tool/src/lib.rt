@@ -4,6 +4,9 @@
 mod commands;
 mod ending;
 mod fetched;
+mod images;
+mod laws;
+mod programs;
 mod said;
 #[cfg(test)]
 mod tests;
@@ -11,3 +14,4 @@ mod words;
 
 pub use commands::sts_main;
 pub use ending::{Ending, Status};
+pub use laws::statuses_of_run_hex;

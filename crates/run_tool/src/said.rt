@@ -5,7 +5,7 @@ ghost use Rattle.sts_base.specs.Numbers.{number_of};
 ghost use Rattle.tool_io.specs.Putting.{Puts};
 ghost use Rattle.run_tool.specs.declared.ending.Ending.{Ending};
 ghost use Rattle.run_tool.specs.Answers.{says, Ends};
-ghost use Rattle.run_tool.specs.Rows.{Refuses, refused_line};
+ghost use Rattle.run_tool.specs.Programs.{Refuses, refused_line};
 
 use crate::ending::{Ending, Status};
 use sts_base::{Code, number, place};

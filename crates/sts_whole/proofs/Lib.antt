@@ -1,3 +1,5 @@
+mod Endings
+mod FiberTurns
 mod Literals
 mod Running
 mod Runs

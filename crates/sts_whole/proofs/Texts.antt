@@ -26,3 +26,10 @@ hex-one-more text bytes i within =
 -- all bytes
 pub hex-all : (text bytes : List ℕ) (i : ℕ) → length bytes ≤ i → text ++ hex_text (take i bytes) ≡ text ++ hex_text bytes
 hex-all text bytes i past = ap (λ x. text ++ hex_text x) (take_all i bytes past)
+
+pub five-pieces : (text a b c d e : List ℕ) → text ++ a ++ b ++ c ++ d ++ e ≡ text ++ (a ++ (b ++ (c ++ (d ++ e))))
+five-pieces text a b c d e = append_assoc (text ++ a ++ b ++ c) d e ∙ four-pieces text a b c (d ++ e)
+
+pub seven-pieces : (text a b c d e f g : List ℕ) → text ++ a ++ b ++ c ++ d ++ e ++ f ++ g ≡ text ++ (a ++ (b ++ (c ++ (d ++ (e ++ (f ++ g))))))
+seven-pieces text a b c d e f g =
+    append_assoc (text ++ a ++ b ++ c ++ d ++ e) f g ∙ (append_assoc (text ++ a ++ b ++ c ++ d) e (f ++ g) ∙ five-pieces text a b c d (e ++ (f ++ g)))

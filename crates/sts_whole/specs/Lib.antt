@@ -2,3 +2,5 @@ pub mod Form
 pub mod Image
 pub mod Services
 pub mod First
+pub mod Alone
+pub mod Course

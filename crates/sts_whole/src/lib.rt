@@ -1,12 +1,15 @@
 //! A text, built and run: for now the one form of text that can be built, a serial write of the sum of two literals.
 #![tactic(auto)]
 
+mod alone;
 mod first;
 mod form;
 mod image;
+mod instruction;
 mod lines;
 #[cfg(test)]
 mod tests;
 
+pub use alone::{Alone, run_alone};
 pub use first::{First, first_image, first_run};
 pub use form::{Sum, read_sum};

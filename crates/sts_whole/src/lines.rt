@@ -2,9 +2,11 @@
 ghost use Rattle.std.specs.Prelude.{◌≡◌, ◌<◌, ◌++◌, ◌∷◌, [], List, ℕ};
 ghost use Rattle.std.specs.declared.option.Option.{Option};
 ghost use Rattle.tool_io.specs.Putting.{Puts};
-ghost use Rattle.board_world.specs.Observations.{Serial, Quietly};
+ghost use Rattle.board_world.specs.Observations.{Serial, Quietly, Panicked, Faulted};
+ghost use Rattle.armv6m_machine.specs.Answers.{number_of};
 ghost use Rattle.board_world.specs.Transcript.{hex_digit, hex_text, line, closing_line};
 
+use armv6m_machine::{Fault, number};
 use tool_io::{PutFailed, Sink, then_put, then_put_decimal};
 
 /// A hexadecimal digit, in lower case.
@@ -79,4 +81,58 @@ pub fn then_put_quiet<K: Sink>(
     let put = then_put(before, out, b"end ");
     let put = then_put_decimal(put, out, at);
     then_put(put, out, b" quiet\n")
+}
+
+/// Puts the closing line of a run that panicked with a code at a moment.
+pub fn then_put_panic<K: Sink>(
+    before: Result<(), PutFailed>,
+    out: &mut K,
+    at: u32,
+    code: u8,
+) -> Result<(), PutFailed>
+    ensures { (taken : Option (List ℕ)) (faults : ℕ) (text : List ℕ)
+        → Puts taken (K.taken out.old) faults (K.faults out.old) text before
+        → Puts taken (K.taken out.new) faults (K.faults out.new) (text ++ closing_line at (Some (Panicked code))) result }
+{
+    let put = then_put(before, out, b"panic ");
+    let put = then_put_decimal(put, out, at);
+    let put = then_put(put, out, b" ");
+    let put = then_put_decimal(put, out, u32::from(code));
+    then_put(put, out, b"\n")
+}
+
+/// Puts the closing line of a run that a fault with an address ended at a moment.
+pub fn then_put_fault<K: Sink>(
+    before: Result<(), PutFailed>,
+    out: &mut K,
+    at: u32,
+    fault: Fault,
+    address: u32,
+) -> Result<(), PutFailed>
+    ensures { (taken : Option (List ℕ)) (faults : ℕ) (text : List ℕ)
+        → Puts taken (K.taken out.old) faults (K.faults out.old) text before
+        → Puts taken (K.taken out.new) faults (K.faults out.new) (text ++ closing_line at (Some (Faulted (number_of fault) address))) result }
+{
+    let put = then_put(before, out, b"fault ");
+    let put = then_put_decimal(put, out, at);
+    let put = then_put(put, out, b" ");
+    let put = then_put_decimal(put, out, u32::from(number(fault)));
+    let put = then_put(put, out, b" ");
+    let put = then_put_hex(put, out, &address.to_be_bytes());
+    then_put(put, out, b"\n")
+}
+
+/// Puts the closing line of a run whose budget ended first, at a moment.
+pub fn then_put_budget<K: Sink>(
+    before: Result<(), PutFailed>,
+    out: &mut K,
+    at: u32,
+) -> Result<(), PutFailed>
+    ensures { (taken : Option (List ℕ)) (faults : ℕ) (text : List ℕ)
+        → Puts taken (K.taken out.old) faults (K.faults out.old) text before
+        → Puts taken (K.taken out.new) faults (K.faults out.new) (text ++ closing_line at None) result }
+{
+    let put = then_put(before, out, b"budget ");
+    let put = then_put_decimal(put, out, at);
+    then_put(put, out, b"\n")
 }

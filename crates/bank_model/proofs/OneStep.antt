@@ -1,0 +1,91 @@
+-- One step over one RAM, and over the bank that it shows.
+use Rattle.std.proofs.Common.{◌≡◌, ℕ, ◌≤◌, ◌%◌, List, [], ◌++◌, replicate, Bool, true, false, ◌==◌, nat_lt, refl, sym, ap, ◌∙◌, subst, arith}
+use Rattle.std.proofs.lemmas.Bool.Decides.{nat_tests}
+use Rattle.thumb_code.specs.declared.register_file.Registers.{Registers}
+use Rattle.thumb_code.specs.Effect.{effect}
+use Rattle.thumb_code.specs.Memory.{Executed, Done, Asked, Stopped, execute}
+use Rattle.thumb_code.specs.Map.{is_base, stack_at, ram_end}
+use Rattle.thumb_code.specs.Ram.{Ram, ram_memory}
+use Rattle.thumb_code.specs.Refines.{Follows, over_moving}
+use Rattle.thumb_code.specs.Step.{Fetched, Found, Missed, fetched, placed, ran}
+use Rattle.thumb_code.specs.Machine.{State, step, reset, base_of}
+use Rattle.bank_model.specs.Bank.{Bank, bank_memory, bank_move}
+use Rattle.bank_model.specs.Shows.{Shows, Agrees}
+use Rattle.bank_model.specs.Steps.{bank_step, FollowsStep}
+use Rattle.bank_model.proofs.RamSteps.{Leaves, execute_leaves}
+use Rattle.bank_model.proofs.FollowsRam.{bank_follows_instruction}
+
+placed_follows : (image : List ℕ) (at : ℕ) (m : Ram) (x : Executed Ram) (f : List ℕ → Executed (Bank × List ℕ)) → m.flash ≡ image → Leaves m x → Follows Shows x f
+    → FollowsStep (Agrees image) (placed at x) (λ rest. placed at (f rest))
+placed_follows image at m (Done r t) f e l p =
+    (p.0, record { flash = l.flash ∙ e; bank_flash = p.1.flash ∙ (l.flash ∙ e); base = p.1.base; shows = λ b. p.1 }, λ rest. ap (placed at) (p.2 rest))
+placed_follows image at m (Asked n r t) f e l p =
+    (p.0, record { flash = l.flash ∙ e; bank_flash = p.1.flash ∙ (l.flash ∙ e); base = p.1.base; shows = λ b. p.1 }, λ rest. ap (placed at) (p.2 rest))
+placed_follows image at m (Stopped k) f e l p = λ rest. ap (placed at) (p rest)
+
+abbrev Steps : List ℕ → Registers → Ram → Bank → Fetched → Fetched → Type 0
+Steps image r m b x y =
+    (used : List ℕ) × FollowsStep (Agrees image) (ran (execute ram_memory m) r x) (λ rest. ran (over_moving bank_memory bank_move r (b, used ++ rest)) r y)
+
+found_follows : (image : List ℕ) (r : Registers) (m : Ram) (b : Bank) → m.flash ≡ image → Shows r.sp m b → (x : Fetched) → Steps image r m b x x
+found_follows image r m b e h (Found i next) =
+    let f = bank_follows_instruction i next r m b h in
+    (f.0, placed_follows image r.pc m (execute ram_memory m (effect next r i)) _ e (execute_leaves m (effect next r i)) f.1)
+found_follows image r m b e h (Missed k at) = ([], λ rest. refl)
+
+same_fetched : (image : List ℕ) (r : Registers) (m : Ram) (b : Bank) (x y : Fetched) → x ≡ y → Steps image r m b x x → Steps image r m b x y
+same_fetched image r m b x y e h = subst (λ z. Steps image r m b x z) e h
+
+fetched_as : (f g : List ℕ) (b c pc : ℕ) → f ≡ g → b ≡ c → fetched f b pc ≡ fetched g c pc
+fetched_as f g b c pc p q = ap (λ x. fetched x b pc) p ∙ ap (λ x. fetched g x pc) q
+
+at_base : (image : List ℕ) (r : Registers) (m : Ram) (b : Bank) → Agrees image r.sp m b → (t : Bool) → is_base m.base ≡ t
+    → Steps image r m b (fetched m.flash m.base r.pc) (fetched m.flash m.base r.pc)
+at_base image r m b h true e = found_follows image r m b h.flash (h.shows e) (fetched m.flash m.base r.pc)
+at_base image r m b h false e = rw e ([], λ rest. refl)
+
+-- One step over one RAM and over a bank that agrees.
+pub step_follows : (image : List ℕ) (s : State) (b : Bank) → Agrees image s.registers.sp s.memory b
+    → (used : List ℕ) × FollowsStep (Agrees image) (step s) (λ rest. bank_step s.registers (b, used ++ rest))
+step_follows image s b h =
+    same_fetched image s.registers s.memory b _ _ (fetched_as s.memory.flash b.flash s.memory.base b.base s.registers.pc (h.flash ∙ sym h.bank_flash) (sym h.base))
+    (at_base image s.registers s.memory b h (is_base s.memory.base) refl)
+
+-- Where a base may be.
+record IsBase (base : ℕ) : Type 0 where
+  pub aligned : base % 4 ≡ 0
+  pub low : stack_at ≤ base
+  pub high : base ≤ ram_end
+
+base_cases : (base : ℕ) (t1 t2 t3 : Bool) → (base % 4 == 0) ≡ t1 → nat_lt base stack_at ≡ t2 → nat_lt ram_end base ≡ t3 → is_base base ≡ true → IsBase base
+base_cases base true false false e1 e2 e3 h = record { aligned = grind (arith, nat_tests); low = grind (arith, nat_tests); high = grind (arith, nat_tests) }
+base_cases base true false true e1 e2 e3 h = let k : false ≡ true = rw (e1, e2, e3) at h in absurd (cc)
+base_cases base true true t3 e1 e2 e3 h = let k : false ≡ true = rw (e1, e2) at h in absurd (cc)
+base_cases base false t2 t3 e1 e2 e3 h = let k : false ≡ true = rw e1 at h in absurd (cc)
+
+-- The bank with which main's fiber begins.
+abbrev first_bank : List ℕ → Bank
+first_bank image = record { flash = image; globals = replicate 256 0; arena = replicate 2816 0; base = base_of image; words = [] }
+
+first_shows : (image : List ℕ) → IsBase (base_of image) → Shows (base_of image) (reset image).memory (first_bank image)
+first_shows image h = record {
+  flash = refl;
+  globals = refl;
+  arena = refl;
+  base = refl;
+  aligned = h.aligned;
+  low = h.low;
+  high = h.high;
+  size = refl;
+  sp_is = omega arith;
+  words = record { within = omega (arith, h.low, h.high); same = λ k l. absurd (omega arith) };
+}
+
+-- The RAM at reset and main's fiber.
+pub reset_agrees : (image : List ℕ) → Agrees image (base_of image) (reset image).memory (first_bank image)
+reset_agrees image = record {
+  flash = refl;
+  bank_flash = refl;
+  base = refl;
+  shows = λ e. first_shows image (base_cases (base_of image) _ _ _ refl refl refl e);
+}

@@ -1,0 +1,121 @@
+-- The readings with one more turn left.
+use Rattle.std.proofs.Common.{◌≡◌, ◌≢◌, ℕ, ◌≤◌, ap, sym, length, ◌∙◌, lt-ltb, le-ltb, zero, suc, ◌+◌, ◌-◌, ◌<◌, List, [], ◌∷◌, ◌++◌, refl, arith}
+use Rattle.std.specs.Prelude.{Bool, not, ◌&&◌, if◌then◌else◌, nat_lt, Option, Some, None}
+use Rattle.sts_syntax.specs.Annotations.{Annotation, ListOf}
+use Rattle.sts_syntax.specs.Trees.{Parameter, Tree, Trees, Statement, Statements, Declarations}
+use Rattle.sts_syntax.specs.Nesting.{nesting}
+use Rattle.sts_lexer.specs.declared.marks.Mark.{Mark}
+use Rattle.sts_lexer.specs.declared.marks.Mark.TheVariants as m
+use Rattle.sts_grammar.specs.Source.{Source, kind, place}
+use Rattle.sts_grammar.specs.Operators.{infix_number, assignment, bump_by}
+use Rattle.sts_grammar.specs.Ends.{is_comma}
+use Rattle.sts_grammar.specs.Found.{Found, ◌>>=◌, opens_parenthesis, closes_brace}
+use Rattle.sts_grammar.specs.ReadHeadings.{wrap_type, is_pair, read_parameter, parameters_rest, read_more_parameters, begins_arrow}
+use Rattle.sts_grammar.specs.ReadExpressions.{Readers, put, put_statement, items_rest, read_items, read_statements, binds_before, read_operator, read_further, read_behind, climb, opened, close_at, unwind, read_operand}
+use Rattle.parse_expr.specs.Gives.{Fails}
+use Rattle.parse_expr.specs.declared.reader.Unread.{Unread}
+use Rattle.parse_expr.specs.declared.reader.Unread.TheVariants.{Syntax, NoMemory}
+use Rattle.sts_grammar.specs.ReadStatements.{put_declaration, read_declaration, declarations_rest, read_declarations, read_statement}
+use Rattle.sts_grammar.specs.Reading.{expression, statement, expression_readers}
+
+pub wrap_at : (s : Source) (n : ℕ) (t : Annotation) (i : ℕ) → 0 < n → wrap_type s n t i ≡ (if is_pair s i then wrap_type s (n - 1) (ListOf t) (i + 2) else (t, i))
+unfolding wrap_type
+wrap_at s zero t i h = absurd (omega arith)
+wrap_at s (suc n) t i h = let e : suc n - 1 ≡ n = omega arith in rw e refl
+
+pub parameters_at : (s : Source) (n : ℕ) (all : List Parameter) (i : ℕ) → 0 < n →
+    read_more_parameters s n all i ≡ (read_parameter s i >>= λ p. parameters_rest (read_more_parameters s (n - 1)) (all ++ p.0 ∷ []) p.1 (kind s p.1))
+unfolding read_more_parameters
+parameters_at s zero all i h = absurd (omega arith)
+parameters_at s (suc n) all i h = let e : suc n - 1 ≡ n = omega arith in rw e refl
+
+pub opened_at : (s : Source) (n i : ℕ) → 0 < n →
+    opened s n i ≡ (if opens_parenthesis (kind s i) && not (begins_arrow s i) then suc (opened s (n - 1) (i + 1)) else 0)
+unfolding opened
+opened_at s zero i h = absurd (omega arith)
+opened_at s (suc n) i h = let e : suc n - 1 ≡ n = omega arith in rw e refl
+
+pub items_at : (s : Source) (square : Bool) (read : ℕ → Found Tree) (n : ℕ) (all : Trees) (i : ℕ) → 0 < n →
+    read_items s square read n all i ≡ (read i >>= λ a. items_rest square (read_items s square read (n - 1)) (put all a.0) a.1 (kind s a.1))
+unfolding read_items
+items_at s square read zero all i h = absurd (omega arith)
+items_at s square read (suc n) all i h = let e : suc n - 1 ≡ n = omega arith in rw e refl
+
+pub statements_at : (s : Source) (read : ℕ → Found Statement) (n : ℕ) (all : Statements) (i : ℕ) → 0 < n →
+    read_statements s read n all i ≡ (if closes_brace (kind s i) then Some (all, i + 1) else (read i >>= λ a. read_statements s read (n - 1) (put_statement all a.0) a.1))
+unfolding read_statements
+statements_at s read zero all i h = absurd (omega arith)
+statements_at s read (suc n) all i h = let e : suc n - 1 ≡ n = omega arith in rw e refl
+
+pub declarations_at : (s : Source) (read : ℕ → Found Tree) (fixed : Bool) (n : ℕ) (all : Declarations) (i : ℕ) → 0 < n →
+    read_declarations s read fixed n all i ≡ (read_declaration s read fixed i >>= λ a. declarations_rest (read_declarations s read fixed (n - 1)) (put_declaration all a.0) a.1 (is_comma (kind s a.1)))
+unfolding read_declarations
+declarations_at s read fixed zero all i h = absurd (omega arith)
+declarations_at s read fixed (suc n) all i h = let e : suc n - 1 ≡ n = omega arith in rw e refl
+
+pub climb_deep : (s : Source) (upto room : ℕ) (readers : Readers) (n l at : ℕ) (e : Tree) (i : ℕ) → 0 < n → l ≤ binds_before s upto i → room < nesting e →
+    climb s upto room readers n l at e i ≡ None
+unfolding climb
+climb_deep s upto room readers zero l at e i n b h = absurd (omega arith)
+climb_deep s upto room readers (suc t) l at e i n b h =
+    ap (λ x. if x then Some (e, i) else (if nat_lt room (nesting e) then None else (read_behind s readers at e i (kind s i) >>= λ a. climb s upto room readers t l at a.0 a.1))) (le-ltb (binds_before s upto i) l b)
+    ∙ ap (λ x. if x then None else (read_behind s readers at e i (kind s i) >>= λ a. climb s upto room readers t l at a.0 a.1)) (lt-ltb room (nesting e) h)
+
+pub climb_reads : (s : Source) (upto room : ℕ) (readers : Readers) (n l at : ℕ) (e : Tree) (i : ℕ) → 0 < n → l ≤ binds_before s upto i → nesting e ≤ room →
+    climb s upto room readers n l at e i ≡ (read_behind s readers at e i (kind s i) >>= λ a. climb s upto room readers (n - 1) l at a.0 a.1)
+unfolding climb
+climb_reads s upto room readers zero l at e i n b h = absurd (omega arith)
+climb_reads s upto room readers (suc t) l at e i n b h =
+    let back : suc t - 1 ≡ t = omega arith in
+    ap (λ x. if x then Some (e, i) else (if nat_lt room (nesting e) then None else (read_behind s readers at e i (kind s i) >>= λ a. climb s upto room readers t l at a.0 a.1))) (le-ltb (binds_before s upto i) l b)
+    ∙ ap (λ x. if x then None else (read_behind s readers at e i (kind s i) >>= λ a. climb s upto room readers t l at a.0 a.1)) (le-ltb room (nesting e) h)
+    ∙ ap (λ x. read_behind s readers at e i (kind s i) >>= λ a. climb s upto room readers x l at a.0 a.1) (sym back)
+
+-- a mark other than these is an operator between two operands, an assignment, or `++` or `--`
+pub further_operator : (s : Source) (readers : Readers) (at : ℕ) (e : Tree) (i : ℕ) (mark : Mark) → mark ≢ m.Dot → mark ≢ m.OpenBracket → mark ≢ m.OpenParenthesis → mark ≢ m.Question → mark ≢ m.BarBar → mark ≢ m.AmpersandAmpersand →
+    read_further s readers at e i mark ≡ read_operator readers at e i (infix_number mark) (assignment mark) (bump_by mark)
+further_operator s readers at e i m.Dot a b c d f g = absurd (a refl)
+further_operator s readers at e i m.OpenBracket a b c d f g = absurd (b refl)
+further_operator s readers at e i m.OpenParenthesis a b c d f g = absurd (c refl)
+further_operator s readers at e i m.Question a b c d f g = absurd (d refl)
+further_operator s readers at e i m.BarBar a b c d f g = absurd (f refl)
+further_operator s readers at e i m.AmpersandAmpersand a b c d f g = absurd (g refl)
+further_operator s readers at e i mark a b c d f g = refl
+
+-- where the first of two readings fails, both do
+pub fails_first : {A B : Type 0} (why : Unread) (read : Option A) (f : A → Option B) → Fails why read → Fails why (read >>= f)
+fails_first (Syntax at) read f h = ap (λ r. r >>= f) h
+fails_first NoMemory read f h = tt
+
+pub unwind_at : (s : Source) (upto room : ℕ) (readers : Readers) (p l from : ℕ) (e : Tree) (i : ℕ) → 0 < p →
+    unwind s upto room readers p l from e i ≡ (climb s upto room readers (room + 1) 1 (place s (from + p)) e i >>= λ a. close_at s a.1 >>= λ j. unwind s upto room readers (p - 1) l from a.0 j)
+unfolding unwind
+unwind_at s upto room readers zero l from e i h = absurd (omega arith)
+unwind_at s upto room readers (suc p) l from e i h = let r : suc p - 1 ≡ p = omega arith in let q : room + 1 ≡ suc room = omega arith in rw (r, q) refl
+
+-- 2. The knot.
+
+pub expression_none : (s : Source) (upto n l i : ℕ) → n ≡ 0 → expression s upto n l i ≡ None
+unfolding expression
+expression_none s upto n l i h = ap (λ x. expression s upto x l i) h
+
+pub expression_at : (s : Source) (upto n l i : ℕ) → 0 < n → expression s upto n l i ≡ read_operand s upto (n - 1) (expression_readers s upto (n - 1)) l i
+unfolding expression
+expression_at s upto zero l i h = absurd (omega arith)
+expression_at s upto (suc n) l i h = let e : suc n - 1 ≡ n = omega arith in ap (λ x. read_operand s upto x (expression_readers s upto x) l i) (sym e)
+
+pub statement_none : (s : Source) (n : ℕ) (f l : Bool) (i : ℕ) → n ≡ 0 → statement s n f l i ≡ None
+unfolding expression
+statement_none s n f l i h = ap (λ x. statement s x f l i) h
+
+pub statement_at : (s : Source) (n : ℕ) (f l : Bool) (i : ℕ) → 0 < n → statement s n f l i ≡ read_statement s (n - 1) (expression_readers s (length s.tokens) (n - 1)) f l i (kind s i)
+unfolding expression
+statement_at s zero f l i h = absurd (omega arith)
+statement_at s (suc n) f l i h = let e : suc n - 1 ≡ n = omega arith in ap (λ x. read_statement s x (expression_readers s (length s.tokens) x) f l i (kind s i)) (sym e)
+
+pub statement_whole : (s t : Source) (upto n : ℕ) (f l : Bool) (i : ℕ) → t ≡ s → upto ≡ length s.tokens → 0 < n →
+    read_statement t (n - 1) (expression_readers t upto (n - 1)) f l i (kind t i) ≡ statement s n f l i
+statement_whole s t upto n f l i e q h =
+    ap (λ x. read_statement x (n - 1) (expression_readers x upto (n - 1)) f l i (kind x i)) e
+    ∙ ap (λ x. read_statement s (n - 1) (expression_readers s x (n - 1)) f l i (kind s i)) q
+    ∙ sym (statement_at s n f l i h)

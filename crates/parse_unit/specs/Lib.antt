@@ -1,0 +1,5 @@
+pub mod ReadUnits
+pub mod Deep
+pub mod Answers
+pub mod Bases
+pub mod Laws

@@ -1,0 +1,42 @@
+// Brackets that are open.
+ghost use Rattle.std.specs.Prelude.{◌≡◌, ◌≤◌, ◌<◌, IfSome, IfNone, length};
+ghost use Rattle.sts_grammar.specs.Brackets.{open_behind};
+ghost use Rattle.parse_unit.specs.Deep.{NoneDeep, IsFirstDeep};
+
+use sts_base::Seq;
+use sts_lexer::{Kind, Mark, Token};
+
+/// The most brackets that may be open at a token.
+const MOST_OPEN: usize = 64;
+
+/// How many brackets are open behind a token, where so many were open before it. A closing one closes the latest that is
+/// open, of whatever kind.
+fn open_behind(count: usize, kind: Kind) -> usize
+    requires { count ≤ 64 }
+    ensures { result ≡ open_behind count kind }
+{
+    match kind {
+        Kind::Mark(Mark::OpenParenthesis) => count + 1,
+        Kind::Mark(Mark::OpenBracket) => count + 1,
+        Kind::Mark(Mark::OpenBrace) => count + 1,
+        Kind::Mark(Mark::CloseParenthesis) => count.saturating_sub(1),
+        Kind::Mark(Mark::CloseBracket) => count.saturating_sub(1),
+        Kind::Mark(Mark::CloseBrace) => count.saturating_sub(1),
+        _ => count,
+    }
+}
+
+/// The place in the text of the first token at which more than 64 brackets are open, if there is one.
+pub fn first_deep(tokens: &Seq<Token>) -> Option<u32>
+    ensures some { IfSome result (λ place. IsFirstDeep tokens.now place) }
+    ensures none { IfNone result (NoneDeep tokens.now) }
+{
+    let mut count = 0;
+    for token in tokens.as_slice() {
+        count = open_behind(count, token.kind);
+        if count > MOST_OPEN {
+            return Some(token.span.from);
+        }
+    }
+    None
+}

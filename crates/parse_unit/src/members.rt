@@ -1,0 +1,224 @@
+// Members of classes.
+ghost use Rattle.std.specs.Prelude.{◌≡◌, ◌<◌, ◌+◌, false, Some, [], length};
+ghost use Rattle.sts_syntax.specs.Trees as t;
+ghost use Rattle.sts_syntax.specs.Programs.{class_member, class_members};
+ghost use Rattle.sts_syntax.specs.Views.{declaration, routine, parameters, optional_annotation, optional_expression, statements};
+ghost use Rattle.sts_grammar.specs.Source as source;
+ghost use Rattle.sts_grammar.specs.Ends.{may_end, declaration_continues};
+ghost use Rattle.sts_grammar.specs.Found.{member_name_of};
+ghost use Rattle.sts_grammar.specs.ReadHeadings.{is_found};
+ghost use Rattle.sts_grammar.specs.Units.{is_modifier, field_continues};
+ghost use Rattle.sts_grammar.specs.Reading.{statement_readers};
+ghost use Rattle.parse_expr.specs.Gives.{source, Gives, found};
+ghost use Rattle.parse_unit.specs.ReadUnits as read;
+
+use parse_expr::{Reader, Unread, block, initialiser};
+use sts_base::Seq;
+use sts_lexer::{Kind, Mark, Word};
+use sts_syntax::{Binding, Body, Expr, Member, Param, Shape, Stmt};
+
+/// Whether a token is `public`, `private` or `protected`.
+fn is_modifier(kind: Kind) -> bool
+    ensures { result ≡ is_modifier kind }
+{
+    match kind {
+        Kind::Word(Word::Public, _) => true,
+        Kind::Word(Word::Private, _) => true,
+        Kind::Word(Word::Protected, _) => true,
+        _ => false,
+    }
+}
+
+/// Whether a token may be a member's name.
+fn names_member(kind: Kind) -> bool
+    ensures { result ≡ is_found (member_name_of kind) }
+{
+    match kind {
+        Kind::Name(_) => true,
+        Kind::Word(_, _) => true,
+        _ => false,
+    }
+}
+
+/// Where a member's name stands: behind a modifier, if there is one.
+#[tactic(auto, unfolding(crate::specs::ReadUnits::behind_modifier))]
+fn behind_modifier(reader: Reader<'_>, at: usize) -> usize
+    ensures { result ≡ read.behind_modifier (source reader.entry) at }
+{
+    if !is_modifier(reader.kind(at)) {
+        return at;
+    }
+    if names_member(reader.kind(at + 1)) {
+        at + 1
+    } else {
+        at
+    }
+}
+
+/// A routine of its parts, which is no arrow.
+#[tactic(auto, using(sts_syntax::proofs::Laws::routine_parts))]
+fn body(at: u32, params: Seq<Param>, gives: Option<Shape>, stmts: Seq<Stmt>) -> Body
+    ensures { routine result ≡ t.Does at (parameters params) (optional_annotation gives) (statements stmts) false }
+{
+    Body {
+        at,
+        params,
+        gives,
+        stmts,
+        arrow: false,
+    }
+}
+
+/// Parameters, a result's type and a block.
+#[tactic(auto, unfolding(crate::specs::ReadUnits::read_routine))]
+pub fn read_routine(
+    reader: Reader<'_>,
+    room: usize,
+    place: u32,
+    at: usize,
+) -> Result<(Body, usize), Unread>
+    requires { room < usize.MAX }
+    ensures { Gives (found routine) result (read.read_routine (source reader.entry) (statement_readers (source reader.entry) room) place at) }
+{
+    let (heading, end) = reader.heading(at)?;
+    let held = block(reader, room, true, false, end)?;
+    Ok((
+        body(place, heading.params, heading.gives, held.item),
+        held.end,
+    ))
+}
+
+/// A constructor's parameters and block.
+#[tactic(auto, unfolding(crate::specs::ReadUnits::read_maker))]
+fn read_maker(
+    reader: Reader<'_>,
+    room: usize,
+    place: u32,
+    at: usize,
+) -> Result<(Member, usize), Unread>
+    requires { room < usize.MAX }
+    ensures { Gives (found class_member) result (read.read_maker (source reader.entry) (statement_readers (source reader.entry) room) place at) }
+{
+    if !reader.opens_parenthesis(at) {
+        return Err(Unread::Syntax(at));
+    }
+    let (params, end) = reader.parameters(at + 1)?;
+    let held = block(reader, room, true, false, end)?;
+    let body = body(place, params, None, held.item);
+    Ok((Member::Constructor(body), held.end))
+}
+
+/// What stands behind the name of a method.
+#[tactic(auto, unfolding(crate::specs::ReadUnits::read_method))]
+fn read_method(
+    reader: Reader<'_>,
+    room: usize,
+    place: u32,
+    name: u32,
+    at: usize,
+) -> Result<(Member, usize), Unread>
+    requires { room < usize.MAX }
+    ensures { Gives (found class_member) result (read.read_method (source reader.entry) (statement_readers (source reader.entry) room) place name at) }
+{
+    let (body, end) = read_routine(reader, room, place, at)?;
+    Ok((Member::Method { name, body }, end))
+}
+
+/// The place behind the end of a field that is whole there.
+#[tactic(auto, unfolding(crate::specs::ReadUnits::read_field_end))]
+fn read_field_end(reader: Reader<'_>, at: usize) -> Result<usize, Unread>
+    ensures { Gives (λ j. j) result (read.read_field_end (source reader.entry) at) }
+{
+    if reader.is_comma(at) {
+        return Err(Unread::Syntax(at));
+    }
+    reader.ended(at)
+}
+
+/// A declared name of its parts.
+#[tactic(auto, using(sts_syntax::proofs::Laws::declaration_parts))]
+fn binding(at: u32, name: u32, shape: Option<Shape>, first: Option<Expr>) -> Binding
+    ensures { declaration result ≡ t.Declare at name (optional_annotation shape) (optional_expression first) }
+{
+    Binding {
+        at,
+        name,
+        shape,
+        first,
+    }
+}
+
+/// What stands behind the name of a field.
+#[tactic(auto, unfolding(crate::specs::ReadUnits::read_field))]
+fn read_field(
+    reader: Reader<'_>,
+    room: usize,
+    place: u32,
+    name: u32,
+    at: usize,
+) -> Result<(Member, usize), Unread>
+    requires { room < usize.MAX }
+    ensures { Gives (found class_member) result (read.read_field (source reader.entry) (statement_readers (source reader.entry) room) place name at) }
+{
+    let (shape, end) = reader.written_type(at)?;
+    let first = initialiser(reader, room, false, end)?;
+    let end = read_field_end(reader, first.end)?;
+    let field = binding(place, name, shape, first.item);
+    Ok((Member::Field(field), end))
+}
+
+/// Whether a token is the name `constructor`.
+fn is_constructor(reader: Reader<'_>, at: usize) -> bool
+    ensures { result ≡ read.is_constructor (source reader.entry) (source.kind (source reader.entry) at) }
+{
+    match reader.kind(at) {
+        Kind::Name(name) => reader.is_spelled(name, b"constructor"),
+        _ => false,
+    }
+}
+
+/// A member whose name stands at a token, and the token behind it.
+#[tactic(auto, unfolding(crate::specs::ReadUnits::read_named))]
+fn read_named(reader: Reader<'_>, room: usize, at: usize) -> Result<(Member, usize), Unread>
+    requires { room < usize.MAX }
+    ensures { Gives (found class_member) result (read.read_named (source reader.entry) (statement_readers (source reader.entry) room) at) }
+{
+    let name = reader.member_name(at)?;
+    let place = reader.place(at);
+    if !reader.opens_parenthesis(at + 1) {
+        return read_field(reader, room, place, name, at + 1);
+    }
+    if is_constructor(reader, at) {
+        return read_maker(reader, room, place, at + 1);
+    }
+    read_method(reader, room, place, name, at + 1)
+}
+
+/// The members of a class up to its `}`, with any number of `;` between them, and the token behind the `}`.
+#[tactic(auto, using(crate::proofs::Turns::members_at, crate::proofs::Turns::members_put), unfolding(crate::specs::ReadUnits::read_members))]
+pub fn read_members(
+    reader: Reader<'_>,
+    room: usize,
+    at: usize,
+) -> Result<(Seq<Member>, usize), Unread>
+    requires { room < usize.MAX }
+    ensures { Gives (found class_members) result (read.read_members (source reader.entry) (statement_readers (source reader.entry) room) (length reader.entry.tokens.now) [] at) }
+{
+    let mut all = Seq::new(reader.alloc);
+    let mut next = at;
+    let mut left = reader.count();
+    while left > 0 {
+        if reader.closes_brace(next) {
+            return Ok((all, next + 1));
+        }
+        if reader.is_semicolon(next) {
+            next += 1;
+        } else {
+            let (member, end) = read_named(reader, room, behind_modifier(reader, next))?;
+            all.push(member)?;
+            next = end;
+        }
+        left -= 1;
+    }
+    Err(Unread::Syntax(next))
+}

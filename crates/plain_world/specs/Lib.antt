@@ -1,0 +1,10 @@
+pub mod Integers
+pub mod Program
+pub mod Boards
+pub mod Questions
+pub mod Turns
+pub mod Worlds
+pub mod Acts
+pub mod Runs
+pub mod Lights
+pub mod Slow

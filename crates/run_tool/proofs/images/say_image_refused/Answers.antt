@@ -1,0 +1,8 @@
+use Rattle.std.proofs.Common.{refl}
+use Rattle.hex_image.specs.Codes.{number_of}
+use Rattle.run_tool.specs.declared.ending.Status.TheVariants.{ImageRefused}
+use Rattle.run_tool.specs.Images.{image_refused_line}
+use Rattle.run_tool.proofs.images.say_image_refused.Goals as goal
+
+pub returns-in-Err-clause-ends : goal.returns-in-Err-clause-ends
+returns-in-Err-clause-ends g c = (ImageRefused, image_refused_line (number_of c.args.code), refl, c.in-Err.ensures.part)

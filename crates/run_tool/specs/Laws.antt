@@ -1,0 +1,12 @@
+-- What holds of the answers.
+use Rattle.std.specs.Prelude.{◌≡◌, ◌⊎◌, ℕ, List}
+use Rattle.hex_image.specs.declared.refused.HexCode.{HexCode}
+use Rattle.hex_image.specs.Spells.{Spells, Breaks}
+use Rattle.run_tool.specs.Images.{RunsHex}
+use Rattle.run_tool.specs.Rows.{IsStatusOf}
+
+-- The status of an answer of `run-hex` is that of a run where the text spells an image, and that of a refusal where it breaks a rule.
+pub record HexStatuses (budget : ℕ) (text : List ℕ) : Type 0 where
+  pub spelled : (image : List ℕ) (number : ℕ) → Spells text image → IsStatusOf (RunsHex budget text) number
+      → (number ≡ 0) ⊎ ((number ≡ 3) ⊎ ((number ≡ 4) ⊎ (number ≡ 13)))
+  pub broken : (code : HexCode) (number : ℕ) → Breaks text code → IsStatusOf (RunsHex budget text) number → number ≡ 12

@@ -1,0 +1,19 @@
+mod Examples
+mod Tokens
+mod Operators
+pub mod Spans
+pub mod SoundHeadings
+pub mod Headings
+mod SoundLists
+mod SoundPrimaries
+mod SoundExpressions
+pub mod SoundDeclarations
+mod SoundStatements
+pub mod Sound
+pub mod Levels
+pub mod Begins
+pub mod Turns
+mod Operands
+pub mod Statements
+pub mod Complete
+pub mod Unique

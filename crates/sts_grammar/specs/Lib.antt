@@ -1,0 +1,15 @@
+pub mod Source
+pub mod Operators
+pub mod Headings
+pub mod Ends
+pub mod Operands
+pub mod Spells
+pub mod Longest
+pub mod Found
+pub mod ReadHeadings
+pub mod ReadExpressions
+pub mod ReadStatements
+pub mod Reading
+pub mod Laws
+pub mod Units
+pub mod Brackets

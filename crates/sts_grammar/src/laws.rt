@@ -1,0 +1,22 @@
+// Laws of the grammar, and of how it is read.
+ghost use Rattle.sts_grammar.specs.Laws.{LongestIsRead, OneTree, ReadIsSpelled, SpelledIsRead};
+
+/// Tokens spell at most one tree.
+pub fn one_tree()
+    ensures { OneTree }
+{}
+
+/// What is read is spelled.
+pub fn what_is_read_is_spelled()
+    ensures { ReadIsSpelled }
+{}
+
+/// What the tokens spell is read.
+pub fn what_is_spelled_is_read()
+    ensures { SpelledIsRead }
+{}
+
+/// The longest expression and statement from a token on are read, or there is none.
+pub fn the_longest_is_read()
+    ensures { LongestIsRead }
+{}
