@@ -1,22 +1,22 @@
 -- The longest expression and statement, by what reading finds.
-use Rattle.std.proofs.Common.{◌≡◌, ℕ, ◌-◌, ◌<◌, ◌≤◌, sym, ◌∙◌, subst, length, arith, inl, inr}
-use Rattle.std.specs.Prelude.{Bool, true, false, Option, Some, None, ◌⊎◌}
+use Rattle.std.proofs.Common.{◌≡◌, ℕ, ◌-◌, ◌<◌, ◌≤◌, sym, subst, length, arith, inl, inr}
+use Rattle.std.specs.Prelude.{Bool, true, false, Some, None}
 use Rattle.std.proofs.lemmas.Bool.{cases_lt}
 use Rattle.sts_syntax.specs.Trees.{Tree, Statement}
-use Rattle.sts_syntax.specs.Nesting.{nesting, statement_nesting}
+use Rattle.sts_syntax.specs.Nesting.{nesting}
 use Rattle.sts_grammar.specs.Source.{Source, kind}
 use Rattle.sts_grammar.specs.ReadExpressions.{binds_before}
-use Rattle.sts_grammar.specs.Spells.{IsExpression, IsStatement}
+use Rattle.sts_grammar.specs.Spells.{IsExpression}
 use Rattle.sts_grammar.specs.Longest.{IsLongestExpression, IsLongestStatement, NoStatement}
 use Rattle.sts_grammar.specs.Reading.{expression, statement}
 use Rattle.sts_grammar.proofs.Unique.{EndsBy, longest_by, one_statement, read_to_end, no_statement}
 use Rattle.sts_grammar.proofs.Sound.{sound_expression, sound_statement}
 use Rattle.sts_base.specs.declared.refused.Refused.{Refused}
 use Rattle.sts_base.specs.declared.refused.Refused.TheVariants as refused
-use Rattle.parse_expr.specs.declared.reader.Unread.{Unread}
-use Rattle.parse_expr.specs.declared.reader.Unread.TheVariants.{Syntax, NoMemory}
+use Rattle.parse_rules.specs.declared.reader.Unread.{Unread}
+use Rattle.parse_rules.specs.declared.reader.Unread.TheVariants.{Syntax, NoMemory}
 use Rattle.parse_expr.specs.Answers.{IsSyntaxAt, RefusedFor, IsRefusal, UnreadFor}
-use Rattle.parse_expr.specs.Gives.{Fails}
+use Rattle.parse_rules.specs.Gives.{Fails}
 use Rattle.parse_expr.specs.Lasts.{may_be_last}
 use Rattle.parse_expr.proofs.Lasts.{operand_last}
 

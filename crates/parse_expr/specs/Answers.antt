@@ -6,8 +6,8 @@ use Rattle.sts_base.specs.declared.refused.Refused.TheVariants as refused
 use Rattle.sts_base.specs.declared.tables.Tables.{Tables}
 use Rattle.sts_lexer.specs.declared.token.Token.{Token}
 use Rattle.sts_grammar.specs.Source.{Source, place}
-use Rattle.parse_expr.specs.declared.reader.Unread.{Unread}
-use Rattle.parse_expr.specs.declared.reader.Unread.TheVariants.{Syntax, NoMemory}
+use Rattle.parse_rules.specs.declared.reader.Unread.{Unread}
+use Rattle.parse_rules.specs.declared.reader.Unread.TheVariants.{Syntax, NoMemory}
 
 -- tokens with the names of their tables
 abbrev pub text_of : List Token → Tables → Source

@@ -1,5 +1,5 @@
 -- Which tokens may be the last of an expression.
-use Rattle.std.specs.Prelude.{ℕ, Bool, true, false}
+use Rattle.std.specs.Prelude.{Bool, true, false}
 use Rattle.sts_lexer.specs.declared.marks.Mark.TheVariants as m
 use Rattle.sts_lexer.specs.declared.token.Kind.{Kind}
 use Rattle.sts_lexer.specs.declared.token.Kind.TheVariants as k

@@ -1,6 +1,2 @@
-pub mod Gives
-pub mod Headings
-pub mod Written
-pub mod Nests
 pub mod Lasts
 pub mod Answers

@@ -11,11 +11,11 @@ ghost use Rattle.sts_grammar.specs.ReadExpressions.{read_block};
 ghost use Rattle.sts_grammar.specs.ReadStatements.{read_initialiser};
 ghost use Rattle.sts_grammar.specs.Reading as reading;
 ghost use Rattle.parse_expr.specs.Answers.{text_of, RefusedFor, IsRefusal, UnreadFor};
-ghost use Rattle.parse_expr.specs.Gives.{source, Gives, read_of};
+ghost use Rattle.parse_rules.specs.Gives.{source, Gives, read_of};
 ghost use Rattle.parse_expr.specs.Lasts.{may_be_last};
 
-use crate::grammar::{Grammar, expression, statement};
-use crate::reader::{Read, Reader, Unread};
+use crate::grammar::{expression, statement};
+use parse_rules::{Grammar, Read, Reader, Unread};
 use std::alloc::Global;
 use sts_base::{Code, Refused, Seq, Tables};
 use sts_lexer::{Kind, Mark, Token};

@@ -5,9 +5,9 @@ use Rattle.sts_syntax.specs.Programs.{Program}
 use Rattle.sts_syntax.specs.Nesting.{deepest_top_level}
 use Rattle.sts_grammar.specs.Source.{Source}
 use Rattle.sts_grammar.specs.Units.{IsProgram}
-use Rattle.parse_expr.specs.declared.reader.Unread.{Unread}
-use Rattle.parse_expr.specs.declared.reader.Unread.TheVariants.{Syntax}
-use Rattle.parse_expr.specs.Gives.{Fails}
+use Rattle.parse_rules.specs.declared.reader.Unread.{Unread}
+use Rattle.parse_rules.specs.declared.reader.Unread.TheVariants.{Syntax}
+use Rattle.parse_rules.specs.Gives.{Fails}
 use Rattle.parse_unit.specs.ReadUnits.{read_parts, read_program}
 use Rattle.parse_unit.specs.Laws.{OneProgram}
 use Rattle.parse_unit.proofs.SoundUnits.{program_ok}

@@ -9,10 +9,11 @@ ghost use Rattle.sts_grammar.specs.Found.{member_name_of};
 ghost use Rattle.sts_grammar.specs.ReadHeadings.{is_found};
 ghost use Rattle.sts_grammar.specs.Units.{is_modifier, field_continues};
 ghost use Rattle.sts_grammar.specs.Reading.{statement_readers};
-ghost use Rattle.parse_expr.specs.Gives.{source, Gives, found};
+ghost use Rattle.parse_rules.specs.Gives.{source, Gives, found};
 ghost use Rattle.parse_unit.specs.ReadUnits as read;
 
-use parse_expr::{Reader, Unread, block, initialiser};
+use parse_expr::{block, initialiser};
+use parse_rules::{Reader, Unread};
 use sts_base::Seq;
 use sts_lexer::{Kind, Mark, Word};
 use sts_syntax::{Binding, Body, Expr, Member, Param, Shape, Stmt};

@@ -3,12 +3,13 @@ ghost use Rattle.std.specs.Prelude.{◌≡◌, ◌<◌, ◌+◌, ◌≤◌, ◌=
 ghost use Rattle.sts_syntax.specs.Programs.{top_level, top_levels};
 ghost use Rattle.sts_grammar.specs.Source as source;
 ghost use Rattle.sts_grammar.specs.Reading.{statement_readers};
-ghost use Rattle.parse_expr.specs.Gives.{source, Gives, found};
+ghost use Rattle.parse_rules.specs.Gives.{source, Gives, found};
 ghost use Rattle.parse_unit.specs.Bases.{base_of};
 ghost use Rattle.parse_unit.specs.ReadUnits as read;
 
 use crate::members::{read_members, read_routine};
-use parse_expr::{Reader, Unread, statement};
+use parse_expr::statement;
+use parse_rules::{Reader, Unread};
 use sts_base::Seq;
 use sts_lexer::{Kind, Word};
 use sts_syntax::Item;

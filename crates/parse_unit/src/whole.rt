@@ -4,7 +4,7 @@ ghost use Rattle.parse_unit.specs.Answers.{source, Answers, BeginsToken};
 
 use crate::brackets::first_deep;
 use crate::parts::read_parts;
-use parse_expr::{Reader, Unread};
+use parse_rules::{Reader, Unread};
 use std::alloc::Global;
 use sts_base::{Code, Refused, Seq, Tables};
 use sts_lexer::Token;

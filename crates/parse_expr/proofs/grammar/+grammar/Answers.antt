@@ -2,7 +2,7 @@ use Rattle.std.proofs.Common.{sym, subst, arith}
 use Rattle.sts_syntax.specs.Trees.{Tree, Statement}
 use Rattle.sts_syntax.specs.Views.{tree, statement}
 use Rattle.sts_grammar.specs.Found.{Found}
-use Rattle.parse_expr.specs.Gives.{source, Gives, read_of}
+use Rattle.parse_rules.specs.Gives.{source, Gives, read_of}
 use Rattle.parse_expr.proofs.Turns.{expression_none, expression_at, statement_none, statement_whole}
 use Rattle.parse_expr.proofs.grammar.+grammar.Goals as goal
 

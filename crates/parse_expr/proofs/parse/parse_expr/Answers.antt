@@ -2,7 +2,7 @@ use Rattle.std.proofs.Common.{subst, arith}
 use Rattle.sts_syntax.specs.Views.{tree}
 use Rattle.sts_grammar.proofs.Unique.{ends_by_length, ends_by_none}
 use Rattle.sts_grammar.specs.Longest.{NoExpression}
-use Rattle.parse_expr.specs.declared.reader.Unread.{Unread}
+use Rattle.parse_rules.specs.declared.reader.Unread.{Unread}
 use Rattle.parse_expr.specs.Answers.{text_of, UnreadFor}
 use Rattle.parse_expr.proofs.Longest.{NoneAt, is_longest, one_less, refused_at}
 use Rattle.parse_expr.proofs.parse.parse_expr.Goals as goal

@@ -1,7 +1,7 @@
 use Rattle.std.proofs.Common.{◌≡◌, [], length}
 use Rattle.sts_syntax.specs.Programs.{class_members}
 use Rattle.sts_grammar.specs.Reading.{statement_readers}
-use Rattle.parse_expr.specs.Gives.{source}
+use Rattle.parse_rules.specs.Gives.{source}
 use Rattle.parse_unit.specs.ReadUnits as read
 use Rattle.parse_unit.proofs.members.read_members.Given as goal
 

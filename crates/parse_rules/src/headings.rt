@@ -1,0 +1,225 @@
+// Types and parameters.
+ghost use Rattle.std.specs.Prelude.{◌≡◌, ◌<◌, ◌+◌, [], length, Some, IfOk, true};
+ghost use Rattle.sts_syntax.specs.Annotations.{annotation};
+ghost use Rattle.sts_syntax.specs.Views.{optional_annotation, parameter, parameters};
+ghost use Rattle.sts_grammar.specs.ReadHeadings as read;
+ghost use Rattle.parse_rules.specs.Gives.{source, Gives, found};
+ghost use Rattle.parse_rules.specs.Headings.{parts, opened_by};
+
+use crate::reader::{Reader, Unread};
+use sts_base::Seq;
+use sts_build::list_of;
+use sts_syntax::{Param, Shape};
+
+/// What stands before a routine's block, or before its `=>`.
+#[derive(Drop)]
+pub struct Heading {
+    pub params: Seq<Param>,
+    pub gives: Option<Shape>,
+}
+
+impl<'a> Reader<'a> {
+    /// The type that a name at a place spells.
+    fn named_type(&self, name: u32, at: usize) -> Shape
+        ensures { annotation result ≡ read.type_named (source self.now) name at }
+    {
+        if self.is_spelled(name, b"number") {
+            return Shape::Number;
+        }
+        if self.is_spelled(name, b"boolean") {
+            return Shape::Boolean;
+        }
+        if self.is_spelled(name, b"string") {
+            return Shape::Text;
+        }
+        Shape::Named {
+            at: self.place(at),
+            name,
+        }
+    }
+
+    /// Whether `[]` stands at a place, with no line break before it.
+    fn is_pair(&self, at: usize) -> bool
+        ensures value { result ≡ read.is_pair (source self.now) at }
+        ensures inside { result ≡ true → at + 1 < usize.MAX }
+    {
+        self.opens_bracket(at) && !self.is_broken(at) && self.closes_bracket(at + 1)
+    }
+
+    /// A type with the `[]` behind it.
+    #[tactic(auto, using(crate::proofs::Turns::wrap_at), unfolding(sts_grammar::specs::ReadHeadings::wrap_type))]
+    fn wrapped(&self, item: Shape, at: usize) -> Result<(Shape, usize), Unread>
+        ensures { Gives (found annotation) result (Some (read.wrap_type (source self.now) (length self.now.tokens.now) (annotation item) at)) }
+    {
+        let mut shape = item;
+        let mut end = at;
+        let mut left = self.count();
+        while left > 0 && self.is_pair(end) {
+            shape = list_of(self.alloc, shape)?;
+            end += 2;
+            left -= 1;
+        }
+        Ok((shape, end))
+    }
+
+    /// The type that begins at a place, and the place behind it.
+    #[tactic(auto, unfolding(sts_grammar::specs::ReadHeadings::read_type))]
+    pub fn shape(&self, at: usize) -> Result<(Shape, usize), Unread>
+        ensures { Gives (found annotation) result (read.read_type (source self.now) at) }
+    {
+        let name = self.name(at)?;
+        self.wrapped(self.named_type(name, at), at + 1)
+    }
+
+    /// A result's type.
+    #[tactic(auto, unfolding(sts_grammar::specs::ReadHeadings::read_result))]
+    fn result_shape(&self, at: usize) -> Result<(Shape, usize), Unread>
+        ensures { Gives (found annotation) result (read.read_result (source self.now) at) }
+    {
+        if self.is_void(at) {
+            return Ok((Shape::Nothing, at + 1));
+        }
+        self.shape(at)
+    }
+
+    /// `:` and a type, where one is written.
+    #[tactic(auto, unfolding(sts_grammar::specs::ReadHeadings::read_optional_type))]
+    pub fn written_type(&self, at: usize) -> Result<(Option<Shape>, usize), Unread>
+        ensures { Gives (found optional_annotation) result (read.read_optional_type (source self.now) at) }
+    {
+        if !self.is_colon(at) {
+            return Ok((None, at));
+        }
+        let (shape, end) = self.shape(at + 1)?;
+        Ok((Some(shape), end))
+    }
+
+    /// `:` and a result's type, where one is written.
+    #[tactic(auto, unfolding(sts_grammar::specs::ReadHeadings::read_optional_result))]
+    pub fn written_result(&self, at: usize) -> Result<(Option<Shape>, usize), Unread>
+        ensures { Gives (found optional_annotation) result (read.read_optional_result (source self.now) at) }
+    {
+        if !self.is_colon(at) {
+            return Ok((None, at));
+        }
+        let (shape, end) = self.result_shape(at + 1)?;
+        Ok((Some(shape), end))
+    }
+
+    /// A parameter.
+    #[tactic(auto, unfolding(sts_grammar::specs::ReadHeadings::read_parameter))]
+    fn parameter(&self, at: usize) -> Result<(Param, usize), Unread>
+        ensures { Gives (found parameter) result (read.read_parameter (source self.now) at) }
+    {
+        let name = self.name(at)?;
+        let (shape, end) = self.written_type(at + 1)?;
+        let param = Param {
+            at: self.place(at),
+            name,
+            shape,
+        };
+        Ok((param, end))
+    }
+
+    /// Parameters from the first on, and the place behind their `)`.
+    #[tactic(auto, using(crate::proofs::Turns::parameters_at, crate::proofs::Rows::parameters_put), unfolding(sts_grammar::specs::ReadHeadings::read_more_parameters))]
+    fn some_parameters(&self, at: usize) -> Result<(Seq<Param>, usize), Unread>
+        ensures { Gives (found parameters) result (read.read_more_parameters (source self.now) (length self.now.tokens.now) [] at) }
+    {
+        let mut all = Seq::new(self.alloc);
+        let mut next = at;
+        let mut left = self.count();
+        while left > 0 {
+            let (param, end) = self.parameter(next)?;
+            all.push(param)?;
+            if self.closes_parenthesis(end) {
+                return Ok((all, end + 1));
+            }
+            if !self.is_comma(end) {
+                return Err(Unread::Syntax(end));
+            }
+            next = end + 1;
+            left -= 1;
+        }
+        Err(Unread::Syntax(next))
+    }
+
+    /// The parameters behind a `(`, and the place behind their `)`.
+    #[tactic(auto, unfolding(sts_grammar::specs::ReadHeadings::read_parameters))]
+    pub fn parameters(&self, at: usize) -> Result<(Seq<Param>, usize), Unread>
+        ensures { Gives (found parameters) result (read.read_parameters (source self.now) at) }
+    {
+        if self.closes_parenthesis(at) {
+            return Ok((Seq::new(self.alloc), at + 1));
+        }
+        self.some_parameters(at)
+    }
+
+    /// Parameters in parentheses, and the result's type where one is written.
+    #[tactic(auto, unfolding(sts_grammar::specs::ReadHeadings::read_heading))]
+    pub fn heading(&self, at: usize) -> Result<(Heading, usize), Unread>
+        ensures { Gives (found parts) result (read.read_heading (source self.now) at) }
+    {
+        if !self.opens_parenthesis(at) {
+            return Err(Unread::Syntax(at));
+        }
+        let (params, end) = self.parameters(at + 1)?;
+        let (gives, end) = self.written_result(end)?;
+        Ok((Heading { params, gives }, end))
+    }
+
+    /// The heading of an arrow, with its `=>`.
+    #[tactic(auto, unfolding(sts_grammar::specs::ReadHeadings::read_arrow_heading))]
+    pub fn arrow_heading(&self, at: usize) -> Result<(Heading, usize), Unread>
+        ensures { Gives (found parts) result (read.read_arrow_heading (source self.now) at) }
+    {
+        let (heading, end) = self.heading(at)?;
+        if !self.is_arrow(end) {
+            return Err(Unread::Syntax(end));
+        }
+        Ok((heading, end + 1))
+    }
+
+    /// Whether an arrow goes on behind a `)`: `=>`, perhaps behind a result's type.
+    #[tactic(auto, unfolding(sts_grammar::specs::ReadHeadings::is_arrow_behind))]
+    pub fn is_arrow_behind(&self, at: usize) -> Result<bool, Unread>
+        ensures { Gives (λ test. test) result (Some (read.is_arrow_behind (source self.now) at)) }
+    {
+        match self.written_result(at) {
+            Ok((_, end)) => Ok(self.is_arrow(end)),
+            Err(Unread::Syntax(_)) => Ok(false),
+            Err(Unread::NoMemory) => Err(Unread::NoMemory),
+        }
+    }
+
+    /// Whether the parameters of an arrow begin at a place.
+    #[tactic(auto, unfolding(sts_grammar::specs::ReadHeadings::begins_arrow))]
+    fn begins_arrow(&self, at: usize) -> Result<bool, Unread>
+        ensures { Gives (λ test. test) result (Some (read.begins_arrow (source self.now) at)) }
+    {
+        match self.arrow_heading(at) {
+            Ok(_) => Ok(true),
+            Err(Unread::Syntax(_)) => Ok(false),
+            Err(Unread::NoMemory) => Err(Unread::NoMemory),
+        }
+    }
+
+    /// The number of `(` from a place on that begin no arrow, one behind the other, and the place behind them.
+    #[tactic(auto, using(crate::proofs::Turns::opened_at), unfolding(sts_grammar::specs::ReadExpressions::opened))]
+    pub fn open_parentheses(&self, at: usize) -> Result<(usize, usize), Unread>
+        ensures { Gives (λ r. r) result (Some (opened_by (source self.now) at)) }
+    {
+        let mut open = 0;
+        let mut next = at;
+        let mut left = self.count();
+        while left > 0 && self.opens_parenthesis(next) {
+            if self.begins_arrow(next)? {
+                return Ok((open, next));
+            }
+            open += 1;
+            next += 1;
+            left -= 1;
+        }
+        Ok((open, next))
+    }
+}
