@@ -1,3 +1,4 @@
+use Rattle.std.proofs.Common.{refl}
 use Rattle.sts_base.specs.Faults.{Rose}
 use Rattle.run_tool.proofs.Completing.{completes, image-refused, faulted, folder-failed}
 use Rattle.run_tool.proofs.commands.sts_main.Goals as goal
@@ -21,3 +22,6 @@ pub returns-clause-folder_failed : goal.returns-clause-folder_failed
 returns-clause-folder_failed g c =
     folder-failed (g.F.Folder.holds c.args.folder.now) (Rose (g.F.Folder.faults c.args.folder.now) (g.F.Folder.faults c.perform.new.folder)) _
     (g.K.Sink.taken c.args.out.now) (g.K.Sink.taken c.perform.new.out) c.perform.result c.number.result c.number.ensures c.perform.ensures.ends
+
+pub returns-clause-plugs_stay : goal.returns-clause-plugs_stay
+returns-clause-plugs_stay g c = refl
