@@ -99,6 +99,7 @@ impl<'a> Reader<'a> {
         }
     }
 
+    /// Whether `(` stands at a place.
     pub fn opens_parenthesis(&self, at: usize) -> bool
         ensures value { result ≡ found.opens_parenthesis (source.kind (source self.now) at) }
         ensures inside { result ≡ true → at < usize.MAX }
@@ -106,6 +107,7 @@ impl<'a> Reader<'a> {
         matches!(self.kind(at), Kind::Mark(Mark::OpenParenthesis))
     }
 
+    /// Whether `)` stands at a place.
     pub fn closes_parenthesis(&self, at: usize) -> bool
         ensures value { result ≡ found.closes_parenthesis (source.kind (source self.now) at) }
         ensures inside { result ≡ true → at < usize.MAX }
@@ -113,6 +115,7 @@ impl<'a> Reader<'a> {
         matches!(self.kind(at), Kind::Mark(Mark::CloseParenthesis))
     }
 
+    /// Whether `[` stands at a place.
     pub fn opens_bracket(&self, at: usize) -> bool
         ensures value { result ≡ found.opens_bracket (source.kind (source self.now) at) }
         ensures inside { result ≡ true → at < usize.MAX }
@@ -120,6 +123,7 @@ impl<'a> Reader<'a> {
         matches!(self.kind(at), Kind::Mark(Mark::OpenBracket))
     }
 
+    /// Whether `]` stands at a place.
     pub fn closes_bracket(&self, at: usize) -> bool
         ensures value { result ≡ found.closes_bracket (source.kind (source self.now) at) }
         ensures inside { result ≡ true → at < usize.MAX }
@@ -139,6 +143,7 @@ impl<'a> Reader<'a> {
         }
     }
 
+    /// Whether `{` stands at a place.
     pub fn opens_brace(&self, at: usize) -> bool
         ensures value { result ≡ found.opens_brace (source.kind (source self.now) at) }
         ensures inside { result ≡ true → at < usize.MAX }
@@ -146,6 +151,7 @@ impl<'a> Reader<'a> {
         matches!(self.kind(at), Kind::Mark(Mark::OpenBrace))
     }
 
+    /// Whether `}` stands at a place.
     pub fn closes_brace(&self, at: usize) -> bool
         ensures value { result ≡ found.closes_brace (source.kind (source self.now) at) }
         ensures inside { result ≡ true → at < usize.MAX }
@@ -153,6 +159,7 @@ impl<'a> Reader<'a> {
         matches!(self.kind(at), Kind::Mark(Mark::CloseBrace))
     }
 
+    /// Whether `;` stands at a place.
     pub fn is_semicolon(&self, at: usize) -> bool
         ensures value { result ≡ found.is_semicolon (source.kind (source self.now) at) }
         ensures inside { result ≡ true → at < usize.MAX }
@@ -160,6 +167,7 @@ impl<'a> Reader<'a> {
         matches!(self.kind(at), Kind::Mark(Mark::Semicolon))
     }
 
+    /// Whether `=>` stands at a place.
     pub fn is_arrow(&self, at: usize) -> bool
         ensures value { result ≡ found.is_arrow (source.kind (source self.now) at) }
         ensures inside { result ≡ true → at < usize.MAX }
@@ -167,6 +175,7 @@ impl<'a> Reader<'a> {
         matches!(self.kind(at), Kind::Mark(Mark::Arrow))
     }
 
+    /// Whether `.` stands at a place.
     pub fn is_dot(&self, at: usize) -> bool
         ensures value { result ≡ found.is_dot (source.kind (source self.now) at) }
         ensures inside { result ≡ true → at < usize.MAX }
@@ -174,6 +183,7 @@ impl<'a> Reader<'a> {
         matches!(self.kind(at), Kind::Mark(Mark::Dot))
     }
 
+    /// Whether `,` stands at a place.
     pub fn is_comma(&self, at: usize) -> bool
         ensures value { result ≡ ends.is_comma (source.kind (source self.now) at) }
         ensures inside { result ≡ true → at < usize.MAX }
@@ -181,6 +191,7 @@ impl<'a> Reader<'a> {
         matches!(self.kind(at), Kind::Mark(Mark::Comma))
     }
 
+    /// Whether `:` stands at a place.
     pub fn is_colon(&self, at: usize) -> bool
         ensures value { result ≡ ends.is_colon (source.kind (source self.now) at) }
         ensures inside { result ≡ true → at < usize.MAX }
@@ -188,6 +199,7 @@ impl<'a> Reader<'a> {
         matches!(self.kind(at), Kind::Mark(Mark::Colon))
     }
 
+    /// Whether `=` stands at a place.
     pub fn is_assign(&self, at: usize) -> bool
         ensures value { result ≡ ends.is_assign (source.kind (source self.now) at) }
         ensures inside { result ≡ true → at < usize.MAX }
@@ -195,6 +207,7 @@ impl<'a> Reader<'a> {
         matches!(self.kind(at), Kind::Mark(Mark::Assign))
     }
 
+    /// Whether the word `void` stands at a place.
     pub fn is_void(&self, at: usize) -> bool
         ensures value { result ≡ found.is_void (source.kind (source self.now) at) }
         ensures inside { result ≡ true → at < usize.MAX }
@@ -202,6 +215,7 @@ impl<'a> Reader<'a> {
         matches!(self.kind(at), Kind::Word(Word::Void, _))
     }
 
+    /// Whether the word `else` stands at a place.
     pub fn is_else(&self, at: usize) -> bool
         ensures value { result ≡ found.is_else (source.kind (source self.now) at) }
         ensures inside { result ≡ true → at < usize.MAX }
@@ -209,6 +223,7 @@ impl<'a> Reader<'a> {
         matches!(self.kind(at), Kind::Word(Word::Else, _))
     }
 
+    /// Whether the word `while` stands at a place.
     pub fn is_while(&self, at: usize) -> bool
         ensures value { result ≡ found.is_while (source.kind (source self.now) at) }
         ensures inside { result ≡ true → at < usize.MAX }
