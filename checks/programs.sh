@@ -1,0 +1,42 @@
+#!/bin/sh
+# Programs over all forms of the language, in checks/programs.txt under a line `# NAME` each, cut behind each of their tokens: what stands
+# up to there is to be `spelled` where an @ stands behind the token, and else refused by code 6. The signs were set by hand from the
+# grammar. Tokens stand apart there, and the signs are taken out. Wants the program sts as rt ci builds it; without it the check is skipped (status 77).
+# usage: checks/programs.sh [PROGRAM]
+set -eu
+top=$(cd "$(dirname "$0")/.." && pwd)
+program=${1:-$top/crates/sts/out/sts}
+[ -x "$program" ] || {
+    echo "programs: $program is not built"
+    exit 77
+}
+folder=$(mktemp -d)
+trap 'rm -rf "$folder"' EXIT
+cp "$program" "$folder/sts"
+python3 - "$top/checks/programs.txt" "$folder" <<'PYTHON'
+import re
+import subprocess
+import sys
+
+file, folder = sys.argv[1:]
+programs, cuts, wrong = 0, 0, 0
+for part in re.split(r"(?m)^# ", open(file, encoding="ascii").read())[1:]:
+    name, text = part.split("\n", 1)
+    programs += 1
+    so_far = ""
+    for token, sign in re.findall(r"(\s*[^\s@]+)(\s*@)?", text):
+        so_far += token
+        cuts += 1
+        with open(f"{folder}/p.ts", "w", encoding="ascii") as it:
+            it.write(so_far)
+        ran = subprocess.run(["./sts", "check", "p.ts"], cwd=folder, stdout=subprocess.PIPE, timeout=20)
+        right = (ran.returncode, ran.stdout) == (0, b"spelled\n") if sign else ran.returncode == 10 and ran.stdout.startswith(b"refused 6 ")
+        if not right:
+            wrong += 1
+            print(f"programs: {name}: {ran.stdout!r} and status {ran.returncode}, where {'spelled' if sign else 'refused 6'} is due, up to: {so_far[-60:]!r}")
+    if not sign:
+        wrong += 1
+        print(f"programs: {name}: no sign stands behind the whole")
+print(f"programs: {programs} programs, cut at {cuts} tokens, {wrong} wrong")
+sys.exit(1 if wrong or not cuts else 0)
+PYTHON
