@@ -1,4 +1,5 @@
 pub mod Answers
+pub mod Groups
 pub mod Turns
 pub mod Transfers
 pub mod Steps

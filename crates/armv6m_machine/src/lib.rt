@@ -5,10 +5,9 @@
 #![tactic(auto)]
 
 mod arithmetic;
-#[cfg(test)]
-mod emulated;
 mod execution;
 mod faults;
+mod groups;
 mod laws;
 mod machine;
 mod mapped_memory;
@@ -16,8 +15,6 @@ mod memory;
 mod operands;
 mod parts;
 mod rows;
-#[cfg(test)]
-mod tests;
 mod transfers;
 
 pub use execution::execute;

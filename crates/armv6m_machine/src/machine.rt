@@ -1,6 +1,7 @@
 //! The machine with one RAM.
 ghost use Rattle.std.specs.Prelude.{◌≡◌, ◌≤◌, ◌<◌, ◌^◌, length, vec_len, IfOk};
 ghost use Rattle.std.specs.Bool.{OnTrue, OnFalse};
+ghost use Rattle.thumb_code.specs.Map.{flash_end};
 ghost use Rattle.thumb_code.specs.Machine.{State, step as step_of, reset as reset_of};
 ghost use Rattle.thumb_code.specs.Step.{fetched};
 ghost use Rattle.armv6m_machine.specs.Steps.{IsStep, IsFault, IsFetch, IsInstruction};
@@ -34,7 +35,7 @@ impl Machine {
     /// The machine that begins with this image in flash: its word 0 is the base and SP, its word 1 the code address that PC
     /// begins at, its word 2 LR. The other registers, the flags and RAM are 0. Flash past the bytes reads 0xFF.
     pub fn reset(alloc: Global, flash: Vec<u8>) -> Result<Machine, NoMemory>
-        requires { vec_len flash ≤ 262144 }
+        requires { vec_len flash ≤ flash_end }
         ensures { IfOk result (λ m. m ≡ reset_of flash.items) }
     {
         let memory = MappedMemory::reset(alloc, flash)?;

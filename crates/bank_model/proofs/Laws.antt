@@ -5,3 +5,11 @@ pub use Rattle.bank_model.proofs.FollowsRam.{bank_follows_instruction, bank_foll
 pub use Rattle.bank_model.proofs.OneStep.{step_follows, reset_agrees}
 -- the steps of a world with one fiber, and how its run begins
 pub use Rattle.bank_model.proofs.OneFiber.{lone_start, lone_goes, lone_writes, lone_ends, lone_panics, lone_faults}
+-- a step of the machine keeps what is above the base, and it is the turn of who stands there; whose bank is what the RAM shows
+pub use Rattle.bank_model.proofs.AboveBase.{step_keeps, base_good, good_base}
+pub use Rattle.bank_model.proofs.OnStack.{same_above, same_words, length_words, bank_shows, shown_bank, shown_inside}
+pub use Rattle.bank_model.proofs.ItsTurn.{stands_agrees, is_its_turn}
+-- what is shared counts the used words of the arena as the board does
+pub use Rattle.bank_model.proofs.UsedWords.{used_counted}
+-- a run that loads no free word, and lowers SP only as it stores, is the same for each list of free words
+pub use Rattle.bank_model.proofs.FreeRuns.{free_words_dont_matter}

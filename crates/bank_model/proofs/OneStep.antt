@@ -1,10 +1,9 @@
 -- One step over one RAM, and over the bank that it shows.
-use Rattle.std.proofs.Common.{◌≡◌, ℕ, ◌≤◌, ◌%◌, List, [], ◌++◌, replicate, Bool, true, false, ◌==◌, nat_lt, refl, sym, ap, ◌∙◌, subst, arith}
-use Rattle.std.proofs.lemmas.Bool.Decides.{nat_tests}
+use Rattle.std.proofs.Common.{◌≡◌, ℕ, List, [], ◌++◌, replicate, Bool, true, false, refl, sym, ap, ◌∙◌, subst, arith}
 use Rattle.thumb_code.specs.declared.register_file.Registers.{Registers}
 use Rattle.thumb_code.specs.Effect.{effect}
 use Rattle.thumb_code.specs.Memory.{Executed, Done, Asked, Stopped, execute}
-use Rattle.thumb_code.specs.Map.{is_base, stack_at, ram_end}
+use Rattle.thumb_code.specs.Map.{is_base}
 use Rattle.thumb_code.specs.Ram.{Ram, ram_memory}
 use Rattle.thumb_code.specs.Refines.{Follows, over_moving}
 use Rattle.thumb_code.specs.Step.{Fetched, Found, Missed, fetched, placed, ran}
@@ -12,6 +11,8 @@ use Rattle.thumb_code.specs.Machine.{State, step, reset, base_of}
 use Rattle.bank_model.specs.Bank.{Bank, bank_memory, bank_move}
 use Rattle.bank_model.specs.Shows.{Shows, Agrees}
 use Rattle.bank_model.specs.Steps.{bank_step, FollowsStep}
+use Rattle.bank_model.specs.Standing.{IsBase}
+use Rattle.bank_model.proofs.AboveBase.{base_good}
 use Rattle.bank_model.proofs.RamSteps.{Leaves, execute_leaves}
 use Rattle.bank_model.proofs.FollowsRam.{bank_follows_instruction}
 
@@ -51,18 +52,6 @@ step_follows image s b h =
     same_fetched image s.registers s.memory b _ _ (fetched_as s.memory.flash b.flash s.memory.base b.base s.registers.pc (h.flash ∙ sym h.bank_flash) (sym h.base))
     (at_base image s.registers s.memory b h (is_base s.memory.base) refl)
 
--- Where a base may be.
-record IsBase (base : ℕ) : Type 0 where
-  pub aligned : base % 4 ≡ 0
-  pub low : stack_at ≤ base
-  pub high : base ≤ ram_end
-
-base_cases : (base : ℕ) (t1 t2 t3 : Bool) → (base % 4 == 0) ≡ t1 → nat_lt base stack_at ≡ t2 → nat_lt ram_end base ≡ t3 → is_base base ≡ true → IsBase base
-base_cases base true false false e1 e2 e3 h = record { aligned = grind (arith, nat_tests); low = grind (arith, nat_tests); high = grind (arith, nat_tests) }
-base_cases base true false true e1 e2 e3 h = let k : false ≡ true = rw (e1, e2, e3) at h in absurd (cc)
-base_cases base true true t3 e1 e2 e3 h = let k : false ≡ true = rw (e1, e2) at h in absurd (cc)
-base_cases base false t2 t3 e1 e2 e3 h = let k : false ≡ true = rw e1 at h in absurd (cc)
-
 -- The bank with which main's fiber begins.
 abbrev first_bank : List ℕ → Bank
 first_bank image = record { flash = image; globals = replicate 256 0; arena = replicate 2816 0; base = base_of image; words = [] }
@@ -87,5 +76,5 @@ reset_agrees image = record {
   flash = refl;
   bank_flash = refl;
   base = refl;
-  shows = λ e. first_shows image (base_cases (base_of image) _ _ _ refl refl refl e);
+  shows = λ e. first_shows image (base_good (base_of image) e);
 }

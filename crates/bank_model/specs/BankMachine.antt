@@ -1,4 +1,5 @@
--- The bank machine: the board's world, in which a fiber stands for each activity.
+-- The bank machine with the services that one fiber needs: the board's world, in which a fiber stands for each activity. A run with one
+-- fiber is stated over it.
 use Rattle.std.specs.Prelude.{ℕ, List, length}
 use Rattle.thumb_code.specs.declared.register_file.Registers.{Registers}
 use Rattle.thumb_code.specs.Step.{Stepped, On, Served, Faulted}
@@ -20,8 +21,9 @@ memory_of flash f s = (record { flash = flash; globals = s.globals; arena = s.ar
 abbrev pub fiber_of : Registers → Bank × List ℕ → Fiber
 fiber_of r m = record { registers = r; base = m.0.base; bank = m.0.words }
 
+-- The services of this machine use no word of the arena.
 abbrev pub shared_of : Bank × List ℕ → Shared
-shared_of m = record { globals = m.0.globals; arena = m.0.arena; free = m.1 }
+shared_of m = record { globals = m.0.globals; arena = m.0.arena; used = 0; free = m.1 }
 
 -- What a fiber does by a step from an instruction's address. The service that a step asks for is done in the same step.
 abbrev pub turn_of : List ℕ → ℕ → Stepped (Bank × List ℕ) → Turn Fiber Shared

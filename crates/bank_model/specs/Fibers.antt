@@ -9,15 +9,17 @@ pub record Fiber : Type 0 where
   pub base : ℕ
   pub bank : List ℕ
 
--- What all fibers share, besides flash: the words of globals and arena, and the list of free words.
+-- What all fibers share, besides flash: the words of globals and arena, how many words of the arena are used, and the list of free
+-- words.
 pub record Shared : Type 0 where
   pub globals : List ℕ
   pub arena : List ℕ
+  pub used : ℕ
   pub free : List ℕ
 
--- What is shared as a run with these free words begins: globals and arena are 0.
+-- What is shared as a run with these free words begins: globals and arena are 0, and no word of the arena is used.
 abbrev pub shared_at_reset : List ℕ → Shared
-shared_at_reset free = record { globals = replicate 256 0; arena = replicate 2816 0; free = free }
+shared_at_reset free = record { globals = replicate 256 0; arena = replicate 2816 0; used = 0; free = free }
 
 -- A fiber begins at a code address, on a base, with an empty bank: R0 to R12 and the flags are 0, SP is the base, LR is word 2 of
 -- flash, and PC is the code address less 1, modulo 2^32.

@@ -4,6 +4,13 @@ pub mod Shows
 pub mod Division
 pub mod Fibers
 pub mod Services
+pub mod Texts
+pub mod Arrays
+pub mod AllServices
+pub mod BoardMachine
+pub mod Standing
+pub mod Watched
 pub mod BankMachine
 pub mod Lone
 pub mod Rows
+pub mod BoardRows

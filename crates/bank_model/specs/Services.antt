@@ -1,4 +1,4 @@
--- The services, for which a fiber asks by SVC.
+-- The services that one fiber needs, for which it asks by SVC.
 use Rattle.std.specs.Prelude.{ℕ, ◌%◌, ◌==◌, ℤ, List, if◌then◌else◌}
 use Rattle.std.specs.Int.{cast_signed, cast_unsigned, w32}
 use Rattle.thumb_code.specs.Faults.{bad_service}

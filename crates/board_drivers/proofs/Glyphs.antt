@@ -2,7 +2,7 @@
 use Rattle.std.proofs.Common.{◌≡◌, ℕ, zero, suc, ◌<◌, ◌&&◌, ◌==◌, Bool, true, false, refl, subst, arith, slice_index, nat_lt, ◌^◌, ◌≢◌}
 use Rattle.std.proofs.lemmas.Bool.Decides.{nat_tests}
 use Rattle.board_drivers.specs.declared.font.TheConstants.{GLYPHS}
-use Rattle.board_drivers.specs.Font.{glyph_of}
+use Rattle.board_world.specs.Font.{glyph_of}
 use Rattle.board_drivers.specs.Places.{place_of}
 
 abbrev all_below : (ℕ → Bool) → ℕ → Bool

@@ -1,4 +1,3 @@
 pub mod Buttons
 pub mod Display
-pub mod Font
 pub mod Places

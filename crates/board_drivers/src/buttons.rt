@@ -2,10 +2,10 @@
 ghost use Rattle.std.specs.Prelude.{◌≡◌, ◌<◌, ◌≤◌, ℕ, ◌⊎◌, Option, Some, None, pos};
 ghost use Rattle.board_world.specs.Board.{Board, Down, Up, arrive, held_since};
 ghost use Rattle.board_world.specs.Kinds.{flag, pressed};
-ghost use Rattle.message_bus.specs.Heard.{Heard};
-ghost use Rattle.board_drivers.specs.Buttons.{all_up, since_of, with_since, queue_down, queue_up, is_down_at, Shows};
+ghost use Rattle.message_bus.specs.BusState.{BusState};
+ghost use Rattle.board_drivers.specs.Buttons.{all_up, since_of, with_since, queue_down, queue_up, is_down_at, HasButtons};
 
-use board_world::Event;
+use board_world::{CLICK_LIMIT, Event};
 use message_bus::Bus;
 use std::marker::Model;
 
@@ -47,7 +47,7 @@ fn release(since: &mut Option<u32>, button: u8, now: u32, bus: &mut Bus)
         *since = None;
         let source = i32::from(button);
         let _ = bus.raise(Event { source, value: 2 });
-        let value = if now.saturating_sub(from) < 1000 {
+        let value = if now.saturating_sub(from) < CLICK_LIMIT {
             3
         } else {
             4
@@ -70,7 +70,7 @@ impl Buttons {
         requires { (button ≡ 1) ⊎ (button ≡ 2) }
         ensures since { self.new ≡ with_since button (held_since now (since_of button self.old)) self.old }
         ensures bus { bus.new ≡ record bus.old { queue = queue_down button (since_of button self.old) bus.old.queue } }
-        ensures board { (b : Board) → Shows now self.old bus.old b → Shows now self.new bus.new (arrive (Down button) b) }
+        ensures board { (b : Board) → HasButtons now self.old bus.old b → HasButtons now self.new bus.new (arrive (Down button) b) }
     {
         if button == 1 {
             press(&mut self.a, button, now, bus);
@@ -80,12 +80,12 @@ impl Buttons {
     }
 
     /// The button goes up at this moment, in milliseconds. Where it was down, value 2 is raised, and then 3 where it was
-    /// held for less than 1000 milliseconds, else 4; where it was up, nothing changes.
+    /// held for less than `CLICK_LIMIT` milliseconds, else 4; where it was up, nothing changes.
     pub fn up(&mut self, button: u8, now: u32, bus: &mut Bus)
         requires { (button ≡ 1) ⊎ (button ≡ 2) }
         ensures since { self.new ≡ with_since button None self.old }
         ensures bus { bus.new ≡ record bus.old { queue = queue_up now button (since_of button self.old) bus.old.queue } }
-        ensures board { (b : Board) → Shows now self.old bus.old b → Shows now self.new bus.new (arrive (Up button) b) }
+        ensures board { (b : Board) → HasButtons now self.old bus.old b → HasButtons now self.new bus.new (arrive (Up button) b) }
     {
         if button == 1 {
             release(&mut self.a, button, now, bus);
@@ -97,7 +97,7 @@ impl Buttons {
     /// Whether the button is down. There are 1 and 2; every other number is no button, and not down.
     pub fn is_down(&self, button: i32) -> bool
         ensures down { result ≡ is_down_at button self.now }
-        ensures board { (now : ℕ) (bus : Heard) (b : Board) → Shows now self.now bus b → pressed button b ≡ flag result }
+        ensures board { (now : ℕ) (bus : BusState) (b : Board) → HasButtons now self.now bus b → pressed button b ≡ flag result }
     {
         match button {
             1 => self.a.is_some(),

@@ -1,7 +1,6 @@
 // The font.
-ghost use Rattle.std.specs.Prelude.{◌≡◌, ◌<◌, ◌^◌, IsTrue, slice_index};
-ghost use Rattle.std.specs.List.{list_all};
-ghost use Rattle.board_drivers.specs.Font.{font, glyph_of, is_lit_as, each_of_five};
+ghost use Rattle.std.specs.Prelude.{◌≡◌, ◌<◌, ◌^◌};
+ghost use Rattle.board_world.specs.Font.{glyph_of};
 ghost use Rattle.board_drivers.specs.Places.{place_of};
 
 /// The frames of the glyphs: digits, capitals, space, `-`, `!`, `?` and `.`.
@@ -39,8 +38,3 @@ pub fn glyph(byte: u8) -> u32
 {
     GLYPHS[place(byte)]
 }
-
-/// The lights of each glyph's frame are those of its rows.
-pub fn glyphs_are_lit_as_drawn()
-    ensures { IsTrue (list_all (λ g. each_of_five (λ y. each_of_five (λ x. is_lit_as g.1 x y))) font) }
-{}

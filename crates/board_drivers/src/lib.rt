@@ -9,4 +9,4 @@ mod tests;
 
 pub use buttons::Buttons;
 pub use display::Display;
-pub use font::{glyph, glyphs_are_lit_as_drawn};
+pub use font::glyph;

@@ -1,1 +1,4 @@
+pub mod Counts
 pub mod Logs
+pub mod Plugged
+pub mod History

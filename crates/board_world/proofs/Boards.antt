@@ -7,7 +7,7 @@ use Rattle.board_world.specs.Observations.{Quietly, By_script, Panicked, Faulted
 use Rattle.board_world.specs.Rules.{clock_move}
 use Rattle.board_world.specs.Frame.{plotted}
 use Rattle.board_world.specs.Board.{Board, Entry, Act, Down, Up, Raise, Unplug, over, raised, arrive, arrive_all, next_entry, went_down, went_up, held_since}
-use Rattle.board_world.specs.Kinds.{Kind, Turn, Goes, Asks, Takes, Pauses, Waits, Spawns, Listens, RaisesNow, Ends, Panics, Faults, Question, answer, showed, Raises, Plots, Shows, Writes, Sets, Sends, Time, Value, Pressed, was_set, level}
+use Rattle.board_world.specs.Kinds.{Kind, Turn, Goes, Asks, Takes, Pauses, Waits, Spawns, Listens, RaisesNow, Ends, Panics, Faults, Question, answer, showed, Raises, Plots, Displays, Writes, Sets, Sends, Time, Value, Pressed, was_set, level}
 use Rattle.board_world.specs.Waiting.{least, how_many, none, held_by}
 use Rattle.board_world.specs.Activities.{Activity, World, handlers}
 use Rattle.board_world.specs.World.{moved, clock_moves, idle_while, idle_bound, lacks_seat, blocks, leaves, ends_with, ends, acted, stepped, run}
@@ -50,7 +50,7 @@ module _ (Fine : ℕ → ℕ → Type 0) (P : Board → Type 0) (closed : Closed
   kept_answer : (q : Question) (n : ℤ) (b : Board) → P b → P (answer q n b).0
   kept_answer (Raises e) n b h = kept_raised e b h
   kept_answer (Plots x y mode) n b h = kept_showed (plotted b.frame x y mode) b h
-  kept_answer (Shows f) n b h = kept_showed f b h
+  kept_answer (Displays f) n b h = kept_showed f b h
   kept_answer (Writes []) n b h = h
   kept_answer (Writes (c ∷ cs)) n b h = closed.seen b b.frame (Serial b.clock (c ∷ cs)) h
   kept_answer (Sets p v) n b h = kept_set p v b h
@@ -125,7 +125,7 @@ module _ (Fine : ℕ → ℕ → Type 0) (P : Board → Type 0) (closed : Closed
 
 -- two instances: a run ends as it may, and what was seen and unplugged stays
 module _ (Fine : ℕ → ℕ → Type 0) where
-  sound_closed : Closed Fine (λ b. SoundEnd Fine b.end)
+  pub sound_closed : Closed Fine (λ b. SoundEnd Fine b.end)
   sound_closed =
       record {
         queue = λ b q h. h;

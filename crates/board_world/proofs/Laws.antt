@@ -1,9 +1,14 @@
 -- The laws that proofs of other crates cite.
 
 -- worlds at rest, and runs one behind the other
+pub use Rattle.board_world.proofs.Stays.{if_keeps}
 pub use Rattle.board_world.proofs.Stays.{over_stays, busy_stays, run_over, run_sum}
 -- idle moves: they settle the world, one may be made first, and where the clock stops
 pub use Rattle.board_world.proofs.Settle.{settles, idled_first, jump_from, jump_soonest, some_due}
+-- what comes before a moment doesn't hang on the script's entries from then on, and the clock doesn't go back
+pub use Rattle.board_world.proofs.Before.{run_then, run_settled}
+pub use Rattle.board_world.proofs.Onwards.{idled_on_to, run_on_to}
+pub use Rattle.board_world.proofs.Timely.{run_timely, run_same, run_settles, later_waits, rises_in_order}
 -- lists that are related one by one
 pub use Rattle.board_world.proofs.Pairs.{paired_append, paired_length, paired_map, paired_weaken, paired_if, paired_chosen, paired_left, paired_least, paired_some, paired_many, paired_none}
 -- those that are chosen of a list, and those that are left
@@ -15,7 +20,10 @@ pub use Rattle.board_world.proofs.Lift.{lifts}
 pub use Rattle.board_world.proofs.Arrive.{lifts_with}
 pub use Rattle.board_world.proofs.Whole.{ends_in_time, ends_in_time_with}
 -- one behind the other, and lagging
-pub use Rattle.board_world.proofs.Compose.{compose}
-pub use Rattle.board_world.proofs.Lag.{up_to_date, onward_lagging, catch_up}
+pub use Rattle.board_world.proofs.Compose.{Way, way_on, way_step}
+pub use Rattle.board_world.proofs.Compose.{compose, partial_compose}
+pub use Rattle.board_world.proofs.Lag.{up_to_date, onward_lagging, catch_up, partial_catch_up}
 -- what every move of the world keeps of the board
 pub use Rattle.board_world.proofs.Boards.{kept_run, kept_arrive, ends_soundly, extends_run, extends_arrive}
+-- typed activities make no fault, and there a simulation that owes nothing at faults is a whole one
+pub use Rattle.board_world.proofs.Sound.{holds, loosened, partial_loosened, starts, sound_lifts, sound_in_time, never_faults, sound_below, implements}

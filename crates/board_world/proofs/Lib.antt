@@ -6,9 +6,11 @@ mod Lift
 mod Compose
 mod Arrive
 mod Settle
+mod Before
+mod Onwards
+mod Timely
 mod Lag
 mod Whole
 mod Boards
-mod Computed
-mod Linked
+mod Sound
 pub mod Laws

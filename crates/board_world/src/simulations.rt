@@ -1,13 +1,16 @@
 //! Laws of simulations: what one kind of activity does in a world, another does in steps of its own.
 
-ghost use Rattle.std.specs.Prelude.{◌≡◌, ℕ, ◌+◌, ◌*◌, ◌<◌, true, List};
-ghost use Rattle.board_world.specs.Board.{over};
+ghost use Rattle.std.specs.Prelude.{◌≡◌, ℕ, ◌+◌, ◌*◌, ◌≤◌, ◌<◌, true, List};
+ghost use Rattle.board_world.specs.Board.{Entry, over};
 ghost use Rattle.board_world.specs.Kinds.{Kind};
 ghost use Rattle.board_world.specs.Activities.{World};
-ghost use Rattle.board_world.specs.World.{run};
+ghost use Rattle.board_world.specs.World.{run, start};
 ghost use Rattle.board_world.specs.Simulation.{Simulation, Alike, ties, one, always};
-ghost use Rattle.board_world.specs.Composed.{level, joined, lagging, LaggingSimulation};
+ghost use Rattle.board_world.specs.Composed.{seen, joined_seen, lagging, LaggingSimulation};
 ghost use Rattle.board_world.specs.Arrivals.{Arrival, Rises, Keeps, run_with};
+ghost use Rattle.board_world.specs.Invariants.{SoundEnd};
+ghost use Rattle.board_world.specs.Implements.{Implements};
+ghost use Rattle.board_world.specs.Sound.{NoFault, PartialSimulation, PartialLaggingSimulation, Sound, typing};
 
 /// What ties two kinds of activity: their own states, what they share, and the numbers of their functions.
 pub trait Tied {
@@ -46,7 +49,7 @@ pub fn simulated_runs_end_in_time_with_arrivals<A, S, C, D>()
         → over (run_with K 0 kept.places s w).board ≡ true → over (run_with L 0 arrivals (bound * s) v).board ≡ true }
 {}
 
-/// Three kinds of activity in a chain, the upper two over one and the same shared state.
+/// Three kinds of activity in a chain, where the middle one's shared state is a part of the upper one's.
 pub trait Chained {
     type Upper;
 
@@ -54,9 +57,13 @@ pub trait Chained {
 
     type Shared;
 
+    type MiddleShared;
+
     type Lower;
 
     type LowerShared;
+
+    ghost down: { Self.Shared → Self.MiddleShared };
 
     ghost fine: { ℕ → Self.Shared → Type 0 };
 
@@ -64,19 +71,19 @@ pub trait Chained {
 
     ghost code: { ℕ → ℕ → Type 0 };
 
-    ghost lower_shared: { ℕ → Self.Shared → Self.LowerShared → Type 0 };
+    ghost lower_shared: { ℕ → Self.MiddleShared → Self.LowerShared → Type 0 };
 
-    ghost lower_active: { Self.Shared → Self.LowerShared → Self.Middle → Self.Lower → Type 0 };
+    ghost lower_active: { Self.MiddleShared → Self.LowerShared → Self.Middle → Self.Lower → Type 0 };
 
     ghost lower_code: { ℕ → ℕ → Type 0 };
 }
 
 /// Two simulations behind one another are one, where the weight of the middle kind's steps is the bound of the lower simulation.
 pub fn simulations_compose<T: Chained>()
-    ensures { (K : Kind T.Upper T.Shared) (L : Kind T.Middle T.Shared) (M : Kind T.Lower T.LowerShared)
-        (bound : T.Upper → T.Shared → ℕ) (weight : T.Middle → T.Shared → ℕ) (lower_weight : T.Lower → T.LowerShared → ℕ)
-        → Simulation K L (level T.fine T.active T.code) weight bound → Simulation L M (ties T.lower_shared T.lower_active T.lower_code) lower_weight weight
-        → Simulation K M (joined T.fine T.active T.code (ties T.lower_shared T.lower_active T.lower_code)) lower_weight bound }
+    ensures { (K : Kind T.Upper T.Shared) (L : Kind T.Middle T.MiddleShared) (M : Kind T.Lower T.LowerShared)
+        (bound : T.Upper → T.Shared → ℕ) (weight : T.Middle → T.MiddleShared → ℕ) (lower_weight : T.Lower → T.LowerShared → ℕ)
+        → Simulation K L (seen T.down T.fine T.active T.code) weight bound → Simulation L M (ties T.lower_shared T.lower_active T.lower_code) lower_weight weight
+        → Simulation K M (joined_seen T.down T.fine T.active T.code (ties T.lower_shared T.lower_active T.lower_code)) lower_weight bound }
 {}
 
 /// Where an activity has steps of its own still to make, it is enough to follow from those that have made them.
@@ -84,4 +91,55 @@ pub fn lags_are_caught_up<T: Tied>()
     ensures { (K : Kind T.Upper T.UpperShared) (L : Kind T.Lower T.LowerShared) (weight : T.Lower → T.LowerShared → ℕ) (r : ℕ) (bound : T.Upper → T.UpperShared → ℕ)
         → LaggingSimulation K L (ties T.shared T.active T.code) weight r bound
         → Simulation K L (lagging L (ties T.shared T.active T.code) weight r) weight (λ a s. r + bound a s) }
+{}
+
+/// Simulations that owe nothing where the upper kind makes a fault compose in the same way.
+pub fn partial_simulations_compose<T: Chained>()
+    ensures { (K : Kind T.Upper T.Shared) (L : Kind T.Middle T.MiddleShared) (M : Kind T.Lower T.LowerShared)
+        (bound : T.Upper → T.Shared → ℕ) (weight : T.Middle → T.MiddleShared → ℕ) (lower_weight : T.Lower → T.LowerShared → ℕ)
+        → PartialSimulation K L (seen T.down T.fine T.active T.code) weight bound → PartialSimulation L M (ties T.lower_shared T.lower_active T.lower_code) lower_weight weight
+        → PartialSimulation K M (joined_seen T.down T.fine T.active T.code (ties T.lower_shared T.lower_active T.lower_code)) lower_weight bound }
+{}
+
+/// And so are their lags caught up.
+pub fn partial_lags_are_caught_up<T: Tied>()
+    ensures { (K : Kind T.Upper T.UpperShared) (L : Kind T.Lower T.LowerShared) (weight : T.Lower → T.LowerShared → ℕ) (r : ℕ) (bound : T.Upper → T.UpperShared → ℕ)
+        → PartialLaggingSimulation K L (ties T.shared T.active T.code) weight r bound
+        → PartialSimulation K L (lagging L (ties T.shared T.active T.code) weight r) weight (λ a s. r + bound a s) }
+{}
+
+/// What is typed of a kind of activity, and what ties it to another.
+pub trait Typed: Tied {
+    ghost typed_shared: { ℕ → Self.UpperShared → Type 0 };
+
+    ghost typed: { Self.UpperShared → Self.Upper → Type 0 };
+
+    ghost typed_code: { ℕ → Type 0 };
+}
+
+/// Where each step of a typed activity is no fault and leaves all typed, no run ends by a fault, whatever arrives.
+pub fn typed_runs_make_no_fault<T: Typed>()
+    ensures { (K : Kind T.Upper T.UpperShared) → Sound K (typing T.typed_shared T.typed T.typed_code)
+        → (main : ℕ) (shared : T.UpperShared) → T.typed_code main → T.typed_shared 0 shared
+        → (until : ℕ) (script : List Entry) (arrivals : List Arrival) → Rises 0 arrivals → (m : ℕ)
+        → SoundEnd (λ kind address. ⊥) (run_with K 0 arrivals m (start K main shared until script)).board.end }
+{}
+
+/// There a simulation that owes nothing at faults makes the lower kind implement the upper one.
+pub fn typed_simulations_implement<T: Typed>()
+    ensures { (K : Kind T.Upper T.UpperShared) (L : Kind T.Lower T.LowerShared) (bound : ℕ)
+        → 0 < bound → Sound K (typing T.typed_shared T.typed T.typed_code) → PartialSimulation K L (ties T.shared T.active T.code) one (always bound)
+        → (main entry : ℕ) (shared : T.UpperShared) (below : T.LowerShared) → T.typed_code main → T.code main entry → T.typed_shared 0 shared → T.shared 0 shared below
+        → Implements K L bound main shared entry below }
+{}
+
+/// A simulation within some bound is one within a greater bound, also one that owes nothing at faults. The bound need be
+/// greater only where the activities are tied, and for the latter only where the upper step is no fault.
+pub fn simulations_have_greater_bounds<T: Tied>()
+    ensures whole { (K : Kind T.Upper T.UpperShared) (L : Kind T.Lower T.LowerShared) (weight : T.Lower → T.LowerShared → ℕ) (bound greater : T.Upper → T.UpperShared → ℕ)
+        → ((used : ℕ) (s : T.UpperShared) (t : T.LowerShared) (a : T.Upper) (c : T.Lower) → T.shared used s t → T.active s t a c → bound a s ≤ greater a s)
+        → Simulation K L (ties T.shared T.active T.code) weight bound → Simulation K L (ties T.shared T.active T.code) weight greater }
+    ensures partial { (K : Kind T.Upper T.UpperShared) (L : Kind T.Lower T.LowerShared) (weight : T.Lower → T.LowerShared → ℕ) (bound greater : T.Upper → T.UpperShared → ℕ)
+        → ((used : ℕ) (s : T.UpperShared) (t : T.LowerShared) (a : T.Upper) (c : T.Lower) → T.shared used s t → T.active s t a c → NoFault (K.step a s) → bound a s ≤ greater a s)
+        → PartialSimulation K L (ties T.shared T.active T.code) weight bound → PartialSimulation K L (ties T.shared T.active T.code) weight greater }
 {}

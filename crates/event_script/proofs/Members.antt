@@ -2,6 +2,8 @@
 use Rattle.std.proofs.Common.{◌≡◌, ℕ, inl, inr, Bool, true, false, if◌then◌else◌, IsSome, Option, Some, None, option_map, option_and_then, List, [], ◌∷◌, pos, refl, sym, ap, subst, codes}
 use Rattle.serde_json.specs.Data.{Data}
 use Rattle.serde_json.specs.Find.{get, as_number, as_u64, as_str, as_array}
+use Rattle.board_world.specs.Limits.{end_limit}
+use Rattle.event_script.specs.Limits.{greatest_number}
 use Rattle.event_script.specs.declared.script.Act.{Act}
 use Rattle.event_script.specs.declared.script.Act.TheVariants.{Down, Up, Raise, Unplug}
 use Rattle.event_script.specs.declared.script.Entry.{Entry}
@@ -65,13 +67,13 @@ module _ (d : Data) where
 
       by_how : (b1 b2 b3 b4 : Bool) → says (codes "do") (codes "down") d ≡ b1 → says (codes "do") (codes "up") d ≡ b2 → says (codes "do") (codes "raise") d ≡ b3 → says (codes "do") (codes "unplug") d ≡ b4
           → (if b1 then only_if (has_members 3 d) (option_map Down (button_of d)) else if b2 then only_if (has_members 3 d) (option_map Up (button_of d))
-          else if b3 then only_if (has_members 4 d) (raised_with (whole 65535 (codes "source") d) (whole 65535 (codes "value") d)) else if b4 then only_if (has_members 3 d) (option_map Unplug (whole 3 (codes "port") d)) else None) ≡ Some a
+          else if b3 then only_if (has_members 4 d) (raised_with (whole greatest_number (codes "source") d) (whole greatest_number (codes "value") d)) else if b4 then only_if (has_members 3 d) (option_map Unplug (whole 3 (codes "port") d)) else None) ≡ Some a
           → Known d a
       by_how true b2 b3 b4 e1 e2 e3 e4 k = press-known Down (has_members 3 d) (button_of d) a (λ n m b. (m, how (codes "down") e1, b)) refl pressed k
       by_how false true b3 b4 e1 e2 e3 e4 k = press-known Up (has_members 3 d) (button_of d) a (λ n m b. (m, how (codes "up") e2, b)) refl pressed k
       by_how false false true b4 e1 e2 e3 e4 k =
-          raise-known (has_members 4 d) (whole 65535 (codes "source") d) (whole 65535 (codes "value") d) a (how (codes "raise") e3) refl
-          (whole-there 65535 (get (codes "source") d)) (whole-there 65535 (get (codes "value") d)) k
+          raise-known (has_members 4 d) (whole greatest_number (codes "source") d) (whole greatest_number (codes "value") d) a (how (codes "raise") e3) refl
+          (whole-there greatest_number (get (codes "source") d)) (whole-there greatest_number (get (codes "value") d)) k
       by_how false false false true e1 e2 e3 e4 k = unplug-known (has_members 3 d) (whole 3 (codes "port") d) a (how (codes "unplug") e4) refl (whole-there 3 (get (codes "port") d)) k
       by_how false false false false e1 e2 e3 e4 k = absurd (cc)
 
@@ -97,27 +99,27 @@ module _ (d : Data) where
   names-known (Unplug p) h t = exactly (names_of (Unplug p)) d (distinct (names_of (Unplug p)) refl) h.0 (three (codes "at") (codes "do") (codes "port") t h.1 h.2)
 
   pub entry-members : (e : Entry) → entry_of d ≡ Some e → HasExactly (names_of e.act) d
-  entry-members e h = by_parts (whole 1073741824 (codes "at") d) (act_of d) refl refl h
+  entry-members e h = by_parts (whole end_limit (codes "at") d) (act_of d) refl refl h
     where
-      by_parts : (t : Option ℕ) (a : Option Act) → whole 1073741824 (codes "at") d ≡ t → act_of d ≡ a → entry_with t a ≡ Some e → HasExactly (names_of e.act) d
+      by_parts : (t : Option ℕ) (a : Option Act) → whole end_limit (codes "at") d ≡ t → act_of d ≡ a → entry_with t a ≡ Some e → HasExactly (names_of e.act) d
       by_parts (Some t) (Some a) f g k =
           let whole_entry : (let x : Entry = record { at = t; act = a } in x ≡ e) = cc in
           let same : a ≡ e.act = ap (λ (x : Entry). x.act) whole_entry in
-          let here : IsSome (whole 1073741824 (codes "at") d) = subst (λ (o : Option ℕ). IsSome o) (sym f) refl in
-          subst (λ (x : Act). HasExactly (names_of x) d) same (names-known a (known a g) (whole-there 1073741824 (get (codes "at") d) here))
+          let here : IsSome (whole end_limit (codes "at") d) = subst (λ (o : Option ℕ). IsSome o) (sym f) refl in
+          subst (λ (x : Act). HasExactly (names_of x) d) same (names-known a (known a g) (whole-there end_limit (get (codes "at") d) here))
       by_parts (Some t) None f g k = absurd (cc)
       by_parts None a f g k = absurd (cc)
 
   pub script-members : (s : Script) → script_of d ≡ Some s → HasExactly (codes "end" ∷ codes "events" ∷ []) d
-  script-members s h = by_parts (has_members 2 d) (whole 1073741824 (codes "end") d) (option_and_then entries_of (option_and_then as_array (get (codes "events") d))) refl refl refl h
+  script-members s h = by_parts (has_members 2 d) (whole end_limit (codes "end") d) (option_and_then entries_of (option_and_then as_array (get (codes "events") d))) refl refl refl h
     where
-      by_parts : (m : Bool) (t : Option ℕ) (es : Option (List Entry)) → has_members 2 d ≡ m → whole 1073741824 (codes "end") d ≡ t → option_and_then entries_of (option_and_then as_array (get (codes "events") d)) ≡ es
+      by_parts : (m : Bool) (t : Option ℕ) (es : Option (List Entry)) → has_members 2 d ≡ m → whole end_limit (codes "end") d ≡ t → option_and_then entries_of (option_and_then as_array (get (codes "events") d)) ≡ es
           → only_if m (script_with t es) ≡ Some s → HasExactly (codes "end" ∷ codes "events" ∷ []) d
       by_parts true (Some t) (Some es) e f g k =
-          let end_here : IsSome (whole 1073741824 (codes "end") d) = subst (λ (o : Option ℕ). IsSome o) (sym f) refl in
+          let end_here : IsSome (whole end_limit (codes "end") d) = subst (λ (o : Option ℕ). IsSome o) (sym f) refl in
           let events_here : IsSome (option_and_then entries_of (option_and_then as_array (get (codes "events") d))) = subst (λ (o : Option (List Entry)). IsSome o) (sym g) refl in
           exactly (codes "end" ∷ codes "events" ∷ []) d (distinct (codes "end" ∷ codes "events" ∷ []) refl) e
-          (two (codes "end") (codes "events") (whole-there 1073741824 (get (codes "end") d) end_here) (array-there (get (codes "events") d) events_here))
+          (two (codes "end") (codes "events") (whole-there end_limit (get (codes "end") d) end_here) (array-there (get (codes "events") d) events_here))
       by_parts true (Some t) None e f g k = absurd (cc)
       by_parts true None es e f g k = absurd (cc)
       by_parts false t es e f g k = absurd (cc)

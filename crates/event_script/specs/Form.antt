@@ -3,6 +3,8 @@ use Rattle.std.specs.Prelude.{ℕ, suc, pos, Bool, true, false, if◌then◌else
 use Rattle.std.specs.Str.{bytes_eq}
 use Rattle.serde_json.specs.Data.{Data, Items, no_items, item, Members, no_members, member}
 use Rattle.serde_json.specs.Find.{get, as_number, as_u64, as_str, as_array, as_object}
+use Rattle.board_world.specs.Limits.{end_limit, last_port}
+use Rattle.event_script.specs.Limits.{greatest_number}
 use Rattle.event_script.specs.declared.script.Act.{Act}
 use Rattle.event_script.specs.declared.script.Act.TheVariants.{Down, Up, Raise, Unplug}
 use Rattle.event_script.specs.declared.script.Entry.{Entry}
@@ -50,13 +52,13 @@ raised_with (Some source) (Some value) = Some (Raise (record { source = pos sour
 raised_with (Some source) None = None
 raised_with None value = None
 
--- `do` says what happens, and with `at` these are the members: `button`; `source` and `value`, up to 65535; `port`, up to 3
+-- `do` says what happens, and with `at` these are the members: `button`; `source` and `value`, up to the greatest number; `port`, up to the last one
 abbrev pub act_of : Data → Option Act
 act_of d =
     if says (codes "do") (codes "down") d then only_if (has_members 3 d) (option_map Down (button_of d))
     else if says (codes "do") (codes "up") d then only_if (has_members 3 d) (option_map Up (button_of d))
-    else if says (codes "do") (codes "raise") d then only_if (has_members 4 d) (raised_with (whole 65535 (codes "source") d) (whole 65535 (codes "value") d))
-    else if says (codes "do") (codes "unplug") d then only_if (has_members 3 d) (option_map Unplug (whole 3 (codes "port") d))
+    else if says (codes "do") (codes "raise") d then only_if (has_members 4 d) (raised_with (whole greatest_number (codes "source") d) (whole greatest_number (codes "value") d))
+    else if says (codes "do") (codes "unplug") d then only_if (has_members 3 d) (option_map Unplug (whole last_port (codes "port") d))
     else None
 
 abbrev pub entry_with : Option ℕ → Option Act → Option Entry
@@ -64,9 +66,9 @@ entry_with (Some at) (Some act) = Some (record { at = at; act = act })
 entry_with (Some at) None = None
 entry_with None act = None
 
--- `at` is the moment, up to 1073741824 milliseconds
+-- `at` is the moment in milliseconds, up to the latest end
 abbrev pub entry_of : Data → Option Entry
-entry_of d = entry_with (whole 1073741824 (codes "at") d) (act_of d)
+entry_of d = entry_with (whole end_limit (codes "at") d) (act_of d)
 
 abbrev pub entries_with : Option Entry → Option (List Entry) → Option (List Entry)
 entries_with (Some e) (Some es) = Some (e ∷ es)
@@ -82,7 +84,7 @@ script_with (Some end) (Some entries) = Some (record { end = end; entries = entr
 script_with (Some end) None = None
 script_with None entries = None
 
--- the members are `end`, up to 1073741824, and `events`, a list of entries
+-- the members are `end`, in milliseconds up to the latest end, and `events`, a list of entries
 abbrev pub script_of : Data → Option Script
 script_of d =
-    only_if (has_members 2 d) (script_with (whole 1073741824 (codes "end") d) (option_and_then entries_of (option_and_then as_array (get (codes "events") d))))
+    only_if (has_members 2 d) (script_with (whole end_limit (codes "end") d) (option_and_then entries_of (option_and_then as_array (get (codes "events") d))))

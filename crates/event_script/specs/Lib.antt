@@ -1,8 +1,9 @@
+pub mod Limits
 pub mod Json
 pub mod Form
 pub mod Verdict
-pub mod Sound
 pub mod Codes
 pub mod Shapes
 pub mod Names
 pub mod World
+pub mod Sound

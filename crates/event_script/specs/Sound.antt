@@ -1,21 +1,24 @@
--- When a script is sound.
-use Rattle.std.specs.Prelude.{◌≡◌, ◌≤◌, ◌⊎◌, ◌≤ℤ◌, pos, length, All}
-use Rattle.std.specs.List.Sorted.{IsNonDecreasingBy}
+-- When a script is sound, and what a script that was read keeps to besides.
+use Rattle.std.specs.Prelude.{◌≤◌, ◌≤ℤ◌, pos, length, All}
+use Rattle.board_world.specs.Scripts.{IsSoundScript}
 use Rattle.event_script.specs.declared.script.Act.{Act}
 use Rattle.event_script.specs.declared.script.Act.TheVariants.{Down, Up, Raise, Unplug}
-use Rattle.event_script.specs.declared.script.Entry.{Entry}
 use Rattle.event_script.specs.declared.script.Script.{Script}
+use Rattle.event_script.specs.Limits.{entry_limit, greatest_number}
+use Rattle.event_script.specs.World.{world_entries}
 
--- the buttons are 1 and 2, the ports 0 to 3, sources and values 0 to 65535
-abbrev pub IsSoundAct : Act → Type 0
-IsSoundAct (Down button) = (button ≡ 1) ⊎ (button ≡ 2)
-IsSoundAct (Up button) = (button ≡ 1) ⊎ (button ≡ 2)
-IsSoundAct (Raise event) = (pos 0 ≤ℤ event.source) × (event.source ≤ℤ pos 65535) × (pos 0 ≤ℤ event.value) × (event.value ≤ℤ pos 65535)
-IsSoundAct (Unplug port) = port ≤ 3
+-- the script of the board's world that it is, is sound there: order, end, buttons and ports
+abbrev pub IsSound : Script → Type 0
+IsSound s = IsSoundScript s.end (world_entries s.entries)
 
-pub record IsSound (s : Script) : Type 0 where
-  pub end : s.end ≤ 1073741824
-  pub order : IsNonDecreasingBy (λ (e : Entry). e.at) s.entries
-  pub within : All (λ e. e.at ≤ s.end) s.entries
-  pub acts : All (λ e. IsSoundAct e.act) s.entries
-  pub few : length s.entries ≤ 4096
+-- the source and value of an event have 16 bits
+abbrev pub HasSmallNumbers : Act → Type 0
+HasSmallNumbers (Down button) = Unit {0}
+HasSmallNumbers (Up button) = Unit {0}
+HasSmallNumbers (Raise event) = (pos 0 ≤ℤ event.source) × (event.source ≤ℤ pos greatest_number) × (pos 0 ≤ℤ event.value) × (event.value ≤ℤ pos greatest_number)
+HasSmallNumbers (Unplug port) = Unit {0}
+
+-- what the form of a file sets, and soundness doesn't ask
+pub record IsWithinForm (s : Script) : Type 0 where
+  pub few : length s.entries ≤ entry_limit
+  pub numbers : All (λ e. HasSmallNumbers e.act) s.entries

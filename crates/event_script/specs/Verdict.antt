@@ -5,6 +5,7 @@ use Rattle.event_script.specs.declared.script.Entry.{Entry}
 use Rattle.event_script.specs.declared.script.Script.{Script}
 use Rattle.event_script.specs.declared.script.ScriptCode.{ScriptCode}
 use Rattle.event_script.specs.declared.script.ScriptCode.TheVariants.{NotScript, OutOfOrder, PastEnd, TooMany}
+use Rattle.event_script.specs.Limits.{entry_limit}
 use Rattle.event_script.specs.Json.{IsTree}
 use Rattle.event_script.specs.Form.{script_of}
 
@@ -23,7 +24,7 @@ abbrev pub judged : Script → Result Script ScriptCode
 judged s =
     if falls_from 0 s.entries then Err OutOfOrder
     else if is_past s.end s.entries then Err PastEnd
-    else if nat_lt 4096 (length s.entries) then Err TooMany
+    else if nat_lt entry_limit (length s.entries) then Err TooMany
     else Ok s
 
 abbrev pub judged_form : Option Script → Result Script ScriptCode

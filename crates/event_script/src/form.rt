@@ -1,16 +1,18 @@
 // Reading a script from a JSON tree.
 ghost use Rattle.std.specs.Prelude.{◌≡◌, ◌≤◌, IfOk, IfSome, codes, option_map};
 ghost use Rattle.serde_json.specs.View.{view, items_view};
+ghost use Rattle.board_world.specs.Limits.{last_port};
+ghost use Rattle.event_script.specs.Limits.{greatest_number};
 ghost use Rattle.event_script.specs.Form.{whole, says, has_members, button_of, act_of, entry_of, entries_of, script_of, raised_with};
 
 use crate::{Act, Entry, Script};
-use board_world::Event;
+use board_world::{END_LIMIT, Event, LAST_PORT};
 use serde_json::Value;
 use std::alloc::Global;
 use sts_base::{NoMemory, Seq};
 
-/// The latest moment that a script may name, in milliseconds.
-const LATEST: u32 = 1_073_741_824;
+/// The greatest source and value of an event.
+const GREATEST_NUMBER: u32 = 65_535;
 
 /// The number of a member, where it is a whole number up to the greatest.
 fn whole(tree: &Value, name: &str, most: u32) -> Option<u32>
@@ -62,10 +64,10 @@ fn button_of(tree: &Value) -> Option<u8>
 
 /// The event of `source` and `value`.
 fn event_of(tree: &Value) -> Option<Act>
-    ensures { result ≡ raised_with (whole 65535 (codes "source") (view tree.now)) (whole 65535 (codes "value") (view tree.now)) }
+    ensures { result ≡ raised_with (whole greatest_number (codes "source") (view tree.now)) (whole greatest_number (codes "value") (view tree.now)) }
 {
-    let source = whole(tree, "source", 65535)?;
-    let value = whole(tree, "value", 65535)?;
+    let source = whole(tree, "source", GREATEST_NUMBER)?;
+    let value = whole(tree, "value", GREATEST_NUMBER)?;
     Some(Act::Raise(Event {
         source: source as i32,
         value: value as i32,
@@ -74,9 +76,9 @@ fn event_of(tree: &Value) -> Option<Act>
 
 /// The port that is named.
 fn port_of(tree: &Value) -> Option<Act>
-    ensures { result ≡ option_map Act.Unplug (whole 3 (codes "port") (view tree.now)) }
+    ensures { result ≡ option_map Act.Unplug (whole last_port (codes "port") (view tree.now)) }
 {
-    let port = whole(tree, "port", 3)?;
+    let port = whole(tree, "port", LAST_PORT)?;
     Some(Act::Unplug(port as u8))
 }
 
@@ -117,7 +119,7 @@ fn act_of(tree: &Value) -> Option<Act>
 fn entry_of(tree: &Value) -> Option<Entry>
     ensures { result ≡ entry_of (view tree.now) }
 {
-    let at = whole(tree, "at", LATEST)?;
+    let at = whole(tree, "at", END_LIMIT)?;
     let act = act_of(tree)?;
     Some(Entry { at, act })
 }
@@ -143,7 +145,7 @@ pub fn script_of(alloc: Global, tree: &Value) -> Result<Option<Script>, NoMemory
     if !has_members(tree, 2) {
         return Ok(None);
     }
-    let end = match whole(tree, "end", LATEST) {
+    let end = match whole(tree, "end", END_LIMIT) {
         None => return Ok(None),
         Some(end) => end,
     };

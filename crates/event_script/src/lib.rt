@@ -9,6 +9,6 @@ mod shapes;
 mod tests;
 mod verdict;
 
-pub use script::{Act, Entry, Script, ScriptCode, ScriptRefused};
+pub use script::{Act, ENTRY_LIMIT, Entry, Script, ScriptCode, ScriptRefused};
 pub use shapes::{lists_of_entries_are_scripts, members_are_exact, rows_are_entries};
 pub use verdict::read_script;

@@ -4,6 +4,9 @@ ghost use Rattle.std.specs.Prelude.{◌≡◌};
 use board_world::Event;
 use sts_base::Seq;
 
+/// The most entries that a script has.
+pub const ENTRY_LIMIT: usize = 4096;
+
 /// What someone outside does to the board.
 #[derive(Clone, Copy, Debug, PartialEq, Eq)]
 pub enum Act {
@@ -42,7 +45,7 @@ pub enum ScriptCode {
     OutOfOrder,
     /// Some entry comes after the end.
     PastEnd,
-    /// There are more than 4096 entries.
+    /// There are more than `ENTRY_LIMIT` entries.
     TooMany,
 }
 

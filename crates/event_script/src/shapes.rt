@@ -1,6 +1,8 @@
 // The rows of the form: each is read as what it says.
 ghost use Rattle.std.specs.Prelude.{◌≡◌, ◌≤◌, ℕ, List, Some, codes, pos, [], ◌∷◌};
 ghost use Rattle.serde_json.specs.Data.{Data, Items};
+ghost use Rattle.board_world.specs.Limits.{end_limit, last_port};
+ghost use Rattle.event_script.specs.Limits.{greatest_number};
 ghost use Rattle.event_script.specs.declared.script.Script.{Script};
 ghost use Rattle.event_script.specs.Names.{HasExactly, names_of};
 ghost use Rattle.event_script.specs.declared.script.Act.TheVariants.{Down, Up, Raise, Unplug};
@@ -10,18 +12,18 @@ ghost use Rattle.event_script.specs.Shapes.{press_tree, raise_tree, unplug_tree,
 
 /// Each row of the form is an entry, at every moment and with every number that it may have.
 pub fn rows_are_entries()
-    ensures down_a { (t : ℕ) → t ≤ 1073741824 → entry_of (press_tree t (codes "down") (codes "A")) ≡ Some (record { at = t; act = Down 1 }) }
-    ensures down_b { (t : ℕ) → t ≤ 1073741824 → entry_of (press_tree t (codes "down") (codes "B")) ≡ Some (record { at = t; act = Down 2 }) }
-    ensures up_a { (t : ℕ) → t ≤ 1073741824 → entry_of (press_tree t (codes "up") (codes "A")) ≡ Some (record { at = t; act = Up 1 }) }
-    ensures up_b { (t : ℕ) → t ≤ 1073741824 → entry_of (press_tree t (codes "up") (codes "B")) ≡ Some (record { at = t; act = Up 2 }) }
-    ensures raise { (t source value : ℕ) → t ≤ 1073741824 → source ≤ 65535 → value ≤ 65535 →
+    ensures down_a { (t : ℕ) → t ≤ end_limit → entry_of (press_tree t (codes "down") (codes "A")) ≡ Some (record { at = t; act = Down 1 }) }
+    ensures down_b { (t : ℕ) → t ≤ end_limit → entry_of (press_tree t (codes "down") (codes "B")) ≡ Some (record { at = t; act = Down 2 }) }
+    ensures up_a { (t : ℕ) → t ≤ end_limit → entry_of (press_tree t (codes "up") (codes "A")) ≡ Some (record { at = t; act = Up 1 }) }
+    ensures up_b { (t : ℕ) → t ≤ end_limit → entry_of (press_tree t (codes "up") (codes "B")) ≡ Some (record { at = t; act = Up 2 }) }
+    ensures raise { (t source value : ℕ) → t ≤ end_limit → source ≤ greatest_number → value ≤ greatest_number →
         entry_of (raise_tree t source value) ≡ Some (record { at = t; act = Raise (record { source = pos source; value = pos value }) }) }
-    ensures unplug { (t port : ℕ) → t ≤ 1073741824 → port ≤ 3 → entry_of (unplug_tree t port) ≡ Some (record { at = t; act = Unplug port }) }
+    ensures unplug { (t port : ℕ) → t ≤ end_limit → port ≤ last_port → entry_of (unplug_tree t port) ≡ Some (record { at = t; act = Unplug port }) }
 {}
 
 /// An object of an end and a list of such entries is a script.
 pub fn lists_of_entries_are_scripts()
-    ensures { (end : ℕ) (events : Items) (entries : List Entry) → end ≤ 1073741824 → entries_of events ≡ Some entries →
+    ensures { (end : ℕ) (events : Items) (entries : List Entry) → end ≤ end_limit → entries_of events ≡ Some entries →
         script_of (script_tree end events) ≡ Some (record { end = end; entries = entries }) }
 {}
 

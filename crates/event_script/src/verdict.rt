@@ -4,10 +4,10 @@ ghost use Rattle.serde_json.specs.Data.{Data};
 ghost use Rattle.serde_json.specs.View.{view};
 ghost use Rattle.event_script.specs.Json.{IsTree};
 ghost use Rattle.event_script.specs.Verdict.{falls_from, is_past, judged, Tells};
-ghost use Rattle.event_script.specs.Sound.{IsSound};
+ghost use Rattle.event_script.specs.Sound.{IsSound, IsWithinForm};
 
 use crate::form::script_of;
-use crate::{Entry, Script, ScriptCode, ScriptRefused};
+use crate::{ENTRY_LIMIT, Entry, Script, ScriptCode, ScriptRefused};
 use serde_json::Value;
 use std::alloc::Global;
 
@@ -63,17 +63,18 @@ fn judge(script: Script) -> Result<Script, ScriptCode>
     if is_past_end(entries, script.end) {
         return Err(ScriptCode::PastEnd);
     }
-    if entries.len() > 4096 {
+    if entries.len() > ENTRY_LIMIT {
         return Err(ScriptCode::TooMany);
     }
     Ok(script)
 }
 
 /// Reads a script. The bytes are refused by the first rule that they break, in the order of the codes: they are JSON by
-/// `serde_json`; the tree has a script's form; the entries stand in order; none is after the end; there are at most 4096.
+/// `serde_json`; the tree has a script's form; the entries stand in order; none is after the end; there are at most `ENTRY_LIMIT`.
 pub fn read_script(alloc: Global, bytes: &[u8]) -> Result<Script, ScriptRefused>
     ensures ok { IfOk result (λ s. Tells bytes.now (Ok s)) }
     ensures sound { IfOk result IsSound }
+    ensures within_form { IfOk result IsWithinForm }
     ensures not_json { result ≡ Err (ScriptRefused.Script ScriptCode.NotJson) → (tree : Data) → ¬ IsTree bytes.now tree }
     ensures not_script { result ≡ Err (ScriptRefused.Script ScriptCode.NotScript) → Tells bytes.now (Err ScriptCode.NotScript) }
     ensures out_of_order { result ≡ Err (ScriptRefused.Script ScriptCode.OutOfOrder) → Tells bytes.now (Err ScriptCode.OutOfOrder) }

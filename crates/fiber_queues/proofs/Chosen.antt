@@ -1,5 +1,5 @@
 -- Those who pass a test: the first of them, and the list without the first.
-use Rattle.std.proofs.Common.{◌≡◌, ℕ, ◌+◌, ◌<◌, ◌↔◌, Bool, true, false, IsTrue, if◌then◌else◌, Option, Some, None, List, [], ◌∷◌, ◌++◌, length, take, drop, get_or, map, refl, sym, ap, subst, ◌∙◌, append_assoc}
+use Rattle.std.proofs.Common.{◌≡◌, ℕ, ◌+◌, ◌<◌, ◌↔◌, Bool, true, false, IsTrue, if◌then◌else◌, Option, Some, None, List, [], ◌∷◌, ◌++◌, length, take, drop, get_or, refl, sym, ap, subst, ◌∙◌, append_assoc}
 use Rattle.std.proofs.lemmas.List.{append-nil, take_more, take-append-drop, drop_more}
 use Rattle.std.specs.Option.{option_to_list}
 use Rattle.board_world.specs.Waiting.{chosen, left}
@@ -122,44 +122,3 @@ module _ {X : Type 0} (test : X → Bool) where
 
   pub left-done : (ys xs : List (X × ℕ)) → chosen test ys ≡ [] → ys ≡ xs → xs ≡ left test xs
   left-done ys xs n s = sym (left-all test xs (ap (chosen test) (sym s) ∙ n))
-
--- with what stands for each key
-module _ {X Y Z : Type 0} (test : Z → Bool) (f : X → Y) where
-  abbrev keyed : List (Z × X) → List (Z × Y)
-  keyed ps = map (λ p. (p.0, f p.1)) ps
-
-  pub chosen-keyed : (ps : List (Z × X)) → chosen test (keyed ps) ≡ map f (chosen test ps)
-  chosen-keyed [] = refl
-  chosen-keyed (p ∷ ps) = by_test (test p.0) (chosen-keyed ps)
-    where
-      by_test : (b : Bool) → chosen test (keyed ps) ≡ map f (chosen test ps)
-          → (if b then f p.1 ∷ chosen test (keyed ps) else chosen test (keyed ps)) ≡ map f (if b then p.1 ∷ chosen test ps else chosen test ps)
-      by_test true h = ap (λ l. f p.1 ∷ l) h
-      by_test false h = h
-
-  pub left-keyed : (ps : List (Z × X)) → left test (keyed ps) ≡ keyed (left test ps)
-  left-keyed [] = refl
-  left-keyed (p ∷ ps) = by_test (test p.0) (left-keyed ps)
-    where
-      by_test : (b : Bool) → left test (keyed ps) ≡ keyed (left test ps)
-          → (if b then left test (keyed ps) else (p.0, f p.1) ∷ left test (keyed ps)) ≡ keyed (if b then left test ps else p ∷ left test ps)
-      by_test true h = h
-      by_test false h = ap (λ l. (p.0, f p.1) ∷ l) h
-
-  pub first-keyed : (ps : List (Z × X)) → option_to_list (first_chosen test (keyed ps)) ≡ map f (option_to_list (first_chosen test ps))
-  first-keyed [] = refl
-  first-keyed (p ∷ ps) = by_test (test p.0) (first-keyed ps)
-    where
-      by_test : (b : Bool) → option_to_list (first_chosen test (keyed ps)) ≡ map f (option_to_list (first_chosen test ps))
-          → option_to_list (if b then Some (f p.1) else first_chosen test (keyed ps)) ≡ map f (option_to_list (if b then Some p.1 else first_chosen test ps))
-      by_test true h = refl
-      by_test false h = h
-
-  pub without-keyed : (ps : List (Z × X)) → without_first test (keyed ps) ≡ keyed (without_first test ps)
-  without-keyed [] = refl
-  without-keyed (p ∷ ps) = by_test (test p.0) (without-keyed ps)
-    where
-      by_test : (b : Bool) → without_first test (keyed ps) ≡ keyed (without_first test ps)
-          → (if b then keyed ps else (p.0, f p.1) ∷ without_first test (keyed ps)) ≡ keyed (if b then ps else p ∷ without_first test ps)
-      by_test true h = refl
-      by_test false h = ap (λ l. (p.0, f p.1) ∷ l) h

@@ -1,2 +1,5 @@
 mod Chosen
-pub mod ListLaws
+mod Keyed
+mod Calls
+mod Keys
+pub mod Laws

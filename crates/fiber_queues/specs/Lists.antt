@@ -1,6 +1,7 @@
 -- The lists of those that aren't running, in the order in which they came.
 use Rattle.std.specs.Prelude.{◌≡◌, ℕ, ◌+◌, ◌<◌, ◌≤◌, Bool, IsTrue, if◌then◌else◌, Option, Some, None, List, [], ◌∷◌, length, take, slice_index_or}
 use Rattle.board_world.specs.declared.events.Event.{Event}
+use Rattle.board_world.specs.Limits.{seat_limit}
 use Rattle.board_world.specs.Waiting.{chosen}
 
 -- who is ready, who sleeps with its wake time, who waits with its event
@@ -28,10 +29,10 @@ module _ {X Y : Type 0} (test : X → Bool) where
 
 -- each list has room for 24 keys, and there are no more in all
 pub record HasRoom (ready sleepers waiters all : ℕ) : Type 0 where
-  pub of_ready : 24 ≤ ready
-  pub of_sleepers : 24 ≤ sleepers
-  pub of_waiters : 24 ≤ waiters
-  pub most : all ≤ 24
+  pub of_ready : seat_limit ≤ ready
+  pub of_sleepers : seat_limit ≤ sleepers
+  pub of_waiters : seat_limit ≤ waiters
+  pub most : all ≤ seat_limit
 
 -- at this place stands the first whose key passes
 pub record IsFirst {X : Type 0} (test : X → Bool) (xs : List (X × ℕ)) (at : ℕ) : Type 0 where

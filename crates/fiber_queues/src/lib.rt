@@ -2,11 +2,14 @@
 //! their events. Contracts see them as lists of keys, and say what a call does in the words of the board's world.
 #![tactic(auto)]
 
-mod laws;
+mod meanings;
 mod queues;
 mod search;
 #[cfg(test)]
 mod tests;
 
-pub use laws::{keys_stand_for_activities, moves_are_calls, wakings_add_up};
+pub use meanings::{
+    keys_are_chosen_alike, keys_stand_for_activities, moves_are_calls, wakings_add_up,
+    woken_keys_have_the_value,
+};
 pub use queues::Queues;

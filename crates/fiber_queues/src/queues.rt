@@ -1,12 +1,13 @@
 // The lists, and the calls on them.
 ghost use Rattle.std.specs.Prelude.{◌≡◌, ◌+◌, ◌<◌, ◌≤◌, ◌↔◌, [], ◌∷◌, ◌++◌, length, nat_lt, vec_len, vec_capacity, Some, None, IfOk, IfSome, IfNone};
 ghost use Rattle.std.specs.Option.{option_to_list};
+ghost use Rattle.board_world.specs.Limits.{seat_limit};
 ghost use Rattle.board_world.specs.Waiting.{least, chosen, left, hears};
 ghost use Rattle.fiber_queues.specs.Lists.{no_lists, total, HasRoom, first_chosen};
 ghost use Rattle.fiber_queues.specs.Calls.{due_woken, waiter_woken};
 
 use crate::search::{first_due, first_hearing, least_of};
-use board_world::Event;
+use board_world::{Event, SEAT_LIMIT};
 use std::alloc::Global;
 use std::marker::Model;
 use sts_base::NoMemory;
@@ -34,9 +35,9 @@ impl Model for Queues {
 /// An empty list with room for 24.
 fn with_room<T: Drop>(alloc: Global) -> Result<Vec<T>, NoMemory>
     ensures empty { IfOk result (λ list. list.items ≡ []) }
-    ensures room { IfOk result (λ list. vec_capacity list ≡ 24) }
+    ensures room { IfOk result (λ list. vec_capacity list ≡ seat_limit) }
 {
-    match Vec::with_capacity(alloc, 24) {
+    match Vec::with_capacity(alloc, SEAT_LIMIT) {
         Ok(list) => Ok(list),
         Err(_) => Err(NoMemory),
     }
@@ -69,7 +70,7 @@ impl Queues {
 
     /// A key becomes the last ready one.
     pub fn ready(&mut self, key: usize)
-        requires { total self.old < 24 }
+        requires { total self.old < seat_limit }
         ensures { self.new ≡ record self.old { ready = self.old.ready ++ key ∷ [] } }
     {
         append(&mut self.ready, key);
@@ -77,7 +78,7 @@ impl Queues {
 
     /// A key becomes the last sleeper, until this moment.
     pub fn sleep(&mut self, key: usize, wake: u32)
-        requires { total self.old < 24 }
+        requires { total self.old < seat_limit }
         ensures { self.new ≡ record self.old { sleepers = self.old.sleepers ++ (wake, key) ∷ [] } }
     {
         append(&mut self.sleepers, (wake, key));
@@ -85,7 +86,7 @@ impl Queues {
 
     /// A key becomes the last waiter, for this event.
     pub fn wait(&mut self, key: usize, event: Event)
-        requires { total self.old < 24 }
+        requires { total self.old < seat_limit }
         ensures { self.new ≡ record self.old { waiters = self.old.waiters ++ (event, key) ∷ [] } }
     {
         append(&mut self.waiters, (event, key));

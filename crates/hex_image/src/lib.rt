@@ -10,8 +10,6 @@ mod line;
 mod reading;
 mod record;
 mod refused;
-#[cfg(test)]
-mod tests;
 mod writing;
 
 pub use laws::{one_reading, round_trip};

@@ -5,8 +5,8 @@ use Rattle.std.proofs.lemmas.Nat.{bit_set_by_shift}
 use Rattle.std.proofs.lemmas.Nat.Bits.{bit_at-suc, bit_at-zero, bit_at_lowest, shr_and_one}
 use Rattle.board_world.specs.declared.events.Event.{Event}
 use Rattle.board_world.specs.Waiting.{some_of}
-use Rattle.message_bus.specs.Listening.{Listening, begins_new}
-use Rattle.message_bus.specs.Heard.{begun_bits, Listens, changed, held_at, alive_at}
+use Rattle.message_bus.specs.ListenerState.{ListenerState, begins_new}
+use Rattle.message_bus.specs.BusState.{begun_bits, AtListener, changed, held_at, alive_at}
 
 module _ {X : Type 0} (f : X → X) where
   -- the next item is changed too
@@ -29,17 +29,17 @@ module _ {X : Type 0} (f : X → X) where
   all-changed (x ∷ xs) (suc i) h = ap (λ l. f x ∷ l) (all-changed xs i (omega arith))
 
 -- what is known of the listener at a place
-pub held-get : (ls : List Listening) (i : ℕ) (d : Listening) → i < length ls → held_at i ls ≡ (get_or ls i d).hearing.held
+pub held-get : (ls : List ListenerState) (i : ℕ) (d : ListenerState) → i < length ls → held_at i ls ≡ (get_or ls i d).hearing.held
 held-get [] i d h = absurd (omega arith)
 held-get (l ∷ ls) zero d h = refl
 held-get (l ∷ ls) (suc i) d h = held-get ls i d (omega arith)
 
-pub alive-get : (ls : List Listening) (i : ℕ) (d : Listening) → i < length ls → alive_at i ls ≡ (get_or ls i d).alive
+pub alive-get : (ls : List ListenerState) (i : ℕ) (d : ListenerState) → i < length ls → alive_at i ls ≡ (get_or ls i d).alive
 alive-get [] i d h = absurd (omega arith)
 alive-get (l ∷ ls) zero d h = refl
 alive-get (l ∷ ls) (suc i) d h = alive-get ls i d (omega arith)
 
-pub changed-set : (f : Listening → Listening) (ls : List Listening) (i : ℕ) (d : Listening) → i < length ls → changed f i ls ≡ set ls i (f (get_or ls i d))
+pub changed-set : (f : ListenerState → ListenerState) (ls : List ListenerState) (i : ℕ) (d : ListenerState) → i < length ls → changed f i ls ≡ set ls i (f (get_or ls i d))
 changed-set f [] i d h = absurd (omega arith)
 changed-set f (l ∷ ls) zero d h = refl
 changed-set f (l ∷ ls) (suc i) d h = ap (λ rest. l ∷ rest) (changed-set f ls i d (omega arith))
@@ -50,7 +50,7 @@ module _ (e : Event) where
   bit false = 0
 
   -- the lowest bit, and the bits behind it
-  pub bits-set : (ls : List Listening) (i : ℕ) → (bit_at (begun_bits e ls) i ≡ 1) ↔ Listens (λ l. IsTrue (begins_new e l)) i ls
+  pub bits-set : (ls : List ListenerState) (i : ℕ) → (bit_at (begun_bits e ls) i ≡ 1) ↔ AtListener (λ l. IsTrue (begins_new e l)) i ls
   bits-set [] i = (λ h. absurd (omega (arith, h, bit_at-zero i)), λ h. absurd h)
   bits-set (l ∷ ls) zero = by_first (begins_new e l) (begun_bits e ls)
     where
@@ -59,11 +59,11 @@ module _ (e : Event) where
       by_first false m = (λ h. absurd (let k = bit_at_lowest (0 + 2 * m) in omega (arith, h, k)), λ h. absurd (cc))
   bits-set (l ∷ ls) (suc i) = by_first (begins_new e l) (begun_bits e ls) (bits-set ls i)
     where
-      by_first : (b : Bool) (m : ℕ) → ((bit_at m i ≡ 1) ↔ Listens (λ l. IsTrue (begins_new e l)) i ls) → (bit_at ((if b then 1 else 0) + 2 * m) (suc i) ≡ 1) ↔ Listens (λ l. IsTrue (begins_new e l)) i ls
+      by_first : (b : Bool) (m : ℕ) → ((bit_at m i ≡ 1) ↔ AtListener (λ l. IsTrue (begins_new e l)) i ls) → (bit_at ((if b then 1 else 0) + 2 * m) (suc i) ≡ 1) ↔ AtListener (λ l. IsTrue (begins_new e l)) i ls
       by_first true m h = (let half : (1 + 2 * m) / 2 ≡ m = omega arith in rw (bit_at-suc (1 + 2 * m) i, half) h)
       by_first false m h = (let half : (0 + 2 * m) / 2 ≡ m = omega arith in rw (bit_at-suc (0 + 2 * m) i, half) h)
 
-  pub each-bit : (ls : List Listening) (i : ℕ) → IsBitSet (begun_bits e ls) i ↔ Listens (λ l. IsTrue (begins_new e l)) i ls
+  pub each-bit : (ls : List ListenerState) (i : ℕ) → IsBitSet (begun_bits e ls) i ↔ AtListener (λ l. IsTrue (begins_new e l)) i ls
   each-bit ls i =
       let n = begun_bits e ls in
       let shift : (bit_at n i ≡ 1) ↔ IsBitSet n i = rw (← shr_and_one n i) (bit_set_by_shift n i) in
@@ -71,7 +71,7 @@ module _ (e : Event) where
       (λ h. set.0 (shift.1 h), λ h. shift.0 (set.1 h))
 
   -- some bit is set where some listener begins a new activity
-  pub some-bit : (ls : List Listening) → IsTrue (some_of (begins_new e) ls) ↔ (0 < begun_bits e ls)
+  pub some-bit : (ls : List ListenerState) → IsTrue (some_of (begins_new e) ls) ↔ (0 < begun_bits e ls)
   some-bit [] = (λ h. absurd (cc), λ h. absurd (omega arith))
   some-bit (l ∷ ls) = by_first (begins_new e l) (some_of (begins_new e) ls) (begun_bits e ls) (some-bit ls)
     where
@@ -80,25 +80,25 @@ module _ (e : Event) where
       by_first false c m h = (λ k. omega (arith, h.0 k), λ k. h.1 (omega arith))
 
 -- the listener at a place, in a list that is that of the bus
-module _ (old ls : List Listening) (i : ℕ) (l : Listening) (same : old ≡ ls) (within : i < length ls) (here : l ≡ get_or old i l) where
+module _ (old ls : List ListenerState) (i : ℕ) (l : ListenerState) (same : old ≡ ls) (within : i < length ls) (here : l ≡ get_or old i l) where
   in_list : l ≡ get_or ls i l
-  in_list = subst (λ (xs : List Listening). l ≡ get_or xs i l) same here
+  in_list = subst (λ (xs : List ListenerState). l ≡ get_or xs i l) same here
 
   pub alive-here : alive_at i ls ≡ l.alive
-  alive-here = alive-get ls i l within ∙ ap (λ (m : Listening). m.alive) (sym in_list)
+  alive-here = alive-get ls i l within ∙ ap (λ (m : ListenerState). m.alive) (sym in_list)
 
   pub held-here : held_at i ls ≡ l.hearing.held
-  held-here = held-get ls i l within ∙ ap (λ (m : Listening). m.hearing.held) (sym in_list)
+  held-here = held-get ls i l within ∙ ap (λ (m : ListenerState). m.hearing.held) (sym in_list)
 
-  pub changed-here : (f : Listening → Listening) → set old i (f l) ≡ changed f i ls
-  changed-here f = ap (λ (xs : List Listening). set xs i (f l)) same ∙ ap (λ (m : Listening). set ls i (f m)) in_list ∙ sym (changed-set f ls i l within)
+  pub changed-here : (f : ListenerState → ListenerState) → set old i (f l) ≡ changed f i ls
+  changed-here f = ap (λ (xs : List ListenerState). set xs i (f l)) same ∙ ap (λ (m : ListenerState). set ls i (f m)) in_list ∙ sym (changed-set f ls i l within)
 
 -- one more listener has heard the event
-pub heard-next : (f : Listening → Listening) (xs ys : List Listening) (i : ℕ) (l l' : Listening) → ys ≡ map f (take i xs) ++ drop i xs → l ≡ get_or ys i l → l' ≡ f l → i < length xs
+pub heard-next : (f : ListenerState → ListenerState) (xs ys : List ListenerState) (i : ℕ) (l l' : ListenerState) → ys ≡ map f (take i xs) ++ drop i xs → l ≡ get_or ys i l → l' ≡ f l → i < length xs
     → set ys i l' ≡ map f (take (i + 1) xs) ++ drop (i + 1) xs
 heard-next f xs ys i l l' so_far here changes within =
-    let then_here : l ≡ get_or xs i l = here ∙ ap (λ (zs : List Listening). get_or zs i l) so_far ∙ unchanged-next f xs i l within in
+    let then_here : l ≡ get_or xs i l = here ∙ ap (λ (zs : List ListenerState). get_or zs i l) so_far ∙ unchanged-next f xs i l within in
     let now : set ys i l' ≡ set (map f (take i xs) ++ drop i xs) i (f (get_or xs i l)) =
-    ap (λ (zs : List Listening). set zs i l') so_far ∙ ap (λ (m : Listening). set (map f (take i xs) ++ drop i xs) i m) (changes ∙ ap f then_here) in
+    ap (λ (zs : List ListenerState). set zs i l') so_far ∙ ap (λ (m : ListenerState). set (map f (take i xs) ++ drop i xs) i m) (changes ∙ ap f then_here) in
     let more : map f (take (suc i) xs) ++ drop (suc i) xs ≡ map f (take (i + 1) xs) ++ drop (i + 1) xs = rw add-one refl in
     now ∙ changed-next f xs i l within ∙ more

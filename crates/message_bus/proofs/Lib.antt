@@ -1,2 +1,6 @@
 mod Changes
-pub mod WorldLaws
+mod Counting
+mod Handlers
+mod Bits
+mod Keeping
+pub mod Laws

@@ -1,5 +1,6 @@
-pub mod Listening
-pub mod Heard
+pub mod ListenerState
+pub mod BusState
+pub mod Numbers
 pub mod Answers
 pub mod Agreement
 pub mod Rows

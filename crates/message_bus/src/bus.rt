@@ -1,14 +1,15 @@
 // The bus, and the calls on it.
 ghost use Rattle.std.specs.Prelude.{◌≡◌, ◌+◌, ◌<◌, ◌≤◌, ◌^◌, ◌↔◌, ℕ, [], ◌∷◌, ◌++◌, length, map, All, IsTrue, IsOk, OnOk, OnErr, IfOk, IsSome, None, slice_get, IsBitSet, Option, option_map};
 ghost use Rattle.std.specs.Option.{option_to_list};
+ghost use Rattle.board_world.specs.Limits.{listener_limit, queue_limit};
 ghost use Rattle.board_world.specs.Waiting.{some_of};
-ghost use Rattle.message_bus.specs.Listening.{fresh, begins_new, heard, oldest, ended};
-ghost use Rattle.message_bus.specs.Heard.{queued, begun_bits, Listens, changed, held_at, alive_at};
+ghost use Rattle.message_bus.specs.ListenerState.{fresh, begins_new, heard, oldest, ended};
+ghost use Rattle.message_bus.specs.BusState.{queued, begun_bits, AtListener, changed, held_at, alive_at};
 ghost use Rattle.message_bus.specs.Answers.{answer_of};
 
 use crate::held::Held;
-use crate::listening::{Place, begun, hear_all, some_begins};
-use board_world::{Event, Listener};
+use crate::registration::{Registration, begun, hear_all, some_begins};
+use board_world::{Event, LISTENER_LIMIT, Listener, QUEUE_LIMIT};
 use circular_buffer::HeapCircularBuffer;
 use std::alloc::Global;
 use std::marker::Model;
@@ -18,20 +19,21 @@ use sts_base::NoMemory;
 /// for 32 listeners, for ten held events of each, and for 32 queued events.
 #[derive(Drop)]
 pub struct Bus {
-    places: Vec<Place>,
+    registrations: Vec<Registration>,
     spare: Vec<Held>,
     queue: HeapCircularBuffer<Event>,
 }
 
 impl Model for Bus {
     ghost use Rattle.std.specs.Prelude.{◌≡◌, ◌+◌, ◌≤◌, vec_len, vec_capacity, length};
-    ghost use Rattle.message_bus.specs.Heard.{Heard};
+    ghost use Rattle.board_world.specs.Limits.{listener_limit, queue_limit};
+    ghost use Rattle.message_bus.specs.BusState.{BusState};
 
-    ghost Value = { Heard };
+    ghost Value = { BusState };
 
-    ghost view = { λ b. record { listeners = b.places.items; queue = b.queue.items } };
+    ghost view = { λ b. record { listeners = b.registrations.items; queue = b.queue.items } };
 
-    ghost invariant = { λ b. (32 ≤ vec_capacity b.places) × (vec_len b.places + vec_len b.spare ≡ 32) × (b.queue.capacity ≡ 32) × (length b.queue.items ≤ 32) };
+    ghost invariant = { λ b. (listener_limit ≤ vec_capacity b.registrations) × (vec_len b.registrations + vec_len b.spare ≡ listener_limit) × (b.queue.capacity ≡ queue_limit) × (length b.queue.items ≤ queue_limit) };
 }
 
 /// 32 listeners stand.
@@ -49,13 +51,13 @@ pub enum Raised {
 
 /// Room for ten held events of each of 32 listeners.
 fn rooms(alloc: Global) -> Result<Vec<Held>, NoMemory>
-    ensures { IfOk result (λ spare. length spare.items ≡ 32) }
+    ensures { IfOk result (λ spare. length spare.items ≡ listener_limit) }
 {
-    let mut spare = match Vec::with_capacity(alloc, 32) {
+    let mut spare = match Vec::with_capacity(alloc, LISTENER_LIMIT) {
         Ok(spare) => spare,
         Err(_) => return Err(NoMemory),
     };
-    for _ in 0..32usize {
+    for _ in 0..LISTENER_LIMIT {
         let held = Held::new(alloc)?;
         if spare.push(held).is_err() {
             return Err(NoMemory);
@@ -70,13 +72,13 @@ impl Bus {
         ensures { IfOk result (λ b. b ≡ record { listeners = []; queue = [] }) }
     {
         let spare = rooms(alloc)?;
-        let places = match Vec::with_capacity(alloc, 32) {
-            Ok(places) => places,
+        let registrations = match Vec::with_capacity(alloc, LISTENER_LIMIT) {
+            Ok(registrations) => registrations,
             Err(_) => return Err(NoMemory),
         };
-        match HeapCircularBuffer::with_capacity(alloc, 32) {
+        match HeapCircularBuffer::with_capacity(alloc, QUEUE_LIMIT) {
             Ok(queue) => Ok(Bus {
-                places,
+                registrations,
                 spare,
                 queue,
             }),
@@ -86,13 +88,13 @@ impl Bus {
 
     /// Registers a listener behind the others. It is refused exactly where 32 stand; then nothing changes.
     pub fn listen(&mut self, listener: Listener) -> Result<(), ListenersFull>
-        ensures room { IsOk result ↔ (length self.old.listeners < 32) }
+        ensures room { IsOk result ↔ (length self.old.listeners < listener_limit) }
         ensures ok { OnOk result (self.new ≡ record self.old { listeners = self.old.listeners ++ fresh listener ∷ [] }) }
         ensures full { OnErr result (self.new ≡ self.old) }
     {
         match self.spare.pop() {
             None => Err(ListenersFull),
-            Some(held) => match self.places.push(Place::new(listener, held)) {
+            Some(held) => match self.registrations.push(Registration::new(listener, held)) {
                 Ok(()) => Ok(()),
                 Err(_) => unreachable!(),
             },
@@ -103,7 +105,7 @@ impl Bus {
     pub fn raise(&mut self, event: Event) -> Raised
         ensures answer { result ≡ answer_of self.old.queue }
         ensures queue { self.new ≡ record self.old { queue = queued event self.old.queue } }
-        ensures most { length self.new.queue ≤ 32 }
+        ensures most { length self.new.queue ≤ queue_limit }
     {
         match self.queue.try_push_back(event) {
             Ok(()) => Raised::Queued,
@@ -122,9 +124,9 @@ impl Bus {
     /// How many listeners stand.
     pub fn count(&self) -> usize
         ensures count { result ≡ length self.now.listeners }
-        ensures most { result ≤ 32 }
+        ensures most { result ≤ listener_limit }
     {
-        self.places.len()
+        self.registrations.len()
     }
 
     /// The listener with this number, counted from 0 in the order of registration. None exactly past the end.
@@ -132,9 +134,9 @@ impl Bus {
         ensures value { result ≡ option_map (λ l. l.hearing.listener) (slice_get self.now.listeners at) }
         ensures within { IsSome result ↔ (at < length self.now.listeners) }
     {
-        match self.places.get(at) {
+        match self.registrations.get(at) {
             None => None,
-            Some(place) => Some(place.listener()),
+            Some(registration) => Some(registration.listener()),
         }
     }
 
@@ -144,11 +146,11 @@ impl Bus {
     pub fn dispatch(&mut self, event: Event) -> u32
         requires { All (λ l. l.alive < 1000) self.old.listeners }
         ensures bits { result ≡ begun_bits event self.old.listeners }
-        ensures each { (i : ℕ) → IsBitSet result i ↔ Listens (λ l. IsTrue (begins_new event l)) i self.old.listeners }
+        ensures each { (i : ℕ) → IsBitSet result i ↔ AtListener (λ l. IsTrue (begins_new event l)) i self.old.listeners }
         ensures after { self.new ≡ record self.old { listeners = map (heard event) self.old.listeners } }
     {
-        let bits = begun(self.places.as_slice(), event);
-        hear_all(self.places.as_mut_slice(), event);
+        let bits = begun(self.registrations.as_slice(), event);
+        hear_all(self.registrations.as_mut_slice(), event);
         bits
     }
 
@@ -157,7 +159,7 @@ impl Bus {
         ensures some { result ≡ some_of (begins_new event) self.now.listeners }
         ensures bits { IsTrue result ↔ (0 < begun_bits event self.now.listeners) }
     {
-        some_begins(self.places.as_slice(), event)
+        some_begins(self.registrations.as_slice(), event)
     }
 
     /// An activity of listener `at` ends: the oldest event that the listener holds is given, and the activity begins
@@ -168,7 +170,7 @@ impl Bus {
         ensures next { result ≡ oldest (held_at at self.old.listeners) }
         ensures after { self.new ≡ record self.old { listeners = changed ended at self.old.listeners } }
     {
-        let place = &mut self.places[at];
-        place.end()
+        let registration = &mut self.registrations[at];
+        registration.end()
     }
 }

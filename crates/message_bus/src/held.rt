@@ -1,8 +1,9 @@
 // The events that a listener holds.
 ghost use Rattle.std.specs.Prelude.{◌≡◌, [], ◌∷◌, ◌++◌, ◌≤◌, length, nat_lt, if◌then◌else◌, IfOk, drop};
-ghost use Rattle.message_bus.specs.Listening.{oldest};
+ghost use Rattle.board_world.specs.Limits.{held_limit};
+ghost use Rattle.message_bus.specs.ListenerState.{oldest};
 
-use board_world::Event;
+use board_world::{Event, HELD_LIMIT};
 use circular_buffer::HeapCircularBuffer;
 use std::alloc::Global;
 use std::marker::Model;
@@ -16,13 +17,14 @@ pub struct Held {
 
 impl Model for Held {
     ghost use Rattle.std.specs.Prelude.{◌≡◌, List};
+    ghost use Rattle.board_world.specs.Limits.{held_limit};
     ghost use Rattle.board_world.specs.declared.events.Event.{Event};
 
     ghost Value = { List Event };
 
     ghost view = { λ h. h.events.items };
 
-    ghost invariant = { λ h. h.events.capacity ≡ 10 };
+    ghost invariant = { λ h. h.events.capacity ≡ held_limit };
 }
 
 impl Held {
@@ -30,7 +32,7 @@ impl Held {
     pub fn new(alloc: Global) -> Result<Held, NoMemory>
         ensures { IfOk result (λ h. h ≡ []) }
     {
-        match HeapCircularBuffer::with_capacity(alloc, 10) {
+        match HeapCircularBuffer::with_capacity(alloc, HELD_LIMIT) {
             Ok(events) => Ok(Held { events }),
             Err(_) => Err(NoMemory),
         }
@@ -45,7 +47,7 @@ impl Held {
 
     /// Holds one more event; an eleventh one is lost.
     pub fn hold(&mut self, event: Event)
-        ensures { self.new ≡ (if nat_lt (length self.old) 10 then self.old ++ event ∷ [] else self.old) }
+        ensures { self.new ≡ (if nat_lt (length self.old) held_limit then self.old ++ event ∷ [] else self.old) }
     {
         let _ = self.events.try_push_back(event);
     }

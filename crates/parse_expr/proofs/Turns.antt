@@ -9,9 +9,9 @@ use Rattle.sts_grammar.specs.Source.{Source, kind, place}
 use Rattle.sts_grammar.specs.Operators.{infix_number, assignment, bump_by}
 use Rattle.sts_grammar.specs.Found.{◌>>=◌}
 use Rattle.sts_grammar.specs.ReadExpressions.{Readers, binds_before, read_operator, read_further, read_behind, climb, close_at, unwind, read_operand}
-use Rattle.parse_rules.specs.Gives.{Fails}
-use Rattle.parse_rules.specs.declared.reader.Unread.{Unread}
-use Rattle.parse_rules.specs.declared.reader.Unread.TheVariants.{Syntax, NoMemory}
+use Rattle.parse_expr.specs.Gives.{Fails}
+use Rattle.parse_expr.specs.declared.reader.Unread.{Unread}
+use Rattle.parse_expr.specs.declared.reader.Unread.TheVariants.{Syntax, NoMemory}
 use Rattle.sts_grammar.specs.ReadStatements.{read_statement}
 use Rattle.sts_grammar.specs.Reading.{expression, statement, expression_readers}
 

@@ -1,17 +1,11 @@
 -- What the public calls answer.
-use Rattle.std.specs.Prelude.{◌≡◌, ℕ, ◌<◌, List, length}
+use Rattle.std.specs.Prelude.{◌≡◌, ℕ, ◌<◌, length}
 use Rattle.sts_base.specs.declared.refused.Code.TheVariants as code
 use Rattle.sts_base.specs.declared.refused.Refused.{Refused}
 use Rattle.sts_base.specs.declared.refused.Refused.TheVariants as refused
-use Rattle.sts_base.specs.declared.tables.Tables.{Tables}
-use Rattle.sts_lexer.specs.declared.token.Token.{Token}
 use Rattle.sts_grammar.specs.Source.{Source, place}
-use Rattle.parse_rules.specs.declared.reader.Unread.{Unread}
-use Rattle.parse_rules.specs.declared.reader.Unread.TheVariants.{Syntax, NoMemory}
-
--- tokens with the names of their tables
-abbrev pub text_of : List Token → Tables → Source
-text_of tokens tables = record { tokens = tokens; names = tables.names }
+use Rattle.parse_expr.specs.declared.reader.Unread.{Unread}
+use Rattle.parse_expr.specs.declared.reader.Unread.TheVariants.{Syntax, NoMemory}
 
 -- a refusal at the place of one of the tokens
 abbrev pub IsSyntaxAt : Source → Refused → Type 0

@@ -1,65 +1,51 @@
-// The readers of expressions and statements, which call each other.
-ghost use Rattle.std.specs.Prelude.{◌≡◌, ◌≤◌, IfOk};
+// The rules take the readers of what a node holds as parameters, so that each is proved by itself.
+ghost use Rattle.std.specs.Prelude.{◌≡◌, ◌<◌, ◌≤◌, ◌+◌, IfOk};
 ghost use Rattle.sts_syntax.specs.Nesting.{nesting, statement_nesting};
 ghost use Rattle.sts_syntax.specs.Views.{tree, statement};
 ghost use Rattle.sts_grammar.specs.Reading as reading;
-ghost use Rattle.parse_rules.specs.Gives.{source, Gives, read_of};
+ghost use Rattle.parse_expr.specs.Gives.{source, Gives, read_of};
+ghost use Rattle.parse_expr.specs.Nests.{Nests};
 
-use parse_rules::{Grammar, Read, Reader, Unread};
+use crate::reader::{Read, Reader, Unread};
 use sts_syntax::{Expr, Stmt};
 
-/// What reads an expression.
+/// What reads a node: the readers of the expressions and of the statements that it holds.
 #[derive(Clone, Copy)]
-pub struct Expressions<'a, E, S> {
-    /// what reads the expressions and the statements that it holds
-    pub held: Grammar<'a, E, S>,
+pub struct Grammar<'a, E, S> {
+    pub reader: Reader<'a>,
+    /// the nesting that what a node holds may have
+    pub room: usize,
+    pub expr: E,
+    pub stmt: S,
 }
 
-/// An expression of at most this nesting that holds at least so tightly together.
-#[cycle(grammar)]
-pub fn expression<'a>(
-    reader: Reader<'a>,
-    room: usize,
-    level: u8,
-    at: usize,
-) -> Result<Read<Expr>, Unread>
-    ensures reads { Gives (read_of tree) result (reading.expression (source reader.entry) reader.entry.upto room level at) }
-    ensures nesting { IfOk result (λ r. r.nesting ≡ nesting (tree r.item)) }
-    ensures fits { IfOk result (λ r. r.nesting ≤ room) }
-{
-    if room == 0 {
-        return Err(Unread::Syntax(at));
+impl<
+    'a,
+    E: Fn(Reader<'a>, usize, u8, usize) -> Result<Read<Expr>, Unread>,
+    S: Fn(Reader<'a>, usize, bool, bool, usize) -> Result<Read<Stmt>, Unread>,
+> Grammar<'a, E, S> {
+    /// An expression that holds at least so tightly together.
+    pub fn expression(&self, level: u8, at: usize) -> Result<Read<Expr>, Unread>
+        requires { Nests self.now E.pre E.post S.pre S.post }
+        ensures reads { Gives (read_of tree) result (reading.expression (source self.now.reader) self.now.reader.upto self.now.room level at) }
+        ensures nesting { IfOk result (λ r. r.nesting ≡ nesting (tree r.item)) }
+        ensures fits { IfOk result (λ r. r.nesting ≤ self.now.room) }
+    {
+        (self.expr)(self.reader, self.room, level, at)
     }
-    let held = Grammar {
-        reader,
-        room: room - 1,
-        expr: expression,
-        stmt: statement,
-    };
-    Expressions { held }.operand(level, at)
-}
 
-/// A statement of at most this nesting.
-#[cycle(grammar)]
-pub fn statement<'a>(
-    reader: Reader<'a>,
-    room: usize,
-    in_function: bool,
-    in_loop: bool,
-    at: usize,
-) -> Result<Read<Stmt>, Unread>
-    ensures reads { Gives (read_of statement) result (reading.statement (source reader.entry) room in_function in_loop at) }
-    ensures nesting { IfOk result (λ r. r.nesting ≡ statement_nesting (statement r.item)) }
-    ensures fits { IfOk result (λ r. r.nesting ≤ room) }
-{
-    if room == 0 {
-        return Err(Unread::Syntax(at));
+    /// A statement.
+    pub fn statement(
+        &self,
+        in_function: bool,
+        in_loop: bool,
+        at: usize,
+    ) -> Result<Read<Stmt>, Unread>
+        requires { Nests self.now E.pre E.post S.pre S.post }
+        ensures reads { Gives (read_of statement) result (reading.statement (source self.now.reader) self.now.room in_function in_loop at) }
+        ensures nesting { IfOk result (λ r. r.nesting ≡ statement_nesting (statement r.item)) }
+        ensures fits { IfOk result (λ r. r.nesting ≤ self.now.room) }
+    {
+        (self.stmt)(self.reader, self.room, in_function, in_loop, at)
     }
-    Grammar {
-        reader: reader.whole(),
-        room: room - 1,
-        expr: expression,
-        stmt: statement,
-    }
-    .any_statement(in_function, in_loop, at)
 }

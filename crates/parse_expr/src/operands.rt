@@ -4,15 +4,16 @@ ghost use Rattle.sts_syntax.specs.Nesting.{nesting};
 ghost use Rattle.sts_syntax.specs.Views.{tree};
 ghost use Rattle.sts_grammar.specs.Source as source;
 ghost use Rattle.sts_grammar.specs.ReadExpressions as read;
-ghost use Rattle.parse_rules.specs.Headings.{parts};
-ghost use Rattle.parse_rules.specs.Gives.{source, nested, Gives, read_of};
-ghost use Rattle.parse_rules.specs.Nests.{Nests};
+ghost use Rattle.parse_expr.specs.Headings.{parts};
+ghost use Rattle.parse_expr.specs.Nests.{Nests};
+ghost use Rattle.parse_expr.specs.Gives.{source, nested, Gives, read_of};
 
-use crate::grammar::Expressions;
-use parse_rules::operators::{bump_by, prefix_number};
-use parse_rules::{Heading, Read, Reader, Unread};
+use crate::grammar::Grammar;
+use crate::headings::Heading;
+use crate::operators::{ASSIGNMENT_LEVEL, PREFIX_LEVEL, bump_by, prefix_number};
+use crate::reader::{Read, Reader, Unread, lost};
 use sts_lexer::{Kind, Mark, Word};
-use sts_syntax::{Expr, Node, Stmt};
+use sts_syntax::{Expr, Node, Stmt, build};
 
 /// Whether an expression can be assigned to: a name, a member or an item.
 pub fn is_target(e: &Expr) -> bool
@@ -43,7 +44,7 @@ impl<
     'a,
     E: Fn(Reader<'a>, usize, u8, usize) -> Result<Read<Expr>, Unread>,
     S: Fn(Reader<'a>, usize, bool, bool, usize) -> Result<Read<Stmt>, Unread>,
-> Expressions<'a, E, S> {
+> Grammar<'a, E, S> {
     /// A function expression or an arrow, behind its heading.
     #[tactic(auto, unfolding(sts_grammar::specs::ReadExpressions::read_handler))]
     fn handler(
@@ -53,15 +54,15 @@ impl<
         heading: Heading,
         at: usize,
     ) -> Result<Read<Expr>, Unread>
-        requires { Nests self.now.held.reader self.now.held.room (E.pre self.now.held.expr) (E.post self.now.held.expr) (S.pre self.now.held.stmt) (S.post self.now.held.stmt) }
-        ensures reads { Gives (read_of tree) result (read.read_handler (source self.now.held.reader) (nested self.now.held.reader self.now.held.room) place arrow (parts heading) at) }
+        requires { Nests self.now E.pre E.post S.pre S.post }
+        ensures reads { Gives (read_of tree) result (read.read_handler (source self.now.reader) (nested self.now.reader self.now.room) place arrow (parts heading) at) }
         ensures nesting { IfOk result (λ r. r.nesting ≡ nesting (tree r.item)) }
-        ensures fits { IfOk result (λ r. r.nesting ≤ self.now.held.room + 1) }
+        ensures fits { IfOk result (λ r. r.nesting ≤ self.now.room + 1) }
     {
-        let all = self.held.block(true, false, at)?;
-        let body = sts_build::body(place, heading.params, heading.gives, all.item, arrow);
+        let all = self.block(true, false, at)?;
+        let body = build::body(place, heading.params, heading.gives, all.item, arrow);
         Ok(Read {
-            item: sts_build::handler(self.held.reader.alloc, place, body)?,
+            item: build::handler(self.reader.alloc, place, body)?,
             end: all.end,
             nesting: all.nesting + 1,
         })
@@ -69,18 +70,18 @@ impl<
 
     /// `++` or `--` before what can be assigned to.
     fn bumped(&self, place: u32, by: i32, a: Read<Expr>) -> Result<Read<Expr>, Unread>
-        requires small { a.nesting ≤ self.now.held.room }
-        requires nests { Nests self.now.held.reader self.now.held.room (E.pre self.now.held.expr) (E.post self.now.held.expr) (S.pre self.now.held.stmt) (S.post self.now.held.stmt) }
+        requires nests { Nests self.now E.pre E.post S.pre S.post }
+        requires small { a.nesting ≤ self.now.room }
         requires weighed { a.nesting ≡ nesting (tree a.item) }
         ensures reads { Gives (read_of tree) result (read.bump_before place by (read_of tree a)) }
         ensures nesting { IfOk result (λ r. r.nesting ≡ nesting (tree r.item)) }
-        ensures fits { IfOk result (λ r. r.nesting ≤ self.now.held.room + 1) }
+        ensures fits { IfOk result (λ r. r.nesting ≤ self.now.room + 1) }
     {
         if !is_target(&a.item) {
-            return Err(Unread::Syntax(a.end));
+            return lost(Unread::Syntax(a.end), a);
         }
         Ok(Read {
-            item: sts_build::bump(self.held.reader.alloc, place, a.item, by, false)?,
+            item: build::bump(self.reader.alloc, place, a.item, by, false)?,
             end: a.end,
             nesting: a.nesting + 1,
         })
@@ -88,38 +89,38 @@ impl<
 
     /// What a prefix operator begins, or a `++` or `--`.
     fn prefixed(&self, at: usize, op: Option<u8>, by: Option<i32>) -> Result<Read<Expr>, Unread>
+        requires nests { Nests self.now E.pre E.post S.pre S.post }
         requires here { at < usize.MAX }
-        requires nests { Nests self.now.held.reader self.now.held.room (E.pre self.now.held.expr) (E.post self.now.held.expr) (S.pre self.now.held.stmt) (S.post self.now.held.stmt) }
-        ensures reads { Gives (read_of tree) result (read.read_prefix (source self.now.held.reader) (nested self.now.held.reader self.now.held.room) at op by) }
+        ensures reads { Gives (read_of tree) result (read.read_prefix (source self.now.reader) (nested self.now.reader self.now.room) at op by) }
         ensures nesting { IfOk result (λ r. r.nesting ≡ nesting (tree r.item)) }
-        ensures fits { IfOk result (λ r. r.nesting ≤ self.now.held.room + 1) }
+        ensures fits { IfOk result (λ r. r.nesting ≤ self.now.room + 1) }
     {
-        let place = self.held.reader.place(at);
+        let place = self.reader.place(at);
         if let Some(op) = op {
-            let a = self.held.expression(12, at + 1)?;
+            let a = self.expression(PREFIX_LEVEL, at + 1)?;
             return Ok(Read {
-                item: sts_build::unary(self.held.reader.alloc, place, op, a.item)?,
+                item: build::unary(self.reader.alloc, place, op, a.item)?,
                 end: a.end,
                 nesting: a.nesting + 1,
             });
         }
         match by {
-            Some(by) => self.bumped(place, by, self.held.expression(12, at + 1)?),
+            Some(by) => self.bumped(place, by, self.expression(PREFIX_LEVEL, at + 1)?),
             None => Err(Unread::Syntax(at)),
         }
     }
 
     /// `[a, b]`
     fn items(&self, at: usize) -> Result<Read<Expr>, Unread>
+        requires nests { Nests self.now E.pre E.post S.pre S.post }
         requires here { at < usize.MAX }
-        requires nests { Nests self.now.held.reader self.now.held.room (E.pre self.now.held.expr) (E.post self.now.held.expr) (S.pre self.now.held.stmt) (S.post self.now.held.stmt) }
-        ensures reads { Gives (read_of tree) result (read.read_mark (source self.now.held.reader) (nested self.now.held.reader self.now.held.room) at Mark.OpenBracket) }
+        ensures reads { Gives (read_of tree) result (read.read_mark (source self.now.reader) (nested self.now.reader self.now.room) at Mark.OpenBracket) }
         ensures nesting { IfOk result (λ r. r.nesting ≡ nesting (tree r.item)) }
-        ensures fits { IfOk result (λ r. r.nesting ≤ self.now.held.room + 1) }
+        ensures fits { IfOk result (λ r. r.nesting ≤ self.now.room + 1) }
     {
-        let all = self.held.listed(true, at + 1)?;
+        let all = self.listed(true, at + 1)?;
         Ok(Read {
-            item: sts_build::items(self.held.reader.place(at), all.item),
+            item: build::items(self.reader.place(at), all.item),
             end: all.end,
             nesting: all.nesting + 1,
         })
@@ -127,22 +128,22 @@ impl<
 
     /// An arrow.
     fn arrow(&self, at: usize) -> Result<Read<Expr>, Unread>
-        requires { Nests self.now.held.reader self.now.held.room (E.pre self.now.held.expr) (E.post self.now.held.expr) (S.pre self.now.held.stmt) (S.post self.now.held.stmt) }
-        ensures reads { Gives (read_of tree) result (read.read_mark (source self.now.held.reader) (nested self.now.held.reader self.now.held.room) at Mark.OpenParenthesis) }
+        requires { Nests self.now E.pre E.post S.pre S.post }
+        ensures reads { Gives (read_of tree) result (read.read_mark (source self.now.reader) (nested self.now.reader self.now.room) at Mark.OpenParenthesis) }
         ensures nesting { IfOk result (λ r. r.nesting ≡ nesting (tree r.item)) }
-        ensures fits { IfOk result (λ r. r.nesting ≤ self.now.held.room + 1) }
+        ensures fits { IfOk result (λ r. r.nesting ≤ self.now.room + 1) }
     {
-        let (heading, end) = self.held.reader.arrow_heading(at)?;
-        self.handler(self.held.reader.place(at), true, heading, end)
+        let (heading, end) = self.reader.arrow_heading(at)?;
+        self.handler(self.reader.place(at), true, heading, end)
     }
 
     /// What a mark begins. A `(` begins an arrow here.
     fn by_mark(&self, mark: Mark, at: usize) -> Result<Read<Expr>, Unread>
+        requires nests { Nests self.now E.pre E.post S.pre S.post }
         requires here { at < usize.MAX }
-        requires nests { Nests self.now.held.reader self.now.held.room (E.pre self.now.held.expr) (E.post self.now.held.expr) (S.pre self.now.held.stmt) (S.post self.now.held.stmt) }
-        ensures reads { Gives (read_of tree) result (read.read_mark (source self.now.held.reader) (nested self.now.held.reader self.now.held.room) at mark) }
+        ensures reads { Gives (read_of tree) result (read.read_mark (source self.now.reader) (nested self.now.reader self.now.room) at mark) }
         ensures nesting { IfOk result (λ r. r.nesting ≡ nesting (tree r.item)) }
-        ensures fits { IfOk result (λ r. r.nesting ≤ self.now.held.room + 1) }
+        ensures fits { IfOk result (λ r. r.nesting ≤ self.now.room + 1) }
     {
         match mark {
             Mark::OpenBracket => self.items(at),
@@ -153,25 +154,25 @@ impl<
 
     /// `super(a, b)` and `super.m(a, b)`
     fn super_call(&self, at: usize) -> Result<Read<Expr>, Unread>
+        requires nests { Nests self.now E.pre E.post S.pre S.post }
         requires here { at < usize.MAX }
-        requires nests { Nests self.now.held.reader self.now.held.room (E.pre self.now.held.expr) (E.post self.now.held.expr) (S.pre self.now.held.stmt) (S.post self.now.held.stmt) }
-        ensures reads { Gives (read_of tree) result (read.read_word (source self.now.held.reader) (nested self.now.held.reader self.now.held.room) at Word.Super) }
+        ensures reads { Gives (read_of tree) result (read.read_word (source self.now.reader) (nested self.now.reader self.now.room) at Word.Super) }
         ensures nesting { IfOk result (λ r. r.nesting ≡ nesting (tree r.item)) }
-        ensures fits { IfOk result (λ r. r.nesting ≤ self.now.held.room + 1) }
+        ensures fits { IfOk result (λ r. r.nesting ≤ self.now.room + 1) }
     {
-        let place = self.held.reader.place(at);
-        if self.held.reader.is_dot(at + 1) {
-            let method = self.held.reader.member_name(at + 2)?;
-            let args = self.held.arguments(at + 3)?;
+        let place = self.reader.place(at);
+        if self.reader.is_mark(at + 1, Mark::Dot) {
+            let method = self.reader.member_name(at + 2)?;
+            let args = self.arguments(at + 3)?;
             return Ok(Read {
-                item: sts_build::super_call(place, Some(method), args.item),
+                item: build::super_call(place, Some(method), args.item),
                 end: args.end,
                 nesting: args.nesting + 1,
             });
         }
-        let args = self.held.arguments(at + 1)?;
+        let args = self.arguments(at + 1)?;
         Ok(Read {
-            item: sts_build::super_call(place, None, args.item),
+            item: build::super_call(place, None, args.item),
             end: args.end,
             nesting: args.nesting + 1,
         })
@@ -179,16 +180,16 @@ impl<
 
     /// `new C(a, b)`
     fn make(&self, at: usize) -> Result<Read<Expr>, Unread>
+        requires nests { Nests self.now E.pre E.post S.pre S.post }
         requires here { at < usize.MAX }
-        requires nests { Nests self.now.held.reader self.now.held.room (E.pre self.now.held.expr) (E.post self.now.held.expr) (S.pre self.now.held.stmt) (S.post self.now.held.stmt) }
-        ensures reads { Gives (read_of tree) result (read.read_word (source self.now.held.reader) (nested self.now.held.reader self.now.held.room) at Word.New) }
+        ensures reads { Gives (read_of tree) result (read.read_word (source self.now.reader) (nested self.now.reader self.now.room) at Word.New) }
         ensures nesting { IfOk result (λ r. r.nesting ≡ nesting (tree r.item)) }
-        ensures fits { IfOk result (λ r. r.nesting ≤ self.now.held.room + 1) }
+        ensures fits { IfOk result (λ r. r.nesting ≤ self.now.room + 1) }
     {
-        let class = self.held.reader.name(at + 1)?;
-        let args = self.held.arguments(at + 2)?;
+        let class = self.reader.name(at + 1)?;
+        let args = self.arguments(at + 2)?;
         Ok(Read {
-            item: sts_build::make(self.held.reader.place(at), class, args.item),
+            item: build::make(self.reader.place(at), class, args.item),
             end: args.end,
             nesting: args.nesting + 1,
         })
@@ -196,25 +197,25 @@ impl<
 
     /// A function expression.
     fn function(&self, at: usize) -> Result<Read<Expr>, Unread>
+        requires nests { Nests self.now E.pre E.post S.pre S.post }
         requires here { at < usize.MAX }
-        requires nests { Nests self.now.held.reader self.now.held.room (E.pre self.now.held.expr) (E.post self.now.held.expr) (S.pre self.now.held.stmt) (S.post self.now.held.stmt) }
-        ensures reads { Gives (read_of tree) result (read.read_word (source self.now.held.reader) (nested self.now.held.reader self.now.held.room) at Word.Function) }
+        ensures reads { Gives (read_of tree) result (read.read_word (source self.now.reader) (nested self.now.reader self.now.room) at Word.Function) }
         ensures nesting { IfOk result (λ r. r.nesting ≡ nesting (tree r.item)) }
-        ensures fits { IfOk result (λ r. r.nesting ≤ self.now.held.room + 1) }
+        ensures fits { IfOk result (λ r. r.nesting ≤ self.now.room + 1) }
     {
-        let (heading, end) = self.held.reader.heading(at + 1)?;
-        self.handler(self.held.reader.place(at), false, heading, end)
+        let (heading, end) = self.reader.heading(at + 1)?;
+        self.handler(self.reader.place(at), false, heading, end)
     }
 
     /// What a reserved word begins.
     fn by_word(&self, word: Word, at: usize) -> Result<Read<Expr>, Unread>
+        requires nests { Nests self.now E.pre E.post S.pre S.post }
         requires here { at < usize.MAX }
-        requires nests { Nests self.now.held.reader self.now.held.room (E.pre self.now.held.expr) (E.post self.now.held.expr) (S.pre self.now.held.stmt) (S.post self.now.held.stmt) }
-        ensures reads { Gives (read_of tree) result (read.read_word (source self.now.held.reader) (nested self.now.held.reader self.now.held.room) at word) }
+        ensures reads { Gives (read_of tree) result (read.read_word (source self.now.reader) (nested self.now.reader self.now.room) at word) }
         ensures nesting { IfOk result (λ r. r.nesting ≡ nesting (tree r.item)) }
-        ensures fits { IfOk result (λ r. r.nesting ≤ self.now.held.room + 1) }
+        ensures fits { IfOk result (λ r. r.nesting ≤ self.now.room + 1) }
     {
-        let place = self.held.reader.place(at);
+        let place = self.reader.place(at);
         match word {
             Word::True => Ok(leaf(place, Node::Truth(true), at + 1)),
             Word::False => Ok(leaf(place, Node::Truth(false), at + 1)),
@@ -229,13 +230,13 @@ impl<
 
     /// A primary without parentheses round it, or a prefix operator and its operand.
     fn primary(&self, at: usize) -> Result<Read<Expr>, Unread>
-        requires { Nests self.now.held.reader self.now.held.room (E.pre self.now.held.expr) (E.post self.now.held.expr) (S.pre self.now.held.stmt) (S.post self.now.held.stmt) }
-        ensures reads { Gives (read_of tree) result (read.read_primary (source self.now.held.reader) (nested self.now.held.reader self.now.held.room) at (source.kind (source self.now.held.reader) at)) }
+        requires { Nests self.now E.pre E.post S.pre S.post }
+        ensures reads { Gives (read_of tree) result (read.read_primary (source self.now.reader) (nested self.now.reader self.now.room) at (source.kind (source self.now.reader) at)) }
         ensures nesting { IfOk result (λ r. r.nesting ≡ nesting (tree r.item)) }
-        ensures fits { IfOk result (λ r. r.nesting ≤ self.now.held.room + 1) }
+        ensures fits { IfOk result (λ r. r.nesting ≤ self.now.room + 1) }
     {
-        let place = self.held.reader.place(at);
-        match self.held.reader.kind(at) {
+        let place = self.reader.place(at);
+        match self.reader.kind(at) {
             Kind::Num(value) => Ok(leaf(place, Node::Num(value), at + 1)),
             Kind::Text(text) => Ok(leaf(place, Node::Text(text), at + 1)),
             Kind::Name(name) => Ok(leaf(place, Node::Name(name), at + 1)),
@@ -245,15 +246,15 @@ impl<
         }
     }
 
-    /// The place behind a `)` behind which no arrow goes on.
+    /// The token behind a `)` behind which no arrow goes on.
     #[tactic(auto, unfolding(sts_grammar::specs::ReadExpressions::close_at))]
     fn behind_close(&self, at: usize) -> Result<usize, Unread>
-        ensures { Gives (λ j. j) result (read.close_at (source self.now.held.reader) at) }
+        ensures { Gives (λ j. j) result (read.close_at (source self.now.reader) at) }
     {
-        if !self.held.reader.closes_parenthesis(at) {
+        if !self.reader.is_mark(at, Mark::CloseParenthesis) {
             return Err(Unread::Syntax(at));
         }
-        if self.held.reader.is_arrow_behind(at + 1)? {
+        if self.reader.is_arrow_behind(at + 1)? {
             return Err(Unread::Syntax(at + 1));
         }
         Ok(at + 1)
@@ -268,19 +269,22 @@ impl<
         from: usize,
         first: Read<Expr>,
     ) -> Result<Read<Expr>, Unread>
-        requires nests { Nests self.now.held.reader self.now.held.room (E.pre self.now.held.expr) (E.post self.now.held.expr) (S.pre self.now.held.stmt) (S.post self.now.held.stmt) }
+        requires nests { Nests self.now E.pre E.post S.pre S.post }
         requires here { from + closing ≤ usize.MAX }
         requires weighed { first.nesting ≡ nesting (tree first.item) }
-        requires small { first.nesting ≤ self.now.held.room + 1 }
-        ensures reads { Gives (read_of tree) result (read.unwind (source self.now.held.reader) self.now.held.reader.upto self.now.held.room (nested self.now.held.reader self.now.held.room) closing level from (tree first.item) first.end) }
+        requires small { first.nesting ≤ self.now.room + 1 }
+        ensures reads { Gives (read_of tree) result (read.unwind (source self.now.reader) self.now.reader.upto self.now.room (nested self.now.reader self.now.room) closing level from (tree first.item) first.end) }
         ensures nesting { IfOk result (λ r. r.nesting ≡ nesting (tree r.item)) }
-        ensures fits { IfOk result (λ r. r.nesting ≤ self.now.held.room + 1) }
+        ensures fits { IfOk result (λ r. r.nesting ≤ self.now.room + 1) }
     {
         let mut e = first;
         let mut left = closing;
         while left > 0 {
-            let inner = self.climb(1, self.held.reader.place(from + left), e)?;
-            let end = self.behind_close(inner.end)?;
+            let inner = self.climb(ASSIGNMENT_LEVEL, self.reader.place(from + left), e)?;
+            let end = match self.behind_close(inner.end) {
+                Ok(end) => end,
+                Err(why) => return lost(why, inner),
+            };
             e = Read {
                 item: inner.item,
                 end,
@@ -288,18 +292,18 @@ impl<
             };
             left -= 1;
         }
-        self.climb(level, self.held.reader.place(from), e)
+        self.climb(level, self.reader.place(from), e)
     }
 
     /// An expression of at least a level, in any number of parentheses.
     #[tactic(auto, unfolding(sts_grammar::specs::ReadExpressions::read_operand, sts_grammar::specs::ReadExpressions::read_inside))]
     pub fn operand(&self, level: u8, at: usize) -> Result<Read<Expr>, Unread>
-        requires { Nests self.now.held.reader self.now.held.room (E.pre self.now.held.expr) (E.post self.now.held.expr) (S.pre self.now.held.stmt) (S.post self.now.held.stmt) }
-        ensures reads { Gives (read_of tree) result (read.read_operand (source self.now.held.reader) self.now.held.reader.upto self.now.held.room (nested self.now.held.reader self.now.held.room) level at) }
+        requires { Nests self.now E.pre E.post S.pre S.post }
+        ensures reads { Gives (read_of tree) result (read.read_operand (source self.now.reader) self.now.reader.upto self.now.room (nested self.now.reader self.now.room) level at) }
         ensures nesting { IfOk result (λ r. r.nesting ≡ nesting (tree r.item)) }
-        ensures fits { IfOk result (λ r. r.nesting ≤ self.now.held.room + 1) }
+        ensures fits { IfOk result (λ r. r.nesting ≤ self.now.room + 1) }
     {
-        let (closing, from) = self.held.reader.open_parentheses(at)?;
+        let (closing, from) = self.reader.open_parentheses(at)?;
         let first = self.primary(from)?;
         self.unwound(closing, level, at, first)
     }

@@ -4,25 +4,29 @@ ghost use Rattle.sts_syntax.specs.Trees.{Tree};
 ghost use Rattle.sts_syntax.specs.Nesting.{nesting, optional_nesting, deepest_statement};
 ghost use Rattle.sts_syntax.specs.Views.{tree, statement, statements, optional_expression};
 ghost use Rattle.sts_grammar.specs.Source as source;
-ghost use Rattle.sts_grammar.specs.Ends.{is_assign};
+ghost use Rattle.sts_grammar.specs.Texts as texts;
+ghost use Rattle.sts_grammar.specs.Limits.{most_nesting};
 ghost use Rattle.sts_grammar.specs.Spells.{IsExpression};
 ghost use Rattle.sts_grammar.specs.Longest.{IsLongestExpression, NoExpression, IsLongestStatement, NoStatement};
 ghost use Rattle.sts_grammar.specs.ReadExpressions.{read_block};
 ghost use Rattle.sts_grammar.specs.ReadStatements.{read_initialiser};
 ghost use Rattle.sts_grammar.specs.Reading as reading;
-ghost use Rattle.parse_expr.specs.Answers.{text_of, RefusedFor, IsRefusal, UnreadFor};
-ghost use Rattle.parse_rules.specs.Gives.{source, Gives, read_of};
+ghost use Rattle.parse_expr.specs.Answers.{RefusedFor, IsRefusal, UnreadFor};
+ghost use Rattle.sts_grammar.specs.Precedence.{assignment_level};
+ghost use Rattle.parse_expr.specs.Gives.{source, Gives, read_of};
 ghost use Rattle.parse_expr.specs.Lasts.{may_be_last};
 
-use crate::grammar::{expression, statement};
-use parse_rules::{Grammar, Read, Reader, Unread};
+use crate::grammar::Grammar;
+use crate::operators::ASSIGNMENT_LEVEL;
+use crate::reader::{Read, Reader, Unread};
+use crate::readers::{expression, statement};
 use std::alloc::Global;
 use sts_base::{Code, Refused, Seq, Tables};
 use sts_lexer::{Kind, Mark, Token};
 use sts_syntax::{Expr, Stmt};
 
-/// The nesting that a tree may have.
-const NESTING: usize = 256;
+/// The nesting that a tree, and a whole text, may have.
+pub const MOST_NESTING: usize = 256;
 
 /// The refusal where nothing was read: `Syntax` at the place of a token, or want of memory.
 pub fn refusal(reader: Reader<'_>, unread: Unread) -> Refused
@@ -68,8 +72,8 @@ fn bounded(
     from: usize,
 ) -> Result<Read<Expr>, Unread>
     requires { 0 < upto }
-    ensures found { IfOk result (λ r. reading.expression (text_of tokens.now tables.now) upto 256 1 from ≡ Some (tree r.item, r.end)) }
-    ensures none { IfErr result (UnreadFor ((e : Tree) → IsExpression (text_of tokens.now tables.now) e from upto → nesting e ≤ 256 → ⊥)) }
+    ensures found { IfOk result (λ r. reading.expression (texts.source tokens.now tables.now) upto most_nesting assignment_level from ≡ Some (tree r.item, r.end)) }
+    ensures none { IfErr result (UnreadFor ((e : Tree) → IsExpression (texts.source tokens.now tables.now) e from upto → nesting e ≤ most_nesting → ⊥)) }
 {
     let reader = Reader {
         alloc,
@@ -80,7 +84,7 @@ fn bounded(
     if !may_be_last(reader.kind(upto - 1)) {
         return Err(Unread::Syntax(from));
     }
-    expression(reader, NESTING, 1, from)
+    expression(reader, MOST_NESTING, ASSIGNMENT_LEVEL, from)
 }
 
 /// The longest expression that begins at a token, and the number of the token behind it. `Syntax`, at the place of a token,
@@ -94,8 +98,8 @@ pub fn parse_expr(
     from: usize,
 ) -> Result<(Expr, usize), Refused>
     requires { from < length tokens.now }
-    ensures longest { IfOk result (λ r. IsLongestExpression (text_of tokens.now tables.now) from (tree r.0) r.1) }
-    ensures refused { IfErr result (RefusedFor (text_of tokens.now tables.now) (NoExpression (text_of tokens.now tables.now) from)) }
+    ensures longest { IfOk result (λ r. IsLongestExpression (texts.source tokens.now tables.now) from (tree r.0) r.1) }
+    ensures refused { IfErr result (RefusedFor (texts.source tokens.now tables.now) (NoExpression (texts.source tokens.now tables.now) from)) }
 {
     let mut upto = tokens.len();
     while upto > from {
@@ -118,7 +122,7 @@ pub fn parse_expr(
 /// The longest statement that begins at a token, and the number of the token behind it. `return` may stand in it where it is in
 /// a function or handler, `break` and `continue` where it is in a loop. `Syntax`, at the place of a token, exactly where no
 /// such statement of nesting at most 256 begins there.
-#[tactic(auto, using(crate::proofs::Longest::is_longest_statement, sts_grammar::proofs::Unique::no_statement))]
+#[tactic(auto, using(crate::proofs::Longest::is_longest_statement, sts_grammar::proofs::Laws::no_statement))]
 pub fn parse_stmt(
     alloc: Global,
     tokens: &Seq<Token>,
@@ -128,8 +132,8 @@ pub fn parse_stmt(
     in_loop: bool,
 ) -> Result<(Stmt, usize), Refused>
     requires { from < length tokens.now }
-    ensures longest { IfOk result (λ r. IsLongestStatement (text_of tokens.now tables.now) in_function in_loop from (statement r.0) r.1) }
-    ensures refused { IfErr result (RefusedFor (text_of tokens.now tables.now) (NoStatement (text_of tokens.now tables.now) in_function in_loop from)) }
+    ensures longest { IfOk result (λ r. IsLongestStatement (texts.source tokens.now tables.now) in_function in_loop from (statement r.0) r.1) }
+    ensures refused { IfErr result (RefusedFor (texts.source tokens.now tables.now) (NoStatement (texts.source tokens.now tables.now) in_function in_loop from)) }
 {
     let reader = Reader {
         alloc,
@@ -137,7 +141,7 @@ pub fn parse_stmt(
         tables,
         upto: tokens.len(),
     };
-    match statement(reader, NESTING, in_function, in_loop, from) {
+    match statement(reader, MOST_NESTING, in_function, in_loop, from) {
         Ok(a) => Ok((a.item, a.end)),
         Err(unread) => Err(refusal(reader, unread)),
     }
@@ -173,7 +177,7 @@ pub fn initialiser(
     at: usize,
 ) -> Result<Read<Option<Expr>>, Unread>
     requires { room < usize.MAX }
-    ensures reads { Gives (read_of optional_expression) result (read_initialiser (reading.expression (source reader.entry) (length reader.entry.tokens.now) room 1) fixed (is_assign (source.kind (source reader.entry) at)) at) }
+    ensures reads { Gives (read_of optional_expression) result (read_initialiser (reading.expression (source reader.entry) (length reader.entry.tokens.now) room assignment_level) fixed (source.is_mark Mark.Assign (source.kind (source reader.entry) at)) at) }
     ensures nesting { IfOk result (λ r. r.nesting ≡ optional_nesting (optional_expression r.item)) }
     ensures fits { IfOk result (λ r. r.nesting ≤ room) }
 {

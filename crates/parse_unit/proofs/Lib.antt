@@ -1,8 +1,3 @@
-mod Tokens
 mod Turns
 mod OpenBrackets
-mod FieldEnds
-mod SoundUnits
-mod CompleteUnits
-mod Below
 mod Programs

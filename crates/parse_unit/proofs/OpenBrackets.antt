@@ -4,8 +4,9 @@ use Rattle.std.proofs.lemmas.Bool.{cases_lt}
 use Rattle.std.proofs.lemmas.List.{take_more}
 use Rattle.std.proofs.lemmas.Option.{slice_get-get_or}
 use Rattle.sts_lexer.specs.declared.token.Token.{Token}
+use Rattle.sts_grammar.specs.Limits.{most_open}
 use Rattle.sts_grammar.specs.Brackets.{open_behind, open_after, open_at}
-use Rattle.parse_unit.specs.Deep.{most_open, NoneDeepBefore, NoneDeep, IsFirstDeep}
+use Rattle.sts_grammar.specs.Deep.{NoneDeepBefore, NoneDeep, IsFirstDeep}
 
 open_after-append : (n : ℕ) (xs : List Token) (t : Token) → open_after n (xs ++ t ∷ []) ≡ open_behind (open_after n xs) t.kind
 open_after-append n [] t = refl

@@ -4,14 +4,15 @@ use Rattle.std.specs.Prelude.{if◌then◌else◌, Some}
 use Rattle.sts_syntax.specs.declared.units.Member.{Member}
 use Rattle.sts_syntax.specs.declared.units.Item.{Item}
 use Rattle.sts_syntax.specs.Programs.{ClassMember, Program, class_member, class_members, top_level, top_levels}
-use Rattle.sts_grammar.specs.Source.{Source, kind}
-use Rattle.sts_grammar.specs.Found.{◌>>=◌, when, closes_brace, is_semicolon}
+use Rattle.sts_lexer.specs.declared.marks.Mark.TheVariants as m
+use Rattle.sts_grammar.specs.Source.{Source, kind, is_mark}
+use Rattle.sts_grammar.specs.Found.{◌>>=◌, when}
 use Rattle.sts_grammar.specs.ReadExpressions.{Readers}
-use Rattle.parse_unit.specs.ReadUnits.{behind_modifier, read_named, read_members, read_part, is_finish, read_parts}
+use Rattle.sts_grammar.specs.ReadUnits.{behind_modifier, read_named, read_members, read_part, is_finish, read_parts}
 
 pub members_at : (s : Source) (readers : Readers) (n : ℕ) (all : List ClassMember) (i : ℕ) → 0 < n →
-    read_members s readers n all i ≡ (if closes_brace (kind s i) then Some (all, i + 1)
-    else if is_semicolon (kind s i) then read_members s readers (n - 1) all (i + 1)
+    read_members s readers n all i ≡ (if is_mark m.CloseBrace (kind s i) then Some (all, i + 1)
+    else if is_mark m.Semicolon (kind s i) then read_members s readers (n - 1) all (i + 1)
     else (read_named s readers (behind_modifier s i) >>= λ a. read_members s readers (n - 1) (all ++ a.0 ∷ []) a.1))
 unfolding read_members
 members_at s readers zero all i h = absurd (omega arith)

@@ -1,7 +1,8 @@
 // Brackets that are open.
 ghost use Rattle.std.specs.Prelude.{◌≡◌, ◌≤◌, ◌<◌, IfSome, IfNone, length};
+ghost use Rattle.sts_grammar.specs.Limits.{most_open};
 ghost use Rattle.sts_grammar.specs.Brackets.{open_behind};
-ghost use Rattle.parse_unit.specs.Deep.{NoneDeep, IsFirstDeep};
+ghost use Rattle.sts_grammar.specs.Deep.{NoneDeep, IsFirstDeep};
 
 use sts_base::Seq;
 use sts_lexer::{Kind, Mark, Token};
@@ -12,7 +13,7 @@ const MOST_OPEN: usize = 64;
 /// How many brackets are open behind a token, where so many were open before it. A closing one closes the latest that is
 /// open, of whatever kind.
 fn open_behind(count: usize, kind: Kind) -> usize
-    requires { count ≤ 64 }
+    requires { count ≤ most_open }
     ensures { result ≡ open_behind count kind }
 {
     match kind {
@@ -26,7 +27,7 @@ fn open_behind(count: usize, kind: Kind) -> usize
     }
 }
 
-/// The place in the text of the first token at which more than 64 brackets are open, if there is one.
+/// The place in the text of the first token at which more than `MOST_OPEN` brackets are open, if there is one.
 pub fn first_deep(tokens: &Seq<Token>) -> Option<u32>
     ensures some { IfSome result (λ place. IsFirstDeep tokens.now place) }
     ensures none { IfNone result (NoneDeep tokens.now) }

@@ -2,12 +2,9 @@
 #![tactic(auto)]
 
 mod brackets;
-mod laws;
 mod members;
 mod parts;
-#[cfg(test)]
-mod tests;
 mod whole;
 
-pub use laws::one_program;
+pub use sts_grammar::one_program;
 pub use whole::parse;

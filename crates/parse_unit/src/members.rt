@@ -9,14 +9,13 @@ ghost use Rattle.sts_grammar.specs.Found.{member_name_of};
 ghost use Rattle.sts_grammar.specs.ReadHeadings.{is_found};
 ghost use Rattle.sts_grammar.specs.Units.{is_modifier, field_continues};
 ghost use Rattle.sts_grammar.specs.Reading.{statement_readers};
-ghost use Rattle.parse_rules.specs.Gives.{source, Gives, found};
-ghost use Rattle.parse_unit.specs.ReadUnits as read;
+ghost use Rattle.parse_expr.specs.Gives.{source, Gives, found};
+ghost use Rattle.sts_grammar.specs.ReadUnits as read;
 
-use parse_expr::{block, initialiser};
-use parse_rules::{Reader, Unread};
+use parse_expr::{Reader, Unread, block, initialiser};
 use sts_base::Seq;
 use sts_lexer::{Kind, Mark, Word};
-use sts_syntax::{Binding, Body, Expr, Member, Param, Shape, Stmt};
+use sts_syntax::{Body, Member, build};
 
 /// Whether a token is `public`, `private` or `protected`.
 fn is_modifier(kind: Kind) -> bool
@@ -42,7 +41,7 @@ fn names_member(kind: Kind) -> bool
 }
 
 /// Where a member's name stands: behind a modifier, if there is one.
-#[tactic(auto, unfolding(crate::specs::ReadUnits::behind_modifier))]
+#[tactic(auto, unfolding(sts_grammar::specs::ReadUnits::behind_modifier))]
 fn behind_modifier(reader: Reader<'_>, at: usize) -> usize
     ensures { result ≡ read.behind_modifier (source reader.entry) at }
 {
@@ -56,22 +55,8 @@ fn behind_modifier(reader: Reader<'_>, at: usize) -> usize
     }
 }
 
-/// A routine of its parts, which is no arrow.
-#[tactic(auto, using(sts_syntax::proofs::Laws::routine_parts))]
-fn body(at: u32, params: Seq<Param>, gives: Option<Shape>, stmts: Seq<Stmt>) -> Body
-    ensures { routine result ≡ t.Does at (parameters params) (optional_annotation gives) (statements stmts) false }
-{
-    Body {
-        at,
-        params,
-        gives,
-        stmts,
-        arrow: false,
-    }
-}
-
 /// Parameters, a result's type and a block.
-#[tactic(auto, unfolding(crate::specs::ReadUnits::read_routine))]
+#[tactic(auto, unfolding(sts_grammar::specs::ReadUnits::read_routine))]
 pub fn read_routine(
     reader: Reader<'_>,
     room: usize,
@@ -83,14 +68,12 @@ pub fn read_routine(
 {
     let (heading, end) = reader.heading(at)?;
     let held = block(reader, room, true, false, end)?;
-    Ok((
-        body(place, heading.params, heading.gives, held.item),
-        held.end,
-    ))
+    let body = build::body(place, heading.params, heading.gives, held.item, false);
+    Ok((body, held.end))
 }
 
 /// A constructor's parameters and block.
-#[tactic(auto, unfolding(crate::specs::ReadUnits::read_maker))]
+#[tactic(auto, unfolding(sts_grammar::specs::ReadUnits::read_maker))]
 fn read_maker(
     reader: Reader<'_>,
     room: usize,
@@ -100,17 +83,17 @@ fn read_maker(
     requires { room < usize.MAX }
     ensures { Gives (found class_member) result (read.read_maker (source reader.entry) (statement_readers (source reader.entry) room) place at) }
 {
-    if !reader.opens_parenthesis(at) {
+    if !reader.is_mark(at, Mark::OpenParenthesis) {
         return Err(Unread::Syntax(at));
     }
     let (params, end) = reader.parameters(at + 1)?;
     let held = block(reader, room, true, false, end)?;
-    let body = body(place, params, None, held.item);
+    let body = build::body(place, params, None, held.item, false);
     Ok((Member::Constructor(body), held.end))
 }
 
 /// What stands behind the name of a method.
-#[tactic(auto, unfolding(crate::specs::ReadUnits::read_method))]
+#[tactic(auto, unfolding(sts_grammar::specs::ReadUnits::read_method))]
 fn read_method(
     reader: Reader<'_>,
     room: usize,
@@ -125,32 +108,19 @@ fn read_method(
     Ok((Member::Method { name, body }, end))
 }
 
-/// The place behind the end of a field that is whole there.
-#[tactic(auto, unfolding(crate::specs::ReadUnits::read_field_end))]
+/// The token behind the end of a field that is whole there.
+#[tactic(auto, unfolding(sts_grammar::specs::ReadUnits::read_field_end))]
 fn read_field_end(reader: Reader<'_>, at: usize) -> Result<usize, Unread>
     ensures { Gives (λ j. j) result (read.read_field_end (source reader.entry) at) }
 {
-    if reader.is_comma(at) {
+    if reader.is_mark(at, Mark::Comma) {
         return Err(Unread::Syntax(at));
     }
     reader.ended(at)
 }
 
-/// A declared name of its parts.
-#[tactic(auto, using(sts_syntax::proofs::Laws::declaration_parts))]
-fn binding(at: u32, name: u32, shape: Option<Shape>, first: Option<Expr>) -> Binding
-    ensures { declaration result ≡ t.Declare at name (optional_annotation shape) (optional_expression first) }
-{
-    Binding {
-        at,
-        name,
-        shape,
-        first,
-    }
-}
-
 /// What stands behind the name of a field.
-#[tactic(auto, unfolding(crate::specs::ReadUnits::read_field))]
+#[tactic(auto, unfolding(sts_grammar::specs::ReadUnits::read_field))]
 fn read_field(
     reader: Reader<'_>,
     room: usize,
@@ -164,7 +134,7 @@ fn read_field(
     let (shape, end) = reader.written_type(at)?;
     let first = initialiser(reader, room, false, end)?;
     let end = read_field_end(reader, first.end)?;
-    let field = binding(place, name, shape, first.item);
+    let field = build::binding(place, name, shape, first.item);
     Ok((Member::Field(field), end))
 }
 
@@ -179,14 +149,14 @@ fn is_constructor(reader: Reader<'_>, at: usize) -> bool
 }
 
 /// A member whose name stands at a token, and the token behind it.
-#[tactic(auto, unfolding(crate::specs::ReadUnits::read_named))]
+#[tactic(auto, unfolding(sts_grammar::specs::ReadUnits::read_named))]
 fn read_named(reader: Reader<'_>, room: usize, at: usize) -> Result<(Member, usize), Unread>
     requires { room < usize.MAX }
     ensures { Gives (found class_member) result (read.read_named (source reader.entry) (statement_readers (source reader.entry) room) at) }
 {
     let name = reader.member_name(at)?;
     let place = reader.place(at);
-    if !reader.opens_parenthesis(at + 1) {
+    if !reader.is_mark(at + 1, Mark::OpenParenthesis) {
         return read_field(reader, room, place, name, at + 1);
     }
     if is_constructor(reader, at) {
@@ -196,7 +166,7 @@ fn read_named(reader: Reader<'_>, room: usize, at: usize) -> Result<(Member, usi
 }
 
 /// The members of a class up to its `}`, with any number of `;` between them, and the token behind the `}`.
-#[tactic(auto, using(crate::proofs::Turns::members_at, crate::proofs::Turns::members_put), unfolding(crate::specs::ReadUnits::read_members))]
+#[tactic(auto, using(crate::proofs::Turns::members_at, crate::proofs::Turns::members_put), unfolding(sts_grammar::specs::ReadUnits::read_members))]
 pub fn read_members(
     reader: Reader<'_>,
     room: usize,
@@ -209,10 +179,10 @@ pub fn read_members(
     let mut next = at;
     let mut left = reader.count();
     while left > 0 {
-        if reader.closes_brace(next) {
+        if reader.is_mark(next, Mark::CloseBrace) {
             return Ok((all, next + 1));
         }
-        if reader.is_semicolon(next) {
+        if reader.is_mark(next, Mark::Semicolon) {
             next += 1;
         } else {
             let (member, end) = read_named(reader, room, behind_modifier(reader, next))?;

@@ -3,15 +3,14 @@ ghost use Rattle.std.specs.Prelude.{◌≡◌, ◌<◌, ◌+◌, ◌≤◌, ◌=
 ghost use Rattle.sts_syntax.specs.Programs.{top_level, top_levels};
 ghost use Rattle.sts_grammar.specs.Source as source;
 ghost use Rattle.sts_grammar.specs.Reading.{statement_readers};
-ghost use Rattle.parse_rules.specs.Gives.{source, Gives, found};
+ghost use Rattle.parse_expr.specs.Gives.{source, Gives, found};
 ghost use Rattle.parse_unit.specs.Bases.{base_of};
-ghost use Rattle.parse_unit.specs.ReadUnits as read;
+ghost use Rattle.sts_grammar.specs.ReadUnits as read;
 
 use crate::members::{read_members, read_routine};
-use parse_expr::statement;
-use parse_rules::{Reader, Unread};
+use parse_expr::{Reader, Unread, statement};
 use sts_base::Seq;
-use sts_lexer::{Kind, Word};
+use sts_lexer::{Kind, Mark, Word};
 use sts_syntax::Item;
 
 /// The base of a class.
@@ -25,30 +24,27 @@ pub struct Base {
 
 /// The base of a class, where one is written, and the token behind it.
 fn read_base(reader: Reader<'_>, at: usize) -> Result<(Base, usize), Unread>
-    ensures { Gives (found base_of) result (read.read_base (source reader.entry) (read.is_extends (source.kind (source reader.entry) at)) at) }
+    ensures { Gives (found base_of) result (read.read_base (source reader.entry) (source.is_word Word.Extends (source.kind (source reader.entry) at)) at) }
 {
-    match reader.kind(at) {
-        Kind::Word(Word::Extends, _) => {
-            let name = reader.name(at + 1)?;
-            let base = Base {
-                name: Some(name),
-                at: reader.place(at + 1),
-            };
-            Ok((base, at + 2))
-        }
-        _ => Ok((Base { name: None, at: 0 }, at)),
+    if !reader.is_word(at, Word::Extends) {
+        return Ok((Base { name: None, at: 0 }, at));
     }
+    let base = Base {
+        name: Some(reader.name(at + 1)?),
+        at: reader.place(at + 1),
+    };
+    Ok((base, at + 2))
 }
 
 /// What stands behind the word `class`.
-#[tactic(auto, unfolding(crate::specs::ReadUnits::read_class))]
+#[tactic(auto, unfolding(sts_grammar::specs::ReadUnits::read_class))]
 fn read_class(reader: Reader<'_>, room: usize, at: usize) -> Result<(Item, usize), Unread>
     requires { room < usize.MAX }
     ensures { Gives (found top_level) result (read.read_class (source reader.entry) (statement_readers (source reader.entry) room) at) }
 {
     let name = reader.name(at)?;
     let (base, end) = read_base(reader, at + 1)?;
-    if !reader.opens_brace(end) {
+    if !reader.is_mark(end, Mark::OpenBrace) {
         return Err(Unread::Syntax(end));
     }
     let (members, end) = read_members(reader, room, end + 1)?;
@@ -63,7 +59,7 @@ fn read_class(reader: Reader<'_>, room: usize, at: usize) -> Result<(Item, usize
 }
 
 /// What stands behind the word `function`.
-#[tactic(auto, unfolding(crate::specs::ReadUnits::read_function))]
+#[tactic(auto, unfolding(sts_grammar::specs::ReadUnits::read_function))]
 fn read_function(reader: Reader<'_>, room: usize, at: usize) -> Result<(Item, usize), Unread>
     requires { room < usize.MAX }
     ensures { Gives (found top_level) result (read.read_function (source reader.entry) (statement_readers (source reader.entry) room) at) }
@@ -74,7 +70,7 @@ fn read_function(reader: Reader<'_>, room: usize, at: usize) -> Result<(Item, us
 }
 
 /// A statement of the main program.
-#[tactic(auto, unfolding(crate::specs::ReadUnits::read_main))]
+#[tactic(auto, unfolding(sts_grammar::specs::ReadUnits::read_main))]
 fn read_main(reader: Reader<'_>, room: usize, at: usize) -> Result<(Item, usize), Unread>
     requires { room < usize.MAX }
     ensures { Gives (found top_level) result (read.read_main (statement_readers (source reader.entry) room) at) }
@@ -105,7 +101,7 @@ fn is_last(reader: Reader<'_>, at: usize) -> bool
 }
 
 /// The parts of a text from a token on, up to the last token.
-#[tactic(auto, using(crate::proofs::Turns::parts_at, crate::proofs::Turns::parts_put), unfolding(crate::specs::ReadUnits::read_parts))]
+#[tactic(auto, using(crate::proofs::Turns::parts_at, crate::proofs::Turns::parts_put), unfolding(sts_grammar::specs::ReadUnits::read_parts))]
 pub fn read_parts(reader: Reader<'_>, room: usize) -> Result<Seq<Item>, Unread>
     requires least { 2 ≤ room }
     requires most { room < usize.MAX }

@@ -1,17 +1,18 @@
 // Whole texts.
 ghost use Rattle.std.specs.Prelude.{◌≡◌, ◌<◌, length};
-ghost use Rattle.parse_unit.specs.Answers.{source, Answers, BeginsToken};
+ghost use Rattle.sts_grammar.specs.Texts.{source, BeginsToken};
+ghost use Rattle.parse_unit.specs.Answers.{Answers};
 
 use crate::brackets::first_deep;
 use crate::parts::read_parts;
-use parse_rules::{Reader, Unread};
+use parse_expr::{MOST_NESTING, Reader, Unread};
 use std::alloc::Global;
 use sts_base::{Code, Refused, Seq, Tables};
 use sts_lexer::Token;
 use sts_syntax::Unit;
 
-/// The nesting that the parts of a text may have: one less than that of the whole.
-const PART_NESTING: usize = 255;
+/// The nesting that the parts of a text may have: the text is a level of its own.
+const PART_NESTING: usize = MOST_NESTING - 1;
 
 /// The place of a token, or of the last one where there are not so many.
 fn place_of(tokens: &Seq<Token>, at: usize) -> u32

@@ -1,11 +1,11 @@
 -- Endings that are handed on.
-use Rattle.std.proofs.Common.{◌≡◌, ◌+◌, ℕ, List, [], inl, inr, refl, subst}
+use Rattle.std.proofs.Common.{◌≡◌, ◌≤◌, ◌+◌, ℕ, List, [], inl, inr, refl, subst, arith}
 use Rattle.std.specs.Prelude.{Option, Some, Err}
 use Rattle.std.specs.declared.vec.Vec.{Vec}
 use Rattle.std.specs.declared.alloc.Global.{Global}
 use Rattle.sts_base.specs.declared.refused.Code.TheVariants.{NotThisForm}
 use Rattle.tool_io.specs.Putting.{Took}
-use Rattle.tool_io.proofs.Laws.{took-then, part-then}
+use Rattle.tool_io.proofs.Laws.{took-nothing, took-then, part-then}
 use Rattle.sts_whole.specs.First.{IsNoSum, Runs}
 use Rattle.sts_whole.specs.declared.first.First.{First}
 use Rattle.sts_whole.specs.declared.first.First.TheVariants.{NotThisForm as NotOfForm, SinkFault as SinkFailed}
@@ -14,13 +14,13 @@ use Rattle.run_tool.specs.declared.ending.Ending.TheVariants.{Gave, Cut, NoMemor
 use Rattle.run_tool.specs.declared.fetched.Fetched.{Fetched}
 use Rattle.run_tool.specs.declared.fetched.Fetched.TheVariants.{Text, Absent, Long, Failed}
 use Rattle.run_tool.specs.Fetches.{MayFetch}
-use Rattle.run_tool.specs.Answers.{Answer, says, Ends}
+use Rattle.run_tool.specs.Answers.{Answer, says, Ends, GivesOneOf}
 use Rattle.run_tool.specs.Programs.{Refuses, RunsText}
 use Rattle.sts_base.specs.Int32.{to_int32}
 use Rattle.sts_whole.specs.First.{number_transcript}
 use Rattle.run_tool.specs.declared.ending.Status.TheVariants.{Done}
-use Rattle.run_tool.specs.Words.{Asked}
-use Rattle.run_tool.specs.Rows.{AnswersFetched, AnswersFile, AnswersNoText, AnswersText, MayAnswer, file_of}
+use Rattle.sts_words.specs.Orders.{Asked}
+use Rattle.run_tool.specs.Orders.{AnswersFetched, AnswersFile, AnswersText, AnswersNamed, MayAnswer, file_of, none_to_texts}
 
 -- an ending where more answers may be given
 pub ends-more : (may more : Answer → Type 0) (a b : Option (List ℕ)) (ending : Ending) → ((answer : Answer) → may answer → more answer)
@@ -28,6 +28,12 @@ pub ends-more : (may more : Answer → Type 0) (a b : Option (List ℕ)) (ending
 ends-more may more a b (Gave status) f s = (s.0, f (says status s.0) s.1, s.2)
 ends-more may more a b Cut f s = (s.0, s.1, f (says s.0 s.1) s.2, s.3)
 ends-more may more a b NoMemory f s = s
+
+-- the same of a call
+pub gives-more : {S : Type 0} {taken : S → Option (List ℕ)} {faults : S → ℕ} {old new : S} (may more : Answer → Type 0) (ending : Ending)
+    → ((answer : Answer) → may answer → more answer) → GivesOneOf taken faults old new may ending → GivesOneOf taken faults old new more ending
+gives-more {S} {taken} {faults} {old} {new} may more ending f s =
+    record { ends = ends-more may more (taken old) (taken new) ending f s.ends; later = s.later; cut = s.cut }
 
 -- the same behind puts that took nothing
 pub ends-after : (may : Answer → Type 0) (a b c : Option (List ℕ)) (ending : Ending) → Took a b [] → Ends may b c ending → Ends may a c ending
@@ -39,40 +45,55 @@ ends-after may a b c NoMemory t s = took-then [] [] t s
 pub not-of-form : (text : List ℕ) (a b : Option (List ℕ)) (m n : ℕ) (why : First) → why ≡ NotOfForm → Runs text a b m n (Err why) → IsNoSum text × Took a b []
 not-of-form text a b m n why e r = subst (λ x. Runs text a b m n (Err x)) e r
 
+-- behind a call that took nothing
+pub gives-after : {S : Type 0} {taken : S → Option (List ℕ)} {faults : S → ℕ} {old between new : S} (may : Answer → Type 0) (ending : Ending)
+    → Took (taken old) (taken between) [] → faults old ≤ faults between → GivesOneOf taken faults between new may ending → GivesOneOf taken faults old new may ending
+gives-after {S} {taken} {faults} {old} {between} {new} may ending t later s =
+    record {
+      ends = ends-after may (taken old) (taken between) (taken new) ending t s.ends;
+      later = omega (arith, later, s.later);
+      cut = λ e. let rose = s.cut e in omega (arith, later, rose);
+    }
+
 -- a text of no form is refused
-pub refused-ends : (text : List ℕ) (a b c : Option (List ℕ)) (ending : Ending) → IsNoSum text → Took a b [] → Ends (Refuses text NotThisForm 0) b c ending → Ends (RunsText text) a c ending
-refused-ends text a b c ending none t s =
-    ends-after (RunsText text) a b c ending t (ends-more (Refuses text NotThisForm 0) (RunsText text) b c ending (λ answer r. inr (none, r)) s)
+pub refused-gives : {S : Type 0} {taken : S → Option (List ℕ)} {faults : S → ℕ} {old between new : S} (text : List ℕ) (ending : Ending) → IsNoSum text
+    → Took (taken old) (taken between) [] → faults old ≤ faults between → GivesOneOf taken faults between new (Refuses text NotThisForm 0) ending
+    → GivesOneOf taken faults old new (RunsText text) ending
+refused-gives text ending none t later s =
+    gives-after (RunsText text) ending t later (gives-more (Refuses text NotThisForm 0) (RunsText text) ending (λ answer r. inr (none, r)) s)
 
 -- a text that was fetched is answered, and nothing was written before
-pub text-ends : (answers : List ℕ → Answer → Type 0) (told : Option (Option (List ℕ))) (rose : Type 0) (bytes : Vec ℕ Global) (text : List ℕ) (a b c : Option (List ℕ)) (ending : Ending)
-    → b ≡ a → text ≡ bytes.items → MayFetch told rose (Text bytes) → Ends (answers text) b c ending → Ends (AnswersFile answers told rose) a c ending
-text-ends answers told rose bytes text a b c ending same f m s =
-    ends-more (answers text) (AnswersFile answers told rose) a c ending
-    (λ answer h. (Text bytes, m, subst (λ t. answers t answer) f h)) (subst (λ x. Ends (answers text) x c ending) same s)
+pub text-gives : {S : Type 0} {taken : S → Option (List ℕ)} {faults : S → ℕ} {old between new : S} (answers : List ℕ → Answer → Type 0) (told : Option (Option (List ℕ)))
+    (rose : Type 0) (bytes : Vec ℕ Global) (text : List ℕ) (ending : Ending) → taken between ≡ taken old → faults old ≤ faults between → text ≡ bytes.items
+    → MayFetch told rose (Text bytes) → GivesOneOf taken faults between new (answers text) ending → GivesOneOf taken faults old new (AnswersFile answers told rose) ending
+text-gives {S} {taken} {faults} {old} {between} {new} answers told rose bytes text ending same later f m s =
+    gives-after (AnswersFile answers told rose) ending (subst (λ x. Took x (taken between) []) same (took-nothing (taken between))) later
+    (gives-more (answers text) (AnswersFile answers told rose) ending (λ answer h. (Text bytes, m, subst (λ t. answers t answer) f h)) s)
 
 -- where no text was fetched, the answer is one of each command
 no-text : (answers : List ℕ → Answer → Type 0) (told : Option (Option (List ℕ))) (rose : Type 0) (answer : Answer) (fetched : Fetched)
-    → MayFetch told rose fetched → AnswersFetched (λ text more. ⊥) fetched answer → AnswersFile answers told rose answer
+    → MayFetch told rose fetched → AnswersFetched none_to_texts fetched answer → AnswersFile answers told rose answer
 no-text answers told rose answer (Text bytes) m h = absurd h
 no-text answers told rose answer Absent m h = (Absent, m, h)
 no-text answers told rose answer Long m h = (Long, m, h)
 no-text answers told rose answer Failed m h = (Failed, m, h)
 
-pub no-text-ends : (answers : List ℕ → Answer → Type 0) (told : Option (Option (List ℕ))) (rose : Type 0) (a b : Option (List ℕ)) (ending : Ending)
-    → Ends (AnswersNoText told rose) a b ending → Ends (AnswersFile answers told rose) a b ending
-no-text-ends answers told rose a b ending s =
-    ends-more (AnswersNoText told rose) (AnswersFile answers told rose) a b ending (λ answer h. no-text answers told rose answer h.0 h.1 h.2) s
+pub no-text-gives : {S : Type 0} {taken : S → Option (List ℕ)} {faults : S → ℕ} {old new : S} (answers : List ℕ → Answer → Type 0) (told : Option (Option (List ℕ)))
+    (rose : Type 0) (ending : Ending) → GivesOneOf taken faults old new (AnswersFile none_to_texts told rose) ending → GivesOneOf taken faults old new (AnswersFile answers told rose) ending
+no-text-gives answers told rose ending s =
+    gives-more (AnswersFile none_to_texts told rose) (AnswersFile answers told rose) ending (λ answer h. no-text answers told rose answer h.0 h.1 h.2) s
 
 -- a run of a sum that the sink cut short
-pub sum-cut : (text : List ℕ) (a b : Option (List ℕ)) (m n : ℕ) (why : First) → why ≡ SinkFailed → Runs text a b m n (Err why) → Ends (RunsText text) a b Cut
-sum-cut text a b m n why e r =
-    let ran : Runs text a b m n (Err SinkFailed) = subst (λ x. Runs text a b m n (Err x)) e r in
-    (Done, number_transcript (to_int32 (ran.0 + ran.1)), inl (ran.0, ran.1, ran.2, refl), ran.3.0)
+pub sum-cut : {S : Type 0} {taken : S → Option (List ℕ)} {faults : S → ℕ} {old new : S} (text : List ℕ) (why : First) → why ≡ SinkFailed
+    → Runs text (taken old) (taken new) (faults old) (faults new) (Err why) → faults old ≤ faults new → GivesOneOf taken faults old new (RunsText text) Cut
+sum-cut {S} {taken} {faults} {old} {new} text why e r later =
+    let ran : Runs text (taken old) (taken new) (faults old) (faults new) (Err SinkFailed) = subst (λ x. Runs text (taken old) (taken new) (faults old) (faults new) (Err x)) e r in
+    record { ends = (Done, number_transcript (to_int32 (ran.0 + ran.1)), inl (ran.0, ran.1, ran.2, refl), ran.3.0); later = later; cut = λ cut. ran.3.1 }
 
 -- an order that was read is the one that the words give
-pub order-ends : (told : List ℕ → Option (Option (List ℕ))) (rose : Type 0) (order : Option Asked) (asked : Asked) (a b : Option (List ℕ)) (ending : Ending)
-    → Some asked ≡ order → Ends (AnswersFile (AnswersText asked) (told (file_of asked)) rose) a b ending → Ends (MayAnswer told rose order) a b ending
-order-ends told rose order asked a b ending e s =
-    ends-more (AnswersFile (AnswersText asked) (told (file_of asked)) rose) (MayAnswer told rose order) a b ending
+pub order-gives : {S : Type 0} {taken : S → Option (List ℕ)} {faults : S → ℕ} {old new : S} (told : List ℕ → Option (Option (List ℕ))) (rose : Type 0) (order : Option Asked) (asked : Asked)
+    (ending : Ending) → Some asked ≡ order → GivesOneOf taken faults old new (AnswersNamed told rose (file_of asked) (AnswersText asked)) ending
+    → GivesOneOf taken faults old new (MayAnswer told rose order) ending
+order-gives told rose order asked ending e s =
+    gives-more (AnswersNamed told rose (file_of asked) (AnswersText asked)) (MayAnswer told rose order) ending
     (λ answer h. subst (λ o. MayAnswer told rose o answer) e h) s

@@ -18,9 +18,9 @@ use Rattle.sts_whole.specs.Alone.{RanAlone}
 use Rattle.run_tool.specs.declared.ending.Status.TheVariants as status
 use Rattle.run_tool.specs.declared.ending.Ending.{Ending}
 use Rattle.run_tool.specs.declared.ending.Ending.TheVariants.{Cut}
-use Rattle.run_tool.specs.Answers.{says, Ends}
+use Rattle.run_tool.specs.Answers.{says, GivesOneOf}
 use Rattle.run_tool.specs.Images.{image_refused_line, run_status, RunsImage, RunsHex}
-use Rattle.run_tool.proofs.Endings.{ends-more}
+use Rattle.run_tool.proofs.Endings.{gives-more}
 
 extent-fits : (cells : List Cell) → AllByRecursion (λ cell. cell.at < flash_bytes) cells → extent cells ≤ flash_bytes
 extent-fits [] h = omega arith
@@ -41,19 +41,22 @@ pub image-refusal-pieces : (printed code : ℕ) → printed ≡ code → [] ++ c
 image-refusal-pieces printed code e = three (codes "image refused ") (decimal printed) (codes "\n") ∙ ap image_refused_line e
 
 -- a run that the sink cut short
-pub image-cut : (image : List ℕ) (budget : ℕ) (a b : Option (List ℕ)) (m n : ℕ) (how : Alone) → how ≡ SinkFault → RanAlone image budget a b m n (Ok how) → Ends (RunsImage budget image) a b Cut
-image-cut image budget a b m n how e r =
-    let ran : RanAlone image budget a b m n (Ok SinkFault) = subst (λ x. RanAlone image budget a b m n (Ok x)) e r in
-    (run_status ran.0.1, ran.0.0, (ran.0.0, ran.0.1, ran.0.2, refl), ran.0.3)
+pub image-cut : {S : Type 0} {taken : S → Option (List ℕ)} {faults : S → ℕ} {old new : S} (image : List ℕ) (budget : ℕ) (how : Alone) → how ≡ SinkFault
+    → RanAlone image budget (taken old) (taken new) (faults old) (faults new) (Ok how) → faults old ≤ faults new → GivesOneOf taken faults old new (RunsImage budget image) Cut
+image-cut {S} {taken} {faults} {old} {new} image budget how e r later =
+    let ran : RanAlone image budget (taken old) (taken new) (faults old) (faults new) (Ok SinkFault) =
+    subst (λ x. RanAlone image budget (taken old) (taken new) (faults old) (faults new) (Ok x)) e r in
+    record { ends = (run_status ran.0.1, ran.0.0, (ran.0.0, ran.0.1, ran.0.2, refl), ran.0.3); later = later; cut = λ cut. ran.1 }
 
 -- an image that was read is run
-pub spelled-ends : (text image : List ℕ) (budget : ℕ) (a b : Option (List ℕ)) (ending : Ending) → Spells text image → Ends (RunsImage budget image) a b ending → Ends (RunsHex budget text) a b ending
-spelled-ends text image budget a b ending s r =
-    ends-more (RunsImage budget image) (RunsHex budget text) a b ending (λ answer h. inl (image, s, h)) r
+pub spelled-gives : {S : Type 0} {taken : S → Option (List ℕ)} {faults : S → ℕ} {old new : S} (text image : List ℕ) (budget : ℕ) (ending : Ending) → Spells text image
+    → GivesOneOf taken faults old new (RunsImage budget image) ending → GivesOneOf taken faults old new (RunsHex budget text) ending
+spelled-gives text image budget ending s r = gives-more (RunsImage budget image) (RunsHex budget text) ending (λ answer h. inl (image, s, h)) r
 
 -- a text that spells no image is refused
-pub broken-ends : (text : List ℕ) (budget : ℕ) (a b : Option (List ℕ)) (ending : Ending) (code : HexCode) (why : HexRefused) → why ≡ Image code → HasCause why (Breaks text)
-    → Ends (λ answer. answer ≡ says status.ImageRefused (image_refused_line (number_of code))) a b ending → Ends (RunsHex budget text) a b ending
-broken-ends text budget a b ending code why e cause r =
+pub broken-gives : {S : Type 0} {taken : S → Option (List ℕ)} {faults : S → ℕ} {old new : S} (text : List ℕ) (budget : ℕ) (ending : Ending) (code : HexCode) (why : HexRefused) → why ≡ Image code
+    → HasCause why (Breaks text) → GivesOneOf taken faults old new (λ answer. answer ≡ says status.ImageRefused (image_refused_line (number_of code))) ending
+    → GivesOneOf taken faults old new (RunsHex budget text) ending
+broken-gives text budget ending code why e cause r =
     let broken : Breaks text code = subst (λ x. HasCause x (Breaks text)) e cause in
-    ends-more (λ answer. answer ≡ says status.ImageRefused (image_refused_line (number_of code))) (RunsHex budget text) a b ending (λ answer h. inr (code, broken, h)) r
+    gives-more (λ answer. answer ≡ says status.ImageRefused (image_refused_line (number_of code))) (RunsHex budget text) ending (λ answer h. inr (code, broken, h)) r

@@ -1,7 +1,7 @@
 mod Lines
 mod Endings
 mod Completing
-mod Budgets
+mod BigTexts
 mod ImageRuns
 mod Spelling
 mod Statuses

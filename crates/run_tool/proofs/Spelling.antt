@@ -11,15 +11,16 @@ use Rattle.sts_lexer.specs.Spaces.{start_of}
 use Rattle.sts_lexer.specs.Tokens.{AreTokens, IsTokenization}
 use Rattle.sts_lexer.specs.Refusals.{IsRefusal}
 use Rattle.sts_lexer.specs.Refusals as lexed
-use Rattle.sts_lexer.proofs.Lexing.{spells_within}
+use Rattle.sts_lexer.proofs.Laws.{spells_within}
 use Rattle.sts_syntax.specs.declared.units.Unit as u
 use Rattle.sts_syntax.specs.Programs as programs
-use Rattle.parse_unit.specs.Answers.{source, Answers}
-use Rattle.parse_unit.specs.Answers as parsed
+use Rattle.sts_grammar.specs.Texts.{source, HasTokens, SpellsProgram, SpellsNone}
+use Rattle.sts_grammar.specs.Texts as parsed
+use Rattle.parse_unit.specs.Answers.{Answers}
 use Rattle.run_tool.specs.declared.ending.Ending.{Ending}
-use Rattle.run_tool.specs.Answers.{Ends}
-use Rattle.run_tool.specs.Programs.{HasTokens, SpellsProgram, SpellsNone, Reads, Refuses, ChecksText}
-use Rattle.run_tool.proofs.Endings.{ends-more}
+use Rattle.run_tool.specs.Answers.{GivesOneOf}
+use Rattle.run_tool.specs.Programs.{Reads, Refuses, ChecksText}
+use Rattle.run_tool.proofs.Endings.{gives-more}
 
 -- a text has one token at least
 pub some-token : (tables : Tables) (text : List ℕ) (tokens : List Token) → IsTokenization tables text tokens → 0 < length tokens
@@ -83,5 +84,6 @@ refusal-within text why at (inr r) = parsed-within text r.tables r.tokens why at
 pub reads-none : (text : List ℕ) (why : Refused) (c : Code) (at : ℕ) → why ≡ Program c at → Reads text (Err why) → SpellsNone text c at
 reads-none text why c at e r = subst (λ x. Reads text (Err x)) e r
 
-pub checked-ends : (text : List ℕ) (c : Code) (at : ℕ) (a b : Option (List ℕ)) (ending : Ending) → SpellsNone text c at → Ends (Refuses text c at) a b ending → Ends (ChecksText text) a b ending
-checked-ends text c at a b ending none s = ends-more (Refuses text c at) (ChecksText text) a b ending (λ answer r. inr (c, at, none, r)) s
+pub checked-gives : {S : Type 0} {taken : S → Option (List ℕ)} {faults : S → ℕ} {old new : S} (text : List ℕ) (c : Code) (at : ℕ) (ending : Ending) → SpellsNone text c at
+    → GivesOneOf taken faults old new (Refuses text c at) ending → GivesOneOf taken faults old new (ChecksText text) ending
+checked-gives text c at ending none s = gives-more (Refuses text c at) (ChecksText text) ending (λ answer r. inr (c, at, none, r)) s

@@ -1,5 +1,6 @@
 -- The answer that a call is to give, and how a call ends.
-use Rattle.std.specs.Prelude.{ℕ, List, [], Option}
+use Rattle.std.specs.Prelude.{◌≡◌, ◌≤◌, ℕ, List, [], Option}
+use Rattle.sts_base.specs.Faults.{Rose}
 use Rattle.tool_io.specs.Putting.{Took, TookPart}
 use Rattle.run_tool.specs.declared.ending.Status.{Status}
 use Rattle.run_tool.specs.declared.ending.Status.TheVariants.{Done, Usage, Panicked, OutOfBudget, Refused, ImageRefused, Faulted, FolderFailed, Missing, TooLong}
@@ -35,3 +36,10 @@ abbrev pub Ends : (Answer → Type 0) → Option (List ℕ) → Option (List ℕ
 Ends may taken taken' (Gave status) = (output : List ℕ) × may (says status output) × Took taken taken' output
 Ends may taken taken' Cut = (status : Status) × (output : List ℕ) × may (says status output) × TookPart taken taken' output
 Ends may taken taken' NoMemory = Took taken taken' []
+
+-- A call that may give these answers ended so. Of the sink, before and after it, `taken` tells what it had taken and `faults` how often it
+-- had failed: the call was cut short only where that count rose.
+pub record GivesOneOf {S : Type 0} (taken : S → Option (List ℕ)) (faults : S → ℕ) (old new : S) (may : Answer → Type 0) (ending : Ending) : Type 0 where
+  pub ends : Ends may (taken old) (taken new) ending
+  pub later : faults old ≤ faults new
+  pub cut : ending ≡ Cut → Rose (faults old) (faults new)

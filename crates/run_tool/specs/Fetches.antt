@@ -1,6 +1,7 @@
 -- What a fetch of a file may come to.
 use Rattle.std.specs.Prelude.{◌≡◌, ◌<◌, ◌≤◌, ℕ, List, length, Option, Some, None}
 use Rattle.std.specs.Option.{ForSome}
+use Rattle.sts_base.specs.Faults.{Rose}
 use Rattle.run_tool.specs.declared.fetched.Fetched.{Fetched}
 use Rattle.run_tool.specs.declared.fetched.Fetched.TheVariants.{Text, Absent, Long, Failed}
 
@@ -15,3 +16,8 @@ MayFetch told rose (Text bytes) = ForSome told (λ content. content ≡ Some byt
 MayFetch told rose Absent = ForSome told (λ content. content ≡ None)
 MayFetch told rose Long = ForSome told (λ content. (bytes : List ℕ) × (content ≡ Some bytes) × (limit < length bytes))
 MayFetch told rose Failed = rose
+
+-- What a call may come to that fetches the file of this name from a folder, of which, before and after it, `holds` tells the content and
+-- `faults` how often it had failed.
+abbrev pub MayFetchFrom : {S : Type 0} → (S → List ℕ → Option (Option (List ℕ))) → (S → ℕ) → S → S → List ℕ → Fetched → Type 0
+MayFetchFrom holds faults old new name fetched = MayFetch (holds old name) (Rose (faults old) (faults new)) fetched

@@ -1,7 +1,7 @@
-pub mod Words
+pub mod Big
 pub mod Fetches
 pub mod Answers
 pub mod Programs
 pub mod Images
-pub mod Rows
+pub mod Orders
 pub mod Laws

@@ -1,19 +1,101 @@
 // The top call.
-ghost use Rattle.std.specs.Prelude.{◌≡◌, ◌≤◌, List, ℕ, map, string_bytes};
+ghost use Rattle.std.specs.Prelude.{◌≡◌, ◌≤◌, List, ℕ, None, map, string_bytes};
 ghost use Rattle.sts_base.specs.Faults.{Rose};
 ghost use Rattle.run_tool.specs.declared.ending.Ending.{Ending};
-ghost use Rattle.run_tool.specs.Words.{order_of};
-ghost use Rattle.run_tool.specs.Answers.{Ends, ending_number};
-ghost use Rattle.run_tool.specs.Rows.{MayAnswer, Completes, AsksForImage};
+ghost use Rattle.sts_words.specs.Words.{order_of};
+ghost use Rattle.run_tool.specs.Answers.{GivesOneOf, ending_number};
+ghost use Rattle.run_tool.specs.Orders.{OverFile, AnswersOrder, AnswersWords, Completes, AsksForImage, RunsHexOn, RunsTextWhere, is_built_run};
+ghost use Rattle.sts_words.specs.Orders.{IsBudget, IsInRange, order_view};
+ghost use Rattle.sts_words.specs.Views.{spoken};
+ghost use Rattle.std.specs.Option.{option_map};
 
+use crate::big::big;
 use crate::ending::{Ending, Status};
 use crate::images::run_hex;
-use crate::programs::{check, run};
+use crate::programs::{check, not_built, run};
 use crate::said::say;
-use crate::words::{Order, read_words};
 use board_ports::Device;
 use std::alloc::Global;
+use sts_words::{Order, read_words};
 use tool_io::{Folder, Sink};
+
+/// The budget of the runs that can be built so far.
+const BUILT_BUDGET: u32 = 50_000_000;
+
+/// The command `run`, of which can be built so far: without a script, with the budget of 50000000, and without statistics.
+fn run_on<F: Folder, K: Sink>(
+    alloc: Global,
+    program: &str,
+    script: Option<&str>,
+    options: (u32, bool),
+    folder: &mut F,
+    out: &mut K,
+) -> Ending
+    ensures answer { GivesOneOf K.taken K.faults out.old out.new
+        (OverFile F.holds F.faults folder.old folder.new program.now (RunsTextWhere (is_built_run (option_map spoken script.entry) options.0 options.1))) result }
+    ensures folder_later { F.faults folder.old ≤ F.faults folder.new }
+{
+    if script.is_some() || options.0 != BUILT_BUDGET || options.1 {
+        not_built(alloc, program, folder, out)
+    } else {
+        run(alloc, program, folder, out)
+    }
+}
+
+/// The command `run-hex`, which can be done so far without a script.
+fn run_hex_on<F: Folder, K: Sink>(
+    alloc: Global,
+    image: &str,
+    script: Option<&str>,
+    budget: u32,
+    folder: &mut F,
+    out: &mut K,
+) -> Ending
+    requires { IsBudget budget }
+    ensures answer { GivesOneOf K.taken K.faults out.old out.new
+        (OverFile F.holds F.faults folder.old folder.new image.now (RunsHexOn (option_map spoken script.entry) budget)) result }
+    ensures folder_later { F.faults folder.old ≤ F.faults folder.new }
+{
+    match script {
+        None => run_hex(alloc, image, budget, folder, out),
+        Some(_) => not_built(alloc, image, folder, out),
+    }
+}
+
+/// Does what an order asks for.
+fn perform_order<F: Folder, K: Sink>(
+    alloc: Global,
+    order: Order<'_>,
+    folder: &mut F,
+    out: &mut K,
+) -> Ending
+    requires { IsInRange order }
+    ensures answer { GivesOneOf K.taken K.faults out.old out.new
+        (AnswersOrder F.holds F.faults folder.old folder.new (order_view order.entry)) result }
+    ensures folder_later { F.faults folder.old ≤ F.faults folder.new }
+{
+    match order {
+        Order::Check(name) => check(alloc, name, folder, out),
+        Order::Build(name) => not_built(alloc, name, folder, out),
+        Order::Run {
+            program,
+            script,
+            budget,
+            stats,
+            image: _,
+        } => run_on(alloc, program, script, (budget, stats), folder, out),
+        Order::RunHex {
+            image,
+            script,
+            budget,
+        } => run_hex_on(alloc, image, script, budget, folder, out),
+        Order::Big {
+            size,
+            budget: _,
+            stats: _,
+        } => big(size, out),
+    }
+}
 
 /// Does what the words ask for.
 fn perform<F: Folder, K: Sink>(
@@ -22,35 +104,35 @@ fn perform<F: Folder, K: Sink>(
     folder: &mut F,
     out: &mut K,
 ) -> Ending
-    ensures ends { Ends (MayAnswer (F.holds folder.old) (Rose (F.faults folder.old) (F.faults folder.new)) (order_of (map string_bytes words.now))) (K.taken out.old) (K.taken out.new) result }
+    ensures answer { GivesOneOf K.taken K.faults out.old out.new (AnswersWords F.holds F.faults folder.old folder.new (map string_bytes words.now)) result }
     ensures folder_later { F.faults folder.old ≤ F.faults folder.new }
-    ensures later { K.faults out.old ≤ K.faults out.new }
-    ensures cut { result ≡ Ending.Cut → Rose (K.faults out.old) (K.faults out.new) }
+    ensures untouched { order_of (map string_bytes words.now) ≡ None → folder.new ≡ folder.old }
 {
     match read_words(words) {
         None => say(out, Status::Usage, b"usage\n"),
-        Some(Order::Run(name)) => run(alloc, name, folder, out),
-        Some(Order::RunHex(name, budget)) => run_hex(alloc, name, budget, folder, out),
-        Some(Order::Check(name)) => check(alloc, name, folder, out),
+        Some(order) => perform_order(alloc, order, folder, out),
     }
 }
 
 /// Does what the words, those behind the program's name, ask for:
 ///
-/// - `run P` builds the program of that name in the folder, runs its image, and writes the transcript to the sink;
-/// - `run-hex H` reads the image that the HEX file of that name spells, runs it, and writes the transcript;
-/// - `run-hex H --budget M` does so within a budget of M instructions. M is one to ten decimal digits, with a value from 1 to
-///   2147483648; without it the budget is 50000000;
-/// - `check P` writes `spelled` where the tokens of the program spell a tree.
+/// - `check P` writes `spelled` where the tokens of the program of that name in the folder spell a tree;
+/// - `run P` builds that program, runs its image, and writes the transcript to the sink;
+/// - `run-hex H` reads the image that the HEX file of that name spells, runs it, and writes the transcript; `--budget M` or
+///   `--budget=M` runs it within a budget of M instructions, one to ten decimal digits with a value from 1 to 2147483648, and without it
+///   the budget is 50000000;
+/// - `build P`, `big N` with N from 1 to 200, a script's name behind that of a program or an image, and `--budget`, `--stats` and
+///   `--image` with `run` and `big` are words that are taken, and what they ask for is refused by code 16 where its text begins, since it
+///   can't be built yet; `big N` writes `big N` before.
 ///
 /// Answers the status:
 ///
 /// - 0 where the command was done and the whole output was taken; of a run, where it ended quiet;
-/// - 2, `usage`, exactly where the words aren't taken;
+/// - 2, `usage`, exactly where the words aren't taken; nothing is asked of the folder then;
 /// - 3, the transcript that `panic T C` closes, by `run-hex` exactly where the run panics within the budget;
 /// - 4, the transcript that `budget T` closes, by `run-hex` exactly where the run hasn't ended after the budget;
-/// - 10, `refused C L K`, exactly where the program is refused, with the code, the line and the column: by `run` where the text
-///   isn't of the form that can be built, by `check` where it spells no program;
+/// - 10, `refused C L K`, exactly where the program is refused, with the code, the line and the column: where its form can't be built
+///   yet, and by `check` where it spells no program;
 /// - 12, `image refused C`, by `run-hex` exactly where the file spells no image, with the code of the rule that it breaks first;
 /// - 13, the transcript that `fault T K A` closes, by `run-hex` exactly where the run faults within the budget, and by no other
 ///   command;
@@ -69,13 +151,14 @@ pub fn sts_main<F: Folder, K: Sink>(
     plugs: &mut Vec<Option<Box<dyn Device>>>,
 ) -> u8
     ensures ends { (ending : Ending) × (result ≡ ending_number ending)
-        × Ends (MayAnswer (F.holds folder.old) (Rose (F.faults folder.old) (F.faults folder.new)) (order_of (map string_bytes words.now))) (K.taken out.old) (K.taken out.new) ending }
+        × GivesOneOf K.taken K.faults out.old out.new (AnswersWords F.holds F.faults folder.old folder.new (map string_bytes words.now)) ending }
     ensures completes { Completes (F.holds folder.old) (order_of (map string_bytes words.now))
         (Rose (F.faults folder.old) (F.faults folder.new)) (Rose (K.faults out.old) (K.faults out.new)) result }
     ensures image_refused { result ≡ 12 → AsksForImage (order_of (map string_bytes words.now)) }
     ensures faulted { result ≡ 13 → AsksForImage (order_of (map string_bytes words.now)) }
     ensures folder_failed { result ≡ 20 → Rose (F.faults folder.old) (F.faults folder.new) }
     ensures sink_failed { result ≡ 22 → Rose (K.faults out.old) (K.faults out.new) }
+    ensures untouched { order_of (map string_bytes words.now) ≡ None → folder.new ≡ folder.old }
     ensures plugs_stay { plugs.new ≡ plugs.old }
 {
     let _ = plugs;

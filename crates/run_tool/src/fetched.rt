@@ -1,10 +1,8 @@
 // The file that a command names.
-ghost use Rattle.std.specs.Prelude.{◌≡◌, ◌≤◌, IfOk, IfErr, OnOk, IsErrOf, Ok};
-ghost use Rattle.sts_base.specs.Faults.{Rose};
-ghost use Rattle.run_tool.specs.Fetches.{MayFetch};
-ghost use Rattle.run_tool.specs.Answers.{Ends};
-ghost use Rattle.run_tool.specs.Rows.{AnswersNoText};
-ghost use Rattle.run_tool.specs.declared.ending.Ending.{Ending};
+ghost use Rattle.std.specs.Prelude.{◌≡◌, ◌≤◌, IfOk, IfErr, OnOk};
+ghost use Rattle.run_tool.specs.Fetches.{MayFetchFrom};
+ghost use Rattle.run_tool.specs.Answers.{GivesOneOf};
+ghost use Rattle.run_tool.specs.Orders.{OverFile, none_to_texts};
 
 use crate::ending::{Ending, Status};
 use crate::said::say;
@@ -26,7 +24,7 @@ pub enum Fetched {
 
 /// Fetches the file of that name.
 fn fetch<F: Folder>(alloc: Global, name: &str, folder: &mut F) -> Result<Fetched, NoMemory>
-    ensures fetched { IfOk result (λ fetched. MayFetch (F.holds folder.old name.now) (Rose (F.faults folder.old) (F.faults folder.new)) fetched) }
+    ensures fetched { IfOk result (λ fetched. MayFetchFrom F.holds F.faults folder.old folder.new name.now fetched) }
     ensures later { F.faults folder.old ≤ F.faults folder.new }
 {
     match folder.fetch(alloc, name, LIMIT) {
@@ -45,12 +43,11 @@ pub fn text_of<F: Folder, K: Sink>(
     folder: &mut F,
     out: &mut K,
 ) -> Result<Vec<u8>, Ending>
-    ensures text { IfOk result (λ text. MayFetch (F.holds folder.old name.now) (Rose (F.faults folder.old) (F.faults folder.new)) (Fetched.Text text)) }
+    ensures text { IfOk result (λ text. MayFetchFrom F.holds F.faults folder.old folder.new name.now (Fetched.Text text)) }
     ensures unwritten { OnOk result (K.taken out.new ≡ K.taken out.old) }
-    ensures none { IfErr result (Ends (AnswersNoText (F.holds folder.old name.now) (Rose (F.faults folder.old) (F.faults folder.new))) (K.taken out.old) (K.taken out.new)) }
+    ensures none { IfErr result (GivesOneOf K.taken K.faults out.old out.new (OverFile F.holds F.faults folder.old folder.new name.now none_to_texts)) }
     ensures folder_later { F.faults folder.old ≤ F.faults folder.new }
     ensures later { K.faults out.old ≤ K.faults out.new }
-    ensures cut { IsErrOf result Ending.Cut → Rose (K.faults out.old) (K.faults out.new) }
 {
     let Ok(fetched) = fetch(alloc, name, folder) else {
         return Err(Ending::NoMemory);

@@ -1,14 +1,12 @@
 // The commands over the HEX text of an image.
 ghost use Rattle.std.specs.Prelude.{◌≡◌, ◌≤◌, List, ℕ};
-ghost use Rattle.sts_base.specs.Faults.{Rose};
-ghost use Rattle.tool_io.specs.Putting.{Puts};
+ghost use Rattle.tool_io.specs.Putting.{PutsTo};
 ghost use Rattle.hex_image.specs.Codes.{number_of};
-ghost use Rattle.run_tool.specs.declared.ending.Ending.{Ending};
 ghost use Rattle.run_tool.specs.declared.ending.Status.TheVariants as status;
-ghost use Rattle.run_tool.specs.Words.{IsBudget};
-ghost use Rattle.run_tool.specs.Answers.{Ends, says};
+ghost use Rattle.sts_words.specs.Orders.{IsBudget};
+ghost use Rattle.run_tool.specs.Answers.{GivesOneOf, says};
 ghost use Rattle.run_tool.specs.Images.{RunsImage, RunsHex, image_refused_line};
-ghost use Rattle.run_tool.specs.Rows.{AnswersFile};
+ghost use Rattle.run_tool.specs.Orders.{OverFile};
 ghost use Rattle.std.specs.Prelude.{vec_len};
 
 use crate::ending::{Ending, Status};
@@ -21,7 +19,7 @@ use tool_io::{Folder, PutFailed, Sink, then_put, then_put_decimal};
 
 /// Puts the line of a refusal of an image: the code's number.
 fn put_image_refused<K: Sink>(out: &mut K, code: HexCode) -> Result<(), PutFailed>
-    ensures { Puts (K.taken out.old) (K.taken out.new) (K.faults out.old) (K.faults out.new) (image_refused_line (number_of code)) result }
+    ensures { PutsTo K.taken K.faults out.old out.new (image_refused_line (number_of code)) result }
 {
     let put = then_put(Ok(()), out, b"image refused ");
     let put = then_put_decimal(put, out, u32::from(code.number()));
@@ -30,9 +28,7 @@ fn put_image_refused<K: Sink>(out: &mut K, code: HexCode) -> Result<(), PutFaile
 
 /// Gives the answer that a text spells no image.
 fn say_image_refused<K: Sink>(out: &mut K, code: HexCode) -> Ending
-    ensures ends { Ends (λ answer. answer ≡ says status.ImageRefused (image_refused_line (number_of code))) (K.taken out.old) (K.taken out.new) result }
-    ensures later { K.faults out.old ≤ K.faults out.new }
-    ensures cut { result ≡ Ending.Cut → Rose (K.faults out.old) (K.faults out.new) }
+    ensures { GivesOneOf K.taken K.faults out.old out.new (λ answer. answer ≡ says status.ImageRefused (image_refused_line (number_of code))) result }
 {
     match put_image_refused(out, code) {
         Ok(()) => Ending::Gave(Status::ImageRefused),
@@ -44,9 +40,7 @@ fn say_image_refused<K: Sink>(out: &mut K, code: HexCode) -> Ending
 fn run_image<K: Sink>(alloc: Global, image: Vec<u8>, budget: u32, out: &mut K) -> Ending
     requires size { vec_len image ≤ 262144 }
     requires budget { IsBudget budget }
-    ensures ends { Ends (RunsImage budget image.items) (K.taken out.old) (K.taken out.new) result }
-    ensures later { K.faults out.old ≤ K.faults out.new }
-    ensures cut { result ≡ Ending.Cut → Rose (K.faults out.old) (K.faults out.new) }
+    ensures { GivesOneOf K.taken K.faults out.old out.new (RunsImage budget image.items) result }
 {
     match run_alone(alloc, image, budget, out) {
         Ok(Alone::Quiet) => Ending::Gave(Status::Done),
@@ -61,9 +55,7 @@ fn run_image<K: Sink>(alloc: Global, image: Vec<u8>, budget: u32, out: &mut K) -
 /// Reads an image from its text and runs it within a budget.
 fn run_hex_text<K: Sink>(alloc: Global, text: &[u8], budget: u32, out: &mut K) -> Ending
     requires { IsBudget budget }
-    ensures ends { Ends (RunsHex budget text.now) (K.taken out.old) (K.taken out.new) result }
-    ensures later { K.faults out.old ≤ K.faults out.new }
-    ensures cut { result ≡ Ending.Cut → Rose (K.faults out.old) (K.faults out.new) }
+    ensures { GivesOneOf K.taken K.faults out.old out.new (RunsHex budget text.now) result }
 {
     match read_hex(alloc, text) {
         Ok(image) => run_image(alloc, image, budget, out),
@@ -83,10 +75,8 @@ pub fn run_hex<F: Folder, K: Sink>(
     out: &mut K,
 ) -> Ending
     requires { IsBudget budget }
-    ensures ends { Ends (AnswersFile (RunsHex budget) (F.holds folder.old name.now) (Rose (F.faults folder.old) (F.faults folder.new))) (K.taken out.old) (K.taken out.new) result }
+    ensures answer { GivesOneOf K.taken K.faults out.old out.new (OverFile F.holds F.faults folder.old folder.new name.now (RunsHex budget)) result }
     ensures folder_later { F.faults folder.old ≤ F.faults folder.new }
-    ensures later { K.faults out.old ≤ K.faults out.new }
-    ensures cut { result ≡ Ending.Cut → Rose (K.faults out.old) (K.faults out.new) }
 {
     match text_of(alloc, name, folder, out) {
         Ok(text) => run_hex_text(alloc, &text, budget, out),

@@ -1,6 +1,7 @@
 //! The top call: what the words ask for, done over a folder and a sink.
 #![tactic(auto)]
 
+mod big;
 mod commands;
 mod ending;
 mod fetched;
@@ -8,10 +9,8 @@ mod images;
 mod laws;
 mod programs;
 mod said;
-#[cfg(test)]
-mod tests;
-mod words;
 
+pub use big::big_text;
 pub use commands::sts_main;
 pub use ending::{Ending, Status};
 pub use laws::statuses_of_run_hex;

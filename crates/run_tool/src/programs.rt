@@ -1,10 +1,9 @@
 // The commands over the text of a program.
 ghost use Rattle.std.specs.Prelude.{◌≡◌, ◌≤◌, ◌<◌, length, List, ℕ};
-ghost use Rattle.sts_base.specs.Faults.{Rose};
-ghost use Rattle.run_tool.specs.declared.ending.Ending.{Ending};
-ghost use Rattle.run_tool.specs.Answers.{Ends};
-ghost use Rattle.run_tool.specs.Programs.{RunsText, ChecksText, HasTokens, Reads};
-ghost use Rattle.run_tool.specs.Rows.{AnswersFile};
+ghost use Rattle.run_tool.specs.Answers.{GivesOneOf};
+ghost use Rattle.sts_grammar.specs.Texts.{HasTokens};
+ghost use Rattle.run_tool.specs.Programs.{RunsText, ChecksText, NotBuilt, Reads};
+ghost use Rattle.run_tool.specs.Orders.{OverFile};
 
 use crate::ending::{Ending, Status};
 use crate::fetched::text_of;
@@ -18,9 +17,7 @@ use tool_io::{Folder, Sink};
 
 /// Builds and runs a text.
 fn run_text<K: Sink>(alloc: Global, text: &[u8], out: &mut K) -> Ending
-    ensures ends { Ends (RunsText text.now) (K.taken out.old) (K.taken out.new) result }
-    ensures later { K.faults out.old ≤ K.faults out.new }
-    ensures cut { result ≡ Ending.Cut → Rose (K.faults out.old) (K.faults out.new) }
+    ensures { GivesOneOf K.taken K.faults out.old out.new (RunsText text.now) result }
 {
     match first_run(alloc, text, out) {
         Ok(()) => Ending::Gave(Status::Done),
@@ -32,13 +29,34 @@ fn run_text<K: Sink>(alloc: Global, text: &[u8], out: &mut K) -> Ending
 
 /// The command `run`.
 pub fn run<F: Folder, K: Sink>(alloc: Global, name: &str, folder: &mut F, out: &mut K) -> Ending
-    ensures ends { Ends (AnswersFile RunsText (F.holds folder.old name.now) (Rose (F.faults folder.old) (F.faults folder.new))) (K.taken out.old) (K.taken out.new) result }
+    ensures answer { GivesOneOf K.taken K.faults out.old out.new (OverFile F.holds F.faults folder.old folder.new name.now RunsText) result }
     ensures folder_later { F.faults folder.old ≤ F.faults folder.new }
-    ensures later { K.faults out.old ≤ K.faults out.new }
-    ensures cut { result ≡ Ending.Cut → Rose (K.faults out.old) (K.faults out.new) }
 {
     match text_of(alloc, name, folder, out) {
         Ok(text) => run_text(alloc, &text, out),
+        Err(ending) => ending,
+    }
+}
+
+/// Refuses a text whose form can't be built yet.
+fn refuse_form<K: Sink>(text: &[u8], out: &mut K) -> Ending
+    ensures { GivesOneOf K.taken K.faults out.old out.new (NotBuilt text.now) result }
+{
+    say_refused(out, text, Code::NotThisForm, 0)
+}
+
+/// A command over a file whose form can't be built yet.
+pub fn not_built<F: Folder, K: Sink>(
+    alloc: Global,
+    name: &str,
+    folder: &mut F,
+    out: &mut K,
+) -> Ending
+    ensures answer { GivesOneOf K.taken K.faults out.old out.new (OverFile F.holds F.faults folder.old folder.new name.now NotBuilt) result }
+    ensures folder_later { F.faults folder.old ≤ F.faults folder.new }
+{
+    match text_of(alloc, name, folder, out) {
+        Ok(text) => refuse_form(&text, out),
         Err(ending) => ending,
     }
 }
@@ -70,9 +88,7 @@ fn read_program(alloc: Global, text: &[u8]) -> Result<(), Refused>
 
 /// Says whether a text spells a program.
 fn check_text<K: Sink>(alloc: Global, text: &[u8], out: &mut K) -> Ending
-    ensures ends { Ends (ChecksText text.now) (K.taken out.old) (K.taken out.new) result }
-    ensures later { K.faults out.old ≤ K.faults out.new }
-    ensures cut { result ≡ Ending.Cut → Rose (K.faults out.old) (K.faults out.new) }
+    ensures { GivesOneOf K.taken K.faults out.old out.new (ChecksText text.now) result }
 {
     match read_program(alloc, text) {
         Ok(()) => say(out, Status::Done, b"spelled\n"),
@@ -83,10 +99,8 @@ fn check_text<K: Sink>(alloc: Global, text: &[u8], out: &mut K) -> Ending
 
 /// The command `check`.
 pub fn check<F: Folder, K: Sink>(alloc: Global, name: &str, folder: &mut F, out: &mut K) -> Ending
-    ensures ends { Ends (AnswersFile ChecksText (F.holds folder.old name.now) (Rose (F.faults folder.old) (F.faults folder.new))) (K.taken out.old) (K.taken out.new) result }
+    ensures answer { GivesOneOf K.taken K.faults out.old out.new (OverFile F.holds F.faults folder.old folder.new name.now ChecksText) result }
     ensures folder_later { F.faults folder.old ≤ F.faults folder.new }
-    ensures later { K.faults out.old ≤ K.faults out.new }
-    ensures cut { result ≡ Ending.Cut → Rose (K.faults out.old) (K.faults out.new) }
 {
     match text_of(alloc, name, folder, out) {
         Ok(text) => check_text(alloc, &text, out),

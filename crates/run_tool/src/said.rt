@@ -1,10 +1,8 @@
 // Answers of one line.
 ghost use Rattle.std.specs.Prelude.{◌≡◌, ◌≤◌, ◌<◌, length};
-ghost use Rattle.sts_base.specs.Faults.{Rose};
 ghost use Rattle.sts_base.specs.Numbers.{number_of};
-ghost use Rattle.tool_io.specs.Putting.{Puts};
-ghost use Rattle.run_tool.specs.declared.ending.Ending.{Ending};
-ghost use Rattle.run_tool.specs.Answers.{says, Ends};
+ghost use Rattle.tool_io.specs.Putting.{PutsTo};
+ghost use Rattle.run_tool.specs.Answers.{says, GivesOneOf};
 ghost use Rattle.run_tool.specs.Programs.{Refuses, refused_line};
 
 use crate::ending::{Ending, Status};
@@ -13,9 +11,7 @@ use tool_io::{PutFailed, Sink, then_put, then_put_decimal};
 
 /// Gives an answer of one line.
 pub fn say<K: Sink>(out: &mut K, status: Status, line: &[u8]) -> Ending
-    ensures ends { Ends (λ answer. answer ≡ says status line.now) (K.taken out.old) (K.taken out.new) result }
-    ensures later { K.faults out.old ≤ K.faults out.new }
-    ensures cut { result ≡ Ending.Cut → Rose (K.faults out.old) (K.faults out.new) }
+    ensures { GivesOneOf K.taken K.faults out.old out.new (λ answer. answer ≡ says status line.now) result }
 {
     match out.put(line) {
         Ok(()) => Ending::Gave(status),
@@ -25,7 +21,7 @@ pub fn say<K: Sink>(out: &mut K, status: Status, line: &[u8]) -> Ending
 
 /// Puts the line of a refusal: the code's number, the line and the column.
 fn put_refused<K: Sink>(out: &mut K, code: Code, line: u32, column: u32) -> Result<(), PutFailed>
-    ensures { Puts (K.taken out.old) (K.taken out.new) (K.faults out.old) (K.faults out.new) (refused_line (number_of code) line column) result }
+    ensures { PutsTo K.taken K.faults out.old out.new (refused_line (number_of code) line column) result }
 {
     let put = then_put(Ok(()), out, b"refused ");
     let put = then_put_decimal(put, out, u32::from(number(code)));
@@ -40,9 +36,7 @@ fn put_refused<K: Sink>(out: &mut K, code: Code, line: u32, column: u32) -> Resu
 pub fn say_refused<K: Sink>(out: &mut K, text: &[u8], code: Code, at: u32) -> Ending
     requires within { at ≤ length text.now }
     requires fits { at < 4294967295 }
-    ensures ends { Ends (Refuses text.now code at) (K.taken out.old) (K.taken out.new) result }
-    ensures later { K.faults out.old ≤ K.faults out.new }
-    ensures cut { result ≡ Ending.Cut → Rose (K.faults out.old) (K.faults out.new) }
+    ensures { GivesOneOf K.taken K.faults out.old out.new (Refuses text.now code at) result }
 {
     let (line, column) = place(text, at);
     match put_refused(out, code, line, column) {

@@ -5,6 +5,7 @@ use board_ports::Device;
 use run_tool::sts_main;
 use std::alloc::Global;
 use std::env;
+use std::io::ErrorKind;
 use std::process::ExitCode;
 use tool_io::{DiskFolder, StdSink};
 
@@ -15,6 +16,7 @@ const NO_MEMORY: u8 = 30;
 fn words_given(rt: &HostRuntime) -> Option<Vec<String>> {
     match env::args(rt) {
         Ok(words) => words.skip(1).collect(rt.alloc()).ok(),
+        Err(error) if error.kind() == ErrorKind::OutOfMemory => None,
         Err(_) => Some(Vec::new(rt.alloc())),
     }
 }

@@ -11,18 +11,18 @@ use Rattle.sts_lexer.specs.declared.token.Kind.TheVariants as k
 use Rattle.sts_syntax.specs.Annotations.{Annotation}
 use Rattle.sts_syntax.specs.Trees.{Parameter, Tree, Num, Text, Truth, Null, This, Name, Unary, Binary, Both, Either, Choice, Set, Bump, Member, Item, Call, SuperCall, Make, Items, Handler, Trees, none, more, OptionalTree, absent, present, Statement, Block, Let, IfOnly, IfElse, While, DoWhile, For, ForOf, Return, Break, Continue, Plain, Empty, Statements, done, also, OptionalStatement, omitted, written, Declaration, Declare, Declarations, ended, next, Does}
 use Rattle.sts_syntax.specs.Nesting.{nesting, deepest_tree, optional_nesting, statement_nesting, deepest_statement, optional_statement_nesting, declaration_nesting, deepest_declaration}
-use Rattle.sts_grammar.specs.Source.{Source, kind, broken, place, IsMark, IsName, IsMemberName, IsSpelled}
+use Rattle.sts_grammar.specs.Source.{Source, kind, broken, place, IsMark, IsName, IsMemberName, IsSpelled, is_mark}
 use Rattle.sts_grammar.specs.Operators.{infix_level}
 use Rattle.sts_grammar.specs.Headings.{HasType, HasResult, AreParameters}
-use Rattle.sts_grammar.specs.Ends.{is_comma, is_colon, is_assign, binds, continues, declarations_continue}
+use Rattle.sts_grammar.specs.Ends.{binds, continues, declarations_continue}
 use Rattle.sts_grammar.specs.Operands.{IsOperand, IsLet}
 use Rattle.sts_grammar.specs.Spells.{IsBare, AreListed, AreFurther, IsOptional, IsStatement, IsReturned, IsFirst, AreDeclared, IsDeclared, IsInitialised, InBlock, IsWholeExpression}
-use Rattle.sts_grammar.specs.Found.{Found, ◌>>=◌, when, name_of, member_name_of, closes_parenthesis, opens_bracket, closes_bracket, closes_brace, is_semicolon, is_dot, closes}
+use Rattle.sts_grammar.specs.Found.{Found, ◌>>=◌, when, name_of, member_name_of, closes}
 use Rattle.sts_grammar.specs.ReadHeadings.{read_heading}
 use Rattle.sts_grammar.specs.ReadExpressions.{Readers, put, put_statement, binds_before, items_rest, read_items, read_listed, read_arguments, read_statements, read_block, read_handler, bump_before, read_super}
 use Rattle.sts_grammar.specs.ReadStatements.{put_declaration, read_end, read_initialiser, declarations_rest, read_declarations, read_declaration, read_let, read_optional, read_optional_first, of_head, read_returned, read_let_statement, read_statement}
 use Rattle.sts_grammar.specs.Reading.{expression, statement, expression_readers, statement_readers}
-use Rattle.sts_grammar.proofs.Tokens.{is_true, is_assign_is}
+use Rattle.sts_grammar.proofs.Tokens.{is_true, mark_is}
 use Rattle.sts_grammar.proofs.Spans.{Within, mark_in, operand_spans, bare_spans, listed_spans, further_spans, statement_spans, declaration_spans}
 use Rattle.sts_grammar.proofs.SoundHeadings.{IsHeading}
 use Rattle.sts_grammar.proofs.Headings.{Stops, stops_at, heading_reads, arrow_heading_reads, begins_reads}
@@ -44,7 +44,7 @@ one f at i j n e g = ap (λ x. Some (f x 0, i + 1)) (sym e) ∙ ap (λ x. Some (
 -- 1. Readers of lists, and of blocks behind a heading.
 
 brace_stops : (s : Source) (gives : Option Annotation) (i : ℕ) → IsMark s i m.OpenBrace → Stops s gives i
-brace_stops s gives i mk = stops_at s gives i (ap opens_bracket mk) (ap is_colon mk)
+brace_stops s gives i mk = stops_at s gives i (ap (is_mark m.OpenBracket) mk) (ap (is_mark m.Colon) mk)
 
 handler_by : (s : Source) (readers : Readers) (at at' : ℕ) (params : List Parameter) (gives : Option Annotation) (all : Statements) (arrow : Bool) (i o j : ℕ) → at ≡ place s i → at' ≡ place s i → read_block s (readers.stmt true false) o ≡ Some (all, j) → read_handler s readers (place s i) arrow (params, gives) o ≡ Some (Handler at (Does at' params gives all arrow), j)
 unfolding read_handler
@@ -68,7 +68,7 @@ listed_more s square read i b =
 rest_close : (s : Source) (square : Bool) (read : Trees → ℕ → Found Trees) (all : Trees) (i j : ℕ) → IsMark s i (close_of square) → j ≡ i + 1 → items_rest square read all i (kind s i) ≡ Some (all, j)
 rest_close s square read all i j mk e =
     ap (items_rest square read all i) mk
-    ∙ ap (λ x. if x then Some (all, i + 1) else when (is_comma (k.Mark (close_of square))) (read all (i + 1))) (closes_yes square)
+    ∙ ap (λ x. if x then Some (all, i + 1) else when (is_mark m.Comma (k.Mark (close_of square))) (read all (i + 1))) (closes_yes square)
     ∙ ap (λ x. Some (all, x)) (sym e)
 
 rest_comma : (s : Source) (square : Bool) (read : Trees → ℕ → Found Trees) (all : Trees) (i : ℕ) → IsMark s i m.Comma → items_rest square read all i (kind s i) ≡ read all (i + 1)
@@ -84,30 +84,30 @@ let_word : (s : Source) (room : ℕ) (readers : Readers) (f l fixed : Bool) (i :
 let_word s room readers f l false i h = ap (read_statement s room readers f l i) h.1
 let_word s room readers f l true i h = ap (read_statement s room readers f l i) h.1
 
-let_not_brace : (s : Source) (fixed : Bool) (i : ℕ) → IsLet s fixed i → closes_brace (kind s i) ≡ false
-let_not_brace s false i h = ap closes_brace h.1
-let_not_brace s true i h = ap closes_brace h.1
+let_not_brace : (s : Source) (fixed : Bool) (i : ℕ) → IsLet s fixed i → is_mark m.CloseBrace (kind s i) ≡ false
+let_not_brace s false i h = ap (is_mark m.CloseBrace) h.1
+let_not_brace s true i h = ap (is_mark m.CloseBrace) h.1
 
 -- what doesn't bind is no `=`
-not_assign : (s : Source) (i : ℕ) → binds s i ≡ 0 → is_assign (kind s i) ≡ false
+not_assign : (s : Source) (i : ℕ) → binds s i ≡ 0 → is_mark m.Assign (kind s i) ≡ false
 not_assign s i z =
-    false_from_ne_true (is_assign (kind s i)) (λ e. let b : binds s i ≡ 1 = binds_mark s i m.Assign (is_assign_is (kind s i) e) in absurd (omega arith))
+    false_from_ne_true (is_mark m.Assign (kind s i)) (λ e. let b : binds s i ≡ 1 = binds_mark s i m.Assign (mark_is m.Assign (kind s i) e) in absurd (omega arith))
 
 -- no statement begins with `}`
-statement_not_brace : (s : Source) (f l : Bool) (a : Statement) (i j : ℕ) → IsStatement s f l a i j → closes_brace (kind s i) ≡ false
-statement_not_brace s f l (Block at all) i j h = ap closes_brace h.1
+statement_not_brace : (s : Source) (f l : Bool) (a : Statement) (i j : ℕ) → IsStatement s f l a i j → is_mark m.CloseBrace (kind s i) ≡ false
+statement_not_brace s f l (Block at all) i j h = ap (is_mark m.CloseBrace) h.1
 statement_not_brace s f l (Let at fixed each) i j h = let_not_brace s fixed i h.2
-statement_not_brace s f l (IfOnly at c a) i j h = ap closes_brace h.2.1
-statement_not_brace s f l (IfElse at c a b) i j h = ap closes_brace h.3.1
-statement_not_brace s f l (While at c a) i j h = ap closes_brace h.2.1
-statement_not_brace s f l (DoWhile at a c) i j h = ap closes_brace h.3.1
-statement_not_brace s f l (For at first c step a) i j h = ap closes_brace h.4.1
-statement_not_brace s f l (ForOf at fixed name list a) i j h = ap closes_brace h.2.1
-statement_not_brace s f l (Return at value) i j h = ap closes_brace h.2.1
-statement_not_brace s f l (Break at) i j h = ap closes_brace h.2.1
-statement_not_brace s f l (Continue at) i j h = ap closes_brace h.2.1
+statement_not_brace s f l (IfOnly at c a) i j h = ap (is_mark m.CloseBrace) h.2.1
+statement_not_brace s f l (IfElse at c a b) i j h = ap (is_mark m.CloseBrace) h.3.1
+statement_not_brace s f l (While at c a) i j h = ap (is_mark m.CloseBrace) h.2.1
+statement_not_brace s f l (DoWhile at a c) i j h = ap (is_mark m.CloseBrace) h.3.1
+statement_not_brace s f l (For at first c step a) i j h = ap (is_mark m.CloseBrace) h.4.1
+statement_not_brace s f l (ForOf at fixed name list a) i j h = ap (is_mark m.CloseBrace) h.2.1
+statement_not_brace s f l (Return at value) i j h = ap (is_mark m.CloseBrace) h.2.1
+statement_not_brace s f l (Break at) i j h = ap (is_mark m.CloseBrace) h.2.1
+statement_not_brace s f l (Continue at) i j h = ap (is_mark m.CloseBrace) h.2.1
 statement_not_brace s f l (Plain at a) i j h = begins_not_brace (kind s i) (operand_begins s 1 a i h.0 h.3)
-statement_not_brace s f l (Empty at) i j h = ap closes_brace h.1
+statement_not_brace s f l (Empty at) i j h = ap (is_mark m.CloseBrace) h.1
 
 -- a mark stands behind the first of some declared names
 behind_name : (s : Source) (shape : Option Annotation) (first : OptionalTree) (fixed : Bool) (i n o : ℕ) (mark : Mark) → HasType s shape i n → IsInitialised s fixed first n o → IsMark s o mark → (other : Mark) × IsMark s i other
@@ -213,8 +213,8 @@ mutual
       let read_b : expression s upto room 1 (h.1 + 1) ≡ Some (b, j) =
       operand_found s b (bare_reads s b) upto room 1 (h.1 + 1) j h.7 (omega arith) le (omega arith) in
       further_arrives s upto room (expression_readers s upto room) t q l from i c h.0 m.Question (Choice at c a b) j left (omega arith) (omega arith) h.4
-      (ap (λ r. r >>= λ a. when (is_colon (kind s a.1)) (expression s upto room 1 (a.1 + 1) >>= λ b. Some (Choice (place s i) c a.0 b.0, b.1))) read_a
-      ∙ ap (λ z. when (is_colon z) (expression s upto room 1 (h.1 + 1) >>= λ b. Some (Choice (place s i) c a b.0, b.1))) h.6
+      (ap (λ r. r >>= λ a. when (is_mark m.Colon (kind s a.1)) (expression s upto room 1 (a.1 + 1) >>= λ b. Some (Choice (place s i) c a.0 b.0, b.1))) read_a
+      ∙ ap (λ z. when (is_mark m.Colon z) (expression s upto room 1 (h.1 + 1) >>= λ b. Some (Choice (place s i) c a b.0, b.1))) h.6
       ∙ ap (λ r. r >>= λ b. Some (Choice (place s i) c a b.0, b.1)) read_b
       ∙ ap (λ z. Some (Choice z c a b, j)) (sym h.2)) (omega arith)
   bare_reads s (Set at op x a) upto room t q l from i j here h fit fuel lv le st =
@@ -260,8 +260,8 @@ mutual
       let read : expression s upto room 1 (h.0 + 1) ≡ Some (b, h.1) =
       whole_found s b (bare_reads s b) upto room (h.0 + 1) h.1 h.5 (omega arith) (omega arith) (binds_mark s h.1 m.CloseBracket h.6) in
       further_arrives s upto room (expression_readers s upto room) t q l from i a h.0 m.OpenBracket (Item at a b) j left (omega arith) (omega arith) h.4
-      (ap (λ r. r >>= λ b. when (closes_bracket (kind s b.1)) (Some (Item (place s i) a b.0, b.1 + 1))) read
-      ∙ ap (λ z. when (closes_bracket z) (Some (Item (place s i) a b, h.1 + 1))) h.6
+      (ap (λ r. r >>= λ b. when (is_mark m.CloseBracket (kind s b.1)) (Some (Item (place s i) a b.0, b.1 + 1))) read
+      ∙ ap (λ z. when (is_mark m.CloseBracket z) (Some (Item (place s i) a b, h.1 + 1))) h.6
       ∙ ap (λ y. Some (Item (place s i) a b, y)) (sym end)
       ∙ ap (λ z. Some (Item z a b, j)) (sym h.2)) (omega arith)
   bare_reads s (Call at a args) upto room t q l from i j here h fit fuel lv le st =
@@ -278,13 +278,13 @@ mutual
       let read : read_arguments s (expression s upto room 1) (i + 1) ≡ Some (args, j) =
       arguments_by s (expression s upto room 1) args (i + 1) (i + 2) j h.2 (omega arith) (listed_reads s args false upto room (i + 2) j h.3 (omega arith) le) in
       token_arrives s upto room (expression_readers s upto room) t q l from i (SuperCall at None args) j (k.Word w.Super h.1.0) here h.1.1 refl
-      (ap (λ x. read_super s (expression_readers s upto room) i (is_dot x)) h.2
+      (ap (λ x. read_super s (expression_readers s upto room) i (is_mark m.Dot x)) h.2
       ∙ ap (λ r. r >>= λ a. Some (SuperCall (place s i) None a.0, a.1)) read ∙ ap (λ z. Some (SuperCall z None args, j)) (sym h.0))
   bare_reads s (SuperCall at (Some method) args) upto room t q l from i j here h fit fuel lv le st =
       let read : read_arguments s (expression s upto room 1) (i + 3) ≡ Some (args, j) =
       arguments_by s (expression s upto room 1) args (i + 3) (i + 4) j h.4 (omega arith) (listed_reads s args false upto room (i + 4) j h.5 (omega arith) le) in
       token_arrives s upto room (expression_readers s upto room) t q l from i (SuperCall at (Some method) args) j (k.Word w.Super h.1.0) here h.1.1 refl
-      (ap (λ x. read_super s (expression_readers s upto room) i (is_dot x)) h.2
+      (ap (λ x. read_super s (expression_readers s upto room) i (is_mark m.Dot x)) h.2
       ∙ ap (λ r. r >>= λ method. read_arguments s (expression s upto room 1) (i + 3) >>= λ a. Some (SuperCall (place s i) (Some method) a.0, a.1)) (member_read s (i + 2) method h.3)
       ∙ ap (λ r. r >>= λ a. Some (SuperCall (place s i) (Some method) a.0, a.1)) read ∙ ap (λ z. Some (SuperCall z (Some method) args, j)) (sym h.0))
   bare_reads s (Make at class args) upto room t q l from i j here h fit fuel lv le st =
@@ -354,7 +354,7 @@ mutual
   pub block_reads : (s : Source) (rest : Statements) (f l : Bool) (room t : ℕ) (all : Statements) (i j : ℕ) → InBlock s f l rest i j → deepest_statement rest ≤ room → length s.tokens ≤ t + i → read_statements s (statement s room f l) t all i ≡ Some (join_statements all rest, j)
   block_reads s done f l room t all i j h fit fuel =
       statements_at s (statement s room f l) t all i (omega (arith, mark_in s i m.CloseBrace h.0))
-      ∙ ap (λ x. if closes_brace x then Some (all, i + 1) else (statement s room f l i >>= λ a. read_statements s (statement s room f l) (t - 1) (put_statement all a.0) a.1)) h.0
+      ∙ ap (λ x. if is_mark m.CloseBrace x then Some (all, i + 1) else (statement s room f l i >>= λ a. read_statements s (statement s room f l) (t - 1) (put_statement all a.0) a.1)) h.0
       ∙ ap (λ x. Some (all, x)) (sym h.1)
   block_reads s (also a rest) f l room t all i j h fit fuel =
       let x : Within s i h.0 = statement_spans s f l a i h.0 h.1 in
@@ -412,10 +412,10 @@ mutual
   statement_reads s (For at first c step a) room f l i j h fit =
       let begun : read_optional_first s (room - 1) (expression s (length s.tokens) (room - 1) 1) (i + 2) ≡ Some (first, h.0) =
       first_reads s first (room - 1) (i + 2) h.0 h.6 h.7 (omega arith) in
-      let cond : read_optional (expression s (length s.tokens) (room - 1) 1) (is_semicolon (kind s (h.0 + 1))) (h.0 + 1) ≡ Some (c, h.1) =
-      optional_reads s c is_semicolon (room - 1) (h.0 + 1) h.1 h.8 (ap is_semicolon h.9) begins_not_semicolon (binds_mark s h.1 m.Semicolon h.9) (omega arith) in
-      let stepped : read_optional (expression s (length s.tokens) (room - 1) 1) (closes_parenthesis (kind s (h.1 + 1))) (h.1 + 1) ≡ Some (step, h.2) =
-      optional_reads s step closes_parenthesis (room - 1) (h.1 + 1) h.2 h.10 (ap closes_parenthesis h.11) begins_not_closed (binds_mark s h.2 m.CloseParenthesis h.11) (omega arith) in
+      let cond : read_optional (expression s (length s.tokens) (room - 1) 1) (is_mark m.Semicolon (kind s (h.0 + 1))) (h.0 + 1) ≡ Some (c, h.1) =
+      optional_reads s c (is_mark m.Semicolon) (room - 1) (h.0 + 1) h.1 h.8 (ap (is_mark m.Semicolon) h.9) begins_not_semicolon (binds_mark s h.1 m.Semicolon h.9) (omega arith) in
+      let stepped : read_optional (expression s (length s.tokens) (room - 1) 1) (is_mark m.CloseParenthesis (kind s (h.1 + 1))) (h.1 + 1) ≡ Some (step, h.2) =
+      optional_reads s step (is_mark m.CloseParenthesis) (room - 1) (h.1 + 1) h.2 h.10 (ap (is_mark m.CloseParenthesis) h.11) begins_not_closed (binds_mark s h.2 m.CloseParenthesis h.11) (omega arith) in
       let body : statement s (room - 1) f true (h.2 + 1) ≡ Some (a, j) = statement_reads s a (room - 1) f true (h.2 + 1) j h.12 (omega arith) in
       statement_by s room f l i (k.Word w.For h.4.0) (omega arith) h.4.1
       ∙ for_reads s (room - 1) (statement_readers s (room - 1)) f (place s i) first c step a (i + 1) (i + 2) h.0 h.1 h.2 j h.5 (omega arith) (first_head s first (i + 2) h.0 h.6 h.7) begun h.7 cond h.9 stepped h.11 body
@@ -487,15 +487,15 @@ mutual
       let less : i < n = x.less in
       let within : n ≤ length s.tokens = x.inside in
       declarations_at s (expression s (length s.tokens) room 1) fixed t all i (omega arith)
-      ∙ ap (λ r. r >>= λ a. declarations_rest (read_declarations s (expression s (length s.tokens) room 1) fixed (t - 1)) (put_declaration all a.0) a.1 (is_comma (kind s a.1))) (declaration_reads s a fixed room i n h st.0 (omega arith))
+      ∙ ap (λ r. r >>= λ a. declarations_rest (read_declarations s (expression s (length s.tokens) room 1) fixed (t - 1)) (put_declaration all a.0) a.1 (is_mark m.Comma (kind s a.1))) (declaration_reads s a fixed room i n h st.0 (omega arith))
       ∙ ap (declarations_rest (read_declarations s (expression s (length s.tokens) room 1) fixed (t - 1)) (put_declaration all a) n) st.1
   declared_reads s (next a (next b rest)) fixed room t all i n h st fit fuel =
       let x : Within s i h.0 = declaration_spans s fixed a i h.0 h.1 in
       let less : i < h.0 = x.less in
       let within : h.0 ≤ length s.tokens = x.inside in
       declarations_at s (expression s (length s.tokens) room 1) fixed t all i (omega arith)
-      ∙ ap (λ r. r >>= λ a. declarations_rest (read_declarations s (expression s (length s.tokens) room 1) fixed (t - 1)) (put_declaration all a.0) a.1 (is_comma (kind s a.1))) (declaration_reads s a fixed room i h.0 h.1 (settled_comma s a h.0 h.2) (omega arith))
-      ∙ ap (λ y. declarations_rest (read_declarations s (expression s (length s.tokens) room 1) fixed (t - 1)) (put_declaration all a) h.0 (is_comma y)) h.2
+      ∙ ap (λ r. r >>= λ a. declarations_rest (read_declarations s (expression s (length s.tokens) room 1) fixed (t - 1)) (put_declaration all a.0) a.1 (is_mark m.Comma (kind s a.1))) (declaration_reads s a fixed room i h.0 h.1 (settled_comma s a h.0 h.2) (omega arith))
+      ∙ ap (λ y. declarations_rest (read_declarations s (expression s (length s.tokens) room 1) fixed (t - 1)) (put_declaration all a) h.0 (is_mark m.Comma y)) h.2
       ∙ declared_reads s (next b rest) fixed room (t - 1) (put_declaration all a) (h.0 + 1) n h.3 st (omega arith) (omega arith)
 
   -- a declared name, where its children's nesting is at most `room`
@@ -530,9 +530,9 @@ complete_heading s params gives i n j o p r b =
     heading_reads s params gives i j (n, o, p, r) (brace_stops s gives j b)
 
 -- An initialiser, which may be left out, is read where no token goes on with it.
-pub complete_initialiser : (s : Source) (room : ℕ) (fixed : Bool) (first : OptionalTree) (i j : ℕ) → IsInitialised s fixed first i j → optional_nesting first ≤ room → binds s j ≡ 0 → read_initialiser (expression s (length s.tokens) room 1) fixed (is_assign (kind s i)) i ≡ Some (first, j)
+pub complete_initialiser : (s : Source) (room : ℕ) (fixed : Bool) (first : OptionalTree) (i j : ℕ) → IsInitialised s fixed first i j → optional_nesting first ≤ room → binds s j ≡ 0 → read_initialiser (expression s (length s.tokens) room 1) fixed (is_mark m.Assign (kind s i)) i ≡ Some (first, j)
 complete_initialiser s room fixed absent i j h fit z =
-    subst (λ x. read_initialiser (expression s (length s.tokens) room 1) fixed (is_assign (kind s i)) i ≡ Some (absent, x)) h.1
+    subst (λ x. read_initialiser (expression s (length s.tokens) room 1) fixed (is_mark m.Assign (kind s i)) i ≡ Some (absent, x)) h.1
     (initialiser_absent s (expression s (length s.tokens) room 1) fixed i h.0 (not_assign s i (ap (binds s) h.1 ∙ z)))
 complete_initialiser s room fixed (present a) i j h fit z =
     initialiser_present s (expression s (length s.tokens) room 1) fixed a i j h.0 (in_statement s a (bare_reads s a) room (i + 1) j h.1 fit z)

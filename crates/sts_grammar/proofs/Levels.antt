@@ -7,11 +7,11 @@ use Rattle.sts_lexer.specs.declared.marks.Mark.TheVariants as m
 use Rattle.sts_lexer.specs.declared.token.Kind.{Kind}
 use Rattle.sts_lexer.specs.declared.token.Kind.TheVariants as k
 use Rattle.sts_syntax.specs.Trees.{Tree, Name, Unary, Binary, Both, Either, Choice, Set, Bump, Member, Item}
-use Rattle.sts_grammar.specs.Source.{Source, kind, broken}
+use Rattle.sts_grammar.specs.Source.{Source, kind, broken, is_mark}
 use Rattle.sts_grammar.specs.Operators.{infix_number, infix_level, bump_by, assignment}
 use Rattle.sts_grammar.specs.Ends.{is_bump, mark_binds, kind_binds, binds, continues, may_end, Ends}
 use Rattle.sts_grammar.specs.Operands.{level, IsTarget}
-use Rattle.sts_grammar.specs.Found.{when, is_semicolon}
+use Rattle.sts_grammar.specs.Found.{when}
 use Rattle.sts_grammar.specs.ReadExpressions.{is_target, binds_before}
 use Rattle.sts_grammar.specs.ReadStatements.{read_end}
 use Rattle.sts_grammar.proofs.Tokens.{never, is_true}
@@ -148,7 +148,7 @@ may_end_weak (k.Mark m.CloseBrace) new_line goes_on h = refl
 may_end_weak k.Finish new_line goes_on h = refl
 may_end_weak _ new_line goes_on h = weaker new_line goes_on h
 
-not_semicolon : (t : Kind) (new_line goes_on : Bool) → IsTrue (may_end t new_line goes_on) → is_semicolon t ≡ false
+not_semicolon : (t : Kind) (new_line goes_on : Bool) → IsTrue (may_end t new_line goes_on) → is_mark m.Semicolon t ≡ false
 not_semicolon (k.Mark m.Semicolon) new_line goes_on h = absurd (false≢true h)
 not_semicolon _ new_line goes_on h = refl
 
@@ -156,7 +156,7 @@ not_semicolon _ new_line goes_on h = refl
 pub end_reads : (s : Source) (goes_on : Bool) (n j : ℕ) → Ends s goes_on n j → read_end s n ≡ Some j
 unfolding read_end
 end_reads s goes_on n j (inl h) =
-    ap (λ x. if is_semicolon x then Some (n + 1) else when (may_end (kind s n) (broken s n) false) (Some n)) h.0 ∙ ap Some (sym h.1)
+    ap (λ x. if is_mark m.Semicolon x then Some (n + 1) else when (may_end (kind s n) (broken s n) false) (Some n)) h.0 ∙ ap Some (sym h.1)
 end_reads s goes_on n j (inr h) =
     ap (λ x. if x then Some (n + 1) else when (may_end (kind s n) (broken s n) false) (Some n)) (not_semicolon (kind s n) (broken s n) goes_on h.0)
     ∙ ap (λ x. when x (Some n)) (may_end_weak (kind s n) (broken s n) goes_on h.0)

@@ -17,3 +17,10 @@ mod Operands
 pub mod Statements
 pub mod Complete
 pub mod Unique
+mod UnitTokens
+mod FieldEnds
+mod SoundUnits
+mod CompleteUnits
+mod Below
+mod Programs
+pub mod Laws

@@ -7,12 +7,12 @@ use Rattle.sts_lexer.specs.declared.token.Kind.{Kind}
 use Rattle.sts_lexer.specs.declared.token.Kind.TheVariants as k
 use Rattle.sts_syntax.specs.Trees.{Tree, Num, Binary, Bump, Trees, none, more, Statement, Statements, done, also}
 use Rattle.sts_syntax.specs.Nesting.{nesting}
-use Rattle.sts_grammar.specs.Source.{Source, kind, IsMark}
+use Rattle.sts_grammar.specs.Source.{Source, kind, IsMark, is_mark}
 use Rattle.sts_grammar.specs.Operators.{infix_level}
 use Rattle.sts_grammar.specs.Ends.{binds}
 use Rattle.sts_grammar.specs.Operands.{level, IsWrapped, IsOperand}
 use Rattle.sts_grammar.specs.Spells.{IsBare, AreFurther}
-use Rattle.sts_grammar.specs.Found.{Found, when, opens_parenthesis, opens_brace, closes}
+use Rattle.sts_grammar.specs.Found.{Found, when, closes}
 use Rattle.sts_grammar.specs.ReadHeadings.{begins_arrow, is_arrow_behind}
 use Rattle.sts_grammar.specs.ReadExpressions.{Readers, put, put_statement, binds_before, read_listed, read_arguments, read_statements, read_block, read_primary}
 use Rattle.sts_grammar.specs.Reading.{expression, expression_readers}
@@ -88,17 +88,17 @@ in_statement s e ok room i j h fit z =
     let x : Within s i j = operand_spans s 1 e (IsBare s e) (bare_spans s e) i j h in
     whole_found s e ok (length s.tokens) room i j h fit x.inside z
 
-closed_by : (s : Source) (i : ℕ) (t : Kind) → kind s i ≡ t → opens_parenthesis t ≡ false → (opens_parenthesis (kind s i) && not (begins_arrow s i)) ≡ false
-closed_by s i t e h = ap (λ x. opens_parenthesis x && not (begins_arrow s i)) e ∙ ap (λ x. x && not (begins_arrow s i)) h
+closed_by : (s : Source) (i : ℕ) (t : Kind) → kind s i ≡ t → is_mark m.OpenParenthesis t ≡ false → (is_mark m.OpenParenthesis (kind s i) && not (begins_arrow s i)) ≡ false
+closed_by s i t e h = ap (λ x. is_mark m.OpenParenthesis x && not (begins_arrow s i)) e ∙ ap (λ x. x && not (begins_arrow s i)) h
 
 -- by the first token
-pub token_arrives : (s : Source) (upto room : ℕ) (readers : Readers) (t q l from i : ℕ) (e : Tree) (j : ℕ) (token : Kind) → i ≡ from + q → kind s i ≡ token → opens_parenthesis token ≡ false → read_primary s readers i token ≡ Some (e, j) → Arrives s upto room readers t q l from i e j
+pub token_arrives : (s : Source) (upto room : ℕ) (readers : Readers) (t q l from i : ℕ) (e : Tree) (j : ℕ) (token : Kind) → i ≡ from + q → kind s i ≡ token → is_mark m.OpenParenthesis token ≡ false → read_primary s readers i token ≡ Some (e, j) → Arrives s upto room readers t q l from i e j
 token_arrives s upto room readers t q l from i e j token here h o read =
     primary_arrives s upto room readers t q l from i e j here (closed_by s i token h o) (ap (read_primary s readers i) h ∙ read) (nesting_pos e)
 
 pub arrow_arrives : (s : Source) (upto room : ℕ) (readers : Readers) (t q l from i : ℕ) (e : Tree) (j : ℕ) → i ≡ from + q → IsMark s i m.OpenParenthesis → begins_arrow s i ≡ true → read_primary s readers i (k.Mark m.OpenParenthesis) ≡ Some (e, j) → Arrives s upto room readers t q l from i e j
 arrow_arrives s upto room readers t q l from i e j here h b read =
-    primary_arrives s upto room readers t q l from i e j here (ap (λ x. opens_parenthesis (kind s i) && not x) b ∙ and_no (opens_parenthesis (kind s i))) (ap (read_primary s readers i) h ∙ read) (nesting_pos e)
+    primary_arrives s upto room readers t q l from i e j here (ap (λ x. is_mark m.OpenParenthesis (kind s i) && not x) b ∙ and_no (is_mark m.OpenParenthesis (kind s i))) (ap (read_primary s readers i) h ∙ read) (nesting_pos e)
 
 -- Lists.
 
@@ -151,9 +151,9 @@ join_done (also a rest) = join_also a done rest ∙ ap (also a) (join_done rest)
 pub arguments_by : (s : Source) (read : ℕ → Found Tree) (args : Trees) (i o j : ℕ) → IsMark s i m.OpenParenthesis → o ≡ i + 1 → read_listed s false read o ≡ Some (args, j) → read_arguments s read i ≡ Some (args, j)
 unfolding read_arguments
 arguments_by s read args i o j mk e h =
-    ap (λ x. when (opens_parenthesis x) (read_listed s false read (i + 1))) mk ∙ ap (read_listed s false read) (sym e) ∙ h
+    ap (λ x. when (is_mark m.OpenParenthesis x) (read_listed s false read (i + 1))) mk ∙ ap (read_listed s false read) (sym e) ∙ h
 
 pub block_by : (s : Source) (read : ℕ → Found Statement) (all : Statements) (i o j : ℕ) → IsMark s i m.OpenBrace → o ≡ i + 1 → read_statements s read (length s.tokens) done o ≡ Some (all, j) → read_block s read i ≡ Some (all, j)
 unfolding read_block
 block_by s read all i o j mk e h =
-    ap (λ x. when (opens_brace x) (read_statements s read (length s.tokens) done (i + 1))) mk ∙ ap (read_statements s read (length s.tokens) done) (sym e) ∙ h
+    ap (λ x. when (is_mark m.OpenBrace x) (read_statements s read (length s.tokens) done (i + 1))) mk ∙ ap (read_statements s read (length s.tokens) done) (sym e) ∙ h

@@ -5,10 +5,10 @@ use Rattle.sts_lexer.specs.declared.marks.Mark.TheVariants as m
 use Rattle.sts_syntax.specs.Annotations.{Annotation}
 use Rattle.sts_syntax.specs.Trees.{Parameter, Tree, Trees, OptionalTree, Statement, Statements, Declaration, Declarations}
 use Rattle.sts_syntax.specs.Nesting.{nesting, deepest_tree, statement_nesting, deepest_statement, declaration_nesting, deepest_declaration}
-use Rattle.sts_grammar.specs.Source.{Source, kind, IsMark}
+use Rattle.sts_grammar.specs.Source.{Source, kind, IsMark, is_mark}
 use Rattle.sts_grammar.specs.Headings.{IsType, HasType, HasResult, AreParameters, IsArrowBehind}
 use Rattle.sts_grammar.specs.Operands.{IsOperand}
-use Rattle.sts_grammar.specs.Ends.{is_assign, is_colon, declarations_continue, Ends}
+use Rattle.sts_grammar.specs.Ends.{declarations_continue, Ends}
 use Rattle.sts_grammar.specs.Spells.{IsBare, AreListed, IsStatement, InBlock, AreDeclared, IsDeclared, IsWholeExpression}
 use Rattle.sts_grammar.specs.ReadHeadings.{read_type, read_optional_type, read_optional_result, read_parameters, read_heading, read_arrow_heading, begins_arrow, is_arrow_behind}
 use Rattle.sts_grammar.specs.ReadExpressions.{binds_before, read_listed, read_block}
@@ -75,8 +75,8 @@ pub sound_block : (s : Source) (room : ℕ) (f l : Bool) (i : ℕ) (all : Statem
 sound_block s room f l i all j h = block_ok s room f l (statement s room f l) (λ i a j h. sound_statement s room f l i a j h) i all j h
 
 -- An initialiser, or none: with its name and type it is a declared name that only a comma goes on with.
-pub sound_initialiser : (s : Source) (room : ℕ) (fixed : Bool) (i : ℕ) (first : OptionalTree) (j : ℕ) → read_initialiser (expression s (length s.tokens) room 1) fixed (is_assign (kind s i)) i ≡ Some (first, j) → IsInitialiser s room fixed first i j
-sound_initialiser s room fixed i first j h = initialiser_ok s room (expression s (length s.tokens) room 1) (reads_whole s room) fixed i (is_assign (kind s i)) refl first j h
+pub sound_initialiser : (s : Source) (room : ℕ) (fixed : Bool) (i : ℕ) (first : OptionalTree) (j : ℕ) → read_initialiser (expression s (length s.tokens) room 1) fixed (is_mark m.Assign (kind s i)) i ≡ Some (first, j) → IsInitialiser s room fixed first i j
+sound_initialiser s room fixed i first j h = initialiser_ok s room (expression s (length s.tokens) room 1) (reads_whole s room) fixed i (is_mark m.Assign (kind s i)) refl first j h
 
 -- A declared name.
 pub sound_declaration : (s : Source) (room : ℕ) (fixed : Bool) (i : ℕ) (a : Declaration) (j : ℕ) → read_declaration s (expression s (length s.tokens) room 1) fixed i ≡ Some (a, j) → IsDeclared s fixed a i j × (declaration_nesting a ≤ suc room) × StopsDeclared s a j
@@ -94,7 +94,7 @@ sound_end s goes_on g i j h = end_ok s goes_on g i j h
 pub sound_type : (s : Source) (i : ℕ) (t : Annotation) (j : ℕ) → read_type s i ≡ Some (t, j) → IsType s t i j
 sound_type s i t j h = type_ok s i t j h
 
-pub sound_optional_type : (s : Source) (i : ℕ) (t : Option Annotation) (j : ℕ) → read_optional_type s i ≡ Some (t, j) → HasType s t i j × (t ≡ None → is_colon (kind s j) ≡ false)
+pub sound_optional_type : (s : Source) (i : ℕ) (t : Option Annotation) (j : ℕ) → read_optional_type s i ≡ Some (t, j) → HasType s t i j × (t ≡ None → is_mark m.Colon (kind s j) ≡ false)
 sound_optional_type s i t j h = optional_type_ok s i t j h
 
 pub sound_result : (s : Source) (i : ℕ) (t : Option Annotation) (j : ℕ) → read_optional_result s i ≡ Some (t, j) → HasResult s t i j

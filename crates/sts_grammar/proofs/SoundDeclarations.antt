@@ -9,15 +9,15 @@ use Rattle.sts_lexer.specs.declared.token.Kind.TheVariants as k
 use Rattle.sts_syntax.specs.Annotations.{Annotation}
 use Rattle.sts_syntax.specs.Trees.{Tree, OptionalTree, absent, present, Declaration, Declare, Declarations, ended, next}
 use Rattle.sts_syntax.specs.Nesting.{nesting, optional_nesting, declaration_nesting, deepest_declaration}
-use Rattle.sts_grammar.specs.Source.{Source, kind, kind_of, broken, place}
+use Rattle.sts_grammar.specs.Source.{Source, kind, kind_of, broken, place, is_mark}
 use Rattle.sts_grammar.specs.Operands.{IsOperand}
-use Rattle.sts_grammar.specs.Ends.{is_comma, is_assign, is_colon, kind_binds, binds, continues, declaration_continues, declarations_continue, may_end, Ends}
+use Rattle.sts_grammar.specs.Ends.{kind_binds, binds, continues, declaration_continues, declarations_continue, may_end, Ends}
 use Rattle.sts_grammar.specs.Spells.{IsBare, AreDeclared, IsDeclared, IsInitialised}
-use Rattle.sts_grammar.specs.Found.{Found, ◌>>=◌, when, name_of, is_semicolon}
+use Rattle.sts_grammar.specs.Found.{Found, ◌>>=◌, when, name_of}
 use Rattle.sts_grammar.specs.ReadHeadings.{read_optional_type}
 use Rattle.sts_grammar.specs.ReadExpressions.{binds_before}
 use Rattle.sts_grammar.specs.ReadStatements.{put_declaration, read_end, read_initialiser, read_declaration, declarations_rest, read_declarations, read_let}
-use Rattle.sts_grammar.proofs.Tokens.{bind_ok, when_ok, some_is, moved, both_are, never, name_is, is_comma_is, is_assign_is, is_semicolon_is}
+use Rattle.sts_grammar.proofs.Tokens.{bind_ok, when_ok, some_is, moved, both_are, never, name_is, mark_is}
 use Rattle.sts_grammar.proofs.SoundHeadings.{optional_type_ok}
 
 -- 1. Ends.
@@ -35,8 +35,8 @@ nothing_binds s j h =
 pub nothing_continues : (s : Source) (j : ℕ) → binds s j ≡ 0 → continues s j ≡ false
 nothing_continues s j h = ap (nat_lt 0) h
 
-end_by : (s : Source) (i : ℕ) (b : Bool) → is_semicolon (kind s i) ≡ b → (j : ℕ) → (if b then Some (i + 1) else when (may_end (kind s i) (broken s i) false) (Some i)) ≡ Some j → Ends s false i j
-end_by s i true q j h = inl (is_semicolon_is (kind s i) q, sym (some_is (i + 1) j h))
+end_by : (s : Source) (i : ℕ) (b : Bool) → is_mark m.Semicolon (kind s i) ≡ b → (j : ℕ) → (if b then Some (i + 1) else when (may_end (kind s i) (broken s i) false) (Some i)) ≡ Some j → Ends s false i j
+end_by s i true q j h = inl (mark_is m.Semicolon (kind s i) q, sym (some_is (i + 1) j h))
 end_by s i false q j h =
     let c = when_ok (may_end (kind s i) (broken s i) false) (Some i) j h in
     inr (c.0, sym (some_is i j c.1))
@@ -44,9 +44,9 @@ end_by s i false q j h =
 -- the end of a statement that the token at i doesn't go on with
 pub end_ok : (s : Source) (goes_on : Bool) → goes_on ≡ false → (i j : ℕ) → read_end s i ≡ Some j → Ends s goes_on i j
 unfolding read_end
-end_ok s goes_on g i j h = subst (λ (b : Bool). Ends s b i j) (sym g) (end_by s i (is_semicolon (kind s i)) refl j h)
+end_ok s goes_on g i j h = subst (λ (b : Bool). Ends s b i j) (sym g) (end_by s i (is_mark m.Semicolon (kind s i)) refl j h)
 
-new_line_ends : (t : Kind) → is_semicolon t ≡ false → may_end t true false ≡ true
+new_line_ends : (t : Kind) → is_mark m.Semicolon t ≡ false → may_end t true false ≡ true
 new_line_ends (k.Mark m.Semicolon) h = absurd (false≢true (sym h))
 new_line_ends (k.Mark m.CloseBrace) h = refl
 new_line_ends k.Finish h = refl
@@ -56,15 +56,15 @@ new_line_ends _ h = refl
 pub no_end : (s : Source) (i : ℕ) → read_end s i ≡ None → broken s i ≡ false
 unfolding read_end
 no_end s i h =
-    let by : (a b : Bool) → is_semicolon (kind s i) ≡ a → broken s i ≡ b → ◌≡◌ {A = Option ℕ} (if a then Some (i + 1) else when (may_end (kind s i) b false) (Some i)) None → b ≡ false =
-    λ a b. elim a as (λ a. is_semicolon (kind s i) ≡ a → broken s i ≡ b → ◌≡◌ {A = Option ℕ} (if a then Some (i + 1) else when (may_end (kind s i) b false) (Some i)) None → b ≡ false) [
+    let by : (a b : Bool) → is_mark m.Semicolon (kind s i) ≡ a → broken s i ≡ b → ◌≡◌ {A = Option ℕ} (if a then Some (i + 1) else when (may_end (kind s i) b false) (Some i)) None → b ≡ false =
+    λ a b. elim a as (λ a. is_mark m.Semicolon (kind s i) ≡ a → broken s i ≡ b → ◌≡◌ {A = Option ℕ} (if a then Some (i + 1) else when (may_end (kind s i) b false) (Some i)) None → b ≡ false) [
       | true ↦ λ p q h. absurd (let z : ◌≡◌ {A = Option ℕ} (Some (i + 1)) None = h in cc)
       | false ↦ λ p. elim b as (λ b. broken s i ≡ b → ◌≡◌ {A = Option ℕ} (when (may_end (kind s i) b false) (Some i)) None → b ≡ false) [
         | true ↦ λ q h. absurd (let z : ◌≡◌ {A = Option ℕ} (Some i) None = sym (ap (λ (c : Bool). when c (Some i)) (new_line_ends (kind s i) p)) ∙ h in cc)
         | false ↦ λ q h. refl
       ]
     ] in
-    by (is_semicolon (kind s i)) (broken s i) refl refl h
+    by (is_mark m.Semicolon (kind s i)) (broken s i) refl refl h
 
 -- 2. Declared names.
 
@@ -85,26 +85,26 @@ three_false false false true p q r = absurd (false≢true (sym r))
 
 -- the end of a declared name: what goes on with it is a comma alone
 abbrev pub StopsDeclared : Source → Declaration → ℕ → Type 0
-StopsDeclared s a j = is_comma (kind s j) ≡ false → declaration_continues s a j ≡ false
+StopsDeclared s a j = is_mark m.Comma (kind s j) ≡ false → declaration_continues s a j ≡ false
 
 -- an initialiser, or none, and how a declared name ends with it
 abbrev pub IsInitialiser : Source → (room : ℕ) (fixed : Bool) → OptionalTree → ℕ → ℕ → Type 0
 IsInitialiser s room fixed first i j =
     IsInitialised s fixed first i j × (optional_nesting first ≤ room) ×
-    ((at name : ℕ) (shape : Option Annotation) → (shape ≡ None → is_colon (kind s i) ≡ false) → StopsDeclared s (Declare at name shape first) j)
+    ((at name : ℕ) (shape : Option Annotation) → (shape ≡ None → is_mark m.Colon (kind s i) ≡ false) → StopsDeclared s (Declare at name shape first) j)
 
-lacking : (s : Source) (i at name : ℕ) (shape : Option Annotation) → is_assign (kind s i) ≡ false → (shape ≡ None → is_colon (kind s i) ≡ false) → StopsDeclared s (Declare at name shape absent) i
-lacking s i at name None q c e = three_false (is_colon (kind s i)) (is_assign (kind s i)) (is_comma (kind s i)) (c refl) q e
-lacking s i at name (Some shape) q c e = two_false (is_assign (kind s i)) (is_comma (kind s i)) q e
+lacking : (s : Source) (i at name : ℕ) (shape : Option Annotation) → is_mark m.Assign (kind s i) ≡ false → (shape ≡ None → is_mark m.Colon (kind s i) ≡ false) → StopsDeclared s (Declare at name shape absent) i
+lacking s i at name None q c e = three_false (is_mark m.Colon (kind s i)) (is_mark m.Assign (kind s i)) (is_mark m.Comma (kind s i)) (c refl) q e
+lacking s i at name (Some shape) q c e = two_false (is_mark m.Assign (kind s i)) (is_mark m.Comma (kind s i)) q e
 
-pub initialiser_ok : (s : Source) (room : ℕ) (read : ℕ → Found Tree) → ReadsWhole s room read → (fixed : Bool) (i : ℕ) (b : Bool) → is_assign (kind s i) ≡ b → (first : OptionalTree) (j : ℕ) → read_initialiser read fixed b i ≡ Some (first, j) → IsInitialiser s room fixed first i j
+pub initialiser_ok : (s : Source) (room : ℕ) (read : ℕ → Found Tree) → ReadsWhole s room read → (fixed : Bool) (i : ℕ) (b : Bool) → is_mark m.Assign (kind s i) ≡ b → (first : OptionalTree) (j : ℕ) → read_initialiser read fixed b i ≡ Some (first, j) → IsInitialiser s room fixed first i j
 initialiser_ok s room read ok fixed i true q first j h =
     let r = bind_ok (read (i + 1)) (λ a. Some (present a.0, a.1)) (first, j) h in
     let a = ok (i + 1) r.0.0 r.0.1 r.1 in
     moved (λ (z : OptionalTree × ℕ). IsInitialiser s room fixed z.0 i z.1) (present r.0.0, r.0.1) (first, j) r.2 (
-      (is_assign_is (kind s i) q, a.0),
+      (mark_is m.Assign (kind s i) q, a.0),
       a.1,
-      λ at name shape c e. two_false (continues s r.0.1) (is_comma (kind s r.0.1)) (nothing_continues s r.0.1 a.2) e,
+      λ at name shape c e. two_false (continues s r.0.1) (is_mark m.Comma (kind s r.0.1)) (nothing_continues s r.0.1 a.2) e,
     )
 initialiser_ok s room read ok true i false q first j h = never (first, j) h
 initialiser_ok s room read ok false i false q first j h =
@@ -114,11 +114,11 @@ initialiser_ok s room read ok false i false q first j h =
 pub declaration_ok : (s : Source) (room : ℕ) (read : ℕ → Found Tree) → ReadsWhole s room read → (fixed : Bool) (i : ℕ) (a : Declaration) (j : ℕ) → read_declaration s read fixed i ≡ Some (a, j) → IsDeclared s fixed a i j × (declaration_nesting a ≤ suc room) × StopsDeclared s a j
 unfolding read_declaration
 declaration_ok s room read ok fixed i a j h =
-    let x = bind_ok (name_of (kind s i)) (λ name. read_optional_type s (i + 1) >>= λ t. read_initialiser read fixed (is_assign (kind s t.1)) t.1 >>= λ first. Some (Declare (place s i) name t.0 first.0, first.1)) (a, j) h in
-    let t = bind_ok (read_optional_type s (i + 1)) (λ t. read_initialiser read fixed (is_assign (kind s t.1)) t.1 >>= λ first. Some (Declare (place s i) x.0 t.0 first.0, first.1)) (a, j) x.2 in
-    let f = bind_ok (read_initialiser read fixed (is_assign (kind s t.0.1)) t.0.1) (λ first. Some (Declare (place s i) x.0 t.0.0 first.0, first.1)) (a, j) t.2 in
+    let x = bind_ok (name_of (kind s i)) (λ name. read_optional_type s (i + 1) >>= λ t. read_initialiser read fixed (is_mark m.Assign (kind s t.1)) t.1 >>= λ first. Some (Declare (place s i) name t.0 first.0, first.1)) (a, j) h in
+    let t = bind_ok (read_optional_type s (i + 1)) (λ t. read_initialiser read fixed (is_mark m.Assign (kind s t.1)) t.1 >>= λ first. Some (Declare (place s i) x.0 t.0 first.0, first.1)) (a, j) x.2 in
+    let f = bind_ok (read_initialiser read fixed (is_mark m.Assign (kind s t.0.1)) t.0.1) (λ first. Some (Declare (place s i) x.0 t.0.0 first.0, first.1)) (a, j) t.2 in
     let shape = optional_type_ok s (i + 1) t.0.0 t.0.1 t.1 in
-    let first = initialiser_ok s room read ok fixed t.0.1 (is_assign (kind s t.0.1)) (refl {a = is_assign (kind s t.0.1)}) f.0.0 f.0.1 f.1 in
+    let first = initialiser_ok s room read ok fixed t.0.1 (is_mark m.Assign (kind s t.0.1)) (refl {a = is_mark m.Assign (kind s t.0.1)}) f.0.0 f.0.1 f.1 in
     let deep : optional_nesting f.0.0 ≤ room = first.1 in
     moved (λ (z : Declaration × ℕ). IsDeclared s fixed z.0 i z.1 × (declaration_nesting z.0 ≤ suc room) × StopsDeclared s z.0 z.1) (Declare (place s i) x.0 t.0.0 f.0.0, f.0.1) (a, j) f.2
     ((t.0.1, refl, name_is (kind s i) x.0 x.1, shape.0, first.0), omega arith, first.2 (place s i) x.0 t.0.0 shape.1)
@@ -146,7 +146,7 @@ FurtherDeclared s room fixed all found i j =
     (a : Declaration) × (rest : Declarations) × (found ≡ join_declarations all (next a rest)) × AreWhole s room fixed (next a rest) i j
 
 declarations_by : (s : Source) (room : ℕ) (read : ℕ → Found Tree) (fixed : Bool) (n : ℕ) (all : Declarations) (a : Declaration) (i k : ℕ) → IsDeclared s fixed a i k → declaration_nesting a ≤ suc room → StopsDeclared s a k →
-    (b : Bool) → is_comma (kind s k) ≡ b → (found : Declarations) (j : ℕ) → declarations_rest (read_declarations s read fixed n) (put_declaration all a) k b ≡ Some (found, j) →
+    (b : Bool) → is_mark m.Comma (kind s k) ≡ b → (found : Declarations) (j : ℕ) → declarations_rest (read_declarations s read fixed n) (put_declaration all a) k b ≡ Some (found, j) →
     ((all : Declarations) (i : ℕ) (found : Declarations) (j : ℕ) → read_declarations s read fixed n all i ≡ Some (found, j) → FurtherDeclared s room fixed all found i j) →
     FurtherDeclared s room fixed all found i j
 declarations_by s room read fixed n all a i k d deep stops true q found j h ih =
@@ -154,7 +154,7 @@ declarations_by s room read fixed n all a i k d deep stops true q found j h ih =
     let b : Declaration = r.0 in
     let rest : Declarations = r.1 in
     let rest_deep : deepest_declaration (next b rest) ≤ suc room = r.3.1 in
-    (a, next b rest, r.2 ∙ join_put_declaration all a (next b rest), ((k, d, is_comma_is (kind s k) q, r.3.0), omega arith, r.3.2))
+    (a, next b rest, r.2 ∙ join_put_declaration all a (next b rest), ((k, d, mark_is m.Comma (kind s k) q, r.3.0), omega arith, r.3.2))
 declarations_by s room read fixed n all a i k d deep stops false q found j h ih =
     let same = both_are (put_declaration all a) k found j h in (
       a,
@@ -167,9 +167,9 @@ declarations_ok : (s : Source) (room : ℕ) (read : ℕ → Found Tree) → Read
 unfolding read_declarations
 declarations_ok s room read ok fixed zero all i found j h = never (found, j) h
 declarations_ok s room read ok fixed (suc n) all i found j h =
-    let a = bind_ok (read_declaration s read fixed i) (λ a. declarations_rest (read_declarations s read fixed n) (put_declaration all a.0) a.1 (is_comma (kind s a.1))) (found, j) h in
+    let a = bind_ok (read_declaration s read fixed i) (λ a. declarations_rest (read_declarations s read fixed n) (put_declaration all a.0) a.1 (is_mark m.Comma (kind s a.1))) (found, j) h in
     let d = declaration_ok s room read ok fixed i a.0.0 a.0.1 a.1 in
-    declarations_by s room read fixed n all a.0.0 i a.0.1 d.0 d.1 d.2 (is_comma (kind s a.0.1)) (refl {a = is_comma (kind s a.0.1)}) found j a.2 (declarations_ok s room read ok fixed n)
+    declarations_by s room read fixed n all a.0.0 i a.0.1 d.0 d.1 d.2 (is_mark m.Comma (kind s a.0.1)) (refl {a = is_mark m.Comma (kind s a.0.1)}) found j a.2 (declarations_ok s room read ok fixed n)
 
 -- the declared names behind a `let` or `const`
 pub let_ok : (s : Source) (room : ℕ) (read : ℕ → Found Tree) → ReadsWhole s room read → (fixed : Bool) (i : ℕ) (each : Declarations) (j : ℕ) → read_let s read fixed i ≡ Some (each, j) → AreWhole s room fixed each i j

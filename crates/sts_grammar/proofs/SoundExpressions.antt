@@ -7,16 +7,16 @@ use Rattle.sts_lexer.specs.declared.token.Kind.{Kind}
 use Rattle.sts_lexer.specs.declared.token.Kind.TheVariants as k
 use Rattle.sts_syntax.specs.Trees.{Tree, Binary, Both, Either, Choice, Set, Bump, Member, Item, Call}
 use Rattle.sts_syntax.specs.Nesting.{nesting, deepest_tree}
-use Rattle.sts_grammar.specs.Source.{Source, kind, broken, place, IsMark}
+use Rattle.sts_grammar.specs.Source.{Source, kind, broken, place, IsMark, is_mark}
 use Rattle.sts_grammar.specs.Operators.{infix_number, infix_level, bump_by, assignment}
 use Rattle.sts_grammar.specs.Operands.{level, IsWrapped, IsOperand}
-use Rattle.sts_grammar.specs.Ends.{is_colon, is_bump, mark_binds, kind_binds, binds}
+use Rattle.sts_grammar.specs.Ends.{is_bump, mark_binds, kind_binds, binds}
 use Rattle.sts_grammar.specs.Spells.{IsBare}
 use Rattle.sts_grammar.specs.Headings.{IsArrowBehind}
-use Rattle.sts_grammar.specs.Found.{◌>>=◌, when, member_name_of, opens_parenthesis, closes_parenthesis, closes_bracket}
+use Rattle.sts_grammar.specs.Found.{◌>>=◌, when, member_name_of}
 use Rattle.sts_grammar.specs.ReadHeadings.{begins_arrow, is_arrow_behind}
 use Rattle.sts_grammar.specs.ReadExpressions.{Readers, is_target, binds_before, read_listed, read_primary, read_operator, read_choice, read_further, read_behind, climb, opened, close_at, unwind, read_inside, read_operand}
-use Rattle.sts_grammar.proofs.Tokens.{bind_ok, when_ok, some_is, moved, never, both_true, not_true, member_name_is, opens_parenthesis_is, closes_parenthesis_is, closes_bracket_is, is_colon_is}
+use Rattle.sts_grammar.proofs.Tokens.{bind_ok, when_ok, some_is, moved, never, both_true, not_true, member_name_is, mark_is}
 use Rattle.sts_grammar.proofs.Headings.{no_arrow_behind}
 use Rattle.sts_grammar.proofs.SoundLists.{listed_ok}
 use Rattle.sts_grammar.proofs.Operators.{infix_min, infix_max, binds_max, behind_bump_max, bump_is_bump, binds_operator, binds_assignment, binds_bump, unless_bound, operand_weak, target_is, target_operand}
@@ -37,10 +37,10 @@ before_is s upto i h =
     λ b. elim b as (λ b. 1 ≤ (if b then binds s i else 0) → (if b then binds s i else 0) ≡ binds s i) [ true ↦ λ h. refl | false ↦ λ h. absurd (omega arith) ] in
     by (nat_lt i upto) h
 
-opened_by : (s : Source) (n i : ℕ) (b : Bool) → (opens_parenthesis (kind s i) && not (begins_arrow s i)) ≡ b → Opens s (opened s n (i + 1)) (i + 1) → Opens s (if b then suc (opened s n (i + 1)) else 0) i
+opened_by : (s : Source) (n i : ℕ) (b : Bool) → (is_mark m.OpenParenthesis (kind s i) && not (begins_arrow s i)) ≡ b → Opens s (opened s n (i + 1)) (i + 1) → Opens s (if b then suc (opened s n (i + 1)) else 0) i
 opened_by s n i true q h zero k_in =
     let e : i ≡ i + 0 = omega arith in
-    subst (λ (x : ℕ). IsMark s x m.OpenParenthesis) e (opens_parenthesis_is (kind s i) (both_true (opens_parenthesis (kind s i)) (not (begins_arrow s i)) q).0)
+    subst (λ (x : ℕ). IsMark s x m.OpenParenthesis) e (mark_is m.OpenParenthesis (kind s i) (both_true (is_mark m.OpenParenthesis (kind s i)) (not (begins_arrow s i)) q).0)
 opened_by s n i true q h (suc k) k_in =
     let e : (i + 1) + k ≡ i + suc k = omega arith in
     subst (λ (x : ℕ). IsMark s x m.OpenParenthesis) e (h k (omega arith))
@@ -49,15 +49,15 @@ opened_by s n i false q h k k_in = absurd (omega arith)
 opened_ok : (s : Source) (n i : ℕ) → Opens s (opened s n i) i
 unfolding opened
 opened_ok s zero i = λ k k_in. absurd (omega arith)
-opened_ok s (suc n) i = opened_by s n i (opens_parenthesis (kind s i) && not (begins_arrow s i)) refl (opened_ok s n (i + 1))
+opened_ok s (suc n) i = opened_by s n i (is_mark m.OpenParenthesis (kind s i) && not (begins_arrow s i)) refl (opened_ok s n (i + 1))
 
 close_ok : (s : Source) (i j : ℕ) → close_at s i ≡ Some j → IsMark s i m.CloseParenthesis × (j ≡ i + 1) × ¬ (IsArrowBehind s j)
 unfolding close_at
 close_ok s i j h =
-    let c = when_ok (closes_parenthesis (kind s i) && not (is_arrow_behind s (i + 1))) (Some (i + 1)) j h in
-    let b = both_true (closes_parenthesis (kind s i)) (not (is_arrow_behind s (i + 1))) c.0 in
+    let c = when_ok (is_mark m.CloseParenthesis (kind s i) && not (is_arrow_behind s (i + 1))) (Some (i + 1)) j h in
+    let b = both_true (is_mark m.CloseParenthesis (kind s i)) (not (is_arrow_behind s (i + 1))) c.0 in
     let same = some_is (i + 1) j c.1 in
-    (closes_parenthesis_is (kind s i) b.0, sym same, subst (λ (x : ℕ). ¬ (IsArrowBehind s x)) same (no_arrow_behind s (i + 1) (not_true (is_arrow_behind s (i + 1)) b.1)))
+    (mark_is m.CloseParenthesis (kind s i) b.0, sym same, subst (λ (x : ℕ). ¬ (IsArrowBehind s x)) same (no_arrow_behind s (i + 1) (not_true (is_arrow_behind s (i + 1)) b.1)))
 
 module _ (s : Source) (upto room : ℕ) (readers : Readers) (ok : AreSound s upto room readers) where
   one_ok : (i : ℕ) (e : Tree) (j : ℕ) → readers.expr 1 i ≡ Some (e, j) → IsOperand s 1 e (IsBare s e) i j × (nesting e ≤ room)
@@ -123,8 +123,8 @@ module _ (s : Source) (upto room : ℕ) (readers : Readers) (ok : AreSound s upt
 
   choice_ok : (l w from : ℕ) (e : Tree) (i : ℕ) → IsMark s i m.Question → (e' : Tree) (j : ℕ) → read_choice s readers (place s from) e (i + 1) ≡ Some (e', j) → l ≤ 1 → 2 ≤ w → nesting e ≤ room → IsOperand s w e (IsBare s e) from i → IsGrown s upto room l from e' j
   choice_ok l w from e i q e' j h le two nd a =
-      let r = bind_ok (readers.expr 1 (i + 1)) (λ a. when (is_colon (kind s a.1)) (readers.expr 1 (a.1 + 1) >>= λ b. Some (Choice (place s from) e a.0 b.0, b.1))) (e', j) h in
-      let c = when_ok (is_colon (kind s r.0.1)) (readers.expr 1 (r.0.1 + 1) >>= λ b. Some (Choice (place s from) e r.0.0 b.0, b.1)) (e', j) r.2 in
+      let r = bind_ok (readers.expr 1 (i + 1)) (λ a. when (is_mark m.Colon (kind s a.1)) (readers.expr 1 (a.1 + 1) >>= λ b. Some (Choice (place s from) e a.0 b.0, b.1))) (e', j) h in
+      let c = when_ok (is_mark m.Colon (kind s r.0.1)) (readers.expr 1 (r.0.1 + 1) >>= λ b. Some (Choice (place s from) e r.0.0 b.0, b.1)) (e', j) r.2 in
       let v = bind_ok (readers.expr 1 (r.0.1 + 1)) (λ b. Some (Choice (place s from) e r.0.0 b.0, b.1)) (e', j) c.1 in
       let x = ok.expr_ok 1 (i + 1) r.0.0 r.0.1 r.1 (omega arith) (omega arith) in
       let y = ok.expr_ok 1 (r.0.1 + 1) v.0.0 v.0.1 v.1 (omega arith) (omega arith) in
@@ -132,7 +132,7 @@ module _ (s : Source) (upto room : ℕ) (readers : Readers) (ok : AreSound s upt
       let y_deep : nesting v.0.0 ≤ room = y.1 in
       moved (λ (z : Tree × ℕ). IsGrown s upto room l from z.0 z.1) (Choice (place s from) e r.0.0 v.0.0, v.0.1) (e', j) v.2
       (loose l from (Choice (place s from) e r.0.0 v.0.0) v.0.1 le
-      (i, r.0.1, refl, operand_weak s 2 w e (IsBare s e) from i two a, q, x.0, is_colon_is (kind s r.0.1) c.0, y.0) (omega arith) (omega arith) y.2)
+      (i, r.0.1, refl, operand_weak s 2 w e (IsBare s e) from i two a, q, x.0, mark_is m.Colon (kind s r.0.1) c.0, y.0) (omega arith) (omega arith) y.2)
 
   further_ok : (l w from : ℕ) (e : Tree) (i : ℕ) (mark : Mark) → IsMark s i mark → (before : Kind) → (e' : Tree) (j : ℕ) → read_further s readers (place s from) e i mark ≡ Some (e', j) →
       1 ≤ l → l ≤ mark_binds before (broken s i) mark → mark_binds before (broken s i) mark ≤ w → 2 ≤ w → nesting e ≤ room → IsOperand s w e (IsBare s e) from i → IsGrown s upto room l from e' j
@@ -143,14 +143,14 @@ module _ (s : Source) (upto room : ℕ) (readers : Readers) (ok : AreSound s upt
       (firm l from (Member (place s from) e r.0) (i + 2) u.2
       (i, refl, operand_weak s 14 w e (IsBare s e) from i u.1 a, q, member_name_is s (i + 1) (kind s (i + 1)) r.0 refl r.1, refl) (omega arith) (omega arith))
   further_ok l w from e i m.OpenBracket q before e' j h one le bw two nd a =
-      let r = bind_ok (readers.expr 1 (i + 1)) (λ b. when (closes_bracket (kind s b.1)) (Some (Item (place s from) e b.0, b.1 + 1))) (e', j) h in
-      let c = when_ok (closes_bracket (kind s r.0.1)) (Some (Item (place s from) e r.0.0, r.0.1 + 1)) (e', j) r.2 in
+      let r = bind_ok (readers.expr 1 (i + 1)) (λ b. when (is_mark m.CloseBracket (kind s b.1)) (Some (Item (place s from) e b.0, b.1 + 1))) (e', j) h in
+      let c = when_ok (is_mark m.CloseBracket (kind s r.0.1)) (Some (Item (place s from) e r.0.0, r.0.1 + 1)) (e', j) r.2 in
       let b = one_ok (i + 1) r.0.0 r.0.1 r.1 in
       let deep : nesting r.0.0 ≤ room = b.1 in
       let u = unless_bound (is_bump before) l 14 w one le bw in
       moved (λ (z : Tree × ℕ). IsGrown s upto room l from z.0 z.1) (Item (place s from) e r.0.0, r.0.1 + 1) (e', j) c.1
       (firm l from (Item (place s from) e r.0.0) (r.0.1 + 1) u.2
-      (i, r.0.1, refl, operand_weak s 14 w e (IsBare s e) from i u.1 a, q, b.0, closes_bracket_is (kind s r.0.1) c.0, refl) (omega arith) (omega arith))
+      (i, r.0.1, refl, operand_weak s 14 w e (IsBare s e) from i u.1 a, q, b.0, mark_is m.CloseBracket (kind s r.0.1) c.0, refl) (omega arith) (omega arith))
   further_ok l w from e i m.OpenParenthesis q before e' j h one le bw two nd a =
       let r = bind_ok (read_listed s false (readers.expr 1) (i + 1)) (λ a. Some (Call (place s from) e a.0, a.1)) (e', j) h in
       let b = listed_ok s room false (readers.expr 1) one_ok (i + 1) r.0.0 r.0.1 r.1 in

@@ -4,13 +4,12 @@ use Rattle.std.specs.Prelude.{Bool, true, false, if◌then◌else◌, Some, leng
 use Rattle.sts_lexer.specs.declared.marks.Mark.TheVariants as m
 use Rattle.sts_syntax.specs.Trees.{Tree, Trees, none, more, Statement, Statements, done, also}
 use Rattle.sts_syntax.specs.Nesting.{nesting, deepest_tree, statement_nesting, deepest_statement}
-use Rattle.sts_grammar.specs.Source.{Source, kind, IsMark}
+use Rattle.sts_grammar.specs.Source.{Source, kind, IsMark, is_mark}
 use Rattle.sts_grammar.specs.Operands.{IsOperand}
-use Rattle.sts_grammar.specs.Ends.{is_comma}
 use Rattle.sts_grammar.specs.Spells.{IsBare, AreListed, AreFurther, IsStatement, InBlock}
-use Rattle.sts_grammar.specs.Found.{Found, ◌>>=◌, when, opens_parenthesis, opens_brace, closes_brace, closes}
+use Rattle.sts_grammar.specs.Found.{Found, ◌>>=◌, when, closes}
 use Rattle.sts_grammar.specs.ReadExpressions.{put, put_statement, items_rest, read_items, read_listed, read_arguments, read_statements, read_block}
-use Rattle.sts_grammar.proofs.Tokens.{bind_ok, when_ok, moved, both_are, never, closing, closes_is, is_comma_is, opens_parenthesis_is, opens_brace_is, closes_brace_is}
+use Rattle.sts_grammar.proofs.Tokens.{bind_ok, when_ok, moved, both_are, never, closing, closes_is, mark_is}
 
 -- 1. Lists one behind another.
 
@@ -50,7 +49,7 @@ FurtherItems s room square all found i j =
     (a : Tree) × (rest : Trees) × (n : ℕ) × (found ≡ join all (more a rest)) × IsOperand s 1 a (IsBare s a) i n × AreFurther s rest (closing square) n j ×
     (nesting a ≤ room) × (deepest_tree rest ≤ room)
 
-rest_by : (s : Source) (room : ℕ) (square : Bool) (read : ℕ → Found Tree) (n : ℕ) (all : Trees) (i : ℕ) (b : Bool) → closes square (kind s i) ≡ b → (found : Trees) (j : ℕ) → (if b then Some (all, i + 1) else when (is_comma (kind s i)) (read_items s square read n all (i + 1))) ≡ Some (found, j) →
+rest_by : (s : Source) (room : ℕ) (square : Bool) (read : ℕ → Found Tree) (n : ℕ) (all : Trees) (i : ℕ) (b : Bool) → closes square (kind s i) ≡ b → (found : Trees) (j : ℕ) → (if b then Some (all, i + 1) else when (is_mark m.Comma (kind s i)) (read_items s square read n all (i + 1))) ≡ Some (found, j) →
     ((found : Trees) (j : ℕ) → read_items s square read n all (i + 1) ≡ Some (found, j) → FurtherItems s room square all found (i + 1) j) →
     (rest : Trees) × (found ≡ join all rest) × AreFurther s rest (closing square) i j × (deepest_tree rest ≤ room)
 rest_by s room square read n all i true q found j h ih =
@@ -61,11 +60,11 @@ rest_by s room square read n all i true q found j h ih =
       omega arith,
     )
 rest_by s room square read n all i false q found j h ih =
-    let c = when_ok (is_comma (kind s i)) (read_items s square read n all (i + 1)) (found, j) h in
+    let c = when_ok (is_mark m.Comma (kind s i)) (read_items s square read n all (i + 1)) (found, j) h in
     let r = ih found j c.1 in
     let a : nesting r.0 ≤ room = r.6 in
     let d : deepest_tree r.1 ≤ room = r.7 in
-    (more r.0 r.1, r.3, (r.2, is_comma_is (kind s i) c.0, r.4, r.5), omega arith)
+    (more r.0 r.1, r.3, (r.2, mark_is m.Comma (kind s i) c.0, r.4, r.5), omega arith)
 
 items_ok : (s : Source) (room : ℕ) (square : Bool) (read : ℕ → Found Tree) → ReadsExpressions s room read → (n : ℕ) (all : Trees) (i : ℕ) (found : Trees) (j : ℕ) → read_items s square read n all i ≡ Some (found, j) → FurtherItems s room square all found i j
 unfolding read_items
@@ -94,9 +93,9 @@ listed_ok s room square read ok i all j h = listed_by s room square read ok i (c
 pub arguments_ok : (s : Source) (room : ℕ) (read : ℕ → Found Tree) → ReadsExpressions s room read → (i n : ℕ) → n ≡ i + 1 → (all : Trees) (j : ℕ) → read_arguments s read i ≡ Some (all, j) → IsMark s i m.OpenParenthesis × AreListed s all m.CloseParenthesis n j × (deepest_tree all ≤ room)
 unfolding read_arguments
 arguments_ok s room read ok i n e all j h =
-    let o = when_ok (opens_parenthesis (kind s i)) (read_listed s false read (i + 1)) (all, j) h in
+    let o = when_ok (is_mark m.OpenParenthesis (kind s i)) (read_listed s false read (i + 1)) (all, j) h in
     let r = listed_ok s room false read ok (i + 1) all j o.1 in
-    (opens_parenthesis_is (kind s i) o.0, subst (λ (x : ℕ). AreListed s all m.CloseParenthesis x j) (sym e) r.0, r.1)
+    (mark_is m.OpenParenthesis (kind s i) o.0, subst (λ (x : ℕ). AreListed s all m.CloseParenthesis x j) (sym e) r.0, r.1)
 
 -- 3. Statements.
 
@@ -109,14 +108,14 @@ abbrev FurtherStatements : Source → (room : ℕ) (f l : Bool) (all found : Sta
 FurtherStatements s room f l all found i j =
     (rest : Statements) × (found ≡ join_statements all rest) × InBlock s f l rest i j × (deepest_statement rest ≤ room)
 
-statements_by : (s : Source) (room : ℕ) (f l : Bool) (read : ℕ → Found Statement) → ReadsStatements s room f l read → (n : ℕ) (all : Statements) (i : ℕ) (b : Bool) → closes_brace (kind s i) ≡ b → (found : Statements) (j : ℕ) → (if b then Some (all, i + 1) else (read i >>= λ a. read_statements s read n (put_statement all a.0) a.1)) ≡ Some (found, j) →
+statements_by : (s : Source) (room : ℕ) (f l : Bool) (read : ℕ → Found Statement) → ReadsStatements s room f l read → (n : ℕ) (all : Statements) (i : ℕ) (b : Bool) → is_mark m.CloseBrace (kind s i) ≡ b → (found : Statements) (j : ℕ) → (if b then Some (all, i + 1) else (read i >>= λ a. read_statements s read n (put_statement all a.0) a.1)) ≡ Some (found, j) →
     ((all : Statements) (i : ℕ) (found : Statements) (j : ℕ) → read_statements s read n all i ≡ Some (found, j) → FurtherStatements s room f l all found i j) →
     FurtherStatements s room f l all found i j
 statements_by s room f l read ok n all i true q found j h ih =
     let same = both_are all (i + 1) found j h in (
       done,
       sym same.0 ∙ sym (join_done all),
-      (closes_brace_is (kind s i) q, sym same.1),
+      (mark_is m.CloseBrace (kind s i) q, sym same.1),
       omega arith,
     )
 statements_by s room f l read ok n all i false q found j h ih =
@@ -129,12 +128,12 @@ statements_ok : (s : Source) (room : ℕ) (f l : Bool) (read : ℕ → Found Sta
 unfolding read_statements
 statements_ok s room f l read ok zero all i found j h = never (found, j) h
 statements_ok s room f l read ok (suc n) all i found j h =
-    statements_by s room f l read ok n all i (closes_brace (kind s i)) refl found j h (statements_ok s room f l read ok n)
+    statements_by s room f l read ok n all i (is_mark m.CloseBrace (kind s i)) refl found j h (statements_ok s room f l read ok n)
 
 -- a block from i on
 pub block_ok : (s : Source) (room : ℕ) (f l : Bool) (read : ℕ → Found Statement) → ReadsStatements s room f l read → (i : ℕ) (all : Statements) (j : ℕ) → read_block s read i ≡ Some (all, j) → IsMark s i m.OpenBrace × InBlock s f l all (i + 1) j × (deepest_statement all ≤ room)
 unfolding read_block
 block_ok s room f l read ok i all j h =
-    let o = when_ok (opens_brace (kind s i)) (read_statements s read (length s.tokens) done (i + 1)) (all, j) h in
+    let o = when_ok (is_mark m.OpenBrace (kind s i)) (read_statements s read (length s.tokens) done (i + 1)) (all, j) h in
     let r = statements_ok s room f l read ok (length s.tokens) done (i + 1) all j o.1 in
-    (opens_brace_is (kind s i) o.0, subst (λ (z : Statements). InBlock s f l z (i + 1) j) (sym r.1) r.2, subst (λ (z : Statements). deepest_statement z ≤ room) (sym r.1) r.3)
+    (mark_is m.OpenBrace (kind s i) o.0, subst (λ (z : Statements). InBlock s f l z (i + 1) j) (sym r.1) r.2, subst (λ (z : Statements). deepest_statement z ≤ room) (sym r.1) r.3)

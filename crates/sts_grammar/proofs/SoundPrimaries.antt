@@ -10,14 +10,14 @@ use Rattle.sts_lexer.specs.declared.token.Kind.TheVariants as k
 use Rattle.sts_syntax.specs.Annotations.{Annotation}
 use Rattle.sts_syntax.specs.Trees.{Parameter, Tree, Num, Text, Truth, Null, This, Name, Unary, Bump, SuperCall, Make, Items, Handler, Statement, Statements, Does}
 use Rattle.sts_syntax.specs.Nesting.{nesting, deepest_tree, statement_nesting, deepest_statement}
-use Rattle.sts_grammar.specs.Source.{Source, kind, place, IsMark}
+use Rattle.sts_grammar.specs.Source.{Source, kind, place, IsMark, is_mark}
 use Rattle.sts_grammar.specs.Operators.{prefix_number, bump_by}
 use Rattle.sts_grammar.specs.Operands.{level, IsOperand}
 use Rattle.sts_grammar.specs.Spells.{IsBare, IsStatement, InBlock}
-use Rattle.sts_grammar.specs.Found.{◌>>=◌, name_of, member_name_of, is_dot}
+use Rattle.sts_grammar.specs.Found.{◌>>=◌, name_of, member_name_of}
 use Rattle.sts_grammar.specs.ReadHeadings.{read_heading, read_arrow_heading}
 use Rattle.sts_grammar.specs.ReadExpressions.{Readers, is_target, binds_before, read_listed, read_arguments, read_block, read_handler, bump_before, read_prefix, read_mark, read_super, read_word, read_primary}
-use Rattle.sts_grammar.proofs.Tokens.{bind_ok, when_ok, moved, both_are, never, name_is, member_name_is, is_dot_is}
+use Rattle.sts_grammar.proofs.Tokens.{bind_ok, when_ok, moved, both_are, never, name_is, member_name_is, mark_is}
 use Rattle.sts_grammar.proofs.SoundHeadings.{heading_ok, arrow_heading_ok}
 use Rattle.sts_grammar.proofs.SoundLists.{listed_ok, arguments_ok, block_ok}
 use Rattle.sts_grammar.proofs.Operators.{binds_max, target_is}
@@ -106,7 +106,7 @@ module _ (s : Source) (upto room : ℕ) (readers : Readers) (ok : AreSound s upt
   mark_ok i m.OpenParenthesis q e j h = arrow_ok i e j h
   mark_ok i mark q e j h = prefix_ok i mark q (prefix_number mark) (bump_by mark) refl refl e j h
 
-  super_ok : (i entry : ℕ) → kind s i ≡ k.Word w.Super entry → (b : Bool) → is_dot (kind s (i + 1)) ≡ b → (e : Tree) (j : ℕ) → read_super s readers i b ≡ Some (e, j) → IsPrimary s upto room e i j
+  super_ok : (i entry : ℕ) → kind s i ≡ k.Word w.Super entry → (b : Bool) → is_mark m.Dot (kind s (i + 1)) ≡ b → (e : Tree) (j : ℕ) → read_super s readers i b ≡ Some (e, j) → IsPrimary s upto room e i j
   super_ok i entry q false d e j h =
       let r = bind_ok (read_arguments s (readers.expr 1) (i + 1)) (λ a. Some (SuperCall (place s i) None a.0, a.1)) (e, j) h in
       let a = arguments_ok s room (readers.expr 1) one_ok (i + 1) (i + 2) (omega arith) r.0.0 r.0.1 r.1 in
@@ -120,7 +120,7 @@ module _ (s : Source) (upto room : ℕ) (readers : Readers) (ok : AreSound s upt
       let deep : deepest_tree r.0.0 ≤ room = a.2 in
       moved (λ (z : Tree × ℕ). IsPrimary s upto room z.0 i z.1) (SuperCall (place s i) (Some x.0) r.0.0, r.0.1) (e, j) r.2
       (firm (SuperCall (place s i) (Some x.0) r.0.0) i r.0.1
-      (refl, (entry, q), is_dot_is (kind s (i + 1)) d, member_name_is s (i + 2) (kind s (i + 2)) x.0 refl x.1, a.0, a.1) (omega arith) (omega arith))
+      (refl, (entry, q), mark_is m.Dot (kind s (i + 1)) d, member_name_is s (i + 2) (kind s (i + 2)) x.0 refl x.1, a.0, a.1) (omega arith) (omega arith))
 
   word_ok : (i : ℕ) (word : Word) (entry : ℕ) → kind s i ≡ k.Word word entry → (e : Tree) (j : ℕ) → read_word s readers i word ≡ Some (e, j) → IsPrimary s upto room e i j
   word_ok i w.True entry q e j h =
@@ -142,7 +142,7 @@ module _ (s : Source) (upto room : ℕ) (readers : Readers) (ok : AreSound s upt
       let deep : deepest_tree r.0.0 ≤ room = a.2 in
       moved (λ (z : Tree × ℕ). IsPrimary s upto room z.0 i z.1) (Make (place s i) x.0 r.0.0, r.0.1) (e, j) r.2
       (firm (Make (place s i) x.0 r.0.0) i r.0.1 (refl, (entry, q), name_is (kind s (i + 1)) x.0 x.1, a.0, a.1) (omega arith) (omega arith))
-  word_ok i w.Super entry q e j h = super_ok i entry q (is_dot (kind s (i + 1))) refl e j h
+  word_ok i w.Super entry q e j h = super_ok i entry q (is_mark m.Dot (kind s (i + 1))) refl e j h
   word_ok i w.Function entry q e j h = function_ok i entry q e j h
   word_ok i _ entry q e j h = never (e, j) h
 

@@ -10,14 +10,14 @@ use Rattle.sts_lexer.specs.declared.token.Kind.{Kind}
 use Rattle.sts_lexer.specs.declared.token.Kind.TheVariants as k
 use Rattle.sts_syntax.specs.Trees.{Tree, OptionalTree, absent, present, Statement, Block, Let, IfOnly, IfElse, While, DoWhile, For, ForOf, Return, Break, Continue, Plain, Empty, OptionalStatement, omitted, written, Declarations}
 use Rattle.sts_syntax.specs.Nesting.{nesting, optional_nesting, statement_nesting, deepest_statement, optional_statement_nesting, deepest_declaration}
-use Rattle.sts_grammar.specs.Source.{Source, kind, place, IsMark, IsName, IsSpelled}
+use Rattle.sts_grammar.specs.Source.{Source, kind, place, IsMark, IsName, IsSpelled, is_mark, is_word}
 use Rattle.sts_grammar.specs.Operands.{IsOperand, IsLet, BeginsPlain}
 use Rattle.sts_grammar.specs.Ends.{binds, continues, declarations_continue}
 use Rattle.sts_grammar.specs.Spells.{IsBare, IsOptional, IsStatement, IsFirst}
-use Rattle.sts_grammar.specs.Found.{Found, ◌>>=◌, when, name_of, let_of, opens_parenthesis, closes_parenthesis, is_semicolon, is_else, is_while, is_of}
+use Rattle.sts_grammar.specs.Found.{Found, ◌>>=◌, when, name_of, let_of, is_of}
 use Rattle.sts_grammar.specs.ReadExpressions.{Readers, read_block}
 use Rattle.sts_grammar.specs.ReadStatements.{read_end, read_condition, read_let, read_optional, read_first, read_optional_first, read_step, read_three, read_for_of, of_head, read_for_by, read_for, read_else, read_if, skip_semicolon, read_do, read_returned, read_plain, read_let_statement, read_while, read_word_statement, read_statement}
-use Rattle.sts_grammar.proofs.Tokens.{bind_ok, when_ok, moved, both_are, never, opens_parenthesis_is, closes_parenthesis_is, is_semicolon_is, is_semicolon_isnt, is_else_is, is_else_isnt, is_while_is, name_is, let_is, is_of_is}
+use Rattle.sts_grammar.proofs.Tokens.{bind_ok, when_ok, moved, both_are, never, mark_is, mark_isnt, word_is, word_isnt, name_is, let_is, is_of_is}
 use Rattle.sts_grammar.proofs.SoundLists.{block_ok}
 use Rattle.sts_grammar.proofs.SoundPrimaries.{AreSound}
 use Rattle.sts_grammar.proofs.SoundDeclarations.{nothing_binds, nothing_continues, end_ok, no_end, AreWhole, let_ok}
@@ -54,10 +54,10 @@ of_head_ok s i head h =
     moved (λ (head : Bool × ℕ). IsLet s head.0 i × IsName s (i + 1) head.1 × IsSpelled s (i + 2) (codes "of")) (x.0, y.0) head z.1
     (let_is s i (kind s i) x.0 refl x.1, name_is (kind s (i + 1)) y.0 y.1, is_of_is s (i + 2) (kind s (i + 2)) refl z.0)
 
-skip_by : (s : Source) (o i j : ℕ) → i ≡ o + 1 → (b : Bool) → is_semicolon (kind s i) ≡ b → j ≡ (if b then i + 1 else i) →
+skip_by : (s : Source) (o i j : ℕ) → i ≡ o + 1 → (b : Bool) → is_mark m.Semicolon (kind s i) ≡ b → j ≡ (if b then i + 1 else i) →
     (IsMark s (o + 1) m.Semicolon × (j ≡ o + 2)) ⊎ (¬ (IsMark s (o + 1) m.Semicolon) × (j ≡ o + 1))
-skip_by s o i j e true q h = inl (subst (λ (x : ℕ). IsMark s x m.Semicolon) e (is_semicolon_is (kind s i) q), omega arith)
-skip_by s o i j e false q h = inr (subst (λ (x : ℕ). ¬ (IsMark s x m.Semicolon)) e (is_semicolon_isnt (kind s i) q), omega arith)
+skip_by s o i j e true q h = inl (subst (λ (x : ℕ). IsMark s x m.Semicolon) e (mark_is m.Semicolon (kind s i) q), omega arith)
+skip_by s o i j e false q h = inr (subst (λ (x : ℕ). ¬ (IsMark s x m.Semicolon)) e (mark_isnt m.Semicolon (kind s i) q), omega arith)
 
 module _ (s : Source) (room : ℕ) (readers : Readers) (ok : AreSound s (length s.tokens) room readers) where
   whole : (i : ℕ) (e : Tree) (j : ℕ) → readers.expr 1 i ≡ Some (e, j) → IsOperand s 1 e (IsBare s e) i j × (nesting e ≤ room) × (binds s j ≡ 0)
@@ -66,12 +66,12 @@ module _ (s : Source) (room : ℕ) (readers : Readers) (ok : AreSound s (length 
   condition_ok : (i n : ℕ) → i + 1 ≡ n → (c : Tree) (j : ℕ) → read_condition s (readers.expr 1) i ≡ Some (c, j) → IsCondition s room c i n j
   unfolding read_condition
   condition_ok i n e c j h =
-      let o = when_ok (opens_parenthesis (kind s i)) (readers.expr 1 (i + 1) >>= λ c. when (closes_parenthesis (kind s c.1)) (Some (c.0, c.1 + 1))) (c, j) h in
-      let r = bind_ok (readers.expr 1 (i + 1)) (λ c. when (closes_parenthesis (kind s c.1)) (Some (c.0, c.1 + 1))) (c, j) o.1 in
-      let p = when_ok (closes_parenthesis (kind s r.0.1)) (Some (r.0.0, r.0.1 + 1)) (c, j) r.2 in
+      let o = when_ok (is_mark m.OpenParenthesis (kind s i)) (readers.expr 1 (i + 1) >>= λ c. when (is_mark m.CloseParenthesis (kind s c.1)) (Some (c.0, c.1 + 1))) (c, j) h in
+      let r = bind_ok (readers.expr 1 (i + 1)) (λ c. when (is_mark m.CloseParenthesis (kind s c.1)) (Some (c.0, c.1 + 1))) (c, j) o.1 in
+      let p = when_ok (is_mark m.CloseParenthesis (kind s r.0.1)) (Some (r.0.0, r.0.1 + 1)) (c, j) r.2 in
       let a = whole (i + 1) r.0.0 r.0.1 r.1 in
       moved (λ (z : Tree × ℕ). IsCondition s room z.0 i n z.1) (r.0.0, r.0.1 + 1) (c, j) p.1
-      (r.0.1, opens_parenthesis_is (kind s i) o.0, subst (λ (x : ℕ). IsOperand s 1 r.0.0 (IsBare s r.0.0) x r.0.1) e a.0, closes_parenthesis_is (kind s r.0.1) p.0, refl, a.1)
+      (r.0.1, mark_is m.OpenParenthesis (kind s i) o.0, subst (λ (x : ℕ). IsOperand s 1 r.0.0 (IsBare s r.0.0) x r.0.1) e a.0, mark_is m.CloseParenthesis (kind s r.0.1) p.0, refl, a.1)
 
   -- a statement from i on that is read behind another token
   deeper_ok : (f l : Bool) (i n : ℕ) → i ≡ n → (a : Statement) (j : ℕ) → readers.stmt f l i ≡ Some (a, j) → IsStatement s f l a n j × (statement_nesting a ≤ room)
@@ -79,7 +79,7 @@ module _ (s : Source) (room : ℕ) (readers : Readers) (ok : AreSound s (length 
 
   -- 1. `if`, `while` and `do`.
 
-  else_ok : (f l : Bool) (i entry : ℕ) → kind s i ≡ k.Word w.If entry → (c : Tree) (p : ℕ) → IsCondition s room c (i + 1) (i + 2) p → (a : Statement) (n : ℕ) → readers.stmt f l p ≡ Some (a, n) → (b : Bool) → is_else (kind s n) ≡ b →
+  else_ok : (f l : Bool) (i entry : ℕ) → kind s i ≡ k.Word w.If entry → (c : Tree) (p : ℕ) → IsCondition s room c (i + 1) (i + 2) p → (a : Statement) (n : ℕ) → readers.stmt f l p ≡ Some (a, n) → (b : Bool) → is_word w.Else (kind s n) ≡ b →
       (x : Statement) (j : ℕ) → read_else (readers.stmt f l) (place s i) c a n b ≡ Some (x, j) → IsDone s room f l x i j
   else_ok f l i entry q c p held a n found true e x j h =
       let r = bind_ok (readers.stmt f l (n + 1)) (λ b. Some (IfElse (place s i) c a b.0, b.1)) (x, j) h in
@@ -89,20 +89,20 @@ module _ (s : Source) (room : ℕ) (readers : Readers) (ok : AreSound s (length 
       let a_deep : statement_nesting a ≤ room = y.1 in
       let b_deep : statement_nesting r.0.0 ≤ room = z.1 in
       moved (λ (z : Statement × ℕ). IsDone s room f l z.0 i z.1) (IfElse (place s i) c a r.0.0, r.0.1) (x, j) r.2
-      ((held.0, n, refl, (entry, q), held.1, held.2, held.3, y.0, is_else_is s n (kind s n) refl e, z.0), omega arith)
+      ((held.0, n, refl, (entry, q), held.1, held.2, held.3, y.0, word_is s n w.Else (kind s n) refl e, z.0), omega arith)
   else_ok f l i entry q c p held a n found false e x j h =
       let y = deeper_ok f l p (held.0 + 1) held.4 a n found in
       let c_deep : nesting c ≤ room = held.5 in
       let a_deep : statement_nesting a ≤ room = y.1 in
       moved (λ (z : Statement × ℕ). IsDone s room f l z.0 i z.1) (IfOnly (place s i) c a, n) (x, j) h
-      ((held.0, refl, (entry, q), held.1, held.2, held.3, y.0, is_else_isnt s n e), omega arith)
+      ((held.0, refl, (entry, q), held.1, held.2, held.3, y.0, word_isnt s n w.Else e), omega arith)
 
   if_ok : (f l : Bool) (i entry : ℕ) → kind s i ≡ k.Word w.If entry → (x : Statement) (j : ℕ) → read_if s readers f l (place s i) (i + 1) ≡ Some (x, j) → IsDone s room f l x i j
   unfolding read_if
   if_ok f l i entry q x j h =
-      let c = bind_ok (read_condition s (readers.expr 1) (i + 1)) (λ c. readers.stmt f l c.1 >>= λ a. read_else (readers.stmt f l) (place s i) c.0 a.0 a.1 (is_else (kind s a.1))) (x, j) h in
-      let a = bind_ok (readers.stmt f l c.0.1) (λ a. read_else (readers.stmt f l) (place s i) c.0.0 a.0 a.1 (is_else (kind s a.1))) (x, j) c.2 in
-      else_ok f l i entry q c.0.0 c.0.1 (condition_ok (i + 1) (i + 2) (omega arith) c.0.0 c.0.1 c.1) a.0.0 a.0.1 a.1 (is_else (kind s a.0.1)) (refl {a = is_else (kind s a.0.1)}) x j a.2
+      let c = bind_ok (read_condition s (readers.expr 1) (i + 1)) (λ c. readers.stmt f l c.1 >>= λ a. read_else (readers.stmt f l) (place s i) c.0 a.0 a.1 (is_word w.Else (kind s a.1))) (x, j) h in
+      let a = bind_ok (readers.stmt f l c.0.1) (λ a. read_else (readers.stmt f l) (place s i) c.0.0 a.0 a.1 (is_word w.Else (kind s a.1))) (x, j) c.2 in
+      else_ok f l i entry q c.0.0 c.0.1 (condition_ok (i + 1) (i + 2) (omega arith) c.0.0 c.0.1 c.1) a.0.0 a.0.1 a.1 (is_word w.Else (kind s a.0.1)) (refl {a = is_word w.Else (kind s a.0.1)}) x j a.2
 
   while_ok : (f l : Bool) (i entry : ℕ) → kind s i ≡ k.Word w.While entry → (x : Statement) (j : ℕ) → read_while s readers f (place s i) (i + 1) ≡ Some (x, j) → IsDone s room f l x i j
   unfolding read_while
@@ -119,15 +119,15 @@ module _ (s : Source) (room : ℕ) (readers : Readers) (ok : AreSound s (length 
   do_ok : (f l : Bool) (i entry : ℕ) → kind s i ≡ k.Word w.Do entry → (x : Statement) (j : ℕ) → read_do s readers f (place s i) (i + 1) ≡ Some (x, j) → IsDone s room f l x i j
   unfolding read_do
   do_ok f l i entry q x j h =
-      let a = bind_ok (readers.stmt f true (i + 1)) (λ a. when (is_while (kind s a.1)) (read_condition s (readers.expr 1) (a.1 + 1) >>= λ c. Some (DoWhile (place s i) a.0 c.0, skip_semicolon s c.1))) (x, j) h in
-      let v = when_ok (is_while (kind s a.0.1)) (read_condition s (readers.expr 1) (a.0.1 + 1) >>= λ c. Some (DoWhile (place s i) a.0.0 c.0, skip_semicolon s c.1)) (x, j) a.2 in
+      let a = bind_ok (readers.stmt f true (i + 1)) (λ a. when (is_word w.While (kind s a.1)) (read_condition s (readers.expr 1) (a.1 + 1) >>= λ c. Some (DoWhile (place s i) a.0 c.0, skip_semicolon s c.1))) (x, j) h in
+      let v = when_ok (is_word w.While (kind s a.0.1)) (read_condition s (readers.expr 1) (a.0.1 + 1) >>= λ c. Some (DoWhile (place s i) a.0.0 c.0, skip_semicolon s c.1)) (x, j) a.2 in
       let c = bind_ok (read_condition s (readers.expr 1) (a.0.1 + 1)) (λ c. Some (DoWhile (place s i) a.0.0 c.0, skip_semicolon s c.1)) (x, j) v.1 in
       let y = deeper_ok f true (i + 1) (i + 1) refl a.0.0 a.0.1 a.1 in
       let held = condition_ok (a.0.1 + 1) (a.0.1 + 2) (omega arith) c.0.0 c.0.1 c.1 in
       let c_deep : nesting c.0.0 ≤ room = held.5 in
       let a_deep : statement_nesting a.0.0 ≤ room = y.1 in
       moved (λ (z : Statement × ℕ). IsDone s room f l z.0 i z.1) (DoWhile (place s i) a.0.0 c.0.0, skip_semicolon s c.0.1) (x, j) c.2
-      ((a.0.1, held.0, refl, (entry, q), y.0, is_while_is s a.0.1 (kind s a.0.1) refl v.0, held.1, held.2, held.3, skip_by s held.0 c.0.1 (skip_semicolon s c.0.1) held.4 (is_semicolon (kind s c.0.1)) (refl {a = is_semicolon (kind s c.0.1)}) (refl {a = skip_semicolon s c.0.1})), omega arith)
+      ((a.0.1, held.0, refl, (entry, q), y.0, word_is s a.0.1 w.While (kind s a.0.1) refl v.0, held.1, held.2, held.3, skip_by s held.0 c.0.1 (skip_semicolon s c.0.1) held.4 (is_mark m.Semicolon (kind s c.0.1)) (refl {a = is_mark m.Semicolon (kind s c.0.1)}) (refl {a = skip_semicolon s c.0.1})), omega arith)
 
   -- 2. `for`.
 
@@ -162,16 +162,16 @@ module _ (s : Source) (room : ℕ) (readers : Readers) (ok : AreSound s (length 
 
   optional_first_ok : (i : ℕ) (x : OptionalStatement) (j : ℕ) → read_optional_first s room (readers.expr 1) i ≡ Some (x, j) → IsFirst s x i j × (optional_statement_nesting x ≤ room)
   unfolding read_optional_first
-  optional_first_ok i x j h = optional_first_by i (is_semicolon (kind s i)) x j h
+  optional_first_ok i x j h = optional_first_by i (is_mark m.Semicolon (kind s i)) x j h
 
   step_ok : (f : Bool) (at : ℕ) (first : OptionalStatement) (c : OptionalTree) (i : ℕ) (x : Statement) (j : ℕ) → read_step s readers f at first c i ≡ Some (x, j) →
       (step : OptionalTree) × (a : Statement) × (p : ℕ) × (x ≡ For at first c step a) × IsOptional s step i p × IsMark s p m.CloseParenthesis × IsStatement s f true a (p + 1) j × (optional_nesting step ≤ room) × (statement_nesting a ≤ room)
   unfolding read_step
   step_ok f at first c i x j h =
-      let r = bind_ok (read_optional (readers.expr 1) (closes_parenthesis (kind s i)) i) (λ step. when (closes_parenthesis (kind s step.1)) (readers.stmt f true (step.1 + 1) >>= λ a. Some (For at first c step.0 a.0, a.1))) (x, j) h in
-      let p = when_ok (closes_parenthesis (kind s r.0.1)) (readers.stmt f true (r.0.1 + 1) >>= λ a. Some (For at first c r.0.0 a.0, a.1)) (x, j) r.2 in
+      let r = bind_ok (read_optional (readers.expr 1) (is_mark m.CloseParenthesis (kind s i)) i) (λ step. when (is_mark m.CloseParenthesis (kind s step.1)) (readers.stmt f true (step.1 + 1) >>= λ a. Some (For at first c step.0 a.0, a.1))) (x, j) h in
+      let p = when_ok (is_mark m.CloseParenthesis (kind s r.0.1)) (readers.stmt f true (r.0.1 + 1) >>= λ a. Some (For at first c r.0.0 a.0, a.1)) (x, j) r.2 in
       let a = bind_ok (readers.stmt f true (r.0.1 + 1)) (λ a. Some (For at first c r.0.0 a.0, a.1)) (x, j) p.1 in
-      let step = optional_ok (closes_parenthesis (kind s i)) i r.0.0 r.0.1 r.1 in
+      let step = optional_ok (is_mark m.CloseParenthesis (kind s i)) i r.0.0 r.0.1 r.1 in
       let y = deeper_ok f true (r.0.1 + 1) (r.0.1 + 1) refl a.0.0 a.0.1 a.1 in
       let same = both_are (For at first c r.0.0 a.0.0) a.0.1 x j a.2 in (
         r.0.0,
@@ -179,7 +179,7 @@ module _ (s : Source) (room : ℕ) (readers : Readers) (ok : AreSound s (length 
         r.0.1,
         sym same.0,
         step.0,
-        closes_parenthesis_is (kind s r.0.1) p.0,
+        mark_is m.CloseParenthesis (kind s r.0.1) p.0,
         subst (IsStatement s f true a.0.0 (r.0.1 + 1)) same.1 y.0,
         step.1,
         y.1,
@@ -188,12 +188,12 @@ module _ (s : Source) (room : ℕ) (readers : Readers) (ok : AreSound s (length 
   three_ok : (f l : Bool) (i entry : ℕ) → kind s i ≡ k.Word w.For entry → IsMark s (i + 1) m.OpenParenthesis → (x : Statement) (j : ℕ) → read_three s room readers f (place s i) (i + 2) ≡ Some (x, j) → IsDone s room f l x i j
   unfolding read_three
   three_ok f l i entry q opens x j h =
-      let first = bind_ok (read_optional_first s room (readers.expr 1) (i + 2)) (λ first. when (is_semicolon (kind s first.1)) (read_optional (readers.expr 1) (is_semicolon (kind s (first.1 + 1))) (first.1 + 1) >>= λ c. when (is_semicolon (kind s c.1)) (read_step s readers f (place s i) first.0 c.0 (c.1 + 1)))) (x, j) h in
-      let one = when_ok (is_semicolon (kind s first.0.1)) (read_optional (readers.expr 1) (is_semicolon (kind s (first.0.1 + 1))) (first.0.1 + 1) >>= λ c. when (is_semicolon (kind s c.1)) (read_step s readers f (place s i) first.0.0 c.0 (c.1 + 1))) (x, j) first.2 in
-      let c = bind_ok (read_optional (readers.expr 1) (is_semicolon (kind s (first.0.1 + 1))) (first.0.1 + 1)) (λ c. when (is_semicolon (kind s c.1)) (read_step s readers f (place s i) first.0.0 c.0 (c.1 + 1))) (x, j) one.1 in
-      let two = when_ok (is_semicolon (kind s c.0.1)) (read_step s readers f (place s i) first.0.0 c.0.0 (c.0.1 + 1)) (x, j) c.2 in
+      let first = bind_ok (read_optional_first s room (readers.expr 1) (i + 2)) (λ first. when (is_mark m.Semicolon (kind s first.1)) (read_optional (readers.expr 1) (is_mark m.Semicolon (kind s (first.1 + 1))) (first.1 + 1) >>= λ c. when (is_mark m.Semicolon (kind s c.1)) (read_step s readers f (place s i) first.0 c.0 (c.1 + 1)))) (x, j) h in
+      let one = when_ok (is_mark m.Semicolon (kind s first.0.1)) (read_optional (readers.expr 1) (is_mark m.Semicolon (kind s (first.0.1 + 1))) (first.0.1 + 1) >>= λ c. when (is_mark m.Semicolon (kind s c.1)) (read_step s readers f (place s i) first.0.0 c.0 (c.1 + 1))) (x, j) first.2 in
+      let c = bind_ok (read_optional (readers.expr 1) (is_mark m.Semicolon (kind s (first.0.1 + 1))) (first.0.1 + 1)) (λ c. when (is_mark m.Semicolon (kind s c.1)) (read_step s readers f (place s i) first.0.0 c.0 (c.1 + 1))) (x, j) one.1 in
+      let two = when_ok (is_mark m.Semicolon (kind s c.0.1)) (read_step s readers f (place s i) first.0.0 c.0.0 (c.0.1 + 1)) (x, j) c.2 in
       let y = optional_first_ok (i + 2) first.0.0 first.0.1 first.1 in
-      let z = optional_ok (is_semicolon (kind s (first.0.1 + 1))) (first.0.1 + 1) c.0.0 c.0.1 c.1 in
+      let z = optional_ok (is_mark m.Semicolon (kind s (first.0.1 + 1))) (first.0.1 + 1) c.0.0 c.0.1 c.1 in
       let r = step_ok f (place s i) first.0.0 c.0.0 (c.0.1 + 1) x j two.1 in
       let first_deep : optional_statement_nesting first.0.0 ≤ room = y.1 in
       let c_deep : optional_nesting c.0.0 ≤ room = z.1 in
@@ -208,9 +208,9 @@ module _ (s : Source) (room : ℕ) (readers : Readers) (ok : AreSound s (length 
           (entry, q),
           opens,
           y.0,
-          is_semicolon_is (kind s first.0.1) one.0,
+          mark_is m.Semicolon (kind s first.0.1) one.0,
           z.0,
-          is_semicolon_is (kind s c.0.1) two.0,
+          mark_is m.Semicolon (kind s c.0.1) two.0,
           r.4,
           r.5,
           r.6,
@@ -222,15 +222,15 @@ module _ (s : Source) (room : ℕ) (readers : Readers) (ok : AreSound s (length 
       (x : Statement) (j : ℕ) → read_for_of s readers f (place s i) fixed name (i + 5) ≡ Some (x, j) → IsDone s room f l x i j
   unfolding read_for_of
   for_of_ok f l i entry q opens fixed name let_at name_at of_at x j h =
-      let r = bind_ok (readers.expr 1 (i + 5)) (λ list. when (closes_parenthesis (kind s list.1)) (readers.stmt f true (list.1 + 1) >>= λ a. Some (ForOf (place s i) fixed name list.0 a.0, a.1))) (x, j) h in
-      let p = when_ok (closes_parenthesis (kind s r.0.1)) (readers.stmt f true (r.0.1 + 1) >>= λ a. Some (ForOf (place s i) fixed name r.0.0 a.0, a.1)) (x, j) r.2 in
+      let r = bind_ok (readers.expr 1 (i + 5)) (λ list. when (is_mark m.CloseParenthesis (kind s list.1)) (readers.stmt f true (list.1 + 1) >>= λ a. Some (ForOf (place s i) fixed name list.0 a.0, a.1))) (x, j) h in
+      let p = when_ok (is_mark m.CloseParenthesis (kind s r.0.1)) (readers.stmt f true (r.0.1 + 1) >>= λ a. Some (ForOf (place s i) fixed name r.0.0 a.0, a.1)) (x, j) r.2 in
       let a = bind_ok (readers.stmt f true (r.0.1 + 1)) (λ a. Some (ForOf (place s i) fixed name r.0.0 a.0, a.1)) (x, j) p.1 in
       let list = whole (i + 5) r.0.0 r.0.1 r.1 in
       let y = deeper_ok f true (r.0.1 + 1) (r.0.1 + 1) refl a.0.0 a.0.1 a.1 in
       let list_deep : nesting r.0.0 ≤ room = list.1 in
       let a_deep : statement_nesting a.0.0 ≤ room = y.1 in
       moved (λ (z : Statement × ℕ). IsDone s room f l z.0 i z.1) (ForOf (place s i) fixed name r.0.0 a.0.0, a.0.1) (x, j) a.2
-      ((r.0.1, refl, (entry, q), opens, let_at, name_at, of_at, list.0, closes_parenthesis_is (kind s r.0.1) p.0, y.0), omega arith)
+      ((r.0.1, refl, (entry, q), opens, let_at, name_at, of_at, list.0, mark_is m.CloseParenthesis (kind s r.0.1) p.0, y.0), omega arith)
 
   for_by : (f l : Bool) (i entry : ℕ) → kind s i ≡ k.Word w.For entry → IsMark s (i + 1) m.OpenParenthesis → (head : Option (Bool × ℕ)) → of_head s (i + 2) ≡ head → (x : Statement) (j : ℕ) → read_for_by s room readers f (place s i) (i + 2) head ≡ Some (x, j) → IsDone s room f l x i j
   for_by f l i entry q opens (Some head) e x j h =
@@ -245,9 +245,9 @@ module _ (s : Source) (room : ℕ) (readers : Readers) (ok : AreSound s (length 
   for_ok : (f l : Bool) (i entry : ℕ) → kind s i ≡ k.Word w.For entry → (x : Statement) (j : ℕ) → read_for s room readers f (place s i) (i + 1) ≡ Some (x, j) → IsDone s room f l x i j
   unfolding read_for
   for_ok f l i entry q x j h =
-      let o = when_ok (opens_parenthesis (kind s (i + 1))) (read_for_by s room readers f (place s i) ((i + 1) + 1) (of_head s ((i + 1) + 1))) (x, j) h in
+      let o = when_ok (is_mark m.OpenParenthesis (kind s (i + 1))) (read_for_by s room readers f (place s i) ((i + 1) + 1) (of_head s ((i + 1) + 1))) (x, j) h in
       let two : (i + 1) + 1 ≡ i + 2 = omega arith in
-      for_by f l i entry q (opens_parenthesis_is (kind s (i + 1)) o.0) (of_head s (i + 2)) refl x j
+      for_by f l i entry q (mark_is m.OpenParenthesis (kind s (i + 1)) o.0) (of_head s (i + 2)) refl x j
       (subst (λ (n : ℕ). read_for_by s room readers f (place s i) n (of_head s n) ≡ Some (x, j)) two o.1)
 
   -- 3. Statements that end where the tokens say.

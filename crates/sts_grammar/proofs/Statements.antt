@@ -11,25 +11,25 @@ use Rattle.sts_lexer.specs.declared.token.Kind.TheVariants as k
 use Rattle.sts_syntax.specs.Annotations.{Annotation}
 use Rattle.sts_syntax.specs.Trees.{Tree, OptionalTree, absent, present, Statement, Let, IfOnly, IfElse, While, DoWhile, For, ForOf, Return, Plain, OptionalStatement, omitted, written, Declaration, Declare, Declarations, ended, next}
 use Rattle.sts_syntax.specs.Nesting.{nesting, deepest_declaration}
-use Rattle.sts_grammar.specs.Source.{Source, kind, broken, place, IsMark, IsWord, IsName, IsSpelled}
+use Rattle.sts_grammar.specs.Source.{Source, kind, broken, place, IsMark, IsWord, IsName, IsSpelled, is_mark, is_word}
 use Rattle.sts_grammar.specs.Headings.{HasType}
-use Rattle.sts_grammar.specs.Ends.{is_comma, is_colon, is_assign, binds, kind_binds, continues, declaration_continues, declarations_continue, may_end, Ends}
+use Rattle.sts_grammar.specs.Ends.{binds, kind_binds, continues, declaration_continues, declarations_continue, may_end, Ends}
 use Rattle.sts_grammar.specs.Operands.{IsLet, BeginsPlain}
-use Rattle.sts_grammar.specs.Found.{Found, ◌>>=◌, when, name_of, let_of, opens_parenthesis, closes_parenthesis, opens_bracket, closes_bracket, closes_brace, is_semicolon, is_else, is_while, is_of, closes}
+use Rattle.sts_grammar.specs.Found.{Found, ◌>>=◌, when, name_of, let_of, is_of, closes}
 use Rattle.sts_grammar.specs.ReadHeadings.{is_pair, read_optional_type}
 use Rattle.sts_grammar.specs.ReadExpressions.{Readers}
 use Rattle.sts_grammar.specs.ReadStatements.{put_declaration, read_end, read_condition, read_initialiser, read_declaration, declarations_rest, read_declarations, read_let, read_optional, read_first, read_optional_first, read_step, read_three, read_for_of, of_head, read_for_by, read_for, read_else, read_if, skip_semicolon, read_do, read_returned, read_plain, read_let_statement, read_while, read_statement}
-use Rattle.sts_grammar.proofs.Tokens.{true_false, is_true, and_no, is_semicolon_is, is_else_is, has_bytes_yes}
+use Rattle.sts_grammar.proofs.Tokens.{true_false, is_true, and_no, mark_is, word_is, has_bytes_yes}
 use Rattle.sts_grammar.proofs.Headings.{Stops, stops_at, optional_type_reads}
 use Rattle.sts_grammar.proofs.Begins.{begins, binds_mark}
 
 -- 1. What begins an expression closes nothing.
 
-pub begins_not_closed : (t : Kind) → begins t ≡ true → closes_parenthesis t ≡ false
+pub begins_not_closed : (t : Kind) → begins t ≡ true → is_mark m.CloseParenthesis t ≡ false
 begins_not_closed (k.Mark m.CloseParenthesis) h = absurd (false≢true h)
 begins_not_closed _ h = refl
 
-begins_not_bracket : (t : Kind) → begins t ≡ true → closes_bracket t ≡ false
+begins_not_bracket : (t : Kind) → begins t ≡ true → is_mark m.CloseBracket t ≡ false
 begins_not_bracket (k.Mark m.CloseBracket) h = absurd (false≢true h)
 begins_not_bracket _ h = refl
 
@@ -37,11 +37,11 @@ pub begins_not_closing : (square : Bool) (t : Kind) → begins t ≡ true → cl
 begins_not_closing true t h = begins_not_bracket t h
 begins_not_closing false t h = begins_not_closed t h
 
-pub begins_not_brace : (t : Kind) → begins t ≡ true → closes_brace t ≡ false
+pub begins_not_brace : (t : Kind) → begins t ≡ true → is_mark m.CloseBrace t ≡ false
 begins_not_brace (k.Mark m.CloseBrace) h = absurd (false≢true h)
 begins_not_brace _ h = refl
 
-pub begins_not_semicolon : (t : Kind) → begins t ≡ true → is_semicolon t ≡ false
+pub begins_not_semicolon : (t : Kind) → begins t ≡ true → is_mark m.Semicolon t ≡ false
 begins_not_semicolon (k.Mark m.Semicolon) h = absurd (false≢true h)
 begins_not_semicolon _ h = refl
 
@@ -67,36 +67,36 @@ pub let_is : (s : Source) (fixed : Bool) (i : ℕ) → IsLet s fixed i → let_o
 let_is s false i h = ap let_of h.1
 let_is s true i h = ap let_of h.1
 
-let_not_semicolon : (s : Source) (fixed : Bool) (i : ℕ) → IsLet s fixed i → is_semicolon (kind s i) ≡ false
-let_not_semicolon s false i h = ap is_semicolon h.1
-let_not_semicolon s true i h = ap is_semicolon h.1
+let_not_semicolon : (s : Source) (fixed : Bool) (i : ℕ) → IsLet s fixed i → is_mark m.Semicolon (kind s i) ≡ false
+let_not_semicolon s false i h = ap (is_mark m.Semicolon) h.1
+let_not_semicolon s true i h = ap (is_mark m.Semicolon) h.1
 
 -- 2. Conditions, `if` and `while`.
 
 pub condition_reads : (s : Source) (read : ℕ → Found Tree) (c : Tree) (i o n : ℕ) → IsMark s i m.OpenParenthesis → o ≡ i + 1 → read o ≡ Some (c, n) → IsMark s n m.CloseParenthesis → read_condition s read i ≡ Some (c, n + 1)
 unfolding read_condition
 condition_reads s read c i o n mk e h close =
-    ap (λ x. when (opens_parenthesis x) (read (i + 1) >>= λ c. when (closes_parenthesis (kind s c.1)) (Some (c.0, c.1 + 1)))) mk
-    ∙ ap (λ x. read x >>= λ c. when (closes_parenthesis (kind s c.1)) (Some (c.0, c.1 + 1))) (sym e)
-    ∙ ap (λ r. r >>= λ c. when (closes_parenthesis (kind s c.1)) (Some (c.0, c.1 + 1))) h
-    ∙ ap (λ x. when (closes_parenthesis x) (Some (c, n + 1))) close
+    ap (λ x. when (is_mark m.OpenParenthesis x) (read (i + 1) >>= λ c. when (is_mark m.CloseParenthesis (kind s c.1)) (Some (c.0, c.1 + 1)))) mk
+    ∙ ap (λ x. read x >>= λ c. when (is_mark m.CloseParenthesis (kind s c.1)) (Some (c.0, c.1 + 1))) (sym e)
+    ∙ ap (λ r. r >>= λ c. when (is_mark m.CloseParenthesis (kind s c.1)) (Some (c.0, c.1 + 1))) h
+    ∙ ap (λ x. when (is_mark m.CloseParenthesis x) (Some (c, n + 1))) close
 
-not_else : (s : Source) (j : ℕ) → ¬ (IsWord s j w.Else) → is_else (kind s j) ≡ false
-not_else s j h = false_from_ne_true (is_else (kind s j)) (λ e. h (is_else_is s j (kind s j) refl e))
+not_else : (s : Source) (j : ℕ) → ¬ (IsWord s j w.Else) → is_word w.Else (kind s j) ≡ false
+not_else s j h = false_from_ne_true (is_word w.Else (kind s j)) (λ e. h (word_is s j w.Else (kind s j) refl e))
 
 pub if_only_reads : (s : Source) (readers : Readers) (f l : Bool) (at : ℕ) (c : Tree) (a : Statement) (i n j : ℕ) → read_condition s (readers.expr 1) i ≡ Some (c, n) → readers.stmt f l n ≡ Some (a, j) → ¬ (IsWord s j w.Else) → read_if s readers f l at i ≡ Some (IfOnly at c a, j)
 unfolding read_if
 if_only_reads s readers f l at c a i n j h g e =
-    ap (λ r. r >>= λ c. readers.stmt f l c.1 >>= λ a. read_else (readers.stmt f l) at c.0 a.0 a.1 (is_else (kind s a.1))) h
-    ∙ ap (λ r. r >>= λ a. read_else (readers.stmt f l) at c a.0 a.1 (is_else (kind s a.1))) g
+    ap (λ r. r >>= λ c. readers.stmt f l c.1 >>= λ a. read_else (readers.stmt f l) at c.0 a.0 a.1 (is_word w.Else (kind s a.1))) h
+    ∙ ap (λ r. r >>= λ a. read_else (readers.stmt f l) at c a.0 a.1 (is_word w.Else (kind s a.1))) g
     ∙ ap (read_else (readers.stmt f l) at c a j) (not_else s j e)
 
 pub if_else_reads : (s : Source) (readers : Readers) (f l : Bool) (at : ℕ) (c : Tree) (a b : Statement) (i n o j : ℕ) → read_condition s (readers.expr 1) i ≡ Some (c, n) → readers.stmt f l n ≡ Some (a, o) → IsWord s o w.Else → readers.stmt f l (o + 1) ≡ Some (b, j) → read_if s readers f l at i ≡ Some (IfElse at c a b, j)
 unfolding read_if
 if_else_reads s readers f l at c a b i n o j h g e x =
-    ap (λ r. r >>= λ c. readers.stmt f l c.1 >>= λ a. read_else (readers.stmt f l) at c.0 a.0 a.1 (is_else (kind s a.1))) h
-    ∙ ap (λ r. r >>= λ a. read_else (readers.stmt f l) at c a.0 a.1 (is_else (kind s a.1))) g
-    ∙ ap (λ y. read_else (readers.stmt f l) at c a o (is_else y)) e.1
+    ap (λ r. r >>= λ c. readers.stmt f l c.1 >>= λ a. read_else (readers.stmt f l) at c.0 a.0 a.1 (is_word w.Else (kind s a.1))) h
+    ∙ ap (λ r. r >>= λ a. read_else (readers.stmt f l) at c a.0 a.1 (is_word w.Else (kind s a.1))) g
+    ∙ ap (λ y. read_else (readers.stmt f l) at c a o (is_word w.Else y)) e.1
     ∙ ap (λ r. r >>= λ b. Some (IfElse at c a b.0, b.1)) x
 
 pub while_reads : (s : Source) (readers : Readers) (f : Bool) (at : ℕ) (c : Tree) (a : Statement) (i n j : ℕ) → read_condition s (readers.expr 1) i ≡ Some (c, n) → readers.stmt f true n ≡ Some (a, j) → read_while s readers f at i ≡ Some (While at c a, j)
@@ -107,15 +107,15 @@ while_reads s readers f at c a i n j h g =
 pub do_reads : (s : Source) (readers : Readers) (f : Bool) (at : ℕ) (a : Statement) (c : Tree) (i n o : ℕ) → readers.stmt f true i ≡ Some (a, n) → IsWord s n w.While → read_condition s (readers.expr 1) (n + 1) ≡ Some (c, o) → read_do s readers f at i ≡ Some (DoWhile at a c, skip_semicolon s o)
 unfolding read_do
 do_reads s readers f at a c i n o h e g =
-    ap (λ r. r >>= λ a. when (is_while (kind s a.1)) (read_condition s (readers.expr 1) (a.1 + 1) >>= λ c. Some (DoWhile at a.0 c.0, skip_semicolon s c.1))) h
-    ∙ ap (λ x. when (is_while x) (read_condition s (readers.expr 1) (n + 1) >>= λ c. Some (DoWhile at a c.0, skip_semicolon s c.1))) e.1
+    ap (λ r. r >>= λ a. when (is_word w.While (kind s a.1)) (read_condition s (readers.expr 1) (a.1 + 1) >>= λ c. Some (DoWhile at a.0 c.0, skip_semicolon s c.1))) h
+    ∙ ap (λ x. when (is_word w.While x) (read_condition s (readers.expr 1) (n + 1) >>= λ c. Some (DoWhile at a c.0, skip_semicolon s c.1))) e.1
     ∙ ap (λ r. r >>= λ c. Some (DoWhile at a c.0, skip_semicolon s c.1)) g
 
 pub skips : (s : Source) (o j : ℕ) → ((IsMark s (o + 1) m.Semicolon × (j ≡ o + 2)) ⊎ (¬ (IsMark s (o + 1) m.Semicolon) × (j ≡ o + 1))) → skip_semicolon s (o + 1) ≡ j
 skips s o j (inl h) =
-    let e : o + 1 + 1 ≡ j = omega (arith, h.1) in ap (λ x. if is_semicolon x then o + 1 + 1 else o + 1) h.0 ∙ e
+    let e : o + 1 + 1 ≡ j = omega (arith, h.1) in ap (λ x. if is_mark m.Semicolon x then o + 1 + 1 else o + 1) h.0 ∙ e
 skips s o j (inr h) =
-    ap (λ x. if x then o + 1 + 1 else o + 1) (false_from_ne_true (is_semicolon (kind s (o + 1))) (λ e. h.0 (is_semicolon_is (kind s (o + 1)) e))) ∙ sym h.1
+    ap (λ x. if x then o + 1 + 1 else o + 1) (false_from_ne_true (is_mark m.Semicolon (kind s (o + 1))) (λ e. h.0 (mark_is m.Semicolon (kind s (o + 1)) e))) ∙ sym h.1
 
 -- 3. `for`.
 
@@ -144,33 +144,33 @@ of_head_no_let s i h =
 pub for_of_reads : (s : Source) (room : ℕ) (readers : Readers) (f : Bool) (at : ℕ) (fixed : Bool) (name : ℕ) (list : Tree) (a : Statement) (i o n j : ℕ) → IsMark s i m.OpenParenthesis → of_head s (i + 1) ≡ Some (fixed, name) → o ≡ i + 1 + 3 → readers.expr 1 o ≡ Some (list, n) → IsMark s n m.CloseParenthesis → readers.stmt f true (n + 1) ≡ Some (a, j) → read_for s room readers f at i ≡ Some (ForOf at fixed name list a, j)
 unfolding read_for read_for_of
 for_of_reads s room readers f at fixed name list a i o n j mk h e x close g =
-    ap (λ y. when (opens_parenthesis y) (read_for_by s room readers f at (i + 1) (of_head s (i + 1)))) mk
+    ap (λ y. when (is_mark m.OpenParenthesis y) (read_for_by s room readers f at (i + 1) (of_head s (i + 1)))) mk
     ∙ ap (read_for_by s room readers f at (i + 1)) h
-    ∙ ap (λ y. readers.expr 1 y >>= λ list. when (closes_parenthesis (kind s list.1)) (readers.stmt f true (list.1 + 1) >>= λ a. Some (ForOf at fixed name list.0 a.0, a.1))) (sym e)
-    ∙ ap (λ r. r >>= λ list. when (closes_parenthesis (kind s list.1)) (readers.stmt f true (list.1 + 1) >>= λ a. Some (ForOf at fixed name list.0 a.0, a.1))) x
-    ∙ ap (λ y. when (closes_parenthesis y) (readers.stmt f true (n + 1) >>= λ a. Some (ForOf at fixed name list a.0, a.1))) close
+    ∙ ap (λ y. readers.expr 1 y >>= λ list. when (is_mark m.CloseParenthesis (kind s list.1)) (readers.stmt f true (list.1 + 1) >>= λ a. Some (ForOf at fixed name list.0 a.0, a.1))) (sym e)
+    ∙ ap (λ r. r >>= λ list. when (is_mark m.CloseParenthesis (kind s list.1)) (readers.stmt f true (list.1 + 1) >>= λ a. Some (ForOf at fixed name list.0 a.0, a.1))) x
+    ∙ ap (λ y. when (is_mark m.CloseParenthesis y) (readers.stmt f true (n + 1) >>= λ a. Some (ForOf at fixed name list a.0, a.1))) close
     ∙ ap (λ r. r >>= λ a. Some (ForOf at fixed name list a.0, a.1)) g
 
-step_reads : (s : Source) (readers : Readers) (f : Bool) (at : ℕ) (first : OptionalStatement) (c step : OptionalTree) (a : Statement) (i p j : ℕ) → read_optional (readers.expr 1) (closes_parenthesis (kind s i)) i ≡ Some (step, p) → IsMark s p m.CloseParenthesis → readers.stmt f true (p + 1) ≡ Some (a, j) → read_step s readers f at first c i ≡ Some (For at first c step a, j)
+step_reads : (s : Source) (readers : Readers) (f : Bool) (at : ℕ) (first : OptionalStatement) (c step : OptionalTree) (a : Statement) (i p j : ℕ) → read_optional (readers.expr 1) (is_mark m.CloseParenthesis (kind s i)) i ≡ Some (step, p) → IsMark s p m.CloseParenthesis → readers.stmt f true (p + 1) ≡ Some (a, j) → read_step s readers f at first c i ≡ Some (For at first c step a, j)
 unfolding read_step
 step_reads s readers f at first c step a i p j h mk g =
-    ap (λ r. r >>= λ step. when (closes_parenthesis (kind s step.1)) (readers.stmt f true (step.1 + 1) >>= λ a. Some (For at first c step.0 a.0, a.1))) h
-    ∙ ap (λ x. when (closes_parenthesis x) (readers.stmt f true (p + 1) >>= λ a. Some (For at first c step a.0, a.1))) mk
+    ap (λ r. r >>= λ step. when (is_mark m.CloseParenthesis (kind s step.1)) (readers.stmt f true (step.1 + 1) >>= λ a. Some (For at first c step.0 a.0, a.1))) h
+    ∙ ap (λ x. when (is_mark m.CloseParenthesis x) (readers.stmt f true (p + 1) >>= λ a. Some (For at first c step a.0, a.1))) mk
     ∙ ap (λ r. r >>= λ a. Some (For at first c step a.0, a.1)) g
 
-three_reads : (s : Source) (room : ℕ) (readers : Readers) (f : Bool) (at : ℕ) (first : OptionalStatement) (c step : OptionalTree) (a : Statement) (i n o p j : ℕ) → read_optional_first s room (readers.expr 1) i ≡ Some (first, n) → IsMark s n m.Semicolon → read_optional (readers.expr 1) (is_semicolon (kind s (n + 1))) (n + 1) ≡ Some (c, o) → IsMark s o m.Semicolon → read_optional (readers.expr 1) (closes_parenthesis (kind s (o + 1))) (o + 1) ≡ Some (step, p) → IsMark s p m.CloseParenthesis → readers.stmt f true (p + 1) ≡ Some (a, j) → read_three s room readers f at i ≡ Some (For at first c step a, j)
+three_reads : (s : Source) (room : ℕ) (readers : Readers) (f : Bool) (at : ℕ) (first : OptionalStatement) (c step : OptionalTree) (a : Statement) (i n o p j : ℕ) → read_optional_first s room (readers.expr 1) i ≡ Some (first, n) → IsMark s n m.Semicolon → read_optional (readers.expr 1) (is_mark m.Semicolon (kind s (n + 1))) (n + 1) ≡ Some (c, o) → IsMark s o m.Semicolon → read_optional (readers.expr 1) (is_mark m.CloseParenthesis (kind s (o + 1))) (o + 1) ≡ Some (step, p) → IsMark s p m.CloseParenthesis → readers.stmt f true (p + 1) ≡ Some (a, j) → read_three s room readers f at i ≡ Some (For at first c step a, j)
 unfolding read_three
 three_reads s room readers f at first c step a i n o p j h mk1 x mk2 y mk3 g =
-    ap (λ r. r >>= λ first. when (is_semicolon (kind s first.1)) (read_optional (readers.expr 1) (is_semicolon (kind s (first.1 + 1))) (first.1 + 1) >>= λ c. when (is_semicolon (kind s c.1)) (read_step s readers f at first.0 c.0 (c.1 + 1)))) h
-    ∙ ap (λ z. when (is_semicolon z) (read_optional (readers.expr 1) (is_semicolon (kind s (n + 1))) (n + 1) >>= λ c. when (is_semicolon (kind s c.1)) (read_step s readers f at first c.0 (c.1 + 1)))) mk1
-    ∙ ap (λ r. r >>= λ c. when (is_semicolon (kind s c.1)) (read_step s readers f at first c.0 (c.1 + 1))) x
-    ∙ ap (λ z. when (is_semicolon z) (read_step s readers f at first c (o + 1))) mk2
+    ap (λ r. r >>= λ first. when (is_mark m.Semicolon (kind s first.1)) (read_optional (readers.expr 1) (is_mark m.Semicolon (kind s (first.1 + 1))) (first.1 + 1) >>= λ c. when (is_mark m.Semicolon (kind s c.1)) (read_step s readers f at first.0 c.0 (c.1 + 1)))) h
+    ∙ ap (λ z. when (is_mark m.Semicolon z) (read_optional (readers.expr 1) (is_mark m.Semicolon (kind s (n + 1))) (n + 1) >>= λ c. when (is_mark m.Semicolon (kind s c.1)) (read_step s readers f at first c.0 (c.1 + 1)))) mk1
+    ∙ ap (λ r. r >>= λ c. when (is_mark m.Semicolon (kind s c.1)) (read_step s readers f at first c.0 (c.1 + 1))) x
+    ∙ ap (λ z. when (is_mark m.Semicolon z) (read_step s readers f at first c (o + 1))) mk2
     ∙ step_reads s readers f at first c step a (o + 1) p j y mk3 g
 
-pub for_reads : (s : Source) (room : ℕ) (readers : Readers) (f : Bool) (at : ℕ) (first : OptionalStatement) (c step : OptionalTree) (a : Statement) (i q n o p j : ℕ) → IsMark s i m.OpenParenthesis → q ≡ i + 1 → of_head s q ≡ None → read_optional_first s room (readers.expr 1) q ≡ Some (first, n) → IsMark s n m.Semicolon → read_optional (readers.expr 1) (is_semicolon (kind s (n + 1))) (n + 1) ≡ Some (c, o) → IsMark s o m.Semicolon → read_optional (readers.expr 1) (closes_parenthesis (kind s (o + 1))) (o + 1) ≡ Some (step, p) → IsMark s p m.CloseParenthesis → readers.stmt f true (p + 1) ≡ Some (a, j) → read_for s room readers f at i ≡ Some (For at first c step a, j)
+pub for_reads : (s : Source) (room : ℕ) (readers : Readers) (f : Bool) (at : ℕ) (first : OptionalStatement) (c step : OptionalTree) (a : Statement) (i q n o p j : ℕ) → IsMark s i m.OpenParenthesis → q ≡ i + 1 → of_head s q ≡ None → read_optional_first s room (readers.expr 1) q ≡ Some (first, n) → IsMark s n m.Semicolon → read_optional (readers.expr 1) (is_mark m.Semicolon (kind s (n + 1))) (n + 1) ≡ Some (c, o) → IsMark s o m.Semicolon → read_optional (readers.expr 1) (is_mark m.CloseParenthesis (kind s (o + 1))) (o + 1) ≡ Some (step, p) → IsMark s p m.CloseParenthesis → readers.stmt f true (p + 1) ≡ Some (a, j) → read_for s room readers f at i ≡ Some (For at first c step a, j)
 unfolding read_for
 for_reads s room readers f at first c step a i q n o p j mk e head h mk1 x mk2 y mk3 g =
-    ap (λ z. when (opens_parenthesis z) (read_for_by s room readers f at (i + 1) (of_head s (i + 1)))) mk
+    ap (λ z. when (is_mark m.OpenParenthesis z) (read_for_by s room readers f at (i + 1) (of_head s (i + 1)))) mk
     ∙ ap (λ z. read_for_by s room readers f at z (of_head s z)) (sym e)
     ∙ ap (read_for_by s room readers f at q) head
     ∙ three_reads s room readers f at first c step a q n o p j h mk1 x mk2 y mk3 g
@@ -179,8 +179,8 @@ for_reads s room readers f at first c step a i q n o p j mk e head h mk1 x mk2 y
 pub first_omitted : (s : Source) (room : ℕ) (read : ℕ → Found Tree) (i n : ℕ) → i ≡ n → IsMark s n m.Semicolon → read_optional_first s room read i ≡ Some (omitted, n)
 unfolding read_optional_first
 first_omitted s room read i n e mk =
-    ap (λ x. if is_semicolon (kind s x) then Some (omitted, x) else read_first s room read x (let_of (kind s x))) e
-    ∙ ap (λ x. if is_semicolon x then Some (omitted, n) else read_first s room read n (let_of (kind s n))) mk
+    ap (λ x. if is_mark m.Semicolon (kind s x) then Some (omitted, x) else read_first s room read x (let_of (kind s x))) e
+    ∙ ap (λ x. if is_mark m.Semicolon x then Some (omitted, n) else read_first s room read n (let_of (kind s n))) mk
 
 pub first_let : (s : Source) (room : ℕ) (read : ℕ → Found Tree) (fixed : Bool) (each : Declarations) (i n : ℕ) → IsLet s fixed i → read_let s read fixed (i + 1) ≡ Some (each, n) → deepest_declaration each < room → read_optional_first s room read i ≡ Some (written (Let (place s i) fixed each), n)
 unfolding read_optional_first
@@ -244,40 +244,40 @@ returned_reads s readers at a i n j b u h e =
 -- the token at n goes on with no declared name that ends there
 abbrev pub Settled : Source → Declaration → ℕ → Type 0
 Settled s (Declare at name shape (present first)) n = binds s n ≡ 0
-Settled s (Declare at name shape absent) n = (is_assign (kind s n) ≡ false) × Stops s shape n
+Settled s (Declare at name shape absent) n = (is_mark m.Assign (kind s n) ≡ false) × Stops s shape n
 
-settled_at : (s : Source) (a : Declaration) (n : ℕ) → binds s n ≡ 0 → is_assign (kind s n) ≡ false → opens_bracket (kind s n) ≡ false → is_colon (kind s n) ≡ false → Settled s a n
+settled_at : (s : Source) (a : Declaration) (n : ℕ) → binds s n ≡ 0 → is_mark m.Assign (kind s n) ≡ false → is_mark m.OpenBracket (kind s n) ≡ false → is_mark m.Colon (kind s n) ≡ false → Settled s a n
 settled_at s (Declare at name shape (present first)) n b x y z = b
 settled_at s (Declare at name shape absent) n b x y z = (x, stops_at s shape n y z)
 
 pub settled_comma : (s : Source) (a : Declaration) (n : ℕ) → IsMark s n m.Comma → Settled s a n
-settled_comma s a n h = settled_at s a n (binds_mark s n m.Comma h) (ap is_assign h) (ap opens_bracket h) (ap is_colon h)
+settled_comma s a n h = settled_at s a n (binds_mark s n m.Comma h) (ap (is_mark m.Assign) h) (ap (is_mark m.OpenBracket) h) (ap (is_mark m.Colon) h)
 
 pub settled_semicolon : (s : Source) (a : Declaration) (n : ℕ) → IsMark s n m.Semicolon → Settled s a n
-settled_semicolon s a n h = settled_at s a n (binds_mark s n m.Semicolon h) (ap is_assign h) (ap opens_bracket h) (ap is_colon h)
+settled_semicolon s a n h = settled_at s a n (binds_mark s n m.Semicolon h) (ap (is_mark m.Assign) h) (ap (is_mark m.OpenBracket) h) (ap (is_mark m.Colon) h)
 
 -- the last of some declared names is whole at n, and no comma stands there
 abbrev pub LastSettled : Source → Declarations → ℕ → Type 0
 LastSettled s ended n = Unit {0}
-LastSettled s (next a ended) n = Settled s a n × (is_comma (kind s n) ≡ false)
+LastSettled s (next a ended) n = Settled s a n × (is_mark m.Comma (kind s n) ≡ false)
 LastSettled s (next a (next b rest)) n = LastSettled s (next b rest) n
 
 pub last_semicolon : (s : Source) (each : Declarations) (n : ℕ) → IsMark s n m.Semicolon → LastSettled s each n
 last_semicolon s ended n h = tt
-last_semicolon s (next a ended) n h = (settled_semicolon s a n h, ap is_comma h)
+last_semicolon s (next a ended) n h = (settled_semicolon s a n h, ap (is_mark m.Comma) h)
 last_semicolon s (next a (next b rest)) n h = last_semicolon s (next b rest) n h
 
-last_quiet : (s : Source) (each : Declarations) (n : ℕ) (t : Kind) → kind s n ≡ t → kind_binds (kind s (n - 1)) (broken s n) t ≡ 0 → is_assign t ≡ false → opens_bracket t ≡ false → is_colon t ≡ false → is_comma t ≡ false → LastSettled s each n
+last_quiet : (s : Source) (each : Declarations) (n : ℕ) (t : Kind) → kind s n ≡ t → kind_binds (kind s (n - 1)) (broken s n) t ≡ 0 → is_mark m.Assign t ≡ false → is_mark m.OpenBracket t ≡ false → is_mark m.Colon t ≡ false → is_mark m.Comma t ≡ false → LastSettled s each n
 last_quiet s ended n t h b x y z c = tt
 last_quiet s (next a ended) n t h b x y z c =
-    (settled_at s a n (ap (kind_binds (kind s (n - 1)) (broken s n)) h ∙ b) (ap is_assign h ∙ x) (ap opens_bracket h ∙ y) (ap is_colon h ∙ z), ap is_comma h ∙ c)
+    (settled_at s a n (ap (kind_binds (kind s (n - 1)) (broken s n)) h ∙ b) (ap (is_mark m.Assign) h ∙ x) (ap (is_mark m.OpenBracket) h ∙ y) (ap (is_mark m.Colon) h ∙ z), ap (is_mark m.Comma) h ∙ c)
 last_quiet s (next a (next b rest)) n t h e x y z c = last_quiet s (next b rest) n t h e x y z c
 
 not_continued : (x : ℕ) → nat_lt 0 x ≡ false → x ≡ 0
 not_continued x h = let le : x ≤ 0 = ltb-false 0 x h in omega arith
 
 pair_broken : (s : Source) (n : ℕ) → broken s n ≡ true → is_pair s n ≡ false
-pair_broken s n h = ap (λ x. opens_bracket (kind s n) && (not x && closes_bracket (kind s (n + 1)))) h ∙ and_no (opens_bracket (kind s n))
+pair_broken s n h = ap (λ x. is_mark m.OpenBracket (kind s n) && (not x && is_mark m.CloseBracket (kind s (n + 1)))) h ∙ and_no (is_mark m.OpenBracket (kind s n))
 
 three_parts : (a b c : Bool) → (a || b || c) ≡ false → (a ≡ false) × (b ≡ false) × (c ≡ false)
 three_parts true b c h = true_false h
@@ -286,13 +286,13 @@ three_parts false false true h = true_false h
 three_parts false false false h = (refl, refl, refl)
 
 -- on a new line
-new_line_settled : (s : Source) (a : Declaration) (n : ℕ) → broken s n ≡ true → declaration_continues s a n ≡ false → Settled s a n × (is_comma (kind s n) ≡ false)
+new_line_settled : (s : Source) (a : Declaration) (n : ℕ) → broken s n ≡ true → declaration_continues s a n ≡ false → Settled s a n × (is_mark m.Comma (kind s n) ≡ false)
 new_line_settled s (Declare at name shape (present first)) n nl g =
-    let p = or_parts (continues s n) (is_comma (kind s n)) g in (not_continued (binds s n) p.0, p.1)
+    let p = or_parts (continues s n) (is_mark m.Comma (kind s n)) g in (not_continued (binds s n) p.0, p.1)
 new_line_settled s (Declare at name (Some shape) absent) n nl g =
-    let p = or_parts (is_assign (kind s n)) (is_comma (kind s n)) g in ((p.0, pair_broken s n nl), p.1)
+    let p = or_parts (is_mark m.Assign (kind s n)) (is_mark m.Comma (kind s n)) g in ((p.0, pair_broken s n nl), p.1)
 new_line_settled s (Declare at name None absent) n nl g =
-    let p = three_parts (is_colon (kind s n)) (is_assign (kind s n)) (is_comma (kind s n)) g in ((p.1, p.0), p.2)
+    let p = three_parts (is_mark m.Colon (kind s n)) (is_mark m.Assign (kind s n)) (is_mark m.Comma (kind s n)) g in ((p.1, p.0), p.2)
 
 last_new_line : (s : Source) (each : Declarations) (n : ℕ) → broken s n ≡ true → declarations_continue s each n ≡ false → LastSettled s each n
 last_new_line s ended n nl g = tt
@@ -319,28 +319,28 @@ last_ends s each n j (inr h) =
           ]
     ]
 
-pub initialiser_absent : (s : Source) (read : ℕ → Found Tree) (fixed : Bool) (n : ℕ) → fixed ≡ false → is_assign (kind s n) ≡ false → read_initialiser read fixed (is_assign (kind s n)) n ≡ Some (absent, n)
+pub initialiser_absent : (s : Source) (read : ℕ → Found Tree) (fixed : Bool) (n : ℕ) → fixed ≡ false → is_mark m.Assign (kind s n) ≡ false → read_initialiser read fixed (is_mark m.Assign (kind s n)) n ≡ Some (absent, n)
 initialiser_absent s read fixed n e h = ap (λ x. read_initialiser read fixed x n) h ∙ ap (λ x. read_initialiser read x false n) e
 
-pub initialiser_present : (s : Source) (read : ℕ → Found Tree) (fixed : Bool) (a : Tree) (n j : ℕ) → IsMark s n m.Assign → read (n + 1) ≡ Some (a, j) → read_initialiser read fixed (is_assign (kind s n)) n ≡ Some (present a, j)
+pub initialiser_present : (s : Source) (read : ℕ → Found Tree) (fixed : Bool) (a : Tree) (n j : ℕ) → IsMark s n m.Assign → read (n + 1) ≡ Some (a, j) → read_initialiser read fixed (is_mark m.Assign (kind s n)) n ≡ Some (present a, j)
 initialiser_present s read fixed a n j mk h =
-    ap (λ x. read_initialiser read fixed (is_assign x) n) mk ∙ ap (λ r. r >>= λ a. Some (present a.0, a.1)) h
+    ap (λ x. read_initialiser read fixed (is_mark m.Assign x) n) mk ∙ ap (λ r. r >>= λ a. Some (present a.0, a.1)) h
 
-declaration_by : (s : Source) (read : ℕ → Found Tree) (fixed : Bool) (at name : ℕ) (shape : Option Annotation) (first : OptionalTree) (i n j : ℕ) → at ≡ place s i → IsName s i name → HasType s shape (i + 1) n → Stops s shape n → read_initialiser read fixed (is_assign (kind s n)) n ≡ Some (first, j) → read_declaration s read fixed i ≡ Some (Declare at name shape first, j)
+declaration_by : (s : Source) (read : ℕ → Found Tree) (fixed : Bool) (at name : ℕ) (shape : Option Annotation) (first : OptionalTree) (i n j : ℕ) → at ≡ place s i → IsName s i name → HasType s shape (i + 1) n → Stops s shape n → read_initialiser read fixed (is_mark m.Assign (kind s n)) n ≡ Some (first, j) → read_declaration s read fixed i ≡ Some (Declare at name shape first, j)
 unfolding read_declaration
 declaration_by s read fixed at name shape first i n j e nm t stop h =
-    ap (λ x. name_of x >>= λ name. read_optional_type s (i + 1) >>= λ t. read_initialiser read fixed (is_assign (kind s t.1)) t.1 >>= λ first. Some (Declare (place s i) name t.0 first.0, first.1)) nm
-    ∙ ap (λ r. r >>= λ t. read_initialiser read fixed (is_assign (kind s t.1)) t.1 >>= λ first. Some (Declare (place s i) name t.0 first.0, first.1)) (optional_type_reads s shape (i + 1) n t stop)
+    ap (λ x. name_of x >>= λ name. read_optional_type s (i + 1) >>= λ t. read_initialiser read fixed (is_mark m.Assign (kind s t.1)) t.1 >>= λ first. Some (Declare (place s i) name t.0 first.0, first.1)) nm
+    ∙ ap (λ r. r >>= λ t. read_initialiser read fixed (is_mark m.Assign (kind s t.1)) t.1 >>= λ first. Some (Declare (place s i) name t.0 first.0, first.1)) (optional_type_reads s shape (i + 1) n t stop)
     ∙ ap (λ r. r >>= λ first. Some (Declare (place s i) name shape first.0, first.1)) h
     ∙ ap (λ x. Some (Declare x name shape first, j)) (sym e)
 
-pub declaration_absent : (s : Source) (read : ℕ → Found Tree) (fixed : Bool) (at name : ℕ) (shape : Option Annotation) (i n : ℕ) → at ≡ place s i → IsName s i name → HasType s shape (i + 1) n → fixed ≡ false → is_assign (kind s n) ≡ false → Stops s shape n → read_declaration s read fixed i ≡ Some (Declare at name shape absent, n)
+pub declaration_absent : (s : Source) (read : ℕ → Found Tree) (fixed : Bool) (at name : ℕ) (shape : Option Annotation) (i n : ℕ) → at ≡ place s i → IsName s i name → HasType s shape (i + 1) n → fixed ≡ false → is_mark m.Assign (kind s n) ≡ false → Stops s shape n → read_declaration s read fixed i ≡ Some (Declare at name shape absent, n)
 declaration_absent s read fixed at name shape i n e nm t fx x stop =
     declaration_by s read fixed at name shape absent i n n e nm t stop (initialiser_absent s read fixed n fx x)
 
 pub declaration_present : (s : Source) (read : ℕ → Found Tree) (fixed : Bool) (at name : ℕ) (shape : Option Annotation) (a : Tree) (i n j : ℕ) → at ≡ place s i → IsName s i name → HasType s shape (i + 1) n → IsMark s n m.Assign → read (n + 1) ≡ Some (a, j) → read_declaration s read fixed i ≡ Some (Declare at name shape (present a), j)
 declaration_present s read fixed at name shape a i n j e nm t mk h =
-    declaration_by s read fixed at name shape (present a) i n j e nm t (stops_at s shape n (ap opens_bracket mk) (ap is_colon mk)) (initialiser_present s read fixed a n j mk h)
+    declaration_by s read fixed at name shape (present a) i n j e nm t (stops_at s shape n (ap (is_mark m.OpenBracket) mk) (ap (is_mark m.Colon) mk)) (initialiser_present s read fixed a n j mk h)
 
 -- one list of declared names before another
 abbrev pub join_declarations : Declarations → Declarations → Declarations
@@ -355,7 +355,7 @@ pub join_ended : (all : Declarations) → join_declarations ended all ≡ all
 join_ended ended = refl
 join_ended (next a rest) = join_next a ended rest ∙ ap (next a) (join_ended rest)
 
-pub declarations_at : (s : Source) (read : ℕ → Found Tree) (fixed : Bool) (n : ℕ) (all : Declarations) (i : ℕ) → 0 < n → read_declarations s read fixed n all i ≡ (read_declaration s read fixed i >>= λ a. declarations_rest (read_declarations s read fixed (n - 1)) (put_declaration all a.0) a.1 (is_comma (kind s a.1)))
+pub declarations_at : (s : Source) (read : ℕ → Found Tree) (fixed : Bool) (n : ℕ) (all : Declarations) (i : ℕ) → 0 < n → read_declarations s read fixed n all i ≡ (read_declaration s read fixed i >>= λ a. declarations_rest (read_declarations s read fixed (n - 1)) (put_declaration all a.0) a.1 (is_mark m.Comma (kind s a.1)))
 unfolding read_declarations
 declarations_at s read fixed zero all i h = absurd (omega arith)
 declarations_at s read fixed (suc n) all i h = let e : suc n - 1 ≡ n = omega arith in rw e refl

@@ -6,13 +6,16 @@ use Rattle.std.proofs.lemmas.Slice.Eq.{bytes_eq-Decides}
 use lib.Chars.{codes}
 use Rattle.sts_lexer.specs.declared.marks.Mark.{Mark}
 use Rattle.sts_lexer.specs.declared.marks.Mark.TheVariants as m
+use Rattle.sts_lexer.specs.declared.words.Word.{Word}
 use Rattle.sts_lexer.specs.declared.words.Word.TheVariants as w
+use denote.Enum.Bare.{same_true, same_false}
+use Rattle.sts_lexer.specs.contracts.marks.Mark.{the_type as mark_type}
+use Rattle.sts_lexer.specs.contracts.words.Word.{the_type as word_type}
 use Rattle.sts_lexer.specs.declared.token.Kind.{Kind}
 use Rattle.sts_lexer.specs.declared.token.Kind.TheVariants as k
-use Rattle.sts_grammar.specs.Source.{Source, kind, IsWord, IsMemberName, IsSpelled}
+use Rattle.sts_grammar.specs.Source.{Source, kind, IsWord, IsMemberName, IsSpelled, is_mark, is_word}
 use Rattle.sts_grammar.specs.Operands.{IsLet}
-use Rattle.sts_grammar.specs.Ends.{is_comma, is_assign, is_colon}
-use Rattle.sts_grammar.specs.Found.{◌>>=◌, when, name_of, member_name_of, let_of, opens_parenthesis, closes_parenthesis, opens_bracket, closes_bracket, opens_brace, closes_brace, is_semicolon, is_arrow, is_dot, is_void, is_else, is_while, closes, has_bytes, is_of}
+use Rattle.sts_grammar.specs.Found.{◌>>=◌, when, name_of, member_name_of, let_of, closes, has_bytes, is_of}
 
 -- 1. Chains.
 
@@ -58,56 +61,12 @@ and_no false = refl
 
 -- 2. Marks.
 
-pub opens_parenthesis_is : (t : Kind) → opens_parenthesis t ≡ true → t ≡ k.Mark m.OpenParenthesis
-opens_parenthesis_is (k.Mark m.OpenParenthesis) h = refl
-opens_parenthesis_is _ h = absurd (false≢true h)
+pub mark_is : (mark : Mark) (t : Kind) → is_mark mark t ≡ true → t ≡ k.Mark mark
+mark_is mark (k.Mark other) h = ap k.Mark (same_true mark_type tt other mark h)
+mark_is mark _ h = absurd (false≢true h)
 
-pub closes_parenthesis_is : (t : Kind) → closes_parenthesis t ≡ true → t ≡ k.Mark m.CloseParenthesis
-closes_parenthesis_is (k.Mark m.CloseParenthesis) h = refl
-closes_parenthesis_is _ h = absurd (false≢true h)
-
-pub opens_bracket_is : (t : Kind) → opens_bracket t ≡ true → t ≡ k.Mark m.OpenBracket
-opens_bracket_is (k.Mark m.OpenBracket) h = refl
-opens_bracket_is _ h = absurd (false≢true h)
-
-pub closes_bracket_is : (t : Kind) → closes_bracket t ≡ true → t ≡ k.Mark m.CloseBracket
-closes_bracket_is (k.Mark m.CloseBracket) h = refl
-closes_bracket_is _ h = absurd (false≢true h)
-
-pub opens_brace_is : (t : Kind) → opens_brace t ≡ true → t ≡ k.Mark m.OpenBrace
-opens_brace_is (k.Mark m.OpenBrace) h = refl
-opens_brace_is _ h = absurd (false≢true h)
-
-pub closes_brace_is : (t : Kind) → closes_brace t ≡ true → t ≡ k.Mark m.CloseBrace
-closes_brace_is (k.Mark m.CloseBrace) h = refl
-closes_brace_is _ h = absurd (false≢true h)
-
-pub is_semicolon_is : (t : Kind) → is_semicolon t ≡ true → t ≡ k.Mark m.Semicolon
-is_semicolon_is (k.Mark m.Semicolon) h = refl
-is_semicolon_is _ h = absurd (false≢true h)
-
-pub is_semicolon_isnt : (t : Kind) → is_semicolon t ≡ false → t ≢ k.Mark m.Semicolon
-is_semicolon_isnt t h e = false≢true (sym h ∙ ap is_semicolon e)
-
-pub is_arrow_is : (t : Kind) → is_arrow t ≡ true → t ≡ k.Mark m.Arrow
-is_arrow_is (k.Mark m.Arrow) h = refl
-is_arrow_is _ h = absurd (false≢true h)
-
-pub is_dot_is : (t : Kind) → is_dot t ≡ true → t ≡ k.Mark m.Dot
-is_dot_is (k.Mark m.Dot) h = refl
-is_dot_is _ h = absurd (false≢true h)
-
-pub is_comma_is : (t : Kind) → is_comma t ≡ true → t ≡ k.Mark m.Comma
-is_comma_is (k.Mark m.Comma) h = refl
-is_comma_is _ h = absurd (false≢true h)
-
-pub is_assign_is : (t : Kind) → is_assign t ≡ true → t ≡ k.Mark m.Assign
-is_assign_is (k.Mark m.Assign) h = refl
-is_assign_is _ h = absurd (false≢true h)
-
-pub is_colon_is : (t : Kind) → is_colon t ≡ true → t ≡ k.Mark m.Colon
-is_colon_is (k.Mark m.Colon) h = refl
-is_colon_is _ h = absurd (false≢true h)
+pub mark_isnt : (mark : Mark) (t : Kind) → is_mark mark t ≡ false → t ≢ k.Mark mark
+mark_isnt mark t h e = same_false mark_type mark mark (sym (ap (is_mark mark) e) ∙ h) refl
 
 -- the mark that closes a list
 abbrev pub closing : Bool → Mark
@@ -115,25 +74,17 @@ closing true = m.CloseBracket
 closing false = m.CloseParenthesis
 
 pub closes_is : (square : Bool) (t : Kind) → closes square t ≡ true → t ≡ k.Mark (closing square)
-closes_is true t h = closes_bracket_is t h
-closes_is false t h = closes_parenthesis_is t h
+closes_is true t h = mark_is m.CloseBracket t h
+closes_is false t h = mark_is m.CloseParenthesis t h
 
 -- 3. Words and names.
 
-pub is_void_is : (s : Source) (i : ℕ) (t : Kind) → kind s i ≡ t → is_void t ≡ true → IsWord s i w.Void
-is_void_is s i (k.Word w.Void name) q h = (name, q)
-is_void_is s i _ q h = absurd (false≢true h)
+pub word_is : (s : Source) (i : ℕ) (word : Word) (t : Kind) → kind s i ≡ t → is_word word t ≡ true → IsWord s i word
+word_is s i word (k.Word other name) q h = (name, q ∙ ap (λ z. k.Word z name) (same_true word_type tt other word h))
+word_is s i word _ q h = absurd (false≢true h)
 
-pub is_else_is : (s : Source) (i : ℕ) (t : Kind) → kind s i ≡ t → is_else t ≡ true → IsWord s i w.Else
-is_else_is s i (k.Word w.Else name) q h = (name, q)
-is_else_is s i _ q h = absurd (false≢true h)
-
-pub is_else_isnt : (s : Source) (i : ℕ) → is_else (kind s i) ≡ false → ¬ (IsWord s i w.Else)
-is_else_isnt s i h e = false≢true (sym h ∙ ap is_else e.1)
-
-pub is_while_is : (s : Source) (i : ℕ) (t : Kind) → kind s i ≡ t → is_while t ≡ true → IsWord s i w.While
-is_while_is s i (k.Word w.While name) q h = (name, q)
-is_while_is s i _ q h = absurd (false≢true h)
+pub word_isnt : (s : Source) (i : ℕ) (word : Word) → is_word word (kind s i) ≡ false → ¬ (IsWord s i word)
+word_isnt s i word h e = same_false word_type word word (sym (ap (is_word word) e.1) ∙ h) refl
 
 pub name_is : (t : Kind) (x : ℕ) → name_of t ≡ Some x → t ≡ k.Name x
 name_is (k.Name y) x h = ap k.Name (some_is y x h)

@@ -7,9 +7,9 @@ use Rattle.sts_lexer.specs.declared.token.Kind.{Kind}
 use Rattle.sts_lexer.specs.declared.token.Kind.TheVariants as k
 use Rattle.sts_syntax.specs.Trees.{Tree, Trees, Statement, Statements}
 use Rattle.sts_syntax.specs.Nesting.{nesting}
-use Rattle.sts_grammar.specs.Source.{Source, kind, place, IsMark}
+use Rattle.sts_grammar.specs.Source.{Source, kind, place, IsMark, is_mark}
 use Rattle.sts_grammar.specs.Operators.{infix_number, prefix_number, bump_by, assignment}
-use Rattle.sts_grammar.specs.Found.{Found, ◌>>=◌, when, opens_parenthesis, closes_parenthesis, closes_brace}
+use Rattle.sts_grammar.specs.Found.{Found, ◌>>=◌, when}
 use Rattle.sts_grammar.specs.ReadHeadings.{begins_arrow, is_arrow_behind}
 use Rattle.sts_grammar.specs.ReadExpressions.{Readers, put, put_statement, binds_before, items_rest, read_items, read_statements, read_prefix, read_mark, read_primary, read_operator, read_further, read_behind, climb, opened, close_at, unwind, read_inside, read_operand}
 use Rattle.sts_grammar.specs.Reading.{expression, statement, expression_readers, statement_readers}
@@ -29,11 +29,11 @@ bump_mark s readers i m.PlusPlus by h = ap (read_prefix s readers i None) h
 bump_mark s readers i m.MinusMinus by h = ap (read_prefix s readers i None) h
 bump_mark s readers i mark by h = never by h
 
-pub prefix_not_open : (mark : Mark) (op : ℕ) → prefix_number mark ≡ Some op → opens_parenthesis (k.Mark mark) ≡ false
+pub prefix_not_open : (mark : Mark) (op : ℕ) → prefix_number mark ≡ Some op → is_mark m.OpenParenthesis (k.Mark mark) ≡ false
 prefix_not_open m.OpenParenthesis op h = never op h
 prefix_not_open mark op h = refl
 
-pub bump_not_open : (mark : Mark) (by : ℤ) → bump_by mark ≡ Some by → opens_parenthesis (k.Mark mark) ≡ false
+pub bump_not_open : (mark : Mark) (by : ℤ) → bump_by mark ≡ Some by → is_mark m.OpenParenthesis (k.Mark mark) ≡ false
 bump_not_open m.OpenParenthesis by h = never by h
 bump_not_open mark by h = refl
 
@@ -81,12 +81,12 @@ climb_goes s upto room readers (suc t) l at e i mark f j n b fit mk h =
     ∙ ap (λ r. r >>= λ a. climb s upto room readers t l at a.0 a.1) h
     ∙ ap (λ x. climb s upto room readers x l at f j) (sym e1)
 
-pub opened_stop : (s : Source) (n i : ℕ) → (opens_parenthesis (kind s i) && not (begins_arrow s i)) ≡ false → opened s n i ≡ 0
+pub opened_stop : (s : Source) (n i : ℕ) → (is_mark m.OpenParenthesis (kind s i) && not (begins_arrow s i)) ≡ false → opened s n i ≡ 0
 unfolding opened
 opened_stop s zero i h = refl
 opened_stop s (suc n) i h = ap (λ x. if x then suc (opened s n (i + 1)) else 0) h
 
-pub opened_goes : (s : Source) (n i : ℕ) → 0 < n → (opens_parenthesis (kind s i) && not (begins_arrow s i)) ≡ true → opened s n i ≡ suc (opened s (n - 1) (i + 1))
+pub opened_goes : (s : Source) (n i : ℕ) → 0 < n → (is_mark m.OpenParenthesis (kind s i) && not (begins_arrow s i)) ≡ true → opened s n i ≡ suc (opened s (n - 1) (i + 1))
 unfolding opened
 opened_goes s zero i n h = absurd (omega arith)
 opened_goes s (suc t) i n h =
@@ -98,7 +98,7 @@ unfolding read_items
 items_at s square read zero all i h = absurd (omega arith)
 items_at s square read (suc n) all i h = let e : suc n - 1 ≡ n = omega arith in rw e refl
 
-pub statements_at : (s : Source) (read : ℕ → Found Statement) (n : ℕ) (all : Statements) (i : ℕ) → 0 < n → read_statements s read n all i ≡ (if closes_brace (kind s i) then Some (all, i + 1) else (read i >>= λ a. read_statements s read (n - 1) (put_statement all a.0) a.1))
+pub statements_at : (s : Source) (read : ℕ → Found Statement) (n : ℕ) (all : Statements) (i : ℕ) → 0 < n → read_statements s read n all i ≡ (if is_mark m.CloseBrace (kind s i) then Some (all, i + 1) else (read i >>= λ a. read_statements s read (n - 1) (put_statement all a.0) a.1))
 unfolding read_statements
 statements_at s read zero all i h = absurd (omega arith)
 statements_at s read (suc n) all i h = let e : suc n - 1 ≡ n = omega arith in rw e refl
@@ -146,7 +146,7 @@ pub record Arrives (s : Source) (upto room : ℕ) (readers : Readers) (t q l fro
   pub enough : room + 2 ≤ turns + nesting e
   pub is : read_inside s upto room readers (q + opened s t i) l from ≡ (climb s upto room readers turns (inner_level q l) (place s i) e j >>= rest s upto room readers q l from)
 
-pub primary_arrives : (s : Source) (upto room : ℕ) (readers : Readers) (t q l from i : ℕ) (e : Tree) (j : ℕ) → i ≡ from + q → (opens_parenthesis (kind s i) && not (begins_arrow s i)) ≡ false → read_primary s readers i (kind s i) ≡ Some (e, j) → 1 ≤ nesting e → Arrives s upto room readers t q l from i e j
+pub primary_arrives : (s : Source) (upto room : ℕ) (readers : Readers) (t q l from i : ℕ) (e : Tree) (j : ℕ) → i ≡ from + q → (is_mark m.OpenParenthesis (kind s i) && not (begins_arrow s i)) ≡ false → read_primary s readers i (kind s i) ≡ Some (e, j) → 1 ≤ nesting e → Arrives s upto room readers t q l from i e j
 unfolding read_inside
 primary_arrives s upto room readers t q l from i e j here closed read pos =
     let none_open : q + opened s t i ≡ q = omega (arith, opened_stop s t i closed) in
@@ -181,14 +181,14 @@ arrived s upto room readers l i e j x fit b =
 close_yes : (s : Source) (n : ℕ) → IsMark s n m.CloseParenthesis → is_arrow_behind s (n + 1) ≡ false → close_at s n ≡ Some (n + 1)
 unfolding close_at
 close_yes s n mk clear =
-    ap (λ x. when (closes_parenthesis x && not (is_arrow_behind s (n + 1))) (Some (n + 1))) mk ∙ ap (λ x. when (not x) (Some (n + 1))) clear
+    ap (λ x. when (is_mark m.CloseParenthesis x && not (is_arrow_behind s (n + 1))) (Some (n + 1))) mk ∙ ap (λ x. when (not x) (Some (n + 1))) clear
 
 -- one more pair of parentheses
 pub wrapped_arrives : (s : Source) (upto room : ℕ) (readers : Readers) (t q l from i : ℕ) (e : Tree) (n : ℕ) → i ≡ from + q → 0 < t → IsMark s i m.OpenParenthesis → begins_arrow s i ≡ false → IsMark s n m.CloseParenthesis → is_arrow_behind s (n + 1) ≡ false → binds_before s upto n ≡ 0 → 1 ≤ nesting e → nesting e ≤ room + 1 → Arrives s upto room readers (t - 1) (suc q) l from (i + 1) e n → Arrives s upto room readers t q l from i e (n + 1)
 unfolding read_inside
 wrapped_arrives s upto room readers t q l from i e n here turn mk clear close behind b pos fit x =
     let enough : room + 2 ≤ x.turns + nesting e = x.enough in
-    let open_here : (opens_parenthesis (kind s i) && not (begins_arrow s i)) ≡ true = ap (λ y. opens_parenthesis y && not (begins_arrow s i)) mk ∙ ap not clear in
+    let open_here : (is_mark m.OpenParenthesis (kind s i) && not (begins_arrow s i)) ≡ true = ap (λ y. is_mark m.OpenParenthesis y && not (begins_arrow s i)) mk ∙ ap not clear in
     let one_more : q + opened s t i ≡ suc q + opened s (t - 1) (i + 1) = omega (arith, opened_goes s t i turn open_here) in
     record {
       turns = suc room;

@@ -4,6 +4,8 @@ use Rattle.std.specs.Prelude.{max, Bool, Some, None, if◌then◌else◌}
 use Rattle.std.proofs.lemmas.Bool.{cases_lt}
 use Rattle.sts_syntax.specs.Trees.{Tree, Statement}
 use Rattle.sts_syntax.specs.Nesting.{nesting, statement_nesting}
+use Rattle.sts_grammar.specs.Precedence.{assignment_level}
+use Rattle.sts_grammar.specs.Limits.{most_nesting}
 use Rattle.sts_grammar.specs.Source.{Source}
 use Rattle.sts_grammar.specs.Ends.{binds}
 use Rattle.sts_grammar.specs.Spells.{IsBare, IsStatement, IsExpression, IsWholeExpression}
@@ -98,8 +100,8 @@ pub longest_by : (s : Source) (room i upto : ℕ) (e : Tree) (j : ℕ) → IsExp
 longest_by s room i upto e j h z all other end g fit = none_longer s upto i e j h z other end g (all other end g fit)
 
 -- Where no statement is read, there is none.
-pub no_statement : (s : Source) (f l : Bool) (i : ℕ) → statement s 256 f l i ≡ None → NoStatement s f l i
-no_statement s f l i none a j h fit = never (a, j) (sym none ∙ complete_stmt s 256 f l a i j h fit)
+pub no_statement : (s : Source) (f l : Bool) (i : ℕ) → statement s most_nesting f l i ≡ None → NoStatement s f l i
+no_statement s f l i none a j h fit = never (a, j) (sym none ∙ complete_stmt s most_nesting f l a i j h fit)
 
 pub one_longest : (s : Source) (i : ℕ) (e : Tree) (j : ℕ) (e' : Tree) (j' : ℕ) → IsLongestExpression s i e j → IsLongestExpression s i e' j' → (e ≡ e') × (j ≡ j')
 one_longest s i e j e' j' h h' =
@@ -108,47 +110,47 @@ one_longest s i e j e' j' h h' =
     let same : j ≡ j' = omega arith in
     (one_between s i j' e e' (subst (λ z. IsExpression s e i z) same h.spelled) h'.spelled, same)
 
-longest_if : (s : Source) (i upto : ℕ) (e : Tree) (j : ℕ) → EndsBy s 256 i upto → expression s upto 256 1 i ≡ Some (e, j) → IsLongestExpression s i e j
+longest_if : (s : Source) (i upto : ℕ) (e : Tree) (j : ℕ) → EndsBy s most_nesting i upto → expression s upto most_nesting assignment_level i ≡ Some (e, j) → IsLongestExpression s i e j
 longest_if s i upto e j all h =
-    let r = sound_expression s upto 256 1 i e j h (omega arith) (omega arith) in
+    let r = sound_expression s upto most_nesting assignment_level i e j h (omega arith) (omega arith) in
     let stops : binds_before s upto j < 1 = r.2 in
-    record { spelled = r.0; nested = r.1; longest = longest_by s 256 i upto e j r.0 (omega arith) all }
+    record { spelled = r.0; nested = r.1; longest = longest_by s most_nesting i upto e j r.0 (omega arith) all }
 
-longest_step : (s : Source) (i n : ℕ) (r : Found Tree) (other : Found Tree) (e : Tree) (j : ℕ) → expression s (n + 1) 256 1 i ≡ r → EndsBy s 256 i (n + 1) → (EndsBy s 256 i n → other ≡ Some (e, j) → IsLongestExpression s i e j) → or_else r other ≡ Some (e, j) → IsLongestExpression s i e j
+longest_step : (s : Source) (i n : ℕ) (r : Found Tree) (other : Found Tree) (e : Tree) (j : ℕ) → expression s (n + 1) most_nesting assignment_level i ≡ r → EndsBy s most_nesting i (n + 1) → (EndsBy s most_nesting i n → other ≡ Some (e, j) → IsLongestExpression s i e j) → or_else r other ≡ Some (e, j) → IsLongestExpression s i e j
 longest_step s i n (Some x) other e j q all go h = longest_if s i (n + 1) e j all (q ∙ h)
 longest_step s i n None other e j q all go h =
-    let back : n + 1 - 1 ≡ n = omega arith in go (subst (EndsBy s 256 i) back (ends_by_less s 256 i (n + 1) q all)) h
+    let back : n + 1 - 1 ≡ n = omega arith in go (subst (EndsBy s most_nesting i) back (ends_by_less s most_nesting i (n + 1) q all)) h
 
-longest_sound : (s : Source) (i n : ℕ) (e : Tree) (j : ℕ) → EndsBy s 256 i n → longest_expression s n i ≡ Some (e, j) → IsLongestExpression s i e j
+longest_sound : (s : Source) (i n : ℕ) (e : Tree) (j : ℕ) → EndsBy s most_nesting i n → longest_expression s n i ≡ Some (e, j) → IsLongestExpression s i e j
 unfolding longest_expression
 longest_sound s i zero e j all h = never (e, j) h
 longest_sound s i (suc n) e j all h =
     let one : suc n ≡ n + 1 = omega arith in
-    longest_step s i n (expression s (suc n) 256 1 i) (longest_expression s n i) e j (ap (λ z. expression s z 256 1 i) (sym one)) (subst (EndsBy s 256 i) one all) (λ less g. longest_sound s i n e j less g) h
+    longest_step s i n (expression s (suc n) most_nesting assignment_level i) (longest_expression s n i) e j (ap (λ z. expression s z most_nesting assignment_level i) (sym one)) (subst (EndsBy s most_nesting i) one all) (λ less g. longest_sound s i n e j less g) h
 
-none_step : (s : Source) (i n : ℕ) (r : Found Tree) (other : Found Tree) → expression s (n + 1) 256 1 i ≡ r → EndsBy s 256 i (n + 1) → (EndsBy s 256 i n → other ≡ None → NoExpression s i) → or_else r other ≡ None → NoExpression s i
+none_step : (s : Source) (i n : ℕ) (r : Found Tree) (other : Found Tree) → expression s (n + 1) most_nesting assignment_level i ≡ r → EndsBy s most_nesting i (n + 1) → (EndsBy s most_nesting i n → other ≡ None → NoExpression s i) → or_else r other ≡ None → NoExpression s i
 none_step s i n (Some x) other q all go h = never x (sym h)
 none_step s i n None other q all go h =
-    let back : n + 1 - 1 ≡ n = omega arith in go (subst (EndsBy s 256 i) back (ends_by_less s 256 i (n + 1) q all)) h
+    let back : n + 1 - 1 ≡ n = omega arith in go (subst (EndsBy s most_nesting i) back (ends_by_less s most_nesting i (n + 1) q all)) h
 
-none_sound : (s : Source) (i n : ℕ) → EndsBy s 256 i n → longest_expression s n i ≡ None → NoExpression s i
+none_sound : (s : Source) (i n : ℕ) → EndsBy s most_nesting i n → longest_expression s n i ≡ None → NoExpression s i
 unfolding longest_expression
-none_sound s i zero all h = ends_by_none s 256 i 0 (omega arith) all
+none_sound s i zero all h = ends_by_none s most_nesting i 0 (omega arith) all
 none_sound s i (suc n) all h =
     let one : suc n ≡ n + 1 = omega arith in
-    none_step s i n (expression s (suc n) 256 1 i) (longest_expression s n i) (ap (λ z. expression s z 256 1 i) (sym one)) (subst (EndsBy s 256 i) one all) (λ less g. none_sound s i n less g) h
+    none_step s i n (expression s (suc n) most_nesting assignment_level i) (longest_expression s n i) (ap (λ z. expression s z most_nesting assignment_level i) (sym one)) (subst (EndsBy s most_nesting i) one all) (λ less g. none_sound s i n less g) h
 
 -- What the loop over bounds finds is the longest expression, and where it finds nothing there is none.
 pub longest_read : (s : Source) (i : ℕ) (e : Tree) (j : ℕ) → longest_expression s (length s.tokens) i ≡ Some (e, j) → IsLongestExpression s i e j
-longest_read s i e j h = longest_sound s i (length s.tokens) e j (ends_by_length s 256 i) h
+longest_read s i e j h = longest_sound s i (length s.tokens) e j (ends_by_length s most_nesting i) h
 
 pub none_read : (s : Source) (i : ℕ) → longest_expression s (length s.tokens) i ≡ None → NoExpression s i
-none_read s i h = none_sound s i (length s.tokens) (ends_by_length s 256 i) h
+none_read s i h = none_sound s i (length s.tokens) (ends_by_length s most_nesting i) h
 
 -- A statement that is read is the longest.
-pub longest_statement : (s : Source) (f l : Bool) (i : ℕ) (a : Statement) (j : ℕ) → statement s 256 f l i ≡ Some (a, j) → IsLongestStatement s f l i a j
+pub longest_statement : (s : Source) (f l : Bool) (i : ℕ) (a : Statement) (j : ℕ) → statement s most_nesting f l i ≡ Some (a, j) → IsLongestStatement s f l i a j
 longest_statement s f l i a j h =
-    let r = sound_statement s 256 f l i a j h in record {
+    let r = sound_statement s most_nesting f l i a j h in record {
       spelled = r.0;
       nested = r.1;
       longest = λ other end g fit. let same = one_statement s f l i other end a j g r.0 in let e : end ≡ j = same.1 in omega arith;

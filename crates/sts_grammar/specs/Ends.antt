@@ -6,7 +6,8 @@ use Rattle.sts_lexer.specs.declared.marks.Mark.TheVariants as m
 use Rattle.sts_lexer.specs.declared.token.Kind.{Kind}
 use Rattle.sts_lexer.specs.declared.token.Kind.TheVariants as k
 use Rattle.sts_syntax.specs.Trees.{absent, present, Declaration, Declare, Declarations, ended, next}
-use Rattle.sts_grammar.specs.Source.{Source, kind, broken, IsMark}
+use Rattle.sts_grammar.specs.Precedence.{assignment_level, either_level, both_level, postfix_level, primary_level}
+use Rattle.sts_grammar.specs.Source.{Source, kind, broken, IsMark, is_mark}
 use Rattle.sts_grammar.specs.Operators.{infix_number, infix_level, bump_by, assignment}
 
 -- `++` or `--`
@@ -17,20 +18,20 @@ is_bump other = false
 -- How tightly an operator between two operands binds, and an assignment; 0 for what is neither.
 abbrev pub operator_binds : (number : Option ℕ) (assigned : Option (Option ℕ)) → ℕ
 operator_binds (Some op) assigned = infix_level op
-operator_binds None (Some op) = 1
+operator_binds None (Some op) = assignment_level
 operator_binds None None = 0
 
 -- How tightly a mark binds to the expression before it, 0 where it doesn't go on with one. A `++` or `--` on a new line doesn't,
 -- and behind `++` and `--` stands no `.`, `[` or `(`.
 abbrev pub mark_binds : (before : Kind) (new_line : Bool) → Mark → ℕ
-mark_binds before new_line m.Question = 1
-mark_binds before new_line m.BarBar = 2
-mark_binds before new_line m.AmpersandAmpersand = 3
-mark_binds before new_line m.PlusPlus = if new_line then 0 else 13
-mark_binds before new_line m.MinusMinus = if new_line then 0 else 13
-mark_binds before new_line m.Dot = if is_bump before then 0 else 14
-mark_binds before new_line m.OpenBracket = if is_bump before then 0 else 14
-mark_binds before new_line m.OpenParenthesis = if is_bump before then 0 else 14
+mark_binds before new_line m.Question = assignment_level
+mark_binds before new_line m.BarBar = either_level
+mark_binds before new_line m.AmpersandAmpersand = both_level
+mark_binds before new_line m.PlusPlus = if new_line then 0 else postfix_level
+mark_binds before new_line m.MinusMinus = if new_line then 0 else postfix_level
+mark_binds before new_line m.Dot = if is_bump before then 0 else primary_level
+mark_binds before new_line m.OpenBracket = if is_bump before then 0 else primary_level
+mark_binds before new_line m.OpenParenthesis = if is_bump before then 0 else primary_level
 mark_binds before new_line mark = operator_binds (infix_number mark) (assignment mark)
 
 abbrev pub kind_binds : (before : Kind) (new_line : Bool) → Kind → ℕ
@@ -45,23 +46,11 @@ binds s j = kind_binds (kind s (j - 1)) (broken s j) (kind s j)
 abbrev pub continues : Source → ℕ → Bool
 continues s j = nat_lt 0 (binds s j)
 
-abbrev pub is_comma : Kind → Bool
-is_comma (k.Mark m.Comma) = true
-is_comma other = false
-
-abbrev pub is_assign : Kind → Bool
-is_assign (k.Mark m.Assign) = true
-is_assign other = false
-
-abbrev pub is_colon : Kind → Bool
-is_colon (k.Mark m.Colon) = true
-is_colon other = false
-
 -- the token at j goes on with the declared name that ends before it
 abbrev pub declaration_continues : Source → Declaration → ℕ → Bool
-declaration_continues s (Declare at name shape (present first)) j = continues s j || is_comma (kind s j)
-declaration_continues s (Declare at name (Some shape) absent) j = is_assign (kind s j) || is_comma (kind s j)
-declaration_continues s (Declare at name None absent) j = is_colon (kind s j) || is_assign (kind s j) || is_comma (kind s j)
+declaration_continues s (Declare at name shape (present first)) j = continues s j || is_mark m.Comma (kind s j)
+declaration_continues s (Declare at name (Some shape) absent) j = is_mark m.Assign (kind s j) || is_mark m.Comma (kind s j)
+declaration_continues s (Declare at name None absent) j = is_mark m.Colon (kind s j) || is_mark m.Assign (kind s j) || is_mark m.Comma (kind s j)
 
 -- the same of the last of some
 abbrev pub declarations_continue : Source → Declarations → ℕ → Bool

@@ -1,4 +1,4 @@
--- What a reader gives, and the tests of one token that it makes.
+-- What a reader gives, and what one token gives it.
 use Rattle.std.specs.Prelude.{ℕ, Bool, true, false, if◌then◌else◌, List, Option, Some, None, slice_get}
 use lib.Chars.{codes}
 use Rattle.std.specs.Str.{bytes_eq}
@@ -6,7 +6,7 @@ use Rattle.sts_lexer.specs.declared.marks.Mark.TheVariants as m
 use Rattle.sts_lexer.specs.declared.words.Word.TheVariants as w
 use Rattle.sts_lexer.specs.declared.token.Kind.{Kind}
 use Rattle.sts_lexer.specs.declared.token.Kind.TheVariants as k
-use Rattle.sts_grammar.specs.Source.{Source, kind}
+use Rattle.sts_grammar.specs.Source.{Source, kind, is_mark}
 
 -- what is read, and the number of the token behind it; None where nothing of that sort stands there
 abbrev pub Found : Type 0 → Type 0
@@ -38,58 +38,10 @@ let_of (k.Word w.Let name) = Some false
 let_of (k.Word w.Const name) = Some true
 let_of other = None
 
-abbrev pub opens_parenthesis : Kind → Bool
-opens_parenthesis (k.Mark m.OpenParenthesis) = true
-opens_parenthesis other = false
-
-abbrev pub closes_parenthesis : Kind → Bool
-closes_parenthesis (k.Mark m.CloseParenthesis) = true
-closes_parenthesis other = false
-
-abbrev pub opens_bracket : Kind → Bool
-opens_bracket (k.Mark m.OpenBracket) = true
-opens_bracket other = false
-
-abbrev pub closes_bracket : Kind → Bool
-closes_bracket (k.Mark m.CloseBracket) = true
-closes_bracket other = false
-
-abbrev pub opens_brace : Kind → Bool
-opens_brace (k.Mark m.OpenBrace) = true
-opens_brace other = false
-
-abbrev pub closes_brace : Kind → Bool
-closes_brace (k.Mark m.CloseBrace) = true
-closes_brace other = false
-
-abbrev pub is_semicolon : Kind → Bool
-is_semicolon (k.Mark m.Semicolon) = true
-is_semicolon other = false
-
-abbrev pub is_arrow : Kind → Bool
-is_arrow (k.Mark m.Arrow) = true
-is_arrow other = false
-
-abbrev pub is_dot : Kind → Bool
-is_dot (k.Mark m.Dot) = true
-is_dot other = false
-
-abbrev pub is_void : Kind → Bool
-is_void (k.Word w.Void name) = true
-is_void other = false
-
-abbrev pub is_else : Kind → Bool
-is_else (k.Word w.Else name) = true
-is_else other = false
-
-abbrev pub is_while : Kind → Bool
-is_while (k.Word w.While name) = true
-is_while other = false
-
 -- the mark that closes a list: `]` where it is square, or else `)`
 abbrev pub closes : (square : Bool) → Kind → Bool
-closes true kind = closes_bracket kind
-closes false kind = closes_parenthesis kind
+closes true kind = is_mark m.CloseBracket kind
+closes false kind = is_mark m.CloseParenthesis kind
 
 -- a table's entry has these bytes
 abbrev pub has_bytes : Option (List ℕ) → List ℕ → Bool

@@ -1,5 +1,7 @@
 pub mod Source
 pub mod Operators
+pub mod Precedence
+pub mod Limits
 pub mod Headings
 pub mod Ends
 pub mod Operands
@@ -10,6 +12,9 @@ pub mod ReadHeadings
 pub mod ReadExpressions
 pub mod ReadStatements
 pub mod Reading
-pub mod Laws
 pub mod Units
+pub mod ReadUnits
 pub mod Brackets
+pub mod Deep
+pub mod Texts
+pub mod Laws

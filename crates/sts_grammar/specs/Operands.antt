@@ -4,6 +4,7 @@ use Rattle.sts_lexer.specs.declared.marks.Mark.TheVariants as m
 use Rattle.sts_lexer.specs.declared.words.Word.TheVariants as w
 use Rattle.sts_syntax.specs.Annotations.{Annotation}
 use Rattle.sts_syntax.specs.Trees.{Parameter, Tree, Name, Unary, Binary, Both, Either, Choice, Set, Bump, Member, Item}
+use Rattle.sts_grammar.specs.Precedence.{assignment_level, either_level, both_level, prefix_level, postfix_level, primary_level}
 use Rattle.sts_grammar.specs.Source.{Source, IsMark, IsWord}
 use Rattle.sts_grammar.specs.Operators.{infix_level}
 use Rattle.sts_grammar.specs.Headings.{HasResult, AreParameters, IsArrowBehind}
@@ -14,15 +15,15 @@ Stands = ℕ → ℕ → Type 0
 
 -- how tightly a tree holds together when it stands without parentheses
 abbrev pub level : Tree → ℕ
-level (Set at op x a) = 1
-level (Choice at c a b) = 1
-level (Either at a b) = 2
-level (Both at a b) = 3
+level (Set at op x a) = assignment_level
+level (Choice at c a b) = assignment_level
+level (Either at a b) = either_level
+level (Both at a b) = both_level
 level (Binary at op a b) = infix_level op
-level (Unary at op a) = 12
-level (Bump at x by false) = 12
-level (Bump at x by true) = 13
-level e = 14
+level (Unary at op a) = prefix_level
+level (Bump at x by false) = prefix_level
+level (Bump at x by true) = postfix_level
+level e = primary_level
 
 -- what can be assigned to: a name, a member or an item
 abbrev pub IsTarget : Tree → Type 0

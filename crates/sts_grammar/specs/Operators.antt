@@ -26,8 +26,7 @@ infix_number m.Slash = Some 16
 infix_number m.Percent = Some 17
 infix_number mark = None
 
--- How tightly it binds, by its number. Assignments and `?:` have 1, `||` 2 and `&&` 3; prefix operators have 12, postfix `++`
--- and `--` 13, and what stands behind a primary 14.
+-- How tightly it binds, by its number: more tightly than `&&`, and less than a prefix operator (`Precedence.antt`).
 abbrev pub infix_level : ℕ → ℕ
 infix_level op = slice_index (0 ∷ 4 ∷ 5 ∷ 6 ∷ 7 ∷ 7 ∷ 8 ∷ 8 ∷ 8 ∷ 8 ∷ 9 ∷ 9 ∷ 9 ∷ 10 ∷ 10 ∷ 11 ∷ 11 ∷ 11 ∷ []) op
 

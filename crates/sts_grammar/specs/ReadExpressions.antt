@@ -10,10 +10,11 @@ use Rattle.sts_lexer.specs.declared.token.Kind.TheVariants as k
 use Rattle.sts_syntax.specs.Annotations.{Annotation}
 use Rattle.sts_syntax.specs.Trees.{Parameter, Tree, Num, Text, Truth, Null, This, Name, Unary, Binary, Both, Either, Choice, Set, Bump, Member, Item, Call, SuperCall, Make, Items, Handler, Trees, none, more, Statement, Statements, done, also, Does}
 use Rattle.sts_syntax.specs.Nesting.{nesting}
-use Rattle.sts_grammar.specs.Source.{Source, kind, place}
+use Rattle.sts_grammar.specs.Precedence.{assignment_level, either_level, both_level, prefix_level}
+use Rattle.sts_grammar.specs.Source.{Source, kind, place, is_mark}
 use Rattle.sts_grammar.specs.Operators.{infix_number, infix_level, prefix_number, bump_by, assignment}
-use Rattle.sts_grammar.specs.Ends.{is_comma, is_colon, binds}
-use Rattle.sts_grammar.specs.Found.{Found, ◌>>=◌, when, name_of, member_name_of, opens_parenthesis, closes_parenthesis, closes_bracket, opens_brace, closes_brace, is_dot, closes}
+use Rattle.sts_grammar.specs.Ends.{binds}
+use Rattle.sts_grammar.specs.Found.{Found, ◌>>=◌, when, name_of, member_name_of, closes}
 use Rattle.sts_grammar.specs.ReadHeadings.{read_heading, read_arrow_heading, begins_arrow, is_arrow_behind}
 
 -- Readers of what stands one level deeper: an expression of at least level l, and a statement, in a function or handler (f) and in
@@ -45,7 +46,7 @@ binds_before s upto j = if nat_lt j upto then binds s j else 0
 -- what stands behind an expression of a list at i: the closing mark, or a comma and further ones, which `read` reads
 abbrev pub items_rest : (square : Bool) (read : Trees → ℕ → Found Trees) (all : Trees) → ℕ → Kind → Found Trees
 items_rest square read all i kind =
-    if closes square kind then Some (all, i + 1) else when (is_comma kind) (read all (i + 1))
+    if closes square kind then Some (all, i + 1) else when (is_mark m.Comma kind) (read all (i + 1))
 
 -- further expressions behind these: at most n, and the closing mark
 unfoldable pub read_items : Source → (square : Bool) (read : ℕ → Found Tree) (n : ℕ) (all : Trees) → ℕ → Found Trees
@@ -60,17 +61,17 @@ read_listed s square read i =
 
 -- arguments in parentheses
 unfoldable pub read_arguments : Source → (read : ℕ → Found Tree) → ℕ → Found Trees
-read_arguments s read i = when (opens_parenthesis (kind s i)) (read_listed s false read (i + 1))
+read_arguments s read i = when (is_mark m.OpenParenthesis (kind s i)) (read_listed s false read (i + 1))
 
 -- further statements behind these: at most n, and the `}`
 unfoldable pub read_statements : Source → (read : ℕ → Found Statement) (n : ℕ) (all : Statements) → ℕ → Found Statements
 read_statements s read zero all i = None
 read_statements s read (suc n) all i =
-    if closes_brace (kind s i) then Some (all, i + 1) else (read i >>= λ a. read_statements s read n (put_statement all a.0) a.1)
+    if is_mark m.CloseBrace (kind s i) then Some (all, i + 1) else (read i >>= λ a. read_statements s read n (put_statement all a.0) a.1)
 
 -- a block: `{`, statements and `}`
 unfoldable pub read_block : Source → (read : ℕ → Found Statement) → ℕ → Found Statements
-read_block s read i = when (opens_brace (kind s i)) (read_statements s read (length s.tokens) done (i + 1))
+read_block s read i = when (is_mark m.OpenBrace (kind s i)) (read_statements s read (length s.tokens) done (i + 1))
 
 -- the block of a function expression or arrow, behind its heading
 unfoldable pub read_handler : Source → Readers → (at : ℕ) (arrow : Bool) (heading : List Parameter × Option Annotation) → ℕ → Found Tree
@@ -83,13 +84,13 @@ bump_before at by a = when (is_target a.0) (Some (Bump at a.0 by false, a.1))
 
 -- what a prefix operator at i begins
 abbrev pub read_prefix : Source → Readers → ℕ → (op : Option ℕ) (by : Option ℤ) → Found Tree
-read_prefix s readers i (Some op) by = readers.expr 12 (i + 1) >>= λ a. Some (Unary (place s i) op a.0, a.1)
-read_prefix s readers i None (Some by) = readers.expr 12 (i + 1) >>= bump_before (place s i) by
+read_prefix s readers i (Some op) by = readers.expr prefix_level (i + 1) >>= λ a. Some (Unary (place s i) op a.0, a.1)
+read_prefix s readers i None (Some by) = readers.expr prefix_level (i + 1) >>= bump_before (place s i) by
 read_prefix s readers i None None = None
 
 -- What a mark at i begins. A `(` begins an arrow here.
 abbrev pub read_mark : Source → Readers → ℕ → Mark → Found Tree
-read_mark s readers i m.OpenBracket = read_listed s true (readers.expr 1) (i + 1) >>= λ a. Some (Items (place s i) a.0, a.1)
+read_mark s readers i m.OpenBracket = read_listed s true (readers.expr assignment_level) (i + 1) >>= λ a. Some (Items (place s i) a.0, a.1)
 read_mark s readers i m.OpenParenthesis =
     read_arrow_heading s i >>= λ h. read_handler s readers (place s i) true h.0 h.1
 read_mark s readers i mark = read_prefix s readers i (prefix_number mark) (bump_by mark)
@@ -97,9 +98,9 @@ read_mark s readers i mark = read_prefix s readers i (prefix_number mark) (bump_
 -- what `super` at i begins, by the token behind it
 abbrev pub read_super : Source → Readers → ℕ → (method : Bool) → Found Tree
 read_super s readers i false =
-    read_arguments s (readers.expr 1) (i + 1) >>= λ a. Some (SuperCall (place s i) None a.0, a.1)
+    read_arguments s (readers.expr assignment_level) (i + 1) >>= λ a. Some (SuperCall (place s i) None a.0, a.1)
 read_super s readers i true =
-    member_name_of (kind s (i + 2)) >>= λ method. read_arguments s (readers.expr 1) (i + 3) >>= λ a. Some (SuperCall (place s i) (Some method) a.0, a.1)
+    member_name_of (kind s (i + 2)) >>= λ method. read_arguments s (readers.expr assignment_level) (i + 3) >>= λ a. Some (SuperCall (place s i) (Some method) a.0, a.1)
 
 -- what a reserved word at i begins
 abbrev pub read_word : Source → Readers → ℕ → Word → Found Tree
@@ -108,8 +109,8 @@ read_word s readers i w.False = Some (Truth (place s i) false, i + 1)
 read_word s readers i w.Null = Some (Null (place s i), i + 1)
 read_word s readers i w.This = Some (This (place s i), i + 1)
 read_word s readers i w.New =
-    name_of (kind s (i + 1)) >>= λ class. read_arguments s (readers.expr 1) (i + 2) >>= λ a. Some (Make (place s i) class a.0, a.1)
-read_word s readers i w.Super = read_super s readers i (is_dot (kind s (i + 1)))
+    name_of (kind s (i + 1)) >>= λ class. read_arguments s (readers.expr assignment_level) (i + 2) >>= λ a. Some (Make (place s i) class a.0, a.1)
+read_word s readers i w.Super = read_super s readers i (is_mark m.Dot (kind s (i + 1)))
 read_word s readers i w.Function = read_heading s (i + 1) >>= λ h. read_handler s readers (place s i) false h.0 h.1
 read_word s readers i word = None
 
@@ -125,24 +126,24 @@ read_primary s readers i k.Finish = None
 -- an operator between two operands, an assignment, or `++` or `--` behind e
 abbrev pub read_operator : Readers → (at : ℕ) (e : Tree) → ℕ → (op : Option ℕ) (assigned : Option (Option ℕ)) (by : Option ℤ) → Found Tree
 read_operator readers at e i (Some op) assigned by = readers.expr (infix_level op + 1) (i + 1) >>= λ b. Some (Binary at op e b.0, b.1)
-read_operator readers at e i None (Some op) by = when (is_target e) (readers.expr 1 (i + 1) >>= λ a. Some (Set at op e a.0, a.1))
+read_operator readers at e i None (Some op) by = when (is_target e) (readers.expr assignment_level (i + 1) >>= λ a. Some (Set at op e a.0, a.1))
 read_operator readers at e i None None (Some by) = when (is_target e) (Some (Bump at e by true, i + 1))
 read_operator readers at e i None None None = None
 
 -- what stands behind the `?` after e
 abbrev pub read_choice : Source → Readers → (at : ℕ) (e : Tree) → ℕ → Found Tree
 read_choice s readers at e i =
-    readers.expr 1 i >>= λ a. when (is_colon (kind s a.1)) (readers.expr 1 (a.1 + 1) >>= λ b. Some (Choice at e a.0 b.0, b.1))
+    readers.expr assignment_level i >>= λ a. when (is_mark m.Colon (kind s a.1)) (readers.expr assignment_level (a.1 + 1) >>= λ b. Some (Choice at e a.0 b.0, b.1))
 
 -- What goes on at i with the expression e that ends there, by the mark: a larger expression, whose place is given.
 abbrev pub read_further : Source → Readers → (at : ℕ) (e : Tree) → ℕ → Mark → Found Tree
 read_further s readers at e i m.Dot = member_name_of (kind s (i + 1)) >>= λ name. Some (Member at e name, i + 2)
 read_further s readers at e i m.OpenBracket =
-    readers.expr 1 (i + 1) >>= λ b. when (closes_bracket (kind s b.1)) (Some (Item at e b.0, b.1 + 1))
-read_further s readers at e i m.OpenParenthesis = read_listed s false (readers.expr 1) (i + 1) >>= λ a. Some (Call at e a.0, a.1)
+    readers.expr assignment_level (i + 1) >>= λ b. when (is_mark m.CloseBracket (kind s b.1)) (Some (Item at e b.0, b.1 + 1))
+read_further s readers at e i m.OpenParenthesis = read_listed s false (readers.expr assignment_level) (i + 1) >>= λ a. Some (Call at e a.0, a.1)
 read_further s readers at e i m.Question = read_choice s readers at e (i + 1)
-read_further s readers at e i m.BarBar = readers.expr 3 (i + 1) >>= λ b. Some (Either at e b.0, b.1)
-read_further s readers at e i m.AmpersandAmpersand = readers.expr 4 (i + 1) >>= λ b. Some (Both at e b.0, b.1)
+read_further s readers at e i m.BarBar = readers.expr (either_level + 1) (i + 1) >>= λ b. Some (Either at e b.0, b.1)
+read_further s readers at e i m.AmpersandAmpersand = readers.expr (both_level + 1) (i + 1) >>= λ b. Some (Both at e b.0, b.1)
 read_further s readers at e i mark = read_operator readers at e i (infix_number mark) (assignment mark) (bump_by mark)
 
 abbrev pub read_behind : Source → Readers → (at : ℕ) (e : Tree) → ℕ → Kind → Found Tree
@@ -161,17 +162,17 @@ climb s upto room readers (suc n) l at e i =
 -- How many `(` stand one after another from i on, at most n, none of which begins the parameters of an arrow.
 unfoldable pub opened : Source → (n : ℕ) → ℕ → ℕ
 opened s zero i = 0
-opened s (suc n) i = if opens_parenthesis (kind s i) && not (begins_arrow s i) then suc (opened s n (i + 1)) else 0
+opened s (suc n) i = if is_mark m.OpenParenthesis (kind s i) && not (begins_arrow s i) then suc (opened s n (i + 1)) else 0
 
 -- behind the `)` at i, where one stands and no arrow goes on behind it
 unfoldable pub close_at : Source → ℕ → Option ℕ
-close_at s i = when (closes_parenthesis (kind s i) && not (is_arrow_behind s (i + 1))) (Some (i + 1))
+close_at s i = when (is_mark m.CloseParenthesis (kind s i) && not (is_arrow_behind s (i + 1))) (Some (i + 1))
 
 -- The expression of at least level l that goes on with e at i, where p parentheses are open that stand from `from` on, right before e.
 unfoldable pub unwind : Source → (upto room : ℕ) → Readers → (p l from : ℕ) (e : Tree) → ℕ → Found Tree
 unwind s upto room readers zero l from e i = climb s upto room readers (suc room) l (place s from) e i
 unwind s upto room readers (suc p) l from e i =
-    climb s upto room readers (suc room) 1 (place s (from + suc p)) e i >>= λ a.
+    climb s upto room readers (suc room) assignment_level (place s (from + suc p)) e i >>= λ a.
     close_at s a.1 >>= λ j. unwind s upto room readers p l from a.0 j
 
 -- the same behind the primary that follows those parentheses

@@ -2,6 +2,8 @@
 -- to find what the tokens spell.
 use Rattle.std.specs.Prelude.{ℕ, zero, suc, Bool, Option, Some, None, length}
 use Rattle.sts_syntax.specs.Trees.{Tree, Statement}
+use Rattle.sts_grammar.specs.Precedence.{assignment_level}
+use Rattle.sts_grammar.specs.Limits.{most_nesting}
 use Rattle.sts_grammar.specs.Source.{Source, kind}
 use Rattle.sts_grammar.specs.Found.{Found}
 use Rattle.sts_grammar.specs.ReadExpressions.{Readers, read_operand}
@@ -36,4 +38,4 @@ or_else (Some x) other = Some x
 -- The longest expression within the limit of nesting: what is read with the greatest bound, at most n, with which something is.
 unfoldable pub longest_expression : Source → (n i : ℕ) → Found Tree
 longest_expression s zero i = None
-longest_expression s (suc n) i = or_else (expression s (suc n) 256 1 i) (longest_expression s n i)
+longest_expression s (suc n) i = or_else (expression s (suc n) most_nesting assignment_level i) (longest_expression s n i)

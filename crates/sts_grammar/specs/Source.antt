@@ -1,5 +1,8 @@
 -- Tokens with their names, as the grammar sees them.
 use Rattle.std.specs.Prelude.{◌≡◌, ℕ, Bool, false, List, Option, Some, None, slice_get, ◌⊎◌}
+use denote.Enum.Bare.{sameb}
+use Rattle.sts_lexer.specs.contracts.marks.Mark.{the_type as mark_type}
+use Rattle.sts_lexer.specs.contracts.words.Word.{the_type as word_type}
 use Rattle.sts_lexer.specs.declared.marks.Mark.{Mark}
 use Rattle.sts_lexer.specs.declared.words.Word.{Word}
 use Rattle.sts_lexer.specs.declared.token.Kind.{Kind}
@@ -40,6 +43,16 @@ IsMark s i mark = kind s i ≡ k.Mark mark
 
 abbrev pub IsWord : Source → ℕ → Word → Type 0
 IsWord s i word = (entry : ℕ) × (kind s i ≡ k.Word word entry)
+
+-- the test of a token for a mark
+abbrev pub is_mark : Mark → Kind → Bool
+is_mark mark (k.Mark other) = sameb mark_type other mark
+is_mark mark other = false
+
+-- the test of a token for a reserved word
+abbrev pub is_word : Word → Kind → Bool
+is_word word (k.Word other name) = sameb word_type other word
+is_word word other = false
 
 abbrev pub IsName : Source → ℕ → ℕ → Type 0
 IsName s i name = kind s i ≡ k.Name name

@@ -9,6 +9,7 @@ use Rattle.sts_lexer.specs.declared.token.Kind.TheVariants as k
 use Rattle.sts_syntax.specs.Trees.{Declaration, Declare, absent, Does}
 use Rattle.sts_syntax.specs.Programs.{ClassMember, Field, Method, Constructor, TopLevel, Class, Function, Main, Program}
 use Rattle.sts_syntax.specs.Nesting.{program_nesting}
+use Rattle.sts_grammar.specs.Limits.{most_nesting}
 use Rattle.sts_grammar.specs.Source.{Source, kind, place, IsMark, IsWord, IsName, IsMemberName, IsSpelled}
 use Rattle.sts_grammar.specs.Headings.{HasType}
 use Rattle.sts_grammar.specs.Operands.{Stands, IsRoutine}
@@ -93,4 +94,4 @@ AreParts s (part ∷ rest) i = (n : ℕ) × IsPart s part i n × AreParts s rest
 -- the tokens of a whole text spell this program
 pub record IsProgram (s : Source) (program : Program) : Type 0 where
   pub spelled : AreParts s program 0
-  pub nested : program_nesting program ≤ 256
+  pub nested : program_nesting program ≤ most_nesting

@@ -1,6 +1,10 @@
-//! The grammar of expressions and statements: which tree the tokens from one place to another spell, how they are read, and laws of both.
+//! The grammar: which tree the tokens from one place to another spell, and which program those of a whole text, how they are read, and laws
+//! of both.
 #![tactic(auto)]
 
-mod laws;
+mod theorems;
 
-pub use laws::{one_tree, the_longest_is_read, what_is_read_is_spelled, what_is_spelled_is_read};
+pub use theorems::{
+    one_program, one_tree, the_longest_is_read, the_program_is_read, what_is_read_is_spelled,
+    what_is_spelled_is_read,
+};

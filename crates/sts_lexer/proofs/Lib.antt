@@ -10,3 +10,4 @@ pub mod Growing
 pub mod Steps
 pub mod Unique
 pub mod Refusing
+pub mod Laws

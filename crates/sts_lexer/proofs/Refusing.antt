@@ -6,6 +6,7 @@ use Rattle.std.proofs.lemmas.List.{take_all}
 use Rattle.sts_base.specs.declared.tables.Tables.{Tables}
 use Rattle.sts_base.specs.declared.refused.Code.{Code}
 use Rattle.sts_base.specs.declared.refused.Code.TheVariants as code
+use Rattle.sts_lexer.specs.Bytes.{most_bytes}
 use Rattle.sts_lexer.specs.Tokens.{IsTokenization}
 use Rattle.sts_lexer.specs.Refusals.{Stops, IsRefusal}
 use Rattle.sts_lexer.specs.declared.token.Token.{Token}
@@ -14,8 +15,8 @@ use Rattle.sts_lexer.proofs.Unique.{tokens_or_stop, stop_once}
 -- a refusal is of one of three kinds
 abbrev IsOneOf : List ℕ → Code → ℕ → Type 0
 IsOneOf text why at =
-    ((why ≡ code.TextTooLong) × (65536 < length text) × (at ≡ 0))
-    ⊎ (((why ≡ code.NotUtf8) × (length text ≤ 65536) × IsValidUpTo text at) ⊎ ((length text ≤ 65536) × IsUtf8 text × Stops text why at))
+    ((why ≡ code.TextTooLong) × (most_bytes < length text) × (at ≡ 0))
+    ⊎ (((why ≡ code.NotUtf8) × (length text ≤ most_bytes) × IsValidUpTo text at) ⊎ ((length text ≤ most_bytes) × IsUtf8 text × Stops text why at))
 
 one_of : (text : List ℕ) (why : Code) (at : ℕ) → IsRefusal text why at → IsOneOf text why at
 one_of text code.TextTooLong at h = inl (refl, h.0, h.1)

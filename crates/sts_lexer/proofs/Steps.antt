@@ -6,7 +6,7 @@ use Rattle.std.proofs.lemmas.Bool.{false≢true}
 use Rattle.sts_base.specs.declared.tables.Tables.{Tables}
 use Rattle.sts_base.specs.declared.refused.Code.{Code}
 use Rattle.sts_base.specs.declared.refused.Code.TheVariants as code
-use Rattle.sts_lexer.specs.Bytes.{is_break, SomeByte}
+use Rattle.sts_lexer.specs.Bytes.{most_bytes, is_break, SomeByte}
 use Rattle.sts_lexer.specs.Spaces.{IsGap}
 use Rattle.sts_lexer.specs.Tokens.{Reads, IsNext, IsFinish}
 use Rattle.sts_lexer.specs.Refusals.{Stops, IsRefusal}
@@ -53,7 +53,7 @@ next_of tables text i from upto kind token broken is at to same places gap break
 }
 
 -- a stop is a refusal
-pub refusal_of : (text : List ℕ) (why : Code) (at : ℕ) → length text ≤ 65536 → IsUtf8 text → Stops text why at → IsRefusal text why at
+pub refusal_of : (text : List ℕ) (why : Code) (at : ℕ) → length text ≤ most_bytes → IsUtf8 text → Stops text why at → IsRefusal text why at
 refusal_of text code.TextTooLong at short utf8 stops = absurd (no_text_too_long (slice_index text at) stops.by)
 refusal_of text code.NotUtf8 at short utf8 stops = absurd (no_not_utf8 (slice_index text at) stops.by)
 refusal_of text code.BadCharacter at short utf8 stops = (short, utf8, stops)

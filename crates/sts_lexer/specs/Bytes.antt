@@ -2,6 +2,10 @@
 use Rattle.std.specs.Prelude.{◌≡◌, ℕ, Bool, ◌||◌, ◌==◌, ◌+◌, ◌<◌, ◌≤◌, List, length, slice_index, slice_range, IsTrue}
 use Rattle.std.specs.Char.{is_ascii_alphabetic, is_ascii_digit}
 
+-- the most bytes of a text
+abbrev pub most_bytes : ℕ
+most_bytes = 65536
+
 -- space, tab, line feed and carriage return (own: ECMA-262, sections 12.2 and 12.3, has more of them)
 abbrev pub is_blank : ℕ → Bool
 is_blank byte = ((byte == 32) || (byte == 9)) || ((byte == 10) || (byte == 13))

@@ -7,7 +7,7 @@ use Rattle.sts_base.specs.declared.refused.Code.{Code}
 use Rattle.sts_base.specs.declared.refused.Code.TheVariants as code
 use Rattle.sts_base.specs.declared.refused.Refused.{Refused}
 use Rattle.sts_base.specs.declared.refused.Refused.TheVariants as refused
-use Rattle.sts_lexer.specs.Bytes.{is_quote}
+use Rattle.sts_lexer.specs.Bytes.{most_bytes, is_quote}
 use Rattle.sts_lexer.specs.Spaces.{IsSpace, IsGap, start_of}
 use Rattle.sts_lexer.specs.Lexemes.{Lexeme, Spells}
 use Rattle.sts_lexer.specs.Tokens.{AreTokens}
@@ -42,9 +42,9 @@ pub record Stops (text : List ℕ) (why : Code) (at : ℕ) : Type 0 where
 -- A text has no tokens, for this reason at this place: first its length is tried, then its UTF-8, whose place is the
 -- first byte of the ill-formed sequence, and then its tokens.
 abbrev pub IsRefusal : List ℕ → Code → ℕ → Type 0
-IsRefusal text code.TextTooLong at = (65536 < length text) × (at ≡ 0)
-IsRefusal text code.NotUtf8 at = (length text ≤ 65536) × IsValidUpTo text at
-IsRefusal text why at = (length text ≤ 65536) × IsUtf8 text × Stops text why at
+IsRefusal text code.TextTooLong at = (most_bytes < length text) × (at ≡ 0)
+IsRefusal text code.NotUtf8 at = (length text ≤ most_bytes) × IsValidUpTo text at
+IsRefusal text why at = (length text ≤ most_bytes) × IsUtf8 text × Stops text why at
 
 -- what `tokens` answers in place of tokens; want of memory has no cause
 abbrev pub Refuses : List ℕ → Refused → Type 0

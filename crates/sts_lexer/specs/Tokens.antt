@@ -3,7 +3,7 @@ use Rattle.std.specs.Prelude.{◌≡◌, ◌≢◌, ◌↔◌, ℕ, ◌≤◌, L
 use Rattle.std.specs.Str.{IsUtf8}
 use Rattle.sts_base.specs.Int32.{to_int32}
 use Rattle.sts_base.specs.declared.tables.Tables.{Tables}
-use Rattle.sts_lexer.specs.Bytes.{is_break, SomeByte}
+use Rattle.sts_lexer.specs.Bytes.{most_bytes, is_break, SomeByte}
 use Rattle.sts_lexer.specs.Spaces.{IsGap, start_of}
 use Rattle.sts_lexer.specs.Lexemes.{Lexeme, name, number, quoted, mark, Spells, IsLongest}
 use Rattle.sts_lexer.specs.Words.{word_bytes}
@@ -52,9 +52,9 @@ pub record IsFinish (text : List ℕ) (i : ℕ) (token : Token) : Type 0 where
   pub gap : IsGap text i places (length text)
   pub broken : IsTrue token.broken ↔ SomeByte is_break text i (length text)
 
--- All tokens of a text. The text has at most 65,536 bytes and is UTF-8.
+-- All tokens of a text. The text is UTF-8, and not too long.
 pub record IsTokenization (tables : Tables) (text : List ℕ) (all : List Token) : Type 0 where
-  pub short : length text ≤ 65536
+  pub short : length text ≤ most_bytes
   pub utf8 : IsUtf8 text
   pub front : List Token
   pub stop : ℕ

@@ -54,7 +54,7 @@ fn text_at(
     tables: &mut Tables,
     index: &mut Index,
 ) -> Result<Option<(Kind, usize)>, NoMemory>
-    requires short { length text.now ≤ 65536 }
+    requires short { length text.now ≤ bytes.most_bytes }
     requires here { at < length text.now }
     requires opens { IsTrue (bytes.is_quote (slice_index text.now at)) }
     requires room { length tables.old.texts < 2 ^ 32 }
@@ -76,7 +76,7 @@ fn text_at(
 
 /// The number or mark that stands at a place, and the place behind it.
 fn plain_at(text: &[u8], at: usize) -> Option<(Kind, usize)>
-    requires short { length text.now ≤ 65536 }
+    requires short { length text.now ≤ bytes.most_bytes }
     requires here { at < length text.now }
     requires no_name { bytes.begins_name (slice_index text.now at) ≡ false }
     requires no_quote { bytes.is_quote (slice_index text.now at) ≡ false }
@@ -103,7 +103,7 @@ pub fn kind_at(
     tables: &mut Tables,
     index: &mut Index,
 ) -> Result<Option<(Kind, usize)>, NoMemory>
-    requires short { length text.now ≤ 65536 }
+    requires short { length text.now ≤ bytes.most_bytes }
     requires here { at < length text.now }
     requires names_room { length tables.old.names < 2 ^ 32 }
     requires texts_room { length tables.old.texts < 2 ^ 32 }

@@ -2,6 +2,7 @@
 ghost use Rattle.std.specs.Prelude.{◌≡◌, ◌+◌, ◌<◌, ◌≤◌, ◌^◌, length, IfOk, IfErr};
 ghost use Rattle.std.specs.Str.{IsUtf8};
 ghost use Rattle.sts_base.specs.Distinct.{IsDistinct};
+ghost use Rattle.sts_lexer.specs.Bytes.{most_bytes};
 ghost use Rattle.sts_lexer.specs.Entries.{IsIndexed};
 ghost use Rattle.sts_lexer.specs.Refusals.{Refuses, cause};
 ghost use Rattle.sts_lexer.specs.Tables.{Extends, GrewBy, AreDistinct};
@@ -17,7 +18,7 @@ use std::alloc::Global;
 use sts_base::{Code, NoMemory, Refused, Seq, Span, Tables};
 
 /// The most bytes of a text.
-const LONGEST: usize = 65536;
+const MOST_BYTES: usize = 65_536;
 
 fn no_memory(_: NoMemory) -> Refused
     ensures { result ≡ Refused.NoMemory }
@@ -39,8 +40,8 @@ fn cause(byte: u8) -> Code
 }
 
 fn make_token(kind: Kind, from: usize, upto: usize, broken: bool) -> Token
-    requires from { from ≤ 65536 }
-    requires upto { upto ≤ 65536 }
+    requires from { from ≤ most_bytes }
+    requires upto { upto ≤ most_bytes }
     ensures kind { result.kind ≡ kind }
     ensures from { result.span.from ≡ from }
     ensures upto { result.span.upto ≡ upto }
@@ -63,7 +64,7 @@ fn read_all(
     tables: &mut Tables,
     index: &mut Index,
 ) -> Result<Seq<Token>, Refused>
-    requires short { length text.now ≤ 65536 }
+    requires short { length text.now ≤ most_bytes }
     requires utf8 { IsUtf8 text.now }
     requires few_names { length tables.old.names < 2 ^ 31 }
     requires few_texts { length tables.old.texts < 2 ^ 31 }
@@ -72,7 +73,7 @@ fn read_all(
     ensures used { IfOk result (IsUsed tables.old tables.new) }
     ensures refused { IfErr result (Refuses text.now) }
     ensures distinct { AreDistinct tables.new }
-    ensures grew { GrewBy 65536 tables.old tables.new }
+    ensures grew { GrewBy most_bytes tables.old tables.new }
 {
     let mut all = Seq::new(alloc);
     let mut at = start(text);
@@ -116,10 +117,10 @@ pub fn tokens(alloc: Global, text: &[u8], tables: &mut Tables) -> Result<Seq<Tok
     ensures texts_extended { Extends tables.old.texts tables.new.texts }
     ensures names_distinct { IsDistinct tables.new.names }
     ensures texts_distinct { IsDistinct tables.new.texts }
-    ensures names_added { length tables.new.names ≤ length tables.old.names + 65536 }
-    ensures texts_added { length tables.new.texts ≤ length tables.old.texts + 65536 }
+    ensures names_added { length tables.new.names ≤ length tables.old.names + most_bytes }
+    ensures texts_added { length tables.new.texts ≤ length tables.old.texts + most_bytes }
 {
-    if text.len() > LONGEST {
+    if text.len() > MOST_BYTES {
         return Err(Refused::Program {
             code: Code::TextTooLong,
             at: 0,

@@ -7,19 +7,17 @@
 mod bytes;
 mod entries;
 mod kinds;
-mod laws;
 mod lexer;
 mod marks;
 mod numbers;
 mod quotes;
 mod spaces;
-#[cfg(test)]
-mod tests;
+mod theorems;
 mod token;
 mod words;
 
-pub use laws::{one_reading, spellings_stay};
 pub use lexer::tokens;
 pub use marks::Mark;
+pub use theorems::{one_reading, spellings_stay};
 pub use token::{Kind, Token};
 pub use words::Word;

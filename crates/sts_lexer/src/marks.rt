@@ -6,7 +6,7 @@ ghost use Rattle.sts_lexer.specs.declared.marks.Mark.{Mark};
 
 /// A mark of punctuation or an operator (Punctuator of ECMA-262, section 12.8, without `...`, `?.`, `??`, `**`, `#`,
 /// `@` and the assignments that belong to them).
-#[derive(Clone, Copy, Drop)]
+#[derive(Clone, Copy, PartialEq, Eq, Drop)]
 pub enum Mark {
     /// `{`
     OpenBrace,

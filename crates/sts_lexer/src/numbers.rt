@@ -2,6 +2,7 @@
 ghost use Rattle.std.specs.Prelude.{◌≡◌, ◌↔◌, ℕ, ◌+◌, ◌<◌, ◌≤◌, ◌^◌, length, slice_index, IsTrue, IfSome, IfNone, SomeIff};
 ghost use Rattle.std.specs.Char.{is_ascii_digit, is_ascii_hexdigit, digit_value};
 ghost use Rattle.std.specs.Str.Parse.{digits_value};
+ghost use Rattle.sts_lexer.specs.Bytes.{most_bytes};
 ghost use Rattle.sts_lexer.specs.Lexemes as spec;
 
 use crate::bytes::{Class, byte_at, goes_on_name, run_end};
@@ -28,7 +29,7 @@ fn may_end(text: &[u8], end: usize) -> bool
 
 /// The decimal number that stands at a place, and the place behind it.
 fn decimal_at(text: &[u8], at: usize) -> Option<(u32, usize)>
-    requires short { length text.now ≤ 65536 }
+    requires short { length text.now ≤ most_bytes }
     requires here { at < length text.now }
     requires digit { IsTrue (is_ascii_digit (slice_index text.now at)) }
     ensures some { IfSome result (λ r. spec.IsDecimal text.now at r.1 × spec.IsValue text.now 10 r.0 at r.1) }
@@ -48,7 +49,7 @@ fn decimal_at(text: &[u8], at: usize) -> Option<(u32, usize)>
 
 /// The hexadecimal number that stands at a place, and the place behind it.
 fn hex_at(text: &[u8], at: usize) -> Option<(u32, usize)>
-    requires short { length text.now ≤ 65536 }
+    requires short { length text.now ≤ most_bytes }
     requires zero { slice_index text.now at ≡ 48 }
     requires x { spec.IsX (slice_index text.now (at + 1)) }
     ensures some { IfSome result (λ r. spec.IsHex text.now at r.1 × spec.IsValue text.now 16 r.0 (at + 2) r.1) }
@@ -71,7 +72,7 @@ fn is_x(byte: u8) -> bool
 
 /// The number that stands at a place, and the place behind it.
 pub fn number_at(text: &[u8], at: usize) -> Option<(u32, usize)>
-    requires short { length text.now ≤ 65536 }
+    requires short { length text.now ≤ most_bytes }
     requires here { at < length text.now }
     requires digit { IsTrue (is_ascii_digit (slice_index text.now at)) }
     ensures some { IfSome result (λ r. spec.IsNumber text.now r.0 at r.1) }

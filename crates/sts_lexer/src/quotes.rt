@@ -1,6 +1,6 @@
 // Text literals.
 ghost use Rattle.std.specs.Prelude.{◌≡◌, ℕ, ◌<◌, ◌≤◌, List, length, slice_index, IsTrue, IfOk, IfSome, IfNone, MatchOption};
-ghost use Rattle.sts_lexer.specs.Bytes.{is_quote};
+ghost use Rattle.sts_lexer.specs.Bytes.{most_bytes, is_quote};
 ghost use Rattle.sts_lexer.specs.Lexemes as spec;
 
 use crate::bytes::{byte_at, is_break, is_quote};
@@ -51,7 +51,7 @@ pub fn quoted_at(
     text: &[u8],
     at: usize,
 ) -> Result<Option<(Seq<u8>, usize)>, NoMemory>
-    requires short { length text.now ≤ 65536 }
+    requires short { length text.now ≤ most_bytes }
     requires here { at < length text.now }
     requires quote { IsTrue (is_quote (slice_index text.now at)) }
     ensures some { IfOk result (λ found. IfSome found (λ r. spec.IsQuoted text.now r.0 at r.1)) }

@@ -1,12 +1,13 @@
 // White space and comments.
 ghost use Rattle.std.specs.Prelude.{◌≡◌, ℕ, ◌+◌, ◌<◌, ◌≤◌, List, length, IfSome, IfNone};
+ghost use Rattle.sts_lexer.specs.Bytes.{most_bytes};
 ghost use Rattle.sts_lexer.specs.Spaces as spec;
 
 use crate::bytes::{Class, byte_at, run_end};
 
 /// The next place from a given one on where `*/` stands.
 fn closing(text: &[u8], from: usize) -> Option<usize>
-    requires { length text.now ≤ 65536 }
+    requires { length text.now ≤ most_bytes }
     ensures after { IfSome result (λ close. from ≤ close) }
     ensures closes { IfSome result (λ close. spec.Closes text.now close) }
     ensures next { IfSome result (λ close. (k : ℕ) → from ≤ k → k < close → spec.Closes text.now k → ⊥) }
@@ -23,7 +24,7 @@ fn closing(text: &[u8], from: usize) -> Option<usize>
 
 /// The place behind the byte of white space or the comment that stands at a place.
 fn space_end(text: &[u8], at: usize) -> Option<usize>
-    requires short { length text.now ≤ 65536 }
+    requires short { length text.now ≤ most_bytes }
     requires here { at < length text.now }
     ensures some { IfSome result (λ end. spec.IsSpace text.now at end) }
     ensures within { IfSome result (λ end. (at < end) × (end ≤ length text.now)) }
@@ -39,7 +40,7 @@ fn space_end(text: &[u8], at: usize) -> Option<usize>
 
 /// The place behind the white space and the comments that stand from a place on.
 pub fn gap_end(text: &[u8], from: usize) -> usize
-    requires short { length text.now ≤ 65536 }
+    requires short { length text.now ≤ most_bytes }
     requires here { from ≤ length text.now }
     ensures gap { (places : List ℕ) × spec.IsGap text.now from places result }
     ensures after { from ≤ result }
@@ -59,7 +60,7 @@ pub fn gap_end(text: &[u8], from: usize) -> usize
 /// Whether `//` or `/*` stands at a place.
 pub fn opens_comment(text: &[u8], at: usize) -> bool
     requires here { at < length text.now }
-    requires short { length text.now ≤ 65536 }
+    requires short { length text.now ≤ most_bytes }
     ensures { result ≡ spec.opens_comment text.now at }
 {
     let next = byte_at(text, at + 1);

@@ -5,7 +5,7 @@ ghost use Rattle.sts_lexer.specs.declared.words.Word.{Word};
 
 /// A reserved word (ECMA-262, section 12.7.2, and TypeScript's words for classes). Those from `Case` on stand in
 /// no program: they are reserved so that a text which any ECMAScript program might mean otherwise is refused.
-#[derive(Clone, Copy, Drop)]
+#[derive(Clone, Copy, PartialEq, Eq, Drop)]
 pub enum Word {
     Break,
     Class,

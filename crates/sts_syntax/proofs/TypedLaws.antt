@@ -12,7 +12,7 @@ use Rattle.sts_syntax.specs.declared.typed.TypedStmt.TheBlock.{hidden-the_row-Ty
 use Rattle.sts_syntax.specs.declared.typed.TypedStmt.TheVariants as s
 use Rattle.sts_syntax.specs.Types.{value_type}
 use Rattle.sts_syntax.specs.TypedTrees.{more, also, Call, SuperCall, Make, Items, Block}
-use Rattle.sts_syntax.specs.TypedViews.{typed_node_tree, typed_trees, row_typed_trees, typed_statement, typed_statements, row_typed_statements}
+use Rattle.sts_syntax.specs.TypedViews.{typed_tree, typed_node_tree, typed_trees, row_typed_trees, typed_statement, typed_statements, row_typed_statements}
 
 trees_row : {m : Count} (row : Row_of-TypedExpr m) → row_typed_trees row ≡ typed_trees (items-the_row-TypedExpr m row)
 trees_row end_of-TypedExpr = refl
@@ -42,3 +42,16 @@ typed_items_tree t items = ap (Items (value_type t)) (typed_trees_held items)
 
 pub typed_block_statement : (all : List TypedStmt) → typed_statement (s.Block all) ≡ Block (typed_statements all)
 typed_block_statement all = ap Block (typed_statements_held all)
+
+-- an expression whose node holds a list
+pub call_is : (e : TypedExpr) (callee : Callee) (args : List TypedExpr) → e.node ≡ n.Call callee args → typed_tree e ≡ Call (value_type e.ty) callee (typed_trees args)
+call_is e callee args is = ap (typed_node_tree e.ty) is ∙ typed_call_tree e.ty callee args
+
+pub super_call_is : (e : TypedExpr) (function : ℕ) (args : List TypedExpr) → e.node ≡ n.SuperCall function args → typed_tree e ≡ SuperCall (value_type e.ty) function (typed_trees args)
+super_call_is e function args is = ap (typed_node_tree e.ty) is ∙ typed_super_call_tree e.ty function args
+
+pub make_is : (e : TypedExpr) (class : ℕ) (args : List TypedExpr) → e.node ≡ n.Make class args → typed_tree e ≡ Make (value_type e.ty) class (typed_trees args)
+make_is e class args is = ap (typed_node_tree e.ty) is ∙ typed_make_tree e.ty class args
+
+pub items_is : (e : TypedExpr) (items : List TypedExpr) → e.node ≡ n.Items items → typed_tree e ≡ Items (value_type e.ty) (typed_trees items)
+items_is e items is = ap (typed_node_tree e.ty) is ∙ typed_items_tree e.ty items

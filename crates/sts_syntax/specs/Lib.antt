@@ -6,3 +6,13 @@ pub mod Nesting
 pub mod Types
 pub mod TypedTrees
 pub mod TypedViews
+pub mod BoardTable
+pub mod Measures
+pub mod Weights
+pub mod Nodes
+pub mod TypeRules
+pub mod WellTyped
+pub mod WellTypedPrograms
+pub mod BoardViews
+pub mod Sizes
+pub mod LibraryRoutines

@@ -118,3 +118,7 @@ statements (s ∷ rest) = also (statement s) (statements rest)
 abbrev pub declarations : List Binding → Declarations
 declarations [] = ended
 declarations (b ∷ rest) = next (declaration b) (declarations rest)
+
+abbrev pub optional_written : Option Stmt → OptionalStatement
+optional_written None = omitted
+optional_written (Some a) = written (statement a)

@@ -32,8 +32,12 @@ pub enum BoardCall {
     InBackground,
     /// `control.onEvent(s, v, h)`: the handler listens to an event's source and value
     OnEvent,
+    /// `control.onEventFlags(s, v, h, f)`: the same, where the number f says what comes of an event while the handler runs
+    OnEventFlags,
     /// `control.raiseEvent(s, v)`: raises an event
     RaiseEvent,
+    /// `control.raiseNow(s, v)`: the event's handlers run before the caller goes on
+    RaiseNow,
     /// `control.waitForEvent(s, v)`: the caller sleeps up to such an event
     WaitForEvent,
     /// `control.eventValue()`, a number: the value of the event that the caller got last

@@ -4,6 +4,12 @@
 #![tactic(auto)]
 
 mod board_calls;
+mod board_rows;
+mod board_table;
+pub mod build;
+mod frames;
+mod library_laws;
+mod measures;
 pub mod operators;
 mod shapes;
 #[cfg(test)]
@@ -14,6 +20,10 @@ mod types;
 mod units;
 
 pub use board_calls::BoardCall;
+pub use board_rows::{BoardAction, BoardParameter, ServicePlace, board_call, board_constant};
+pub use board_table::board_calls_are_named;
+pub use frames::{frame_words, weight};
+pub use library_laws::library_is_light;
 pub use shapes::Shape;
 pub use trees::{Binding, Body, Expr, Form, Node, Param, Stmt};
 pub use typed::{

@@ -1,12 +1,19 @@
-ghost use Rattle.std.specs.Prelude.{◌≡◌, None, [], ◌∷◌, pos, true, false};
+ghost use Rattle.std.specs.Prelude.{◌≡◌, None, Some, [], ◌∷◌, pos, true, false};
 ghost use Rattle.sts_syntax.specs.Trees as t;
 ghost use Rattle.sts_syntax.specs.Programs as p;
 ghost use Rattle.sts_syntax.specs.Nesting as nest;
+ghost use Rattle.sts_syntax.specs.Measures as m;
+ghost use Rattle.sts_syntax.specs.Weights as w;
+ghost use Rattle.sts_syntax.specs.Types as y;
+ghost use Rattle.sts_syntax.specs.TypedTrees as tt;
+ghost use Rattle.sts_syntax.specs.declared.typed.Spot.TheVariants as spot;
+ghost use Rattle.sts_syntax.specs.declared.typed.Callee.TheVariants as callee;
+ghost use Rattle.sts_syntax.specs.declared.board_calls.BoardCall.TheVariants as board;
 
 use crate::operators::NEGATE;
 use crate::{
     Binding, Body, Callee, Expr, Form, Item, Member, Node, Shape, Spot, Stmt, Ty, TypedExpr,
-    TypedNode, Unit,
+    TypedNode, Unit, board_call, board_constant,
 };
 use std::alloc::Global;
 use std::test::Fail;
@@ -201,4 +208,93 @@ fn a_deep_type_is_dropped(rt: HostRuntime) -> Result<(), Fail> {
     }
     assert!(rt; matches!(&ty, Ty::List(_)));
     Ok(())
+}
+
+/// each call's space and name, and a name near it, which no call has
+const NAMES: [(&str, &str, &str); 31] = [
+    ("basic", "pause", "pauses"),
+    ("basic", "forever", "Forever"),
+    ("basic", "showLeds", "showleds"),
+    ("basic", "showNumber", "showNumbers"),
+    ("basic", "showString", "showStrin"),
+    ("basic", "clearScreen", "clearscreen"),
+    ("led", "unplot", "unPlot"),
+    ("led", "plot", "plo"),
+    ("led", "toggle", "toggles"),
+    ("input", "onButtonPressed", "onButtonPress"),
+    ("input", "buttonIsPressed", "ButtonIsPressed"),
+    ("input", "runningTime", "runningtime"),
+    ("control", "inBackground", "inBackgroun"),
+    ("control", "onEvent", "onEvents"),
+    ("control", "onEventFlags", "onEventFlag"),
+    ("control", "raiseEvent", "raiseEven"),
+    ("control", "raiseNow", "raisenow"),
+    ("control", "waitForEvent", "waitForEvents"),
+    ("control", "eventValue", "eventValues"),
+    ("control", "panic", "panics"),
+    ("serial", "writeNumber", "writeNumbe"),
+    ("serial", "writeString", "writestring"),
+    ("serial", "writeLine", "writeLines"),
+    ("pins", "digitalWritePin", "digitalWritePins"),
+    ("radio", "sendNumber", "sendNumbers"),
+    ("Math", "abs", "Abs"),
+    ("Math", "min", "mi"),
+    ("Math", "max", "maxi"),
+    ("", "$show", "show"),
+    ("", "$numberGlyph", "$numberglyph"),
+    ("", "$textGlyph", "textGlyph"),
+];
+
+/// each constant's space, name and value, and a name near it
+const VALUES: [(&str, &str, i32, &str); 8] = [
+    ("Button", "A", 1, "a"),
+    ("Button", "B", 2, "C"),
+    ("DigitalPin", "P0", 0, "P"),
+    ("DigitalPin", "P1", 1, "p1"),
+    ("DigitalPin", "P2", 2, "P3"),
+    ("EventFlags", "Reentrant", 8, "reentrant"),
+    ("EventFlags", "QueueIfBusy", 16, "QueueIfBus"),
+    ("EventFlags", "DropIfBusy", 32, "DropIfBusyNow"),
+];
+
+#[test]
+fn calls_and_constants_have_exactly_their_names(rt: HostRuntime) -> Result<(), Fail> {
+    for (space, name, near) in NAMES {
+        let (space, name, near) = (space.as_bytes(), name.as_bytes(), near.as_bytes());
+        assert!(rt; board_call(space, name).is_some());
+        assert!(rt; board_call(space, near).is_none());
+        assert!(rt; board_call(b"Basic", name).is_none());
+        assert_eq!(rt; board_constant(space, name), None);
+    }
+    for (space, name, value, near) in VALUES {
+        let (space, name, near) = (space.as_bytes(), name.as_bytes(), near.as_bytes());
+        assert_eq!(rt; board_constant(space, name), Some(value));
+        assert_eq!(rt; board_constant(space, near), None);
+        assert!(rt; board_call(space, name).is_none());
+    }
+    Ok(())
+}
+
+/// Measures that were counted by hand: of `() { for (let r = 0; r < 10; r++) { x = f(x) ; basic.pause(1) } ; done += 1 ;
+/// if (done == 5) { serial.writeNumber(x) } }` the frame has 5 words, one for `r`, two for values and one for an argument.
+fn measured_rows()
+    ensures worker { let x = tt.Name y.Number (spot.Global 0) in
+        let counted = tt.Name y.Number (spot.Global 1) in
+        let r = tt.Name y.Number (spot.Local 0) in
+        let turn =
+        tt.also (tt.Plain (tt.Set y.Number None x (tt.Call y.Number (callee.Function 7) (tt.more x tt.none))))
+        (tt.also (tt.Plain (tt.Call y.Nothing (callee.Board board.Pause) (tt.more (tt.Num y.Number (pos 1)) tt.none))) tt.done) in
+        let loops =
+        tt.For (tt.written (tt.Let false (record { name = spot.Local 0; first = Some (tt.Num y.Number (pos 0)) } ∷ [])))
+        (Some (tt.Binary y.Boolean 6 r (tt.Num y.Number (pos 10)))) (Some (tt.Bump y.Number r (pos 1) true)) (tt.Block turn) in
+        let written = tt.Plain (tt.Call y.Nothing (callee.Board board.WriteNumber) (tt.more x tt.none)) in
+        let tested = tt.IfOnly (tt.Binary y.Boolean 4 counted (tt.Num y.Number (pos 5))) (tt.Block (tt.also written tt.done)) in
+        let whole = tt.also loops (tt.also (tt.Plain (tt.Set y.Number (Some 13) counted (tt.Num y.Number (pos 1)))) (tt.also tested tt.done)) in
+        let worker : tt.TypedRoutine = record { params = []; locals = y.Number ∷ []; gives = y.Nothing; all = whole } in
+        (m.frame_words worker ≡ 9) × (w.weight worker ≡ 38) }
+{}
+
+#[test]
+fn measures_are_counted() {
+    measured_rows();
 }

@@ -3,6 +3,7 @@ ghost use Rattle.std.specs.Prelude.{◌≡◌, ◌≤◌, ℕ, suc, List, vec_le
 ghost use Rattle.std.specs.Option.{option_map};
 ghost use Rattle.board_world.specs.Observations.{Observation, Serial};
 ghost use Rattle.board_world.specs.Transcript.{decimal_text, line, closing_line};
+ghost use Rattle.thumb_code.specs.Map.{flash_end};
 ghost use Rattle.thumb_code.specs.Machine.{reset};
 ghost use Rattle.tool_io.specs.Putting.{Puts};
 ghost use Rattle.sts_whole.specs.Alone.{RanAlone};
@@ -44,7 +45,7 @@ pub fn run_alone<K: Sink>(
     budget: u32,
     out: &mut K,
 ) -> Result<Alone, NoMemory>
-    requires size { vec_len image ≤ 262144 }
+    requires size { vec_len image ≤ flash_end }
     requires least { 1 ≤ budget }
     requires most { budget ≤ 2147483648 }
     ensures ran { RanAlone image.items budget (K.taken out.old) (K.taken out.new) (K.faults out.old) (K.faults out.new) result }

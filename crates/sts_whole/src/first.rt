@@ -21,6 +21,7 @@ pub enum First {
 }
 
 ghost use Rattle.sts_whole.specs.First.{Builds, Ran, Runs, number_transcript};
+ghost use Rattle.thumb_code.specs.Map.{flash_end};
 ghost use Rattle.std.specs.Prelude.{ℤ, IfOk, vec_len};
 ghost use Rattle.sts_whole.specs.Services.{Writes, WritesFrom, Finds, asked};
 ghost use Rattle.tool_io.specs.Putting.{Puts};
@@ -28,7 +29,7 @@ ghost use Rattle.tool_io.specs.Putting.{Puts};
 /// The image of a text of the form, which writes the sum and ends. Refused exactly where the text isn't of the form.
 pub fn first_image(alloc: Global, text: &[u8]) -> Result<Vec<u8>, First>
     ensures builds { Builds text.now result }
-    ensures size { IfOk result (λ image. vec_len image ≤ 262144) }
+    ensures size { IfOk result (λ image. vec_len image ≤ flash_end) }
 {
     match read_sum(text) {
         Some(sum) => match sum_image(alloc, sum) {
@@ -80,7 +81,7 @@ fn run_writing<K: Sink>(machine: &mut Machine, out: &mut K) -> Result<(), PutFai
 
 /// Runs an image that writes a number and ends, and writes the transcript.
 fn run_image<K: Sink>(alloc: Global, image: Vec<u8>, out: &mut K) -> Result<(), First>
-    requires small { vec_len image ≤ 262144 }
+    requires small { vec_len image ≤ flash_end }
     requires writes { (number : ℤ) × Writes image.items number }
     ensures ran { (number : ℤ) → Writes image.items number
         → Ran number (K.taken out.old) (K.taken out.new) (K.faults out.old) (K.faults out.new) result }

@@ -1,6 +1,7 @@
 // The image of a sum.
 ghost use Rattle.std.specs.Prelude.{◌≡◌, ◌++◌, ◌∷◌, [], ◌≤◌, OnOk, IfOk, vec_len};
 ghost use Rattle.byteorder.specs.Endian.{little_bytes};
+ghost use Rattle.thumb_code.specs.Map.{flash_end};
 ghost use Rattle.thumb_code.specs.Table.{Fits};
 ghost use Rattle.sts_whole.specs.Image.{words_bytes, half_bytes, code_bytes, sum_code, sum_image};
 ghost use Rattle.thumb_code.specs.Table.{half};
@@ -71,7 +72,7 @@ fn put_code(image: &mut Vec<u8>) -> Result<(), NoMemory>
 /// The image that writes the sum and ends.
 pub fn sum_image(alloc: Global, sum: Sum) -> Result<Vec<u8>, NoMemory>
     ensures items { IfOk result (λ image. image.items ≡ sum_image sum.left sum.right) }
-    ensures size { IfOk result (λ image. vec_len image ≤ 262144) }
+    ensures size { IfOk result (λ image. vec_len image ≤ flash_end) }
 {
     let mut image = Vec::new(alloc);
     put_word(&mut image, BASE)?;

@@ -7,8 +7,6 @@ mod form;
 mod image;
 mod instruction;
 mod lines;
-#[cfg(test)]
-mod tests;
 
 pub use alone::{Alone, run_alone};
 pub use first::{First, first_image, first_run};

@@ -1,5 +1,6 @@
 -- The laws that other crates cite. Beside those below: an effect over a memory that refines another does the same
--- (refined), and so does a run (runs_follow); SP stays a multiple of 4 (aligned_sp).
+-- (refined), and so does a run (runs_follow); SP stays a multiple of 4 (aligned_sp); where a service is asked for, PC alone has changed,
+-- by an instruction over any memory (asks_only) and by a step (step_asks_only).
 use Rattle.std.proofs.Common.{Bool, List, if◌then◌else◌, ◌≡◌, ℕ, ◌+◌, ◌/◌, ◌%◌, ◌<◌, Some, refl, arith, true, false, inl, inr}
 use Rattle.std.proofs.lemmas.Bool.Decides.{nat_tests}
 use Rattle.thumb_code.specs.declared.instructions.Instr.{Instr}
@@ -13,6 +14,7 @@ use Rattle.thumb_code.specs.Memory.{Memory, Executed, Done, Asked, Stopped, afte
 use Rattle.thumb_code.specs.Map.{is_base, flash_half}
 use Rattle.thumb_code.specs.Step.{Found, fetched, behind, is_in_flash}
 use Rattle.thumb_code.proofs.Spelled.{one_or_two, starts_long, starts_short, narrow_only, wide_only}
+pub use Rattle.thumb_code.proofs.Asking.{asks_only, step_asks_only}
 pub use Rattle.thumb_code.proofs.Refine.{refined}
 pub use Rattle.thumb_code.proofs.Runs.{aligned_sp, runs_follow}
 

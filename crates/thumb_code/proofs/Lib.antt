@@ -1,4 +1,5 @@
 pub mod Laws
+mod Asking
 mod Refine
 mod Runs
 mod Spelled

@@ -11,5 +11,6 @@ pub mod Map
 pub mod Ram
 pub mod Step
 pub mod Machine
+pub mod Asking
 pub mod Run
 pub mod Refines

@@ -10,6 +10,7 @@ mod encoding;
 mod halfwords;
 mod instructions;
 mod register_file;
+mod services;
 #[cfg(test)]
 mod tests;
 
@@ -18,3 +19,4 @@ pub use encoding::encode;
 pub use halfwords::Half;
 pub use instructions::Instr;
 pub use register_file::Registers;
+pub use services::services_change_pc_alone;

@@ -1,3 +1,4 @@
 pub mod Laws
 mod FileNames
+mod Reading
 mod Streams

@@ -17,3 +17,7 @@ pub record Puts {T E : Type 0} (taken taken' : Option (List ℕ)) (faults faults
   pub part : OnErr outcome (TookPart taken taken' bytes)
   pub later : faults ≤ faults'
   pub failed : OnErr outcome (Rose faults faults')
+
+-- The same of a sink before and after: `taken` tells what it had taken, and `faults` how often it had failed.
+abbrev pub PutsTo : {S T E : Type 0} → (S → Option (List ℕ)) → (S → ℕ) → S → S → List ℕ → Result T E → Type 0
+PutsTo taken faults old new bytes outcome = Puts (taken old) (taken new) (faults old) (faults new) bytes outcome

@@ -1,19 +1,17 @@
 // The folder of the disk.
-ghost use Rattle.std.specs.Prelude.{◌≡◌, ◌≤◌, List, ℕ, None, IfOk};
+ghost use Rattle.std.specs.Prelude.{◌≡◌, ◌≢◌, ◌≤◌, ◌↔◌, List, ℕ, Ok, None, Some, IfOk, IfErr, IfSome, IsErrOf, MatchResult};
+ghost use Rattle.std.specs.IoError.{error_kind};
 ghost use Rattle.sts_base.specs.Faults.{Rose};
-ghost use Rattle.tool_io.specs.Fetching.{IsWithin};
+ghost use Rattle.tool_io.specs.Fetching.{Shows, IsWithin};
 
 use crate::{FetchFault, Folder, Found};
 use std::alloc::Global;
-use std::fs;
 use std::io::{ErrorKind, Read};
 use std::rt::Files;
-
-/// The bytes that are read at once.
-const CHUNK: usize = 4096;
+use std::{fs, io};
 
 /// The files of the operating system, named by their paths. It tells no content. A path that names nothing is
-/// `Missing`; a directory and every error of the operating system are faults.
+/// `Missing`; a directory and every other error of the operating system are faults, but for want of memory.
 #[derive(Drop)]
 pub struct DiskFolder<R: Files + Drop> {
     rt: R,
@@ -28,11 +26,25 @@ impl<R: Files + Drop> DiskFolder<R> {
         DiskFolder { rt, faults: 0 }
     }
 
-    fn failed(&mut self) -> FetchFault
-        ensures same { result ≡ FetchFault.Failed }
-        ensures counted { Rose self.old.faults self.new.faults }
+    fn found(&self, alloc: Global, name: &str, limit: usize) -> io::Result<Found>
+        ensures { IfOk result (λ found. IsWithin limit found) }
+    {
+        match unless_missing(fs::File::open(&self.rt, name))? {
+            Some(file) => read_up_to(alloc, file, limit),
+            None => Ok(Found::Missing),
+        }
+    }
+
+    /// What an error of the operating system comes to: want of memory, or else a fault, which is counted.
+    fn failed(&mut self, error: &io::Error) -> FetchFault
+        ensures memory { (result ≡ FetchFault.NoMemory) ↔ (error_kind error.now ≡ ErrorKind.OutOfMemory) }
+        ensures counted { result ≡ FetchFault.Failed → Rose self.old.faults self.new.faults }
+        ensures uncounted { result ≡ FetchFault.NoMemory → self.new.faults ≡ self.old.faults }
         ensures later { self.old.faults ≤ self.new.faults }
     {
+        if error.kind() == ErrorKind::OutOfMemory {
+            return FetchFault::NoMemory;
+        }
         self.faults = self.faults.saturating_add(1);
         FetchFault::Failed
     }
@@ -44,37 +56,38 @@ impl<R: Files + Drop> Folder for DiskFolder<R> {
     ghost faults = { λ folder. folder.faults };
 
     fn fetch(&mut self, alloc: Global, name: &str, limit: usize) -> Result<Found, FetchFault> {
-        let mut file = match fs::File::open(&self.rt, name) {
-            Ok(file) => file,
-            Err(error) if error.kind() == ErrorKind::NotFound => return Ok(Found::Missing),
-            Err(_) => return Err(self.failed()),
-        };
-        match read_up_to(alloc, &mut file, limit) {
+        match self.found(alloc, name, limit) {
             Ok(found) => Ok(found),
-            Err(FetchFault::NoMemory) => Err(FetchFault::NoMemory),
-            Err(FetchFault::Failed) => Err(self.failed()),
+            Err(error) => Err(self.failed(&error)),
         }
     }
 }
 
-/// Reads to the end, but no more than `limit + 1` bytes.
-fn read_up_to<F: Read>(alloc: Global, file: &mut F, limit: usize) -> Result<Found, FetchFault>
-    ensures { IfOk result (λ found. IsWithin limit found) }
+/// What was opened, or nothing where there is none of that name.
+fn unless_missing<T>(opened: io::Result<T>) -> io::Result<Option<T>>
+    ensures { MatchResult opened (λ it. result ≡ Ok (Some it))
+        (λ error. (result ≡ Ok None) ↔ (error_kind error ≡ ErrorKind.NotFound)) }
+{
+    match opened {
+        Ok(it) => Ok(Some(it)),
+        Err(error) if error.kind() == ErrorKind::NotFound => Ok(None),
+        Err(error) => Err(error),
+    }
+}
+
+/// What a reader still holds, if it has at most `limit` bytes. No more than `limit + 1` are read. A read may give fewer bytes than
+/// there are, and one that is interrupted is tried again.
+pub fn read_up_to<F: Read + Drop>(alloc: Global, file: F, limit: usize) -> io::Result<Found>
+    ensures content { IfOk result (λ found. IfSome (F.remaining file) (λ left. Shows (Some left) limit found)) }
+    ensures within { IfOk result (λ found. IsWithin limit found) }
+    ensures retried { IfErr result (λ error. error_kind error ≢ ErrorKind.Interrupted) }
 {
     let mut whole = Vec::new(alloc);
-    let mut chunk = [0u8; CHUNK];
-    while whole.len() <= limit {
-        let left = limit - whole.len();
-        let room = if left < CHUNK { left + 1 } else { CHUNK };
-        match file.read(&mut chunk[..room]) {
-            Err(_) => return Err(FetchFault::Failed),
-            Ok(0) => return Ok(Found::Whole(whole)),
-            Ok(count) => {
-                if whole.extend_from_slice(&chunk[..count]).is_err() {
-                    return Err(FetchFault::NoMemory);
-                }
-            }
-        }
+    let most = (limit as u64).saturating_add(1);
+    file.take(most).read_to_end(&mut whole)?;
+    if whole.len() <= limit {
+        Ok(Found::Whole(whole))
+    } else {
+        Ok(Found::TooLong)
     }
-    Ok(Found::TooLong)
 }

@@ -11,10 +11,8 @@ mod puts;
 mod sink;
 mod std_sink;
 mod sure;
-#[cfg(test)]
-mod tests;
 
-pub use disk::DiskFolder;
+pub use disk::{DiskFolder, read_up_to};
 pub use folder::{FetchFault, Folder, Found};
 pub use memory_folder::MemoryFolder;
 pub use memory_sink::MemorySink;

@@ -1,13 +1,15 @@
 // Standard output, or another stream of the operating system.
-ghost use Rattle.std.specs.Prelude.{◌≡◌, OnOk, OnErr};
+ghost use Rattle.std.specs.Prelude.{◌≡◌, ◌≢◌, OnOk, OnErr, IfErr};
+ghost use Rattle.std.specs.IoError.{error_kind};
 ghost use Rattle.tool_io.specs.Putting.{Took, TookPart};
 
 use crate::{PutFailed, Sink};
+use std::io;
 use std::io::{ErrorKind, Write};
 
 /// A stream, such as standard output. It tells what the stream tells of its bytes, which is nothing of one of the
 /// operating system. A write that takes nothing of a piece that isn't empty is a fault, and so is every error but an
-/// interruption.
+/// interruption, after which the write is tried again.
 #[derive(Drop)]
 pub struct StdSink<W: Write + Drop> {
     writer: W,
@@ -24,10 +26,18 @@ impl<W: Write + Drop> StdSink<W> {
     }
 }
 
+/// The error of a stream that takes nothing more.
+fn takes_nothing() -> io::Error
+    ensures { error_kind result ≡ ErrorKind.WriteZero }
+{
+    io::Error::new(ErrorKind::WriteZero, "the stream takes nothing more")
+}
+
 /// Writes a piece to its end, or a prefix of it.
-fn write_whole<W: Write>(writer: &mut W, piece: &[u8]) -> Result<(), PutFailed>
+fn write_whole<W: Write>(writer: &mut W, piece: &[u8]) -> io::Result<()>
     ensures took { OnOk result (Took (W.contents writer.old) (W.contents writer.new) piece.now) }
     ensures part { OnErr result (TookPart (W.contents writer.old) (W.contents writer.new) piece.now) }
+    ensures retried { IfErr result (λ error. error_kind error ≢ ErrorKind.Interrupted) }
 {
     let mut done = 0;
     'writing: for _ in 0..u64::MAX {
@@ -35,13 +45,13 @@ fn write_whole<W: Write>(writer: &mut W, piece: &[u8]) -> Result<(), PutFailed>
             return Ok(());
         }
         match writer.write(&piece[done..]) {
-            Ok(0) => return Err(PutFailed),
+            Ok(0) => return Err(takes_nothing()),
             Ok(count) => done += count,
             Err(error) if error.kind() == ErrorKind::Interrupted => continue 'writing,
-            Err(_) => return Err(PutFailed),
+            Err(error) => return Err(error),
         }
     }
-    Err(PutFailed)
+    Err(takes_nothing())
 }
 
 impl<W: Write + Drop> Sink for StdSink<W> {
@@ -52,7 +62,7 @@ impl<W: Write + Drop> Sink for StdSink<W> {
     fn put(&mut self, piece: &[u8]) -> Result<(), PutFailed> {
         match write_whole(&mut self.writer, piece) {
             Ok(()) => Ok(()),
-            Err(PutFailed) => {
+            Err(_) => {
                 self.faults = self.faults.saturating_add(1);
                 Err(PutFailed)
             }

@@ -1,11 +1,12 @@
 use Rattle.std.proofs.Common.{◌≤◌, length}
-use Rattle.sts_grammar.proofs.Unique.{EndsBy}
-use Rattle.parse_expr.specs.Answers.{text_of}
+use Rattle.sts_grammar.proofs.Laws.{EndsBy}
+use Rattle.sts_grammar.specs.Texts as texts
+use Rattle.sts_grammar.specs.Limits.{most_nesting}
 use Rattle.parse_expr.proofs.parse.parse_expr.Given as goal
 
 abbrev pub invariant-loop-upto : goal.invariant-loop-upto
 invariant-loop-upto l = record {
-  all : EndsBy (text_of l.tokens l.tables) 256 l.from l.upto;
+  all : EndsBy (texts.source l.tokens l.tables) most_nesting l.from l.upto;
   within : l.upto ≤ length l.tokens;
 }
 

@@ -1,8 +1,8 @@
 use Rattle.std.proofs.Common.{◌≡◌, [], length}
 use Rattle.sts_syntax.specs.Programs.{class_members}
 use Rattle.sts_grammar.specs.Reading.{statement_readers}
-use Rattle.parse_rules.specs.Gives.{source}
-use Rattle.parse_unit.specs.ReadUnits as read
+use Rattle.parse_expr.specs.Gives.{source}
+use Rattle.sts_grammar.specs.ReadUnits as read
 use Rattle.parse_unit.proofs.members.read_members.Given as goal
 
 abbrev pub invariant-loop-left : goal.invariant-loop-left

@@ -1,7 +1,7 @@
 use Rattle.std.proofs.Common.{◌≡◌, [], length}
 use Rattle.sts_syntax.specs.Programs.{top_levels}
-use Rattle.parse_rules.specs.Gives.{source}
-use Rattle.parse_unit.specs.ReadUnits as read
+use Rattle.parse_expr.specs.Gives.{source}
+use Rattle.sts_grammar.specs.ReadUnits as read
 use Rattle.parse_unit.proofs.parts.read_parts.Given as goal
 
 abbrev pub invariant-loop-left : goal.invariant-loop-left

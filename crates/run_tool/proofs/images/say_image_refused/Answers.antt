@@ -4,5 +4,10 @@ use Rattle.run_tool.specs.declared.ending.Status.TheVariants.{ImageRefused}
 use Rattle.run_tool.specs.Images.{image_refused_line}
 use Rattle.run_tool.proofs.images.say_image_refused.Goals as goal
 
-pub returns-in-Err-clause-ends : goal.returns-in-Err-clause-ends
-returns-in-Err-clause-ends g c = (ImageRefused, image_refused_line (number_of c.args.code), refl, c.in-Err.ensures.part)
+pub returns-in-Err : goal.returns-in-Err
+returns-in-Err g c =
+    record {
+      ends = (ImageRefused, image_refused_line (number_of c.args.code), refl, c.in-Err.ensures.part);
+      later = c.in-Err.ensures.later;
+      cut = λ cut. c.in-Err.ensures.failed;
+    }

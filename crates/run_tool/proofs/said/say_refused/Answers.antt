@@ -4,8 +4,12 @@ use Rattle.run_tool.specs.declared.ending.Status.TheVariants.{Refused}
 use Rattle.run_tool.specs.Programs.{refused_line}
 use Rattle.run_tool.proofs.said.say_refused.Goals as goal
 
-pub returns-in-Err-clause-ends : goal.returns-in-Err-clause-ends
-returns-in-Err-clause-ends g c =
+pub returns-in-Err : goal.returns-in-Err
+returns-in-Err g c =
     let line = c.place-line.result.0 in
     let column = c.place-line.result.1 in
-    (Refused, refused_line (number_of c.args.code) line column, (line, column, c.place-line.ensures, refl), c.in-Err.ensures.part)
+    record {
+      ends = (Refused, refused_line (number_of c.args.code) line column, (line, column, c.place-line.ensures, refl), c.in-Err.ensures.part);
+      later = c.in-Err.ensures.later;
+      cut = λ cut. c.in-Err.ensures.failed;
+    }

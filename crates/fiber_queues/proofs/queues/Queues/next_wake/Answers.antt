@@ -1,6 +1,6 @@
 use Rattle.std.proofs.Common.{◌≡◌, ◌∙◌, sym, ap}
 use Rattle.board_world.specs.Waiting.{least}
-use Rattle.fiber_queues.proofs.ListLaws.{least-iff}
+use Rattle.fiber_queues.proofs.Calls.{least-iff}
 use Rattle.fiber_queues.proofs.queues.Queues.next_wake.Goals as goal
 
 pub returns-clause-none : goal.returns-clause-none

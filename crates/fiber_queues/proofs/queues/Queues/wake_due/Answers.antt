@@ -1,6 +1,6 @@
 use Rattle.std.proofs.Common.{nat_le, ℕ, ◌∙◌, rules}
 use Rattle.fiber_queues.proofs.Chosen.{chosen-moved, chosen-done, left-moved, left-done}
-use Rattle.fiber_queues.proofs.ListLaws.{same_lists}
+use Rattle.fiber_queues.proofs.Calls.{same_lists}
 use Rattle.fiber_queues.proofs.queues.Queues.wake_due.Goals as goal
 
 pub loop-at-preserved : goal.loop-at-preserved

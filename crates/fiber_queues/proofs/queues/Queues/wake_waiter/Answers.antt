@@ -1,7 +1,7 @@
 use Rattle.std.proofs.Common.{◌∙◌, sym, ap, subst, refl, ℕ}
 use Rattle.board_world.specs.Waiting.{hears, chosen}
 use Rattle.fiber_queues.specs.Lists.{ListsOf}
-use Rattle.fiber_queues.proofs.ListLaws.{Taken, taken, Stayed, stayed}
+use Rattle.fiber_queues.proofs.Calls.{Taken, taken, Stayed, stayed}
 use Rattle.fiber_queues.proofs.queues.Queues.wake_waiter.Goals as goal
 use Rattle.fiber_queues.proofs.queues.Queues.wake_waiter.Goals.{After-append, In-None}
 

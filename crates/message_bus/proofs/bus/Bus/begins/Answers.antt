@@ -1,12 +1,12 @@
 use Rattle.std.proofs.Common.{◌≡◌, ◌∙◌, ap}
 use Rattle.board_world.specs.Waiting.{some_of}
-use Rattle.message_bus.specs.Listening.{begins_new}
-use Rattle.message_bus.specs.Heard.{Heard}
+use Rattle.message_bus.specs.ListenerState.{begins_new}
+use Rattle.message_bus.specs.BusState.{BusState}
 use Rattle.message_bus.proofs.Changes.{some-bit}
 use Rattle.message_bus.proofs.bus.Bus.begins.Goals as goal
 
 pub returns-clause-bits : goal.returns-clause-bits
 returns-clause-bits c =
     let found : c.some_begins.result ≡ some_of (begins_new c.args.event) c.args.self.now.listeners =
-    c.some_begins.ensures ∙ ap (some_of (begins_new c.args.event)) (c.as_slice.ensures.value ∙ ap (λ (h : Heard). h.listeners) c.self.view_is) in
+    c.some_begins.ensures ∙ ap (some_of (begins_new c.args.event)) (c.as_slice.ensures.value ∙ ap (λ (h : BusState). h.listeners) c.self.view_is) in
     rw found (some-bit c.args.event c.args.self.now.listeners)

@@ -1,0 +1,56 @@
+#!/bin/sh
+# Each definition that a document names by its file, as in (`IsPlace` in crates/sts_base/specs/Places.antt), stands there, where a path that begins with
+# specs/ belongs to the crate named before; each crate of crates.txt stands once in the table of docs/ARCHITECTURE.md, with the length of the longest
+# chain of crates up to it, at most eight, and there is no other; and each file that a link leads to is there.
+# usage: checks/documents.sh
+set -eu
+cd "$(dirname "$0")/.."
+exec python3 - <<'PYTHON'
+import glob
+import os
+import re
+import sys
+
+wrong, names, links = [], 0, 0
+for document in ["README.md", *sorted(glob.glob("docs/*.md")), *sorted(glob.glob("crates/*/README.md"))]:
+    text = open(document, encoding="utf-8").read()
+    for target in re.findall(r"\]\(([^)#:]+)(?:#[^)]*)?\)", text):
+        links += 1
+        if not os.path.exists(os.path.join(os.path.dirname(document), target)):
+            wrong.append(f"{document}: there is no {target}")
+    crate = "/".join(document.split("/")[:2]) if document.startswith("crates/") else None
+    for part, path in re.findall(r"[(;]([^();]*?)\bin\s+((?:crates/\w+/)?specs/\w+\.antt)", text):
+        if path.startswith("crates/"):
+            crate = "/".join(path.split("/")[:2])
+        elif crate:
+            path = f"{crate}/{path}"
+        else:
+            wrong.append(f"{document}: the crate of {path} isn't named")
+            continue
+        if not os.path.exists(path):
+            wrong.append(f"{document}: there is no {path}")
+            continue
+        definitions = open(path, encoding="utf-8").read()
+        for name in re.findall(r"`([A-Za-z_-]\w*)`", part):
+            names += 1
+            if not re.search(rf"(?<![\w-]){re.escape(name)}(?![\w-])", definitions):
+                wrong.append(f"{document}: `{name}` isn't in {path}")
+
+lines = [line.partition("#")[0].partition(":") for line in open("crates.txt", encoding="utf-8")]
+used = {head.split()[0]: below.split() for head, _, below in lines if head.strip()}
+
+
+def depth(crate):
+    return 1 + max((depth(it) for it in used[crate] if it in used), default=0)
+
+
+rows = [(name, int(number)) for number, name in re.findall(r"^\| (\d+) \| `(\w+)` \|", open("docs/ARCHITECTURE.md", encoding="utf-8").read(), re.M)]
+wanted = [(it, depth(it)) for it in used]
+wrong += [f"docs/ARCHITECTURE.md: there is no row `{name}` with {number}" for name, number in wanted if (name, number) not in rows]
+wrong += [f"docs/ARCHITECTURE.md: the row of `{name}` with {number} is one too many" for name, number in rows if (name, number) not in wanted or rows.count((name, number)) > 1]
+wrong += [f"crates.txt: a chain of {number} crates ends at {name}" for name, number in wanted if number > 8]
+for it in wrong:
+    print(f"documents: {it}")
+print(f"documents: {names} names, {links} links, {len(rows)} crates, {len(wrong)} wrong")
+sys.exit(1 if wrong or not names or not links else 0)
+PYTHON

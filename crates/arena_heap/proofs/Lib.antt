@@ -1,0 +1,3 @@
+pub mod Laws
+mod Putting
+mod AsAsked

@@ -1,0 +1,222 @@
+-- What a word or an unplug adds to what has become of the devices.
+use Rattle.std.proofs.Common.{◌≡◌, ◌≢◌, ◌<◌, ◌≤◌, ℕ, inl, inr, List, [], ◌∷◌, ◌++◌, Bool, true, false, refl, sym, ap, subst, ◌∙◌, append_assoc, append-nil, arith, eqb, ◌||◌, cond}
+use Rattle.std.specs.Prelude.{Option, Some, None}
+use Rattle.std.proofs.lemmas.List.{flat_map_more}
+use Rattle.std.proofs.lemmas.List.Folds.{list_any-append}
+use Rattle.std.proofs.lemmas.Bool.Decides.{Decides-eqb}
+use Rattle.std.proofs.Math.Bool.{or-false, or-true}
+use Rattle.sts_base.specs.Faults.{Rose}
+use Rattle.board_ports.specs.Logs.{Logs}
+use Rattle.board_ports.specs.Plugged.{Plugged, device_at, mark_at, OthersStay, Written, Failed, Sends, SendsAt}
+use Rattle.board_ports.specs.History.{PortMove, Word, Unplug, entries_of, unplugs, entries_at, unplugged_at, Served, PlaceAfter, PlacesAfter, Taking, PlaceFollows, Follows}
+use Rattle.board_ports.specs.declared.sent.Sent.{Sent}
+use Rattle.board_ports.specs.declared.sent.Sent.TheVariants.{Went, Nobody, Lost}
+
+none_is_not_some : {X P : Type 0} (x : X) → (let none : Option X = None in none ≡ Some x) → P
+none_is_not_some x e = absurd (cc)
+
+-- entries behind entries
+pub logs_then : (a b c : Option (List (ℕ × ℕ))) (s t : List (ℕ × ℕ)) → Logs a b s → Logs b c t → Logs a c (s ++ t)
+logs_then a b c s t p q had e = q (had ++ s) (p had e) ∙ ap Some (append_assoc had s t)
+
+-- a count that rose later has risen
+rose_before : (a b c : ℕ) → a ≤ b → Rose b c → Rose a c
+rose_before a b c h r = omega arith
+
+module _ {B : Type 0} (log : B → Option (List (ℕ × ℕ))) (faults : B → ℕ) where
+  -- a device that has failed gets nothing more
+  taking_marked : (entries more : List (ℕ × ℕ)) (old new : B) → Taking log faults entries true old new → Taking log faults (entries ++ more) true old new
+  taking_marked entries more old new t =
+      record {
+        given = t.given;
+        in_order = (t.in_order.0 ++ more, sym (append_assoc t.given t.in_order.0 more) ∙ ap (λ x. x ++ more) t.in_order.1);
+        logged = t.logged;
+        later = t.later;
+        unmarked = λ e. absurd (cc);
+        marked = t.marked;
+      }
+
+  taking_went : (entries : List (ℕ × ℕ)) (entry : ℕ × ℕ) (old mid new : B) → Taking log faults entries false old mid → Written log faults entry mid new → Taking log faults (entries ++ entry ∷ []) false old new
+  taking_went entries entry old mid new t w =
+      let whole = t.unmarked refl in
+      record {
+        given = entries ++ entry ∷ [];
+        in_order = ([], append-nil (entries ++ entry ∷ []));
+        logged = logs_then (log old) (log mid) (log new) entries (entry ∷ []) (subst (λ g. Logs (log old) (log mid) g) whole t.logged) w.logged;
+        later = omega (arith, t.later, w.later);
+        unmarked = λ _. refl;
+        marked = λ e. absurd (cc);
+      }
+
+  taking_lost : (entries : List (ℕ × ℕ)) (entry : ℕ × ℕ) (old mid new : B) → Taking log faults entries false old mid → Failed log faults mid new → Taking log faults (entries ++ entry ∷ []) true old new
+  taking_lost entries entry old mid new t w =
+      record {
+        given = t.given;
+        in_order = (t.in_order.0 ++ entry ∷ [], sym (append_assoc t.given t.in_order.0 (entry ∷ [])) ∙ ap (λ x. x ++ entry ∷ []) t.in_order.1);
+        logged = λ had h. w.stays ∙ t.logged had h;
+        later = omega (arith, t.later, w.later);
+        unmarked = λ e. absurd (cc);
+        marked = λ _. rose_before (faults old) (faults mid) (faults new) t.later w.rose;
+      }
+
+  -- a word more is sent to a place
+  place_sent : (entries : List (ℕ × ℕ)) (entry : ℕ × ℕ) (u : Bool) (old mid : Option B) (mark : Bool) (new : Option B) (mark' : Bool) (sent : Sent)
+      → PlaceFollows log faults entries u mark old mid → Sends log faults entry mid mark new mark' sent → PlaceFollows log faults (entries ++ entry ∷ []) u mark' old new
+  place_sent entries entry u None mid mark new mark' Nobody k s = s.1 ∙ k
+  place_sent entries entry u None None mark new mark' Went k s = absurd s
+  place_sent entries entry u None None mark new mark' Lost k s = absurd s
+  place_sent entries entry u None (Some mid) mark new mark' Went k s = none_is_not_some mid (sym k)
+  place_sent entries entry u None (Some mid) mark new mark' Lost k s = none_is_not_some mid (sym k)
+  place_sent entries entry u (Some old) None mark new mark' Went k s = absurd s
+  place_sent entries entry u (Some old) None mark new mark' Lost k s = absurd s
+  place_sent entries entry u (Some old) None mark None mark' Nobody k s = k
+  place_sent entries entry u (Some old) None mark (Some new) mark' Nobody k s = none_is_not_some new (sym s.1)
+  place_sent entries entry u (Some old) (Some mid) mark None mark' Nobody k s = none_is_not_some mid s.1
+  place_sent entries entry u (Some old) (Some mid) false (Some new) mark' Nobody k s =
+      elim s.0 [ inl h ↦ none_is_not_some mid (sym h) | inr h ↦ absurd (cc) ]
+  place_sent entries entry u (Some old) (Some mid) true (Some new) mark' Nobody k s =
+      subst (λ m. PlaceFollows log faults (entries ++ entry ∷ []) u m (Some old) (Some new)) (sym s.2)
+      (subst (λ n. PlaceFollows log faults (entries ++ entry ∷ []) u true (Some old) n) (sym s.1)
+      (k.0, taking_marked entries (entry ∷ []) old mid k.1))
+  place_sent entries entry u (Some old) (Some mid) false (Some new) mark' Went k s =
+      subst (λ m. PlaceFollows log faults (entries ++ entry ∷ []) u m (Some old) (Some new)) (sym s.0)
+      (k.0, taking_went entries entry old mid new k.1 s.1)
+  place_sent entries entry u (Some old) (Some mid) false (Some new) mark' Lost k s =
+      subst (λ m. PlaceFollows log faults (entries ++ entry ∷ []) u m (Some old) (Some new)) (sym s.0)
+      (k.0, taking_lost entries entry old mid new k.1 s.1)
+  place_sent entries entry u (Some old) (Some mid) true (Some new) mark' Went k s = absurd s
+  place_sent entries entry u (Some old) (Some mid) true (Some new) mark' Lost k s = absurd s
+  place_sent entries entry u (Some old) (Some mid) false None mark' Went k s = absurd s
+  place_sent entries entry u (Some old) (Some mid) false None mark' Lost k s = absurd s
+  place_sent entries entry u (Some old) (Some mid) true None mark' Went k s = absurd s
+  place_sent entries entry u (Some old) (Some mid) true None mark' Lost k s = absurd s
+
+  -- a place is unplugged
+  place_unplugged : (entries : List (ℕ × ℕ)) (u mark mark' : Bool) (old mid new : Option B) → new ≡ None → PlaceFollows log faults entries true mark' old new
+  place_unplugged entries u mark mark' None mid new e = e
+  place_unplugged entries u mark mark' (Some old) mid None e = refl
+  place_unplugged entries u mark mark' (Some old) mid (Some new) e = none_is_not_some new (sym e)
+
+entries_more : (moves : List PortMove) (m : PortMove) (k : ℕ) → entries_at (moves ++ m ∷ []) k ≡ entries_at moves k ++ entries_of k m
+entries_more moves m k = sym (flat_map_more (entries_of k) [] moves m)
+
+unplugged_more : (moves : List PortMove) (m : PortMove) (k : ℕ) → unplugged_at (moves ++ m ∷ []) k ≡ (unplugged_at moves k || unplugs k m)
+unplugged_more moves m k = list_any-append (unplugs k) moves (m ∷ []) ∙ ap (λ b. unplugged_at moves k || b) (or-false (unplugs k m))
+
+apart : (p k : ℕ) → k ≢ p → (b : Bool) → eqb p k ≡ b → b ≡ false
+apart p k h false e = refl
+apart p k h true e = absurd (h (sym ((Decides-eqb p k).0 e)))
+
+-- what a move adds at its own port, and at another
+entries_here : (moves : List PortMove) (port at word : ℕ) → entries_at (moves ++ Word port at word ∷ []) port ≡ entries_at moves port ++ (at, word) ∷ []
+entries_here moves port at word =
+    entries_more moves (Word port at word) port
+    ∙ ap (λ b. entries_at moves port ++ cond b ((at, word) ∷ []) []) ((Decides-eqb port port).1 refl)
+
+entries_there : (moves : List PortMove) (port at word k : ℕ) → k ≢ port → entries_at (moves ++ Word port at word ∷ []) k ≡ entries_at moves k
+entries_there moves port at word k h =
+    entries_more moves (Word port at word) k
+    ∙ ap (λ b. entries_at moves k ++ cond b ((at, word) ∷ []) []) (apart port k h (eqb port k) refl)
+    ∙ append-nil (entries_at moves k)
+
+unplugged_by_word : (moves : List PortMove) (port at word k : ℕ) → unplugged_at (moves ++ Word port at word ∷ []) k ≡ unplugged_at moves k
+unplugged_by_word moves port at word k = unplugged_more moves (Word port at word) k ∙ or-false (unplugged_at moves k)
+
+entries_by_unplug : (moves : List PortMove) (port k : ℕ) → entries_at (moves ++ Unplug port ∷ []) k ≡ entries_at moves k
+entries_by_unplug moves port k = entries_more moves (Unplug port) k ∙ append-nil (entries_at moves k)
+
+unplugged_here : (moves : List PortMove) (port : ℕ) → unplugged_at (moves ++ Unplug port ∷ []) port ≡ true
+unplugged_here moves port =
+    unplugged_more moves (Unplug port) port ∙ ap (λ b. unplugged_at moves port || b) ((Decides-eqb port port).1 refl)
+    ∙ or-true (unplugged_at moves port)
+
+unplugged_there : (moves : List PortMove) (port k : ℕ) → k ≢ port → unplugged_at (moves ++ Unplug port ∷ []) k ≡ unplugged_at moves k
+unplugged_there moves port k h =
+    unplugged_more moves (Unplug port) k ∙ ap (λ b. unplugged_at moves k || b) (apart port k h (eqb port k) refl)
+    ∙ or-false (unplugged_at moves k)
+
+-- a fact at one port and at every other is a fact at every port
+by_port : (P : ℕ → Type 0) (p : ℕ) → P p → ((k : ℕ) → k ≢ p → P k) → (k : ℕ) → P k
+by_port P p here there k =
+    let pick : (b : Bool) → eqb p k ≡ b → P k = λ b. elim b as (λ b. eqb p k ≡ b → P k) [
+      | true ↦ λ e. subst P ((Decides-eqb p k).0 e) here
+      | false ↦ λ e. there k (λ q. let t : eqb p k ≡ true = (Decides-eqb p k).1 (sym q) in absurd (cc))
+    ] in
+    pick (eqb p k) refl
+
+module _ {B : Type 0} (log : B → Option (List (ℕ × ℕ))) (faults : B → ℕ) where
+  -- a place of equal parts
+  place_as : (es es' : List (ℕ × ℕ)) (u u' m m' : Bool) (old new new' : Option B) → es' ≡ es → u' ≡ u → m' ≡ m → new' ≡ new
+      → PlaceFollows log faults es u m old new → PlaceFollows log faults es' u' m' old new'
+  place_as es es' u u' m m' old new new' e f g h k =
+      subst (λ x. PlaceFollows log faults x u' m' old new') (sym e)
+      (subst (λ x. PlaceFollows log faults es x m' old new') (sym f)
+      (subst (λ x. PlaceFollows log faults es u x old new') (sym g)
+      (subst (λ x. PlaceFollows log faults es u m old x) (sym h) k)))
+
+  -- a word more was sent
+  pub follows_word : (moves : List PortMove) (start : List (Option B)) (old new : Plugged B) (port at word : ℕ) (sent : Sent)
+      → port < 4 → SendsAt log faults (at, word) port old new sent → OthersStay port old new → Follows log faults moves start old
+      → Follows log faults (moves ++ Word port at word ∷ []) start new
+  follows_word moves start old new port at word sent small s others f =
+      let more = moves ++ Word port at word ∷ [] in
+      record {
+        same_length = others.same_length ∙ f.same_length;
+        above = λ k h. others.places k (λ e. absurd (omega arith)) ∙ f.above k h;
+        ports = by_port (λ k. k < 4 → PlaceFollows log faults (entries_at more k) (unplugged_at more k) (mark_at new.marks k) (device_at start k) (device_at new.places k)) port
+            (λ h. place_as _ _ _ _ _ _ _ _ _ (entries_here moves port at word) (unplugged_by_word moves port at word port) refl refl
+            (place_sent log faults (entries_at moves port) (at, word) (unplugged_at moves port) (device_at start port) (device_at old.places port) (mark_at old.marks port) (device_at new.places port) (mark_at new.marks port) sent (f.ports port h) s))
+            (λ k apart h. place_as _ _ _ _ _ _ _ _ _ (entries_there moves port at word k apart) (unplugged_by_word moves port at word k) (others.marks k apart) (others.places k apart) (f.ports k h));
+      }
+
+  -- a port was unplugged
+  pub follows_unplug : (moves : List PortMove) (start : List (Option B)) (old new : Plugged B) (port : ℕ)
+      → port < 4 → device_at new.places port ≡ None → OthersStay port old new → Follows log faults moves start old
+      → Follows log faults (moves ++ Unplug port ∷ []) start new
+  follows_unplug moves start old new port small gone others f =
+      let more = moves ++ Unplug port ∷ [] in
+      record {
+        same_length = others.same_length ∙ f.same_length;
+        above = λ k h. others.places k (λ e. absurd (omega arith)) ∙ f.above k h;
+        ports = by_port (λ k. k < 4 → PlaceFollows log faults (entries_at more k) (unplugged_at more k) (mark_at new.marks k) (device_at start k) (device_at new.places k)) port
+            (λ h. subst (λ u. PlaceFollows log faults (entries_at more port) u (mark_at new.marks port) (device_at start port) (device_at new.places port)) (sym (unplugged_here moves port))
+            (place_unplugged log faults _ true false _ (device_at start port) None _ gone))
+            (λ k apart h. place_as _ _ _ _ _ _ _ _ _ (entries_by_unplug moves port k) (unplugged_there moves port k apart) (others.marks k apart) (others.places k apart) (f.ports k h));
+      }
+
+  at_first : (mark : Bool) (place : Option B) → mark ≡ false → PlaceFollows log faults [] false mark place place
+  at_first mark None e = refl
+  at_first mark (Some b) e =
+      (refl, record { given = []; in_order = ([], refl); logged = λ had h. h ∙ ap Some (sym (append-nil had)); later = omega arith; unmarked = λ _. refl; marked = λ h. absurd (cc) })
+
+  -- before any move
+  pub follows_first : (now : Plugged B) → ((k : ℕ) → mark_at now.marks k ≡ false) → Follows log faults [] now.places now
+  follows_first now unmarked = record { same_length = refl; above = λ k h. refl; ports = λ k h. at_first _ _ (unmarked k) }
+
+  served : (entries : List (ℕ × ℕ)) (mark : Bool) (old new : B) → Taking log faults entries mark old new → Served log faults entries old new
+  served entries false old new t = record { given = t.given; in_order = t.in_order; logged = t.logged; later = t.later; all = inl (t.unmarked refl) }
+  served entries true old new t = record { given = t.given; in_order = t.in_order; logged = t.logged; later = t.later; all = inr (t.marked refl) }
+
+  place_after : (entries : List (ℕ × ℕ)) (u mark : Bool) (old new : Option B) → PlaceFollows log faults entries u mark old new → PlaceAfter log faults entries u old new
+  place_after entries u mark None new k = k
+  place_after entries u mark (Some old) None k = k
+  place_after entries u mark (Some old) (Some new) k = (k.0, served entries mark old new k.1)
+
+  -- what the moves leave, without the marks
+  pub places_after : (moves : List PortMove) (start : List (Option B)) (now : Plugged B) → Follows log faults moves start now
+      → PlacesAfter log faults (entries_at moves) (unplugged_at moves) start now.places
+  places_after moves start now f =
+      record { same_length = f.same_length; above = f.above; ports = λ k h. place_after _ _ _ _ _ (f.ports k h) }
+
+  -- entries and unplugs that are told otherwise
+  pub places_as : (entries entries' : ℕ → List (ℕ × ℕ)) (unplugged unplugged' : ℕ → Bool) (old new : List (Option B))
+      → ((k : ℕ) → entries' k ≡ entries k) → ((k : ℕ) → unplugged' k ≡ unplugged k)
+      → PlacesAfter log faults entries unplugged old new → PlacesAfter log faults entries' unplugged' old new
+  places_as entries entries' unplugged unplugged' old new e u p =
+      record {
+        same_length = p.same_length;
+        above = p.above;
+        ports = λ k h.
+            subst (λ es. PlaceAfter log faults es (unplugged' k) (device_at old k) (device_at new k)) (sym (e k))
+            (subst (λ b. PlaceAfter log faults (entries k) b (device_at old k) (device_at new k)) (sym (u k)) (p.ports k h));
+      }

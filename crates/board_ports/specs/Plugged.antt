@@ -1,0 +1,58 @@
+-- The devices in their places, and what a word does to the place that it is sent to.
+use Rattle.std.specs.Prelude.{◌≡◌, ◌≢◌, ◌≤◌, ◌∷◌, [], ◌⊎◌, ℕ, List, length, Bool, true, false, Option, Some, None, slice_index_or, refl}
+use Rattle.std.specs.Coded.{Coded, code_by, coded×, coded_list, coded_option, coded_bool}
+use Rattle.sts_base.specs.Faults.{Rose}
+use Rattle.board_ports.specs.Logs.{Logs}
+use Rattle.board_ports.specs.declared.sent.Sent.{Sent}
+use Rattle.board_ports.specs.declared.sent.Sent.TheVariants.{Went, Nobody, Lost}
+
+-- A list of places, each with a device or none; the place in the list is the port. A mark stands for a port whose
+-- device has failed.
+pub record Plugged (B : Type 0) : Type 0 where
+  pub places : List (Option B)
+  pub marks : List Bool
+
+-- it is stored as the pair of its fields
+abbrev pub plugged_code : {B : Type 0} → Coded B → Coded (Plugged B)
+plugged_code {B} code =
+    code_by (List (Option B) × List Bool) (coded× (coded_list (coded_option code)) (coded_list coded_bool)) (λ p. (p.places, p.marks))
+    (λ p. record { places = p.0; marks = p.1 }) (λ _. refl)
+
+-- the device at a place, if there is one
+abbrev pub device_at : {B : Type 0} → List (Option B) → ℕ → Option B
+device_at places port = slice_index_or places port None
+
+-- whether the port's mark stands
+abbrev pub mark_at : List Bool → ℕ → Bool
+mark_at marks port = slice_index_or marks port false
+
+-- Every place and every mark but this port's is as it was, and no place was added or taken away.
+pub record OthersStay {B : Type 0} (port : ℕ) (old new : Plugged B) : Type 0 where
+  pub places : (k : ℕ) → k ≢ port → device_at new.places k ≡ device_at old.places k
+  pub marks : (k : ℕ) → k ≢ port → mark_at new.marks k ≡ mark_at old.marks k
+  pub same_length : length new.places ≡ length old.places
+
+-- a device took a word at a moment: where it tells a log, the pair is its last entry now
+pub record Written {B : Type 0} (log : B → Option (List (ℕ × ℕ))) (faults : B → ℕ) (entry : ℕ × ℕ) (old new : B) : Type 0 where
+  pub logged : Logs (log old) (log new) (entry ∷ [])
+  pub later : faults old ≤ faults new
+
+-- a device failed to take a word: its log stayed, and its count of faults rose
+pub record Failed {B : Type 0} (log : B → Option (List (ℕ × ℕ))) (faults : B → ℕ) (old new : B) : Type 0 where
+  pub stays : log new ≡ log old
+  pub later : faults old ≤ faults new
+  pub rose : Rose (faults old) (faults new)
+
+-- What becomes of a word that is sent to a port, of the device there and of the port's mark, by the answer. Nobody:
+-- there is no device, or the mark stands, and nothing changes. Went: the device took it. Lost: the device failed,
+-- stays in its place, and is marked.
+abbrev pub Sends : {B : Type 0} → (B → Option (List (ℕ × ℕ))) → (B → ℕ) → ℕ × ℕ → Option B → Bool → Option B → Bool → Sent → Type 0
+Sends log faults entry old mark new mark' Nobody = ((old ≡ None) ⊎ (mark ≡ true)) × (new ≡ old) × (mark' ≡ mark)
+Sends log faults entry (Some old) false (Some new) mark' Went = (mark' ≡ false) × Written log faults entry old new
+Sends log faults entry (Some old) false (Some new) mark' Lost = (mark' ≡ true) × Failed log faults old new
+Sends log faults entry old mark new mark' _ = ⊥
+
+-- the same of all that is plugged in, before and after
+abbrev pub SendsAt : {B : Type 0} → (B → Option (List (ℕ × ℕ))) → (B → ℕ) → ℕ × ℕ → ℕ → Plugged B → Plugged B → Sent → Type 0
+SendsAt log faults entry port old new sent =
+    Sends log faults entry (device_at old.places port) (mark_at old.marks port) (device_at new.places port) (mark_at new.marks port) sent

@@ -1,0 +1,107 @@
+// Devices in their places, and a mark for each port whose device has failed.
+ghost use Rattle.std.specs.Prelude.{◌≡◌, ◌<◌, ◌∷◌, ◌++◌, [], ◌↔◌, ◌⊎◌, List, ℕ, None, true, false};
+ghost use Rattle.std.specs.declared.option.Option.{Option};
+ghost use Rattle.board_ports.specs.Plugged.{Sends};
+
+use crate::{Device, Sent};
+use std::marker::Model;
+
+/// The devices that are plugged in during a run. The place in the list is the port, and a board has the ports 0 to 3.
+/// A port whose device has failed is marked, and its device gets nothing more.
+#[derive(Drop)]
+pub struct Plugs<D> {
+    places: Vec<Option<D>>,
+    marks: [bool; 4],
+}
+
+impl<D> Model for Plugs<D> {
+    ghost use Rattle.board_ports.specs.Plugged.{Plugged, plugged_code};
+
+    ghost Value = { Plugged D };
+
+    ghost coded = { plugged_code D.code };
+
+    ghost view = { λ p. record { places = p.places.items; marks = p.marks } };
+}
+
+/// Sends a word to the device in a place, unless the place's mark stands.
+fn deliver<D: Device>(place: &mut Option<D>, mark: &mut bool, now: u32, word: u32) -> Sent
+    ensures { Sends D.log D.faults (now, word) place.old mark.old place.new mark.new result }
+{
+    if *mark {
+        return Sent::Nobody;
+    }
+    match place {
+        None => Sent::Nobody,
+        Some(device) => {
+            if device.write(now, word) {
+                Sent::Went
+            } else {
+                *mark = true;
+                Sent::Lost
+            }
+        }
+    }
+}
+
+impl<D: Device> Plugs<D> {
+    ghost use Rattle.board_ports.specs.Plugged.{OthersStay, SendsAt, device_at, mark_at};
+    ghost use Rattle.board_ports.specs.History.{PortMove, Word, Unplug, Follows, PlacesAfter, entries_at, unplugged_at};
+
+    /// These places, and no mark. It is what no move has changed yet.
+    pub fn new(places: Vec<Option<D>>) -> Plugs<D>
+        ensures places { result.places ≡ places.items }
+        ensures unmarked { (k : ℕ) → mark_at result.marks k ≡ false }
+        ensures begins { Follows D.log D.faults [] places.items result }
+    {
+        Plugs {
+            places,
+            marks: [false; 4],
+        }
+    }
+
+    /// The places, as the moves from the start on have left them.
+    pub fn into_places(self) -> Vec<Option<D>>
+        ensures places { result.items ≡ self.places }
+        ensures after { (moves : List PortMove) (start : List (Option D))
+            → Follows D.log D.faults moves start self
+            → PlacesAfter D.log D.faults (entries_at moves) (unplugged_at moves) start result.items }
+    {
+        let Plugs { places, marks: _ } = self;
+        places
+    }
+
+    /// Sends a word to the device at a port, at a moment in milliseconds. `Nobody` comes exactly where no device stands
+    /// there or where the port is marked, and nothing changes then. `Lost` comes only where the device's count of faults
+    /// rose in this call; it stays in its place, and the port is marked. Other ports are untouched.
+    pub fn send(&mut self, port: usize, now: u32, word: u32) -> Sent
+        requires { port < 4 }
+        ensures sends { SendsAt D.log D.faults (now, word) port self.old self.new result }
+        ensures nobody { (result ≡ Sent.Nobody)
+            ↔ ((device_at self.old.places port ≡ None) ⊎ (mark_at self.old.marks port ≡ true)) }
+        ensures others { OthersStay port self.old self.new }
+        ensures follows { (moves : List PortMove) (start : List (Option D))
+            → Follows D.log D.faults moves start self.old
+            → Follows D.log D.faults (moves ++ Word port now word ∷ []) start self.new }
+    {
+        if port >= self.places.len() {
+            return Sent::Nobody;
+        }
+        deliver(&mut self.places[port], &mut self.marks[port], now, word)
+    }
+
+    /// Drops the device at a port, if there is one. The mark and the other ports are untouched.
+    pub fn unplug(&mut self, port: usize)
+        requires { port < 4 }
+        ensures gone { device_at self.new.places port ≡ None }
+        ensures marks { self.new.marks ≡ self.old.marks }
+        ensures others { OthersStay port self.old self.new }
+        ensures follows { (moves : List PortMove) (start : List (Option D))
+            → Follows D.log D.faults moves start self.old
+            → Follows D.log D.faults (moves ++ Unplug port ∷ []) start self.new }
+    {
+        if port < self.places.len() {
+            self.places[port] = None;
+        }
+    }
+}

@@ -1,0 +1,230 @@
+-- A simulation that owes nothing at faults is a whole one on typed states, and typed runs never end by a fault.
+use Rattle.std.proofs.Common.{◌≡◌, ℕ, ◌+◌, ◌*◌, ◌-◌, ◌≤◌, ◌<◌, true, nat_le, List, [], ◌∷◌, refl, ap, subst, arith}
+use Rattle.board_world.specs.declared.events.Listener.{Listener}
+use Rattle.board_world.specs.Board.{Board, Entry, over, arrive}
+use Rattle.board_world.specs.Kinds.{Kind, Turn, Goes, Asks, Takes, Pauses, Waits, Spawns, Listens, RaisesNow, Ends, Panics, Faults}
+use Rattle.board_world.specs.Activities.{World}
+use Rattle.board_world.specs.World.{start, run}
+use Rattle.board_world.specs.Invariants.{FaultsWithin, SoundEnd}
+use Rattle.board_world.specs.Simulation.{Ties, Onward, Going, Listening, Begins, Matches, Follows, Simulation, Alike, one, always}
+use Rattle.board_world.specs.Composed.{level}
+use Rattle.board_world.specs.Arrivals.{Arrival, acts, Rises, RisesTo, Keeps, run_with}
+use Rattle.board_world.specs.Sound.{NoFault, PartialSimulation, Typing, After, Further, Ready, Stays, Sound, within}
+use Rattle.board_world.specs.Implements.{Implements}
+use Rattle.board_world.proofs.Stays.{if_keeps}
+use Rattle.board_world.proofs.Boards.{kept_run, kept_arrive, sound_closed}
+use Rattle.board_world.proofs.Arrive.{lifts_with}
+use Rattle.board_world.proofs.Whole.{ends_in_time}
+
+pub stays_runs : {A S : Type 0} (I : Typing A S) (used : ℕ) (s : S) (u : Turn A S) → Stays I used s u → NoFault u
+stays_runs I used s (Faults k a) h = h
+stays_runs I used s (Goes a t) h = tt
+stays_runs I used s (Asks q f) h = tt
+stays_runs I used s (Takes n f) h = tt
+stays_runs I used s (Pauses n a t) h = tt
+stays_runs I used s (Waits e a t) h = tt
+stays_runs I used s (Spawns f a t) h = tt
+stays_runs I used s (Listens l a t) h = tt
+stays_runs I used s (RaisesNow e f a t) h = tt
+stays_runs I used s (Ends f t) h = tt
+stays_runs I used s (Panics c) h = tt
+
+module _ {A S C D : Type 0} (K : Kind A S) (L : Kind C D) (I : Typing A S) (T : Ties A S C D) where
+  abbrev both : Ties A S C D
+  both = within I T
+
+  onward_within : (used : ℕ) (s s' : S) (t t' : D) → After I used s s' → Onward T used s s' t t' → Onward both used s s' t t'
+  onward_within used s s' t t' h k = record { shared = (h.shared, k.shared); others = λ a c p. (h.others a p.0, k.others a c p.1) }
+
+  going_within : (used : ℕ) (s : S) (t : D) (x : A × S) (y : C × D) → Further I used s x → Going T used s t x y → Going both used s t x y
+  going_within used s t x y h k = record { self = (h.self, k.self); onward = onward_within used s x.1 t y.1 h.after k.onward }
+
+  begins_within : (s : S) (t : D) (f : ℕ → A) (g : ℕ → C) → Ready I s f → Begins T s t f g → Begins both s t f g
+  begins_within s t f g h k = record { each = λ i j c. (h.each i c.0, k.each i j c.1) }
+
+  listening_within : (l m : Listener) → I.Code l.handler → Listening T l m → Listening both l m
+  listening_within l m h k = record { source = k.source; value = k.value; code = (h, k.code); mode = k.mode }
+
+  matches_within : (used : ℕ) (s : S) (t : D) (x : Turn A S) (y : Turn C D) → Stays I used s x → Matches K L T used s t x y → Matches K L both used s t x y
+  matches_within used s t (Goes a s') (Goes b t') h k = going_within used s t (a, s') (b, t') h k
+  matches_within used s t (Asks q f) (Asks p g) h k = (k.0, λ n. going_within used s t (f n) (g n) (h n) (k.1 n))
+  matches_within used s t (Takes n f) (Takes m g) h k = (k.0, going_within (used + n) s t (f used) (g used) h k.1)
+  matches_within used s t (Pauses n a s') (Pauses m b t') h k = (k.0, k.1, going_within used s t (a, s') (b, t') h k.2)
+  matches_within used s t (Waits e a s') (Waits d b t') h k = (k.0, k.1, going_within used s t (a, s') (b, t') h k.2)
+  matches_within used s t (Spawns f a s') (Spawns g b t') h k = ((h.0, k.0), going_within used s t (a, s') (b, t') h.1 k.1)
+  matches_within used s t (Listens l a s') (Listens m b t') h k = (listening_within l m h.0 k.0, going_within used s t (a, s') (b, t') h.1 k.1)
+  matches_within used s t (RaisesNow e f a s') (RaisesNow d g b t') h k = (k.0, begins_within s' t' f g h.0 k.1, going_within used s t (a, s') (b, t') h.1 k.2)
+  matches_within used s t (Ends f s') (Ends g t') h k = (begins_within s' t' f g h.0 k.0, onward_within used s s' t t' h.1 k.1)
+  matches_within used s t (Panics c) (Panics d) h k = k
+  matches_within used s t (Faults c x) y h k = absurd h
+  matches_within used s t _ _ h k = absurd k
+
+  -- on typed states it is a simulation
+  pub holds : (weight : C → D → ℕ) (bound : A → S → ℕ) → Sound K I → PartialSimulation K L T weight bound → Simulation K L both weight bound
+  holds weight bound sound sim =
+      record {
+        begins = λ used s t f g h c. (sound.begins used s f h.0 c.0, sim.begins used s t f g h.1 c.1);
+        follows = λ used s t a c h k.
+            (let stays = sound.steps used s a h.0 k.0 in
+            let f = sim.follows used s t a c h.1 k.1 (stays_runs I used s (K.step a s) stays) in
+            record { steps = f.steps; cost = f.cost; last = f.last; memory = f.memory; path = f.path; light = f.light; match = matches_within used s t (K.step a s) (L.step f.last f.memory) stays f.match });
+      }
+
+-- a greater bound holds too; it need be greater only where the kinds are tied, and the upper step is no fault
+module _ {A S C D : Type 0} (K : Kind A S) (L : Kind C D) (T : Ties A S C D) (weight : C → D → ℕ) (bound greater : A → S → ℕ) where
+  looser : (less more : ℕ) → less ≤ more → (used : ℕ) (s : S) (t : D) (a : A) (c : C) → Follows K L T weight less used s t a c t → Follows K L T weight more used s t a c t
+  looser less more h used s t a c f =
+      (let light : f.cost + weight f.last f.memory ≤ less = f.light in
+      record { steps = f.steps; cost = f.cost; last = f.last; memory = f.memory; path = f.path; light = omega (arith, light, h); match = f.match })
+
+  pub loosened : ((used : ℕ) (s : S) (t : D) (a : A) (c : C) → T.Shared used s t → T.Active s t a c → bound a s ≤ greater a s) → Simulation K L T weight bound → Simulation K L T weight greater
+  loosened h sim =
+      record {
+        begins = sim.begins;
+        follows = λ used s t a c k l. looser (bound a s) (greater a s) (h used s t a c k l) used s t a c (sim.follows used s t a c k l);
+      }
+
+  pub partial_loosened : ((used : ℕ) (s : S) (t : D) (a : A) (c : C) → T.Shared used s t → T.Active s t a c → NoFault (K.step a s) → bound a s ≤ greater a s) → PartialSimulation K L T weight bound → PartialSimulation K L T weight greater
+  partial_loosened h sim =
+      record {
+        begins = sim.begins;
+        follows = λ used s t a c k l n. looser (bound a s) (greater a s) (h used s t a c k l n) used s t a c (sim.follows used s t a c k l n);
+      }
+
+-- two runs begin alike
+pub starts : {A S C D : Type 0} (K : Kind A S) (L : Kind C D) (T : Ties A S C D) (weight : C → D → ℕ) (bound : A → S → ℕ) → Simulation K L T weight bound
+    → (f g : ℕ) (s : S) (t : D) (until : ℕ) (script : List Entry) → T.Code f g → T.Shared 0 s t → Alike T (start K f s until script) (start L g t until script)
+starts K L T weight bound sim f g s t until script c h =
+    record {
+      board = refl;
+      related = λ _. record {
+        shared = h;
+        ready = (record { self = sim.begins 0 s t f g h c; kept = record { value = refl; listener = refl; seated = refl }; suspended = refl }, tt);
+        rest = record { listeners = tt; sleepers = tt; waiters = tt };
+      };
+    }
+
+-- the whole: the lower run is the upper one, whatever arrives
+pub sound_lifts : {A S C D : Type 0} (K : Kind A S) (L : Kind C D) (bound : ℕ) (I : Typing A S) (T : Ties A S C D) → 0 < bound → Sound K I → PartialSimulation K L T one (always bound)
+    → (f g : ℕ) (s : S) (t : D) → I.Code f → T.Code f g → I.Shared 0 s → T.Shared 0 s t
+    → (until : ℕ) (script : List Entry) (arrivals : List Arrival) → Rises 0 arrivals → (m : ℕ) → Keeps K L bound (start K f s until script) (start L g t until script) arrivals m
+sound_lifts K L bound I T positive sound sim f g s t code tied shared alike until script arrivals rises m =
+    (let whole = holds K L I T one (always bound) sound sim in
+    lifts_with K L bound positive (within I T) whole _ _ (starts K L (within I T) one (always bound) whole f g s t until script (code, tied) (shared, alike)) arrivals rises m)
+
+-- and ends in time
+pub sound_in_time : {A S C D : Type 0} (K : Kind A S) (L : Kind C D) (bound : ℕ) (I : Typing A S) (T : Ties A S C D) → 0 < bound → Sound K I → PartialSimulation K L T one (always bound)
+    → (f g : ℕ) (s : S) (t : D) → I.Code f → T.Code f g → I.Shared 0 s → T.Shared 0 s t
+    → (until : ℕ) (script : List Entry) (n : ℕ) → over (run K n (start K f s until script)).board ≡ true → over (run L (bound * n) (start L g t until script)).board ≡ true
+sound_in_time K L bound I T positive sound sim f g s t code tied shared alike until script n ended =
+    (let whole = holds K L I T one (always bound) sound sim in
+    ends_in_time K L bound positive (within I T) whole _ _ (starts K L (within I T) one (always bound) whole f g s t until script (code, tied) (shared, alike)) n ended)
+
+-- a kind that panics where another makes a fault
+abbrev calmed : {A S : Type 0} → Turn A S → Turn A S
+calmed (Faults k a) = Panics 0
+calmed u = u
+
+abbrev none : ℕ → ℕ → Type 0
+none kind address = ⊥
+
+calm_runs : {A S : Type 0} (u : Turn A S) → FaultsWithin none (calmed u)
+calm_runs (Faults k a) = tt
+calm_runs (Goes a t) = tt
+calm_runs (Asks q f) = tt
+calm_runs (Takes n f) = tt
+calm_runs (Pauses n a t) = tt
+calm_runs (Waits e a t) = tt
+calm_runs (Spawns f a t) = tt
+calm_runs (Listens l a t) = tt
+calm_runs (RaisesNow e f a t) = tt
+calm_runs (Ends f t) = tt
+calm_runs (Panics c) = tt
+
+abbrev calm : {A S : Type 0} → Kind A S → Kind A S
+calm K = record { begin = K.begin; step = λ a s. calmed (K.step a s); depth = K.depth }
+
+module _ {A S : Type 0} (K : Kind A S) where
+  -- where no turn is a fault no run ends by one, whatever arrives
+  calm_ends : ((a : A) (s : S) → FaultsWithin none (K.step a s)) → (n : ℕ) (rest : List Arrival) (m : ℕ) (w : World A S) → SoundEnd none w.board.end → SoundEnd none (run_with K n rest m w).board.end
+  calm_ends runs n [] m w h = kept_run none (λ b. SoundEnd none b.end) (sound_closed none) K runs (m - n) w h
+  calm_ends runs n (a ∷ rest) m w h =
+      (let u = run K (a.count - n) w in
+      let h' : SoundEnd none u.board.end = kept_run none (λ b. SoundEnd none b.end) (sound_closed none) K runs (a.count - n) w h in
+      let acted : SoundEnd none (acts a.act u).board.end =
+      if_keeps (λ (v : World A S). SoundEnd none v.board.end) (over u.board) u (record u { board = arrive a.act u.board }) h' (kept_arrive none (λ b. SoundEnd none b.end) (sound_closed none) a.act u.board h') in
+      if_keeps (λ (v : World A S). SoundEnd none v.board.end) (nat_le a.count m) (run_with K a.count rest m (acts a.act u)) (run K (m - n) w)
+      (calm_ends runs a.count rest m (acts a.act u) acted)
+      (kept_run none (λ b. SoundEnd none b.end) (sound_closed none) K runs (m - n) w h))
+
+-- a typed activity and itself
+module _ {A S : Type 0} (K : Kind A S) where
+  module _ (I : Typing A S) where
+    abbrev itself : Ties A S A S
+    itself = level I.Shared (λ s a b. (a ≡ b) × I.Active s a) (λ f g. (f ≡ g) × I.Code f)
+
+    onward_itself : (used : ℕ) (s s' : S) → After I used s s' → Onward itself used s s' s s'
+    onward_itself used s s' h = record { shared = (refl, h.shared); others = λ a c p. (p.0, h.others a p.1) }
+
+    going_itself : (used : ℕ) (s : S) (x : A × S) → Further I used s x → Going itself used s s x x
+    going_itself used s x h = record { self = (refl, h.self); onward = onward_itself used s x.1 h.after }
+
+    begins_itself : (s : S) (f : ℕ → A) → Ready I s f → Begins itself s s f f
+    begins_itself s f h = record { each = λ i j c. (ap f c.0, h.each i c.1) }
+
+    matches_itself : (used : ℕ) (s : S) (x : Turn A S) → Stays I used s x → Matches (calm K) K itself used s s (calmed x) x
+    matches_itself used s (Faults c x) h = absurd h
+    matches_itself used s (Goes a s') h = going_itself used s (a, s') h
+    matches_itself used s (Asks q f) h = (refl, λ n. going_itself used s (f n) (h n))
+    matches_itself used s (Takes n f) h = (refl, going_itself (used + n) s (f used) h)
+    matches_itself used s (Pauses n a s') h = (refl, refl, going_itself used s (a, s') h)
+    matches_itself used s (Waits e a s') h = (refl, refl, going_itself used s (a, s') h)
+    matches_itself used s (Spawns f a s') h = ((refl, h.0), going_itself used s (a, s') h.1)
+    matches_itself used s (Listens l a s') h = (record { source = refl; value = refl; code = (refl, h.0); mode = refl }, going_itself used s (a, s') h.1)
+    matches_itself used s (RaisesNow e f a s') h = (refl, begins_itself s' f h.0, going_itself used s (a, s') h.1)
+    matches_itself used s (Ends f s') h = (begins_itself s' f h.0, onward_itself used s s' h.1)
+    matches_itself used s (Panics c) h = refl
+
+    calm_follows : Sound K I → (used : ℕ) (s t : S) (a b : A) → itself.Shared used s t → itself.Active s t a b → Follows (calm K) K itself one 1 used s t a b t
+    calm_follows sound used s t a b h k =
+        subst (λ (u : S). Follows (calm K) K itself one 1 used s u a b u) h.0
+        (subst (λ (c : A). Follows (calm K) K itself one 1 used s s a c s) k.0
+        (record { steps = 0; cost = 0; last = a; memory = s; path = (refl, refl, refl); light = omega arith; match = matches_itself used s (K.step a s) (sound.steps used s a h.1 k.1) }))
+
+    calm_simulation : Sound K I → Simulation (calm K) K itself one (always 1)
+    calm_simulation sound =
+        record {
+          begins = λ used s t f g h c. (ap K.begin c.0, sound.begins used s f h.1 c.1);
+          follows = calm_follows sound;
+        }
+
+    -- no typed run ends by a fault, whatever arrives
+    pub never_faults : Sound K I → (f : ℕ) (s : S) → I.Code f → I.Shared 0 s → (until : ℕ) (script : List Entry) (arrivals : List Arrival) → Rises 0 arrivals → (m : ℕ) → SoundEnd none (run_with K 0 arrivals m (start K f s until script)).board.end
+    never_faults sound f s code shared until script arrivals rises m =
+        (let sim = calm_simulation sound in
+        let kept = lifts_with (calm K) K 1 (omega arith) itself sim _ _ (starts (calm K) K itself one (always 1) sim f f s s until script (refl, code) (refl, shared)) arrivals rises m in
+        subst (λ (b : Board). SoundEnd none b.end) kept.board
+        (calm_ends (calm K) (λ a t. calm_runs (K.step a t)) 0 kept.places kept.k (start (calm K) f s until script) tt))
+
+-- places that rise to k rise
+rises_from : (n : ℕ) (rest : List Arrival) (k : ℕ) → RisesTo n rest k → Rises n rest
+rises_from n [] k h = tt
+rises_from n (a ∷ rest) k h = (h.0, rises_from a.count rest k h.1)
+
+-- so the lower run ends by no fault either
+pub sound_below : {A S C D : Type 0} (K : Kind A S) (L : Kind C D) (bound : ℕ) (I : Typing A S) (T : Ties A S C D) → 0 < bound → Sound K I → PartialSimulation K L T one (always bound)
+    → (f g : ℕ) (s : S) (t : D) → I.Code f → T.Code f g → I.Shared 0 s → T.Shared 0 s t
+    → (until : ℕ) (script : List Entry) (arrivals : List Arrival) → Rises 0 arrivals → (m : ℕ) → SoundEnd none (run_with L 0 arrivals m (start L g t until script)).board.end
+sound_below K L bound I T positive sound sim f g s t code tied shared alike until script arrivals rises m =
+    (let kept = sound_lifts K L bound I T positive sound sim f g s t code tied shared alike until script arrivals rises m in
+    subst (λ (b : Board). SoundEnd none b.end) kept.board (never_faults K I sound f s code shared until script kept.places (rises_from 0 kept.places kept.k kept.rises) kept.k))
+
+-- all of it
+pub implements : {A S C D : Type 0} (K : Kind A S) (L : Kind C D) (bound : ℕ) (I : Typing A S) (T : Ties A S C D) → 0 < bound → Sound K I → PartialSimulation K L T one (always bound)
+    → (f g : ℕ) (s : S) (t : D) → I.Code f → T.Code f g → I.Shared 0 s → T.Shared 0 s t → Implements K L bound f s g t
+implements K L bound I T positive sound sim f g s t code tied shared alike =
+    record {
+      keeps = sound_lifts K L bound I T positive sound sim f g s t code tied shared alike;
+      no_fault = sound_below K L bound I T positive sound sim f g s t code tied shared alike;
+      in_time = sound_in_time K L bound I T positive sound sim f g s t code tied shared alike;
+    }

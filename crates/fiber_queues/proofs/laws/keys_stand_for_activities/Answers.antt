@@ -1,8 +1,0 @@
-use Rattle.fiber_queues.proofs.ListLaws.{meant-after, least-keyed}
-use Rattle.fiber_queues.proofs.laws.keys_stand_for_activities.Goals as goal
-
-pub returns-clause-calls : goal.returns-clause-calls
-returns-clause-calls g c f cs q = meant-after f cs q
-
-pub returns-clause-next_wake : goal.returns-clause-next_wake
-returns-clause-next_wake g c f q = least-keyed f q.sleepers

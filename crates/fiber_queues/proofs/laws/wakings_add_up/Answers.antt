@@ -1,5 +1,0 @@
-use Rattle.fiber_queues.proofs.ListLaws.{woken-all}
-use Rattle.fiber_queues.proofs.laws.wakings_add_up.Goals as goal
-
-pub returns : goal.returns
-returns g c e n q h = woken-all e n q h

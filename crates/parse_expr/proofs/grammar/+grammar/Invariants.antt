@@ -1,7 +1,0 @@
-use Rattle.parse_expr.proofs.grammar.+grammar.Given as goal
-
-abbrev pub decreases-expression : goal.decreases-expression
-decreases-expression l = l.room
-
-abbrev pub decreases-statement : goal.decreases-statement
-decreases-statement l = l.room

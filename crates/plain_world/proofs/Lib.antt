@@ -1,9 +1,0 @@
-pub mod Arrivals
-pub mod Programs
-pub mod Busy
-pub mod Hears
-pub mod Moves
-pub mod Ends
-pub mod Raises
-pub mod Frames
-pub mod Slowly

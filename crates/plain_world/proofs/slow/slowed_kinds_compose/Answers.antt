@@ -1,8 +1,0 @@
-use Rattle.plain_world.proofs.Slowly.{twice, twice_runs}
-use Rattle.plain_world.proofs.slow.slowed_kinds_compose.Goals as goal
-
-pub returns-clause-simulation : goal.returns-clause-simulation
-returns-clause-simulation g c = λ K. twice K
-
-pub returns-clause-runs : goal.returns-clause-runs
-returns-clause-runs g c = λ K main shared until script arrivals m rises. twice_runs K main shared until script arrivals m rises

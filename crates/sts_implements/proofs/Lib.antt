@@ -1,0 +1,5 @@
+mod Plain
+mod Agreeing
+mod Shown
+mod Passes
+pub mod Laws

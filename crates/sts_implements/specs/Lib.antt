@@ -1,0 +1,4 @@
+pub mod Images
+pub mod Forgotten
+pub mod Words
+pub mod Passes

@@ -1,0 +1,10 @@
+pub mod Values
+pub mod Heaps
+pub mod Services
+pub mod Todo
+pub mod Frames
+pub mod Steps
+pub mod Forms
+pub mod Programs
+pub mod Orders
+pub mod Counts

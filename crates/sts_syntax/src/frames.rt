@@ -1,0 +1,200 @@
+// How much a function of a typed program takes: the words of its frame, and its weight, which bounds its code.
+ghost use Rattle.std.specs.Prelude.{◌≡◌, ◌<◌, ◌^◌, max};
+ghost use Rattle.sts_syntax.specs.Measures as m;
+ghost use Rattle.sts_syntax.specs.Weights as w;
+ghost use Rattle.sts_syntax.specs.Sizes.{routine_nodes};
+ghost use Rattle.sts_syntax.specs.TypedViews.{typed_tree, optional_typed_tree, typed_declarations, typed_statement, typed_statements, typed_routine};
+
+use crate::measures::{hold, outgoing, weight_of};
+use crate::{TypedBinding, TypedBody, TypedExpr, TypedStmt};
+use sts_base::Seq;
+
+/// What expressions need in a frame.
+#[derive(Clone, Copy)]
+struct Words {
+    /// for values that are pending at once
+    pending: u64,
+    /// for arguments that a call leaves
+    outgoing: u64,
+}
+
+const NO_WORDS: Words = Words {
+    pending: 0,
+    outgoing: 0,
+};
+
+/// What is enough for one and for the other, which are not needed at once.
+fn either(a: Words, b: Words) -> Words
+    ensures pending { result.pending ≡ max a.pending b.pending }
+    ensures outgoing { result.outgoing ≡ max a.outgoing b.outgoing }
+{
+    Words {
+        pending: a.pending.max(b.pending),
+        outgoing: a.outgoing.max(b.outgoing),
+    }
+}
+
+fn expression_words(e: &TypedExpr) -> Words
+    requires few { w.weight_of (typed_tree e.now) < 2 ^ 40 }
+    ensures pending { result.pending ≡ m.hold (typed_tree e.now) }
+    ensures outgoing { result.outgoing ≡ m.outgoing (typed_tree e.now) }
+{
+    Words {
+        pending: hold(e),
+        outgoing: outgoing(e),
+    }
+}
+
+fn optional_words(e: &Option<TypedExpr>) -> Words
+    requires few { w.optional_weight (optional_typed_tree e.now) < 2 ^ 40 }
+    ensures pending { result.pending ≡ m.optional_size m.hold (optional_typed_tree e.now) }
+    ensures outgoing { result.outgoing ≡ m.optional_size m.outgoing (optional_typed_tree e.now) }
+{
+    match e {
+        None => NO_WORDS,
+        Some(e) => expression_words(e),
+    }
+}
+
+fn declared_words(each: &[TypedBinding]) -> Words
+    requires few { w.declared_weight (typed_declarations each.now) < 2 ^ 40 }
+    ensures pending { result.pending ≡ m.greatest_first m.hold (typed_declarations each.now) }
+    ensures outgoing { result.outgoing ≡ m.greatest_first m.outgoing (typed_declarations each.now) }
+{
+    let mut most = NO_WORDS;
+    for binding in each {
+        most = either(optional_words(&binding.first), most);
+    }
+    most
+}
+
+#[cycle(statement_words)]
+fn statement_words(s: &TypedStmt) -> Words
+    requires few { w.statement_weight (typed_statement s.now) < 2 ^ 40 }
+    ensures pending { result.pending ≡ m.greatest_in m.hold (typed_statement s.now) }
+    ensures outgoing { result.outgoing ≡ m.greatest_in m.outgoing (typed_statement s.now) }
+{
+    match s {
+        TypedStmt::Block(all) => statements_words(all.as_slice()),
+        TypedStmt::Let { each, .. } => declared_words(each.as_slice()),
+        TypedStmt::If(test, a, None) => either(expression_words(test), statement_words(a)),
+        TypedStmt::If(test, a, Some(b)) => {
+            either(
+                expression_words(test),
+                either(statement_words(a), statement_words(b)),
+            )
+        }
+        TypedStmt::While(test, a) => either(expression_words(test), statement_words(a)),
+        TypedStmt::DoWhile(a, test) => either(statement_words(a), expression_words(test)),
+        TypedStmt::For(first, test, step, a) => {
+            let head = either(
+                optional_words(test),
+                either(optional_words(step), statement_words(a)),
+            );
+            match first {
+                None => head,
+                Some(first) => either(statement_words(first), head),
+            }
+        }
+        TypedStmt::ForOf { list, body, .. } => either(
+            expression_words(list),
+            statement_words(body),
+        ),
+        TypedStmt::Return(value) => optional_words(value),
+        TypedStmt::Plain(a) => expression_words(a),
+        TypedStmt::Break | TypedStmt::Continue | TypedStmt::Empty => NO_WORDS,
+    }
+}
+
+#[cycle(statement_words)]
+fn statements_words(all: &[TypedStmt]) -> Words
+    requires few { w.statements_weight (typed_statements all.now) < 2 ^ 40 }
+    ensures pending { result.pending ≡ m.greatest_of m.hold (typed_statements all.now) }
+    ensures outgoing { result.outgoing ≡ m.greatest_of m.outgoing (typed_statements all.now) }
+{
+    let mut most = NO_WORDS;
+    for a in all {
+        most = either(statement_words(a), most);
+    }
+    most
+}
+
+fn optional_weight(e: &Option<TypedExpr>) -> u64
+    requires few { w.optional_weight (optional_typed_tree e.now) < 2 ^ 40 }
+    ensures { result ≡ w.optional_weight (optional_typed_tree e.now) }
+{
+    match e {
+        None => 0,
+        Some(e) => weight_of(e),
+    }
+}
+
+fn declared_weight(each: &[TypedBinding]) -> u64
+    requires few { w.declared_weight (typed_declarations each.now) < 2 ^ 40 }
+    ensures { result ≡ w.declared_weight (typed_declarations each.now) }
+{
+    let mut sum = 0;
+    for binding in each {
+        sum += 1 + optional_weight(&binding.first);
+    }
+    sum
+}
+
+#[cycle(statement_weight)]
+fn statement_weight(s: &TypedStmt) -> u64
+    requires few { w.statement_weight (typed_statement s.now) < 2 ^ 40 }
+    ensures { result ≡ w.statement_weight (typed_statement s.now) }
+{
+    match s {
+        TypedStmt::Block(all) => 1 + statements_weight(all.as_slice()),
+        TypedStmt::Let { each, .. } => 1 + declared_weight(each.as_slice()),
+        TypedStmt::If(test, a, None) => 1 + weight_of(test) + statement_weight(a),
+        TypedStmt::If(test, a, Some(b)) => {
+            1 + weight_of(test) + statement_weight(a) + statement_weight(b)
+        }
+        TypedStmt::While(test, a) => 1 + weight_of(test) + statement_weight(a),
+        TypedStmt::DoWhile(a, test) => 1 + statement_weight(a) + weight_of(test),
+        TypedStmt::For(first, test, step, a) => {
+            let turn = optional_weight(test) + optional_weight(step) + statement_weight(a);
+            match first {
+                None => 1 + turn,
+                Some(first) => 1 + statement_weight(first) + turn,
+            }
+        }
+        TypedStmt::ForOf { list, body, .. } => 4 + weight_of(list) + statement_weight(body),
+        TypedStmt::Return(value) => 1 + optional_weight(value),
+        TypedStmt::Plain(a) => 1 + weight_of(a),
+        TypedStmt::Break | TypedStmt::Continue | TypedStmt::Empty => 1,
+    }
+}
+
+#[cycle(statement_weight)]
+fn statements_weight(all: &[TypedStmt]) -> u64
+    requires few { w.statements_weight (typed_statements all.now) < 2 ^ 40 }
+    ensures { result ≡ w.statements_weight (typed_statements all.now) }
+{
+    let mut sum = 0;
+    for a in all {
+        sum += statement_weight(a);
+    }
+    sum
+}
+
+/// The words of a function's frame, for a function with fewer than 2^32 nodes.
+#[tactic(auto, using(crate::proofs::FrameBounds::lighter, crate::proofs::FrameBounds::pending_le, crate::proofs::FrameBounds::outgoing_words_le, crate::proofs::FrameBounds::locals_are))]
+pub fn frame_words(body: &TypedBody) -> u64
+    requires { routine_nodes (typed_routine body.now) < 2 ^ 32 }
+    ensures { result ≡ m.frame_words (typed_routine body.now) }
+{
+    let words = statements_words(body.stmts.as_slice());
+    5 + body.locals.len() as u64 + words.pending.max(1) + words.outgoing
+}
+
+/// The weight of a function with fewer than 2^32 nodes, main and constructors that are not written included.
+#[tactic(auto, using(crate::proofs::FrameBounds::lighter))]
+pub fn weight(body: &TypedBody) -> u64
+    requires { routine_nodes (typed_routine body.now) < 2 ^ 32 }
+    ensures { result ≡ w.weight (typed_routine body.now) }
+{
+    4 + statements_weight(body.stmts.as_slice())
+}

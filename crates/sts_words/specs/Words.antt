@@ -1,0 +1,156 @@
+-- Which lists of words are taken, and what they ask for.
+use Rattle.std.specs.Prelude.{ℕ, ◌+◌, ◌==◌, ◌&&◌, ◌||◌, nat_le, nat_lt, is_some, Bool, true, false, not, List, [], ◌∷◌, length, take, drop, slice_get, unwrap_or, if◌then◌else◌, codes, option_and_then, Option, Some, None}
+use Rattle.std.specs.Option.{option_map}
+use Rattle.std.specs.Str.{bytes_eq}
+use Rattle.sts_words.specs.Numbers.{number_within}
+use Rattle.sts_words.specs.Orders.{Asked, check_program, build_program, run_program, run_image, run_big, most_budget, default_budget, most_size}
+
+-- A part of the words behind a command: a name, `--budget M` or `--budget=M`, `--stats`, or `--image`.
+pub data Part : Type 0 where
+  a_name : (word : List ℕ) → Part
+  a_budget : (number : ℕ) → Part
+  the_stats : Part
+  the_image : Part
+
+-- A name isn't empty and doesn't begin with a dash.
+abbrev pub is_name : List ℕ → Bool
+is_name [] = false
+is_name (first ∷ rest) = not (first == 45)
+
+-- what stands behind `--budget=` in a word that begins so
+abbrev pub behind_budget : List ℕ → Option (List ℕ)
+behind_budget word = if bytes_eq (take 9 word) (codes "--budget=") then Some (drop 9 word) else None
+
+-- the budget that a word is
+abbrev pub budget_part : List ℕ → Option Part
+budget_part word = option_map a_budget (number_within most_budget word)
+
+abbrev pub name_part : List ℕ → Option Part
+name_part word = if is_name word then Some (a_name word) else None
+
+-- the part that a word is, where this stands behind `--budget=`, or is else
+abbrev pub joined_part : Option (List ℕ) → List ℕ → Option Part
+joined_part (Some number) word = budget_part number
+joined_part None word = name_part word
+
+-- the part that one word is
+abbrev pub part_of : List ℕ → Option Part
+part_of word =
+    if bytes_eq word (codes "--stats") then Some the_stats
+    else if bytes_eq word (codes "--image") then Some the_image
+    else joined_part (behind_budget word) word
+
+-- a part in front of others, where all are parts
+abbrev pub in_front : Option Part → Option (List Part) → Option (List Part)
+in_front part parts = option_and_then (λ first. option_map (λ rest. first ∷ rest) parts) part
+
+-- The parts that these words are, in their order, if each is one. `awaits` says that the word before them is `--budget`, so that the first
+-- of them is to be its number.
+abbrev pub parts_from : Bool → List (List ℕ) → Option (List Part)
+parts_from awaits [] = if awaits then None else Some []
+parts_from awaits (word ∷ rest) =
+    if awaits then in_front (budget_part word) (parts_from false rest)
+    else if bytes_eq word (codes "--budget") then parts_from true rest
+    else in_front (part_of word) (parts_from false rest)
+
+-- the names among parts, in their order
+abbrev pub names_of : List Part → List (List ℕ)
+names_of [] = []
+names_of (a_name word ∷ rest) = word ∷ names_of rest
+names_of (a_budget number ∷ rest) = names_of rest
+names_of (the_stats ∷ rest) = names_of rest
+names_of (the_image ∷ rest) = names_of rest
+
+abbrev pub budgets_of : List Part → List ℕ
+budgets_of [] = []
+budgets_of (a_name word ∷ rest) = budgets_of rest
+budgets_of (a_budget number ∷ rest) = number ∷ budgets_of rest
+budgets_of (the_stats ∷ rest) = budgets_of rest
+budgets_of (the_image ∷ rest) = budgets_of rest
+
+-- how often `--stats` and `--image` stand among parts
+abbrev pub count_of_stats : List Part → ℕ
+count_of_stats [] = 0
+count_of_stats (a_name word ∷ rest) = count_of_stats rest
+count_of_stats (a_budget number ∷ rest) = count_of_stats rest
+count_of_stats (the_stats ∷ rest) = count_of_stats rest + 1
+count_of_stats (the_image ∷ rest) = count_of_stats rest
+
+abbrev pub count_of_images : List Part → ℕ
+count_of_images [] = 0
+count_of_images (a_name word ∷ rest) = count_of_images rest
+count_of_images (a_budget number ∷ rest) = count_of_images rest
+count_of_images (the_stats ∷ rest) = count_of_images rest
+count_of_images (the_image ∷ rest) = count_of_images rest + 1
+
+-- what parts say together
+pub record Said : Type 0 where
+  pub names : List (List ℕ)
+  pub budget : Option ℕ
+  pub stats : Bool
+  pub image : Bool
+
+-- Each option stands at most once among these parts; and no command has more than two names.
+abbrev pub are_single : List Part → Bool
+are_single parts =
+    nat_le (length (names_of parts)) 2 && (nat_le (length (budgets_of parts)) 1 && (nat_le (count_of_stats parts) 1 && nat_le (count_of_images parts) 1))
+
+-- what these parts say, where each option stands at most once
+abbrev pub said_by : List Part → Option Said
+said_by parts =
+    if are_single parts
+    then Some (record {
+      names = names_of parts;
+      budget = slice_get (budgets_of parts) 0;
+      stats = nat_lt 0 (count_of_stats parts);
+      image = nat_lt 0 (count_of_images parts);
+    })
+    else None
+
+-- the name, where there is one
+abbrev pub one_name : List (List ℕ) → Option (List ℕ)
+one_name [] = None
+one_name (name ∷ []) = Some name
+one_name (name ∷ more ∷ rest) = None
+
+-- one name, and that of a script or none
+abbrev pub with_script : List (List ℕ) → Option (List ℕ × Option (List ℕ))
+with_script [] = None
+with_script (name ∷ []) = Some (name, None)
+with_script (name ∷ script ∷ []) = Some (name, Some script)
+with_script (name ∷ script ∷ more ∷ rest) = None
+
+-- the name of a command that has no options
+abbrev pub plain_name : Said → Option (List ℕ)
+plain_name said = if is_some said.budget || (said.stats || said.image) then None else one_name said.names
+
+-- `--image` stands only where `--stats` stands too
+abbrev pub run_by : Said → Option Asked
+run_by said =
+    if said.image && not said.stats then None
+    else option_map (λ named. run_program named.0 named.1 (unwrap_or said.budget default_budget) said.stats said.image) (with_script said.names)
+
+abbrev pub run_hex_by : Said → Option Asked
+run_hex_by said =
+    if said.stats || said.image then None
+    else option_map (λ named. run_image named.0 named.1 (unwrap_or said.budget default_budget)) (with_script said.names)
+
+abbrev pub big_by : Said → Option Asked
+big_by said =
+    if said.image then None else
+    option_map (λ size. run_big size (unwrap_or said.budget default_budget) said.stats) (option_and_then (number_within most_size) (one_name said.names))
+
+-- what a command asks for with what is said behind it
+abbrev pub asked_by : List ℕ → Said → Option Asked
+asked_by command said =
+    if bytes_eq command (codes "check") then option_map check_program (plain_name said)
+    else if bytes_eq command (codes "build") then option_map build_program (plain_name said)
+    else if bytes_eq command (codes "run") then run_by said
+    else if bytes_eq command (codes "run-hex") then run_hex_by said
+    else if bytes_eq command (codes "big") then big_by said
+    else None
+
+-- What these words ask for, if they are taken: a command, and behind it parts, in any order but that of names.
+abbrev pub order_of : List (List ℕ) → Option Asked
+order_of [] = None
+order_of (command ∷ words) = option_and_then (asked_by command) (option_and_then said_by (parts_from false words))

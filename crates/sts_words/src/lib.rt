@@ -1,0 +1,12 @@
+//! The words of a command line: which lists of words are taken, and what they ask for.
+//!
+//! `specs/Words.antt` says which lists are taken; `read_words` reads exactly these.
+#![tactic(auto)]
+
+mod numbers;
+mod order;
+mod reading;
+mod said;
+
+pub use order::Order;
+pub use reading::read_words;

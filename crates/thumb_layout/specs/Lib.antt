@@ -1,0 +1,10 @@
+pub mod Pieces
+pub mod Soundness
+pub mod Layout
+pub mod Rounds
+pub mod Cells
+pub mod Holds
+pub mod Flash
+pub mod Placing
+pub mod Writing
+pub mod Openings

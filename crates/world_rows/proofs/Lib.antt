@@ -1,0 +1,4 @@
+mod Linked
+mod Carefully
+mod Slowly
+mod Computed

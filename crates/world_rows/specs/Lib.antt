@@ -1,0 +1,5 @@
+pub mod Clerks
+pub mod Workers
+pub mod Careful
+pub mod Slow
+pub mod Programs
