@@ -1,0 +1,3 @@
+pub mod Ops
+pub mod WellFormed
+pub mod Liveness

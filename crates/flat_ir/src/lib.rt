@@ -1,0 +1,10 @@
+//! Flat code: functions of ops over numbered temporaries, which stand between the typed tree and the machine's instructions.
+#![tactic(auto)]
+
+mod check;
+mod ops;
+#[cfg(test)]
+mod tests;
+
+pub use check::well_formed;
+pub use ops::{FlatClass, FlatCode, Function, Op};
