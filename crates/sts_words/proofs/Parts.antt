@@ -203,7 +203,7 @@ pub awaiting-none : {A : Type 0} (f : A → List ℕ) (words : List A) (i : ℕ)
 awaiting-none f words i s awaits whole h e known =
     sym (ap (λ x. said_with s x []) e) ∙ ap (λ x. said_with s awaits x) (sym (none-left f words i h)) ∙ known
 
-all-said : (s : Said) → said_with s false [] ≡ Some s
+pub all-said : (s : Said) → said_with s false [] ≡ Some s
 unfolding added_all
 all-said s = refl
 

@@ -9,4 +9,5 @@ mod reading;
 mod said;
 
 pub use order::Order;
-pub use reading::read_words;
+pub use reading::{asked_by, read_words};
+pub use said::{Given, Names};

@@ -139,8 +139,8 @@ fn big_by<'a>(given: Given<'a>) -> Option<Order<'a>>
     })
 }
 
-/// What a command asks for with what is said behind it.
-fn asked_by<'a>(command: &str, given: Given<'a>) -> Option<Order<'a>>
+/// What a command asks for with what is said behind it; none where the word is no command, or the command doesn't take what is said.
+pub fn asked_by<'a>(command: &str, given: Given<'a>) -> Option<Order<'a>>
     requires { HasBudget given.budget }
     ensures order { option_map order_view result ≡ spec.asked_by command.now (said_view given.entry) }
     ensures range { IfSome result IsInRange }

@@ -14,17 +14,25 @@ const MOST_BUDGET: u32 = 2_147_483_648;
 /// Up to two names.
 #[derive(Clone, Copy, Drop)]
 pub enum Names<'a> {
+    /// No name.
     Nothing,
+    /// One name.
     One(&'a str),
+    /// Two names, in their order.
     Two(&'a str, &'a str),
 }
 
-/// What words say together, each option at most once.
+/// What the words behind a command say together: names, a budget in instructions where one is given, and whether `--stats` and `--image`
+/// stand there.
 #[derive(Clone, Copy, Drop)]
 pub struct Given<'a> {
+    /// The names.
     pub names: Names<'a>,
+    /// The number of `--budget`.
     pub budget: Option<u32>,
+    /// Whether `--stats` stands there.
     pub stats: bool,
+    /// Whether `--image` stands there.
     pub image: bool,
 }
 

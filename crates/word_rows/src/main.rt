@@ -1,10 +1,11 @@
 //! Tests alone: reads lists of words, one a line and a tab before each word, and writes what each asks for, or a dash where it isn't taken.
 #![tactic(auto)]
 
+use command_line::read_command_line;
 use std::alloc::Global;
 use std::io;
 use std::io::{BufRead, BufReader, BufWriter, Write};
-use sts_words::{Order, read_words};
+use sts_words::Order;
 
 /// The words of a line.
 fn words_of(alloc: Global, line: &str) -> io::Result<Vec<String>> {
@@ -66,7 +67,8 @@ fn show_order<W: Write>(out: &mut W, order: Order<'_>) -> io::Result<()> {
 /// Reads the words of a line, and writes what they ask for.
 fn show<W: Write>(alloc: Global, out: &mut W, line: &str) -> io::Result<()> {
     let words = words_of(alloc, line)?;
-    match read_words(words.as_slice()) {
+    let order = read_command_line(alloc, words.as_slice());
+    match order.map_err(|_| io::ErrorKind::OutOfMemory)? {
         Some(order) => show_order(out, order)?,
         None => out.write_all(b"-")?,
     }

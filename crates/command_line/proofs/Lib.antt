@@ -1,0 +1,9 @@
+mod Find
+mod Spelled
+mod Steps
+mod Has
+mod OneWord
+mod Whole
+mod Finish
+mod Taken
+mod Given
