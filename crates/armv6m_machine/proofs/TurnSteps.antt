@@ -10,7 +10,7 @@ use Rattle.thumb_code.specs.declared.instructions.Instr.{Instr}
 use Rattle.thumb_code.specs.Machine.{State, step}
 use Rattle.armv6m_machine.specs.declared.faults.Turn.{Turn}
 use Rattle.armv6m_machine.specs.declared.faults.Turn.TheVariants.{Went, Service, Fault}
-use Rattle.armv6m_machine.specs.Turns.{Shows, Does, HasRead}
+use Rattle.armv6m_machine.specs.Turns.{AnswersTurn, Does, HasRead}
 use Rattle.armv6m_machine.specs.Steps.{IsStep, IsFault}
 
 -- Loads leave RAM as it was.
@@ -25,7 +25,7 @@ read_same e t mem (inr p) = p ∙ loads_leave e.loads t
 state : (r q : Registers) (t m : Ram) → r ≡ q → m ≡ t → let a : State = record { registers = r; memory = m } in a ≡ record { registers = q; memory = t }
 state r q t m e f = rw (e, f) refl
 
-turn_step : (t : Executed Ram) (e : Effect) (turn : Turn) (old new : State) → Shows t turn old.registers new.registers new.memory (HasRead ram_memory old.memory e new.memory) → IsStep (placed old.registers.pc t) turn old new
+turn_step : (t : Executed Ram) (e : Effect) (turn : Turn) (old new : State) → AnswersTurn t turn old.registers new.registers new.memory (HasRead ram_memory old.memory e new.memory) → IsStep (placed old.registers.pc t) turn old new
 turn_step (Done r m) e turn old new h = (h.0, state _ _ _ _ h.1 h.2)
 turn_step (Asked n r m) e turn old new h = (h.0, state _ _ _ _ h.1 h.2)
 turn_step (Stopped k) e (Fault f a) old new h = (h.0, h.1, state _ _ _ _ h.2 (read_same e old.memory new.memory h.3))

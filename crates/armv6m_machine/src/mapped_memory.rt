@@ -1,6 +1,6 @@
 //! Flash and one RAM, by the map of addresses.
 ghost use Rattle.std.specs.Prelude.{◌≡◌, ◌+◌, ◌-◌, ◌*◌, ◌/◌, ◌%◌, ◌^◌, ◌<◌, ◌≤◌, vec_len, length, ◌==◌, refl, None, true, false, IfOk, replicate};
-ghost use Rattle.thumb_code.specs.Map.{flash_byte, flash_half, flash_word, is_base, access_fault, in_ram, in_flash, sp_in_range};
+ghost use Rattle.thumb_code.specs.Map.{arena_words, flash_byte, flash_half, flash_word, is_base, access_fault, in_ram, in_flash, sp_in_range};
 ghost use Rattle.thumb_code.specs.Ram.{Ram, IsWhole, ram_memory, ram_word, ram_store};
 ghost use Rattle.thumb_code.specs.Machine.{reset};
 ghost use Rattle.armv6m_machine.specs.Answers.{IsSize, IsHeld};
@@ -24,6 +24,9 @@ const STACK: u32 = 0x2000_3000;
 
 const RAM_END: u32 = 0x2000_4000;
 
+/// The arena's words.
+const ARENA_WORDS: usize = 2816;
+
 /// Flash, the words of the three regions of RAM, and the base.
 #[derive(Drop)]
 pub struct MappedMemory {
@@ -39,7 +42,7 @@ impl Model for MappedMemory {
 
     ghost view = { λ m. record { flash = m.flash.items; globals = m.globals.items; arena = m.arena.items; stack = m.stack.items; base = m.base } };
 
-    ghost invariant = { λ m. (vec_len m.globals ≡ 256) × (vec_len m.arena ≡ 2816) × (vec_len m.stack ≡ 1024) };
+    ghost invariant = { λ m. (vec_len m.globals ≡ 256) × (vec_len m.arena ≡ arena_words) × (vec_len m.stack ≡ 1024) };
 }
 
 /// So many words of 0.
@@ -65,7 +68,7 @@ impl MappedMemory {
         Ok(MappedMemory {
             flash,
             globals: zeros(alloc, 256)?,
-            arena: zeros(alloc, 2816)?,
+            arena: zeros(alloc, ARENA_WORDS)?,
             stack: zeros(alloc, 1024)?,
             base,
         })

@@ -3,7 +3,7 @@ use Rattle.std.proofs.Common.{◌≡◌, ℕ, List, [], ◌++◌, replicate, Boo
 use Rattle.thumb_code.specs.declared.register_file.Registers.{Registers}
 use Rattle.thumb_code.specs.Effect.{effect}
 use Rattle.thumb_code.specs.Memory.{Executed, Done, Asked, Stopped, execute}
-use Rattle.thumb_code.specs.Map.{is_base}
+use Rattle.thumb_code.specs.Map.{arena_words, is_base}
 use Rattle.thumb_code.specs.Ram.{Ram, ram_memory}
 use Rattle.thumb_code.specs.Refines.{Follows, over_moving}
 use Rattle.thumb_code.specs.Step.{Fetched, Found, Missed, fetched, placed, ran}
@@ -54,7 +54,7 @@ step_follows image s b h =
 
 -- The bank with which main's fiber begins.
 abbrev first_bank : List ℕ → Bank
-first_bank image = record { flash = image; globals = replicate 256 0; arena = replicate 2816 0; base = base_of image; words = [] }
+first_bank image = record { flash = image; globals = replicate 256 0; arena = replicate arena_words 0; base = base_of image; words = [] }
 
 first_shows : (image : List ℕ) → IsBase (base_of image) → Shows (base_of image) (reset image).memory (first_bank image)
 first_shows image h = record {

@@ -1,5 +1,6 @@
 -- A fiber of the bank machine, what all fibers share, and how a fiber begins.
 use Rattle.std.specs.Prelude.{ℕ, List, [], replicate}
+use Rattle.thumb_code.specs.Map.{arena_words}
 use Rattle.thumb_code.specs.declared.register_file.Registers.{Registers}
 use Rattle.thumb_code.specs.Machine.{begun, base_of, return_of}
 
@@ -19,7 +20,7 @@ pub record Shared : Type 0 where
 
 -- What is shared as a run with these free words begins: globals and arena are 0, and no word of the arena is used.
 abbrev pub shared_at_reset : List ℕ → Shared
-shared_at_reset free = record { globals = replicate 256 0; arena = replicate 2816 0; used = 0; free = free }
+shared_at_reset free = record { globals = replicate 256 0; arena = replicate arena_words 0; used = 0; free = free }
 
 -- A fiber begins at a code address, on a base, with an empty bank: R0 to R12 and the flags are 0, SP is the base, LR is word 2 of
 -- flash, and PC is the code address less 1, modulo 2^32.

@@ -12,5 +12,5 @@ pub mod Standing
 pub mod Watched
 pub mod BankMachine
 pub mod Lone
-pub mod Rows
+pub mod SmallImages
 pub mod BoardRows

@@ -2,7 +2,7 @@
 ghost use Rattle.std.specs.Prelude.{◌≡◌, [], ◌∷◌, ◌++◌, replicate, codes, pos, true, false, Some};
 ghost use Rattle.board_world.specs.Observations.{Faulted};
 ghost use Rattle.board_world.specs.Board.{Down, Raise, transcript_of};
-ghost use Rattle.bank_model.specs.Rows.{code, image};
+ghost use Rattle.bank_model.specs.SmallImages.{code, image};
 ghost use Rattle.bank_model.specs.Texts.{is_text};
 ghost use Rattle.bank_model.specs.BoardMachine.{bank_run};
 ghost use Rattle.bank_model.specs.Watched.{unsteady, watched_run};

@@ -3,4 +3,4 @@ pub mod BusState
 pub mod Numbers
 pub mod Answers
 pub mod Agreement
-pub mod Rows
+pub mod TwelveEvents

@@ -2,7 +2,7 @@
 ghost use Rattle.std.specs.Prelude.{◌≡◌, pos, Some, [], ◌∷◌};
 ghost use Rattle.board_world.specs.Modes.{reentrant, queues_if_busy, drops_if_busy};
 ghost use Rattle.message_bus.specs.ListenerState.{oldest, ended};
-ghost use Rattle.message_bus.specs.Rows.{event, events, after_twelve, busy_with};
+ghost use Rattle.message_bus.specs.TwelveEvents.{event, events, after_twelve, busy_with};
 
 /// A queueing listener begins at the first event, holds the next ten and loses the twelfth; any mode but 8 and 32 queues.
 /// A dropping one holds none. A reentrant one begins an activity for each.

@@ -1,4 +1,4 @@
-pub mod Rows
+pub mod OneMore
 pub mod Loops
 pub mod Turns
 pub mod Lasts

@@ -24,10 +24,10 @@ use Rattle.run_tool.proofs.Endings.{gives-more}
 
 extent-fits : (cells : List Cell) → AllByRecursion (λ cell. cell.at < flash_bytes) cells → extent cells ≤ flash_bytes
 extent-fits [] h = omega arith
-extent-fits (cell ∷ cells) h = let rest = extent-fits cells h.1 in let first : cell.at < 262144 = h.0 in omega (arith, rest, first)
+extent-fits (cell ∷ cells) h = let rest = extent-fits cells h.1 in let first : cell.at < flash_bytes = h.0 in omega (arith, rest, first)
 
 -- an image that is spelled fits the flash
-pub image-fits : (text image : List ℕ) → Spells text image → length image ≤ 262144
+pub image-fits : (text image : List ℕ) → Spells text image → length image ≤ flash_bytes
 image-fits text image s =
     let cells = given Zero s.records in
     let same : length image ≡ extent cells =

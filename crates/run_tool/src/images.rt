@@ -2,6 +2,7 @@
 ghost use Rattle.std.specs.Prelude.{◌≡◌, ◌≤◌, List, ℕ};
 ghost use Rattle.tool_io.specs.Putting.{PutsTo};
 ghost use Rattle.hex_image.specs.Codes.{number_of};
+ghost use Rattle.hex_image.specs.Spells.{flash_bytes};
 ghost use Rattle.run_tool.specs.declared.ending.Status.TheVariants as status;
 ghost use Rattle.sts_words.specs.Orders.{IsBudget};
 ghost use Rattle.run_tool.specs.Answers.{GivesOneOf, says};
@@ -38,7 +39,7 @@ fn say_image_refused<K: Sink>(out: &mut K, code: HexCode) -> Ending
 
 /// Runs an image within a budget.
 fn run_image<K: Sink>(alloc: Global, image: Vec<u8>, budget: u32, out: &mut K) -> Ending
-    requires size { vec_len image ≤ 262144 }
+    requires size { vec_len image ≤ flash_bytes }
     requires budget { IsBudget budget }
     ensures { GivesOneOf K.taken K.faults out.old out.new (RunsImage budget image.items) result }
 {

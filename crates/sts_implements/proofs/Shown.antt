@@ -8,7 +8,7 @@ use Rattle.thumb_code.specs.Map.{arena_at}
 use Rattle.sts_syntax.specs.TypeRules.{entry}
 use Rattle.sts_meaning.specs.Values.{Value, Whole, Object, Text, Code, Gives, Breaks, then_gives, there, same}
 use Rattle.sts_meaning.specs.Heaps.{CellOf, Fields, Items, HeapOf, fields_of, object_at, read_field}
-use Rattle.sts_implements.specs.Words.{Places, word_of, InRange, Shows, ShowsHeap}
+use Rattle.sts_implements.specs.Words.{Places, word_of, InRange, ShowsValue, ShowsHeap}
 
 module _ (p : Places) where
   eqb_of : (a b v w : ℕ) → (a ≡ b → v ≡ w) → (v ≡ w → a ≡ b) → nat_eq a b ≡ nat_eq v w
@@ -28,12 +28,12 @@ module _ (p : Places) where
   whole_apart (pos m) (negsuc n) s t e = absurd (omega arith)
   whole_apart (negsuc m) (pos n) s t e = absurd (omega arith)
 
-  whole_words : (x y : ℤ) (v w : ℕ) → Shows p (Whole x) v → Shows p (Whole y) w → int_eq x y ≡ nat_eq v w
+  whole_words : (x y : ℤ) (v w : ℕ) → ShowsValue p (Whole x) v → ShowsValue p (Whole y) w → int_eq x y ≡ nat_eq v w
   whole_words x y v w s t =
       (let d = Decides-int_eq x y in
       same_from_decides (int_eq x y) (nat_eq v w) (λ e. s.1 ∙ ap word_of (d.0 e) ∙ sym t.1, λ e. d.1 (whole_apart x y s.0 t.0 (sym s.1 ∙ e ∙ t.1))) (Decides-eqb v w))
 
-  pub same_words : (x y : Value) (v w : ℕ) (b : Bool) → same x y ≡ Gives b → Shows p x v → Shows p y w → b ≡ nat_eq v w
+  pub same_words : (x y : Value) (v w : ℕ) (b : Bool) → same x y ≡ Gives b → ShowsValue p x v → ShowsValue p y w → b ≡ nat_eq v w
   same_words (Whole x) (Whole y) v w b e s t = sym (given (int_eq x y) b e) ∙ whole_words x y v w s t
   same_words (Object i) (Object j) v w b e s t =
       (let a : v ≡ arena_at + 4 * i = s in let c : w ≡ arena_at + 4 * j = t in sym (given (nat_eq i j) b e) ∙ eqb_of i j v w (λ e. omega arith) (λ e. omega arith))
@@ -52,23 +52,23 @@ module _ (p : Places) where
     gives_some None x e = cc
     gives_some (Some y) x e = cc
 
-    pub field_shown : (o v : Value) (w f : ℕ) → Shows p o w → read_field h o f ≡ Gives v → (0 < w) × Shows p v (word (w + 4 + 4 * f))
+    pub field_shown : (o v : Value) (w f : ℕ) → ShowsValue p o w → read_field h o f ≡ Gives v → (0 < w) × ShowsValue p v (word (w + 4 + 4 * f))
     field_shown (Object n) v w f s e = by_cell (h.cells n) refl
       where
-        by_cell : (c : Option (CellOf N)) → h.cells n ≡ c → (0 < w) × Shows p v (word (w + 4 + 4 * f))
+        by_cell : (c : Option (CellOf N)) → h.cells n ≡ c → (0 < w) × ShowsValue p v (word (w + 4 + 4 * f))
         by_cell None q = (let bad : then_gives (fields_of {N = N} None) (λ c. there (entry c.1 f)) ≡ Gives v = subst (λ (x : Option (CellOf N)). then_gives (fields_of x) (λ c. there (entry c.1 f)) ≡ Gives v) q e in cc)
         by_cell (Some (Items u room vs)) q = (let bad : then_gives (fields_of {N = N} (Some (Items u room vs))) (λ c. there (entry c.1 f)) ≡ Gives v = subst (λ (x : Option (CellOf N)). then_gives (fields_of x) (λ c. there (entry c.1 f)) ≡ Gives v) q e in cc)
         by_cell (Some (Fields c vs)) q =
             (let good : there (entry vs f) ≡ Gives v = subst (λ (x : Option (CellOf N)). then_gives (fields_of x) (λ c. there (entry c.1 f)) ≡ Gives v) q e in
             let at : w ≡ arena_at + 4 * n = s in
-            (omega arith, subst (λ (k : ℕ). Shows p v (word (k + 4 + 4 * f))) (sym at) (shows n (Fields c vs) q f v (gives_some (entry vs f) v good))))
+            (omega arith, subst (λ (k : ℕ). ShowsValue p v (word (k + 4 + 4 * f))) (sym at) (shows n (Fields c vs) q f v (gives_some (entry vs f) v good))))
     field_shown (Whole (pos zero)) v w f s e = cc
     field_shown (Whole (pos (suc n))) v w f s e = cc
     field_shown (Whole (negsuc n)) v w f s e = cc
     field_shown (Text n) v w f s e = cc
     field_shown (Code n) v w f s e = cc
 
-    pub null_shown : (o : Value) (w code : ℕ) → Shows p o w → object_at h o ≡ Breaks code → (w ≡ 0) × (code ≡ 105)
+    pub null_shown : (o : Value) (w code : ℕ) → ShowsValue p o w → object_at h o ≡ Breaks code → (w ≡ 0) × (code ≡ 105)
     null_shown (Whole (pos zero)) w code s e = (s.1, cc)
     null_shown (Whole (pos (suc n))) w code s e = cc
     null_shown (Whole (negsuc n)) w code s e = cc

@@ -3,7 +3,7 @@ use Rattle.std.specs.Prelude.{ℕ, ◌+◌, ◌-◌, ◌^◌, List, replicate}
 use Rattle.thumb_code.specs.declared.register_file.Registers.{Registers}
 use Rattle.thumb_code.specs.RegisterFile.{word}
 use Rattle.thumb_code.specs.Memory.{execute}
-use Rattle.thumb_code.specs.Map.{flash_word}
+use Rattle.thumb_code.specs.Map.{arena_words, flash_word}
 use Rattle.thumb_code.specs.Ram.{Ram, ram_memory}
 use Rattle.thumb_code.specs.Step.{Stepped, fetched, ran}
 
@@ -36,5 +36,5 @@ return_of flash = flash_word flash 8
 abbrev pub reset : List ℕ → State
 reset flash = record {
   registers = begun (base_of flash) (return_of flash) (main_of flash);
-  memory = record { flash = flash; globals = replicate 256 0; arena = replicate 2816 0; stack = replicate 1024 0; base = base_of flash };
+  memory = record { flash = flash; globals = replicate 256 0; arena = replicate arena_words 0; stack = replicate 1024 0; base = base_of flash };
 }

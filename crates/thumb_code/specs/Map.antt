@@ -11,9 +11,13 @@ flash_end = 0x40000
 abbrev pub globals_at : ℕ
 globals_at = 0x20000000
 
--- 2816 words of arena are from here on.
+-- The arena's words are from here on.
 abbrev pub arena_at : ℕ
 arena_at = 0x20000400
+
+-- So many words has the arena.
+abbrev pub arena_words : ℕ
+arena_words = 2816
 
 -- 1024 words of stack region are from here on.
 abbrev pub stack_at : ℕ

@@ -3,7 +3,7 @@ use Rattle.std.specs.Prelude.{◌≡◌, ℕ, List, length, nat_lt, if◌then◌
 use Rattle.thumb_code.specs.RegisterFile.{aligned}
 use Rattle.thumb_code.specs.Effect.{Access}
 use Rattle.thumb_code.specs.Memory.{Memory}
-use Rattle.thumb_code.specs.Map.{globals_at, arena_at, stack_at, access_fault, sp_in_range, part, flash_word, word_in, changed}
+use Rattle.thumb_code.specs.Map.{globals_at, arena_at, arena_words, stack_at, access_fault, sp_in_range, part, flash_word, word_in, changed}
 
 -- The bytes of flash, the words of the three regions of RAM, and the base.
 pub record Ram : Type 0 where
@@ -16,7 +16,7 @@ pub record Ram : Type 0 where
 -- The regions are whole.
 pub record IsWhole (m : Ram) : Type 0 where
   pub globals : length m.globals ≡ 256
-  pub arena : length m.arena ≡ 2816
+  pub arena : length m.arena ≡ arena_words
   pub stack : length m.stack ≡ 1024
 
 -- The word that holds the byte at an address.

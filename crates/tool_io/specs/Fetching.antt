@@ -4,10 +4,10 @@ use Rattle.tool_io.specs.declared.folder.Found.{Found}
 use Rattle.tool_io.specs.declared.folder.Found.TheVariants.{Whole, Missing, TooLong}
 
 -- What was found agrees with what the folder tells of the file: its bytes, or that there is none.
-abbrev pub Shows : Option (List ℕ) → ℕ → Found → Type 0
-Shows content limit (Whole bytes) = content ≡ Some bytes.items
-Shows content limit Missing = content ≡ None
-Shows content limit TooLong = (bytes : List ℕ) × (content ≡ Some bytes) × (limit < length bytes)
+abbrev pub IsFetched : Option (List ℕ) → ℕ → Found → Type 0
+IsFetched content limit (Whole bytes) = content ≡ Some bytes.items
+IsFetched content limit Missing = content ≡ None
+IsFetched content limit TooLong = (bytes : List ℕ) × (content ≡ Some bytes) × (limit < length bytes)
 
 -- the bytes that were found are at most `limit`
 abbrev pub IsWithin : ℕ → Found → Type 0

@@ -2,7 +2,7 @@
 ghost use Rattle.std.specs.Prelude.{◌≡◌, ◌≢◌, ◌≤◌, ◌↔◌, List, ℕ, Ok, None, Some, IfOk, IfErr, IfSome, IsErrOf, MatchResult};
 ghost use Rattle.std.specs.IoError.{error_kind};
 ghost use Rattle.sts_base.specs.Faults.{Rose};
-ghost use Rattle.tool_io.specs.Fetching.{Shows, IsWithin};
+ghost use Rattle.tool_io.specs.Fetching.{IsFetched, IsWithin};
 
 use crate::{FetchFault, Folder, Found};
 use std::alloc::Global;
@@ -78,7 +78,7 @@ fn unless_missing<T>(opened: io::Result<T>) -> io::Result<Option<T>>
 /// What a reader still holds, if it has at most `limit` bytes. No more than `limit + 1` are read. A read may give fewer bytes than
 /// there are, and one that is interrupted is tried again.
 pub fn read_up_to<F: Read + Drop>(alloc: Global, file: F, limit: usize) -> io::Result<Found>
-    ensures content { IfOk result (λ found. IfSome (F.remaining file) (λ left. Shows (Some left) limit found)) }
+    ensures content { IfOk result (λ found. IfSome (F.remaining file) (λ left. IsFetched (Some left) limit found)) }
     ensures within { IfOk result (λ found. IsWithin limit found) }
     ensures retried { IfErr result (λ error. error_kind error ≢ ErrorKind.Interrupted) }
 {

@@ -13,7 +13,7 @@ pub struct Files {
 }
 
 impl Files {
-    ghost use Rattle.tool_io.specs.Fetching.{Shows, IsWithin};
+    ghost use Rattle.tool_io.specs.Fetching.{IsFetched, IsWithin};
     ghost use Rattle.tool_io.specs.Memory.{content_of};
 
     pub fn new(alloc: Global) -> Files
@@ -42,7 +42,7 @@ impl Files {
 
     /// The file of that name, if it has at most `limit` bytes.
     pub fn fetch(&self, alloc: Global, name: &str, limit: usize) -> Result<Found, NoMemory>
-        ensures content { IfOk result (λ found. Shows (content_of self.now.by_name name.now) limit found) }
+        ensures content { IfOk result (λ found. IsFetched (content_of self.now.by_name name.now) limit found) }
         ensures within { IfOk result (λ found. IsWithin limit found) }
     {
         match self.by_name.get(name) {

@@ -27,7 +27,7 @@ pub enum FetchFault {
 /// A folder that files are fetched from.
 pub trait Folder {
     ghost use Rattle.sts_base.specs.Faults.{Rose};
-    ghost use Rattle.tool_io.specs.Fetching.{Shows, IsWithin};
+    ghost use Rattle.tool_io.specs.Fetching.{IsFetched, IsWithin};
 
     /// The bytes of the file of that name, or that there is none, where the folder tells.
     ghost holds: { Self → List ℕ → Option (Option (List ℕ)) };
@@ -38,7 +38,7 @@ pub trait Folder {
     /// The file of that name, if it has at most `limit` bytes. Its answer agrees with what the folder tells, and the
     /// content of the folder stays. `Failed` comes only where the count of faults rose.
     fn fetch(&mut self, alloc: Global, name: &str, limit: usize) -> Result<Found, FetchFault>
-        ensures content { IfOk result (λ found. ForSome (holds self.old name.now) (λ content. Shows content limit found)) }
+        ensures content { IfOk result (λ found. ForSome (holds self.old name.now) (λ content. IsFetched content limit found)) }
         ensures within { IfOk result (λ found. IsWithin limit found) }
         ensures stays { (file : List ℕ) → holds self.new file ≡ holds self.old file }
         ensures later { faults self.old ≤ faults self.new }

@@ -50,7 +50,7 @@ impl MemoryFolder {
 
 impl Folder for MemoryFolder {
     ghost use Rattle.sts_base.specs.Faults.{Rose};
-    ghost use Rattle.tool_io.specs.Fetching.{Shows, IsWithin};
+    ghost use Rattle.tool_io.specs.Fetching.{IsFetched, IsWithin};
     ghost use Rattle.tool_io.specs.Memory.{content_of, next_call, one_more};
 
     ghost holds = { λ folder file. Some (content_of folder.files.by_name file) };
@@ -58,7 +58,7 @@ impl Folder for MemoryFolder {
     ghost faults = { λ folder. folder.faults };
 
     fn fetch(&mut self, alloc: Global, name: &str, limit: usize) -> Result<Found, FetchFault>
-        ensures content { IfOk result (λ found. ForSome (Some (content_of self.old.files.by_name name.now)) (λ content. Shows content limit found)) }
+        ensures content { IfOk result (λ found. ForSome (Some (content_of self.old.files.by_name name.now)) (λ content. IsFetched content limit found)) }
         ensures within { IfOk result (λ found. IsWithin limit found) }
         ensures stays { (file : List ℕ) → Some (content_of self.new.files.by_name file) ≡ Some (content_of self.old.files.by_name file) }
         ensures later { self.old.faults ≤ self.new.faults }

@@ -37,7 +37,7 @@ impl SureFolder {
 }
 
 impl Folder for SureFolder {
-    ghost use Rattle.tool_io.specs.Fetching.{Shows, IsWithin};
+    ghost use Rattle.tool_io.specs.Fetching.{IsFetched, IsWithin};
     ghost use Rattle.tool_io.specs.Memory.{content_of};
 
     ghost holds = { λ folder file. Some (content_of folder.files.by_name file) };
@@ -45,7 +45,7 @@ impl Folder for SureFolder {
     ghost faults = { λ folder. 0 };
 
     fn fetch(&mut self, alloc: Global, name: &str, limit: usize) -> Result<Found, FetchFault>
-        ensures content { IfOk result (λ found. ForSome (Some (content_of self.old.files.by_name name.now)) (λ content. Shows content limit found)) }
+        ensures content { IfOk result (λ found. ForSome (Some (content_of self.old.files.by_name name.now)) (λ content. IsFetched content limit found)) }
         ensures within { IfOk result (λ found. IsWithin limit found) }
         ensures stays { (file : List ℕ) → Some (content_of self.new.files.by_name file) ≡ Some (content_of self.old.files.by_name file) }
         ensures later { 0 ≤ 0 }

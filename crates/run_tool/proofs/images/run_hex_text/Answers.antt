@@ -1,10 +1,11 @@
 use Rattle.std.proofs.Common.{◌≤◌, length, arith}
+use Rattle.hex_image.specs.Spells.{flash_bytes}
 use Rattle.run_tool.proofs.ImageRuns.{image-fits, spelled-gives, broken-gives}
 use Rattle.run_tool.proofs.images.run_hex_text.Goals as goal
 
 pub run_image-requires-clause-size : goal.run_image-requires-clause-size
 run_image-requires-clause-size g c =
-    let fits : length c.in-Ok.image.items ≤ 262144 = image-fits c.args.text.now c.in-Ok.image.items c.in-Ok.ensures.image in
+    let fits : length c.in-Ok.image.items ≤ flash_bytes = image-fits c.args.text.now c.in-Ok.image.items c.in-Ok.ensures.image in
     omega (arith, fits, c.in-Ok.image.ok)
 
 pub returns-in-Ok : goal.returns-in-Ok

@@ -1,0 +1,41 @@
+#!/bin/sh
+# examples/board.d.ts declares the calls and constants of the board's table (crates/sts_syntax/specs/BoardTable.antt), with as many parameters of the
+# same types and the same result, and no others; and TypeScript's checker takes each program of examples/ with it.
+# usage: checks/board_types.sh
+set -eu
+cd "$(dirname "$0")/.."
+python3 - <<'PYTHON'
+import re
+import sys
+
+table = open("crates/sts_syntax/specs/BoardTable.antt", encoding="utf-8").read()
+types = {"number": "number", "text": "string", "Handler": "() => void", "Drawing": "string"}
+results = {"Nothing": "void", "Number": "number", "Boolean": "boolean"}
+rows = re.findall(r'^row_of \w+ = row \(codes "(\w+)"\) \(codes "(\w+)"\) (\[\]|\([^)]*\)) t\.(\w+) ', table, re.M)
+wanted = {f"{space}.{name}": ([types[it] for it in takes.strip("()").split(" ∷ ") if it != "[]"], results[gives]) for space, name, takes, gives in rows}
+wanted |= {f"{space}.{name}": "number" for space, name in re.findall(r'constant \(codes "(\w+)"\) \(codes "(\w+)"\) \(', table)}
+
+found, space = {}, None
+for line in open("examples/board.d.ts", encoding="utf-8"):
+    if head := re.match(r"declare namespace (\w+) \{", line):
+        space = head[1]
+    elif call := re.match(r"    function (\w+)\((.*)\): (\w+)$", line):
+        found[f"{space}.{call[1]}"] = [it.split(": ", 1)[1] for it in call[2].split(", ") if it], call[3]
+    elif constant := re.match(r"    const (\w+): (\w+)$", line):
+        found[f"{space}.{constant[1]}"] = constant[2]
+
+wrong = sorted(it for it in {*wanted, *found} if wanted.get(it) != found.get(it))
+for it in wrong:
+    print(f"board types: {it} is {wanted.get(it)} in the table and {found.get(it)} in examples/board.d.ts")
+print(f"board types: {len(found)} names, {len(wrong)} wrong")
+sys.exit(1 if wrong or len(rows) < 20 else 0)
+PYTHON
+command -v tsc > /dev/null || {
+    echo "board types: there is no tsc (Debian: node-typescript), so the examples weren't tried with it"
+    exit 77
+}
+for program in examples/*.ts; do
+    [ "$program" != examples/board.d.ts ] || continue
+    tsc --noEmit --strict --strictNullChecks false --noLib --target es5 examples/board.d.ts "$program"
+done
+echo 'board types: TypeScript takes each program of examples/'
