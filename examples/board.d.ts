@@ -108,10 +108,12 @@ interface Array<T> {
 
 // What the checker itself wants to know of.
 interface Boolean {}
-interface CallableFunction {}
-interface Function {}
+interface CallableFunction extends Function {}
+interface Function {
+    readonly " is called": true
+}
 interface IArguments {}
-interface NewableFunction {}
+interface NewableFunction extends Function {}
 interface Number {}
 interface Object {}
 interface RegExp {}
