@@ -23,4 +23,5 @@ mod SoundUnits
 mod CompleteUnits
 mod Below
 mod Programs
+mod Verdicts
 pub mod Laws

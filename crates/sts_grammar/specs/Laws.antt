@@ -1,5 +1,5 @@
 -- What holds of the grammar, and of how it is read.
-use Rattle.std.specs.Prelude.{◌≡◌, ℕ, ◌<◌, ◌≤◌, Bool, Some, None, length}
+use Rattle.std.specs.Prelude.{◌≡◌, ℕ, ◌<◌, ◌≤◌, Bool, Some, None, List, length}
 use Rattle.sts_syntax.specs.Trees.{Tree, Statement}
 use Rattle.sts_syntax.specs.Nesting.{nesting, statement_nesting}
 use Rattle.sts_grammar.specs.Precedence.{assignment_level, prefix_level}
@@ -10,7 +10,9 @@ use Rattle.sts_grammar.specs.Spells.{IsBare, IsStatement, IsExpression, IsWholeE
 use Rattle.sts_grammar.specs.Longest.{IsLongestExpression, NoExpression, IsLongestStatement, NoStatement}
 use Rattle.sts_grammar.specs.ReadExpressions.{binds_before}
 use Rattle.sts_grammar.specs.Reading.{expression, statement, longest_expression}
+use Rattle.sts_base.specs.declared.refused.Code.{Code}
 use Rattle.sts_syntax.specs.Programs.{Program}
+use Rattle.sts_grammar.specs.Texts.{SpellsProgram, SpellsNone}
 use Rattle.sts_grammar.specs.Units.{AreParts, IsProgram}
 use Rattle.sts_grammar.specs.ReadUnits.{read_program}
 
@@ -53,3 +55,8 @@ pub record OneProgram : Type 0 where
 pub record ProgramIsRead : Type 0 where
   pub read : (s : Source) (program : Program) → read_program s ≡ Some program → IsProgram s program
   pub unread : (s : Source) → read_program s ≡ None → (program : Program) → ¬ (IsProgram s program)
+
+-- A text spells a program or is refused, and never both; it spells one program.
+pub record OneVerdict : Type 0 where
+  pub either : (text : List ℕ) (code : Code) (at : ℕ) → SpellsProgram text → SpellsNone text code at → ⊥
+  pub program : (text : List ℕ) (a b : SpellsProgram text) → a.program ≡ b.program

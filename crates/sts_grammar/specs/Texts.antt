@@ -6,7 +6,7 @@ use Rattle.sts_base.specs.declared.refused.Code.TheVariants.{Syntax, TooDeep}
 use Rattle.sts_base.specs.declared.tables.Tables.{Tables}
 use Rattle.sts_lexer.specs.declared.token.Token.{Token}
 use Rattle.sts_lexer.specs.Tokens.{IsTokenization}
-use Rattle.sts_lexer.specs.Uses.{IsUsed}
+use Rattle.sts_lexer.specs.Uses.{NumbersInOrder}
 use Rattle.sts_lexer.specs.Refusals.{IsRefusal}
 use Rattle.sts_syntax.specs.Programs.{Program}
 use Rattle.sts_grammar.specs.Source.{Source}
@@ -39,12 +39,12 @@ Refuses s other place = ⊥
 abbrev pub no_entries : Tables
 no_entries = record { names = []; texts = [] }
 
--- These are the tokens of a text by tables of its own, which number its distinct names and texts and nothing else.
+-- These are the tokens of a text by tables of its own, which number its distinct names and texts in the order in which they first appear.
 pub record HasTokens (text : List ℕ) (tables : Tables) (tokens : List Token) : Type 0 where
   pub tokenization : IsTokenization tables text tokens
   pub names : IsDistinct tables.names
   pub texts : IsDistinct tables.texts
-  pub used : IsUsed no_entries tables tokens
+  pub in_order : NumbersInOrder no_entries tables tokens
 
 -- A text spells a program: its tokens do, within the nesting, and nowhere too many brackets are open.
 pub record SpellsProgram (text : List ℕ) : Type 0 where

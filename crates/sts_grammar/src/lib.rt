@@ -5,6 +5,6 @@
 mod theorems;
 
 pub use theorems::{
-    one_program, one_tree, the_longest_is_read, the_program_is_read, what_is_read_is_spelled,
-    what_is_spelled_is_read,
+    one_program, one_tree, one_verdict, the_longest_is_read, the_program_is_read,
+    what_is_read_is_spelled, what_is_spelled_is_read,
 };

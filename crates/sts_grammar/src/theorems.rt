@@ -1,5 +1,5 @@
 // Laws of the grammar, and of how it is read.
-ghost use Rattle.sts_grammar.specs.Laws.{LongestIsRead, OneProgram, OneTree, ProgramIsRead, ReadIsSpelled, SpelledIsRead};
+ghost use Rattle.sts_grammar.specs.Laws.{LongestIsRead, OneProgram, OneTree, OneVerdict, ProgramIsRead, ReadIsSpelled, SpelledIsRead};
 
 /// Tokens spell at most one tree.
 pub fn one_tree()
@@ -29,4 +29,9 @@ pub fn one_program()
 /// The program that is read of a whole text is the one that its tokens spell, or they spell none.
 pub fn the_program_is_read()
     ensures { ProgramIsRead }
+{}
+
+/// A text spells a program or is refused, and never both.
+pub fn one_verdict()
+    ensures { OneVerdict }
 {}

@@ -1,8 +1,8 @@
 -- Tokens, while they are read and the tables grow.
-use Rattle.std.proofs.Common.{◌≡◌, ◌≢◌, ℕ, ◌<◌, ◌≤◌, true, List, [], ◌∷◌, ◌++◌, length, refl, sym, ap, ◌∙◌, subst, arith, lit<, append_assoc, inl, inr}
+use Rattle.std.proofs.Common.{◌≡◌, ◌≢◌, ℕ, ◌<◌, ◌≤◌, true, List, [], ◌∷◌, ◌++◌, length, refl, sym, ap, ◌∙◌, subst, arith, lit<, append_assoc}
 use Rattle.std.specs.Prelude.{Option, Some, ◌&&◌, ◌==◌, slice_get, slice_index}
 use Rattle.std.specs.Char.{is_ascii_digit}
-use Rattle.std.proofs.lemmas.Bool.{cond_both, and_parts, eqb-true, cases_lt}
+use Rattle.std.proofs.lemmas.Bool.{cond_both, and_parts, eqb-true}
 use Rattle.std.proofs.lemmas.List.{append-nil}
 use Rattle.sts_base.specs.declared.tables.Tables.{Tables}
 use Rattle.sts_base.specs.declared.refused.Code.{Code}
@@ -12,7 +12,7 @@ use Rattle.sts_lexer.specs.Spaces.{start_of}
 use Rattle.sts_lexer.specs.Lexemes.{Lexeme, name, number, quoted, mark}
 use Rattle.sts_lexer.specs.Tokens.{IsKindOf, IsNext, AreTokens, IsTokenization}
 use Rattle.sts_lexer.specs.Tables.{Extends}
-use Rattle.sts_lexer.specs.Uses.{HasEntry, IsUsed, IsUsedBy, name_entry, text_entry}
+use Rattle.sts_lexer.specs.Uses.{TakesUp, TakeUp, NumbersInOrder, NumbersOne, name_entry, text_entry}
 use Rattle.sts_lexer.specs.Refusals.{cause}
 use Rattle.sts_lexer.specs.declared.token.Kind.{Kind}
 use Rattle.sts_lexer.specs.declared.token.Kind.TheVariants as kinds
@@ -116,37 +116,21 @@ pub no_not_utf8 : (byte : ℕ) → code.NotUtf8 ≡ cause byte → ⊥
 no_not_utf8 byte = other_cause code.NotUtf8 byte (λ e. cc) (λ e. cc) (λ e. cc)
 
 -- entries that tokens name
-has_more : (entry_of : Kind → Option ℕ) (all : List Token) (token : Token) (entry : ℕ) → HasEntry entry_of all entry → HasEntry entry_of (all ++ token ∷ []) entry
-has_more entry_of [] token entry h = absurd h
-has_more entry_of (first ∷ rest) token entry (inl h) = inl h
-has_more entry_of (first ∷ rest) token entry (inr h) = inr (has_more entry_of rest token entry h)
+take_up_more : (entry_of : Kind → Option ℕ) (all : List Token) (token : Token) (before middle after : ℕ) → TakeUp entry_of all before middle
+    → TakesUp (entry_of token.kind) middle after → TakeUp entry_of (all ++ token ∷ []) before after
+take_up_more entry_of [] token before middle after h here = (after, subst (λ (x : ℕ). TakesUp (entry_of token.kind) x after) h here, refl)
+take_up_more entry_of (first ∷ rest) token before middle after h here = (h.0, h.1, take_up_more entry_of rest token h.0 middle after h.2 here)
 
-has_last : (entry_of : Kind → Option ℕ) (all : List Token) (token : Token) (entry : ℕ) → entry_of token.kind ≡ Some entry → HasEntry entry_of (all ++ token ∷ []) entry
-has_last entry_of [] token entry h = inl h
-has_last entry_of (first ∷ rest) token entry h = inr (has_last entry_of rest token entry h)
-
-used_step : (entry_of : Kind → Option ℕ) (first middle last : ℕ) (all : List Token) (token : Token)
-    → ((entry : ℕ) → first ≤ entry → entry < middle → HasEntry entry_of all entry)
-    → ((entry : ℕ) → middle ≤ entry → entry < last → entry_of token.kind ≡ Some entry)
-    → (entry : ℕ) → first ≤ entry → entry < last → HasEntry entry_of (all ++ token ∷ []) entry
-used_step entry_of first middle last all token before here entry from below =
-    elim (cases_lt entry middle) [
-      | inl lt ↦ has_more entry_of all token entry (before entry from lt)
-      | inr le ↦ has_last entry_of all token entry (here entry le below)
-    ]
-
-pub used_more : (old middle new : Tables) (all : List Token) (token : Token) (kind : Kind) (upto : ℕ) → token.kind ≡ kind → IsUsed old middle all
-    → IsUsedBy middle new (Some (kind, upto)) → IsUsed old new (all ++ token ∷ [])
-used_more old middle new all token kind upto is before here = record {
-  names = used_step name_entry (length old.names) (length middle.names) (length new.names) all token before.names
-      (λ entry from below. ap (λ (x : Kind). name_entry x) is ∙ here.names entry from below);
-  texts = used_step text_entry (length old.texts) (length middle.texts) (length new.texts) all token before.texts
-      (λ entry from below. ap (λ (x : Kind). text_entry x) is ∙ here.texts entry from below);
+pub numbers_more : (old middle new : Tables) (all : List Token) (token : Token) (kind : Kind) (upto : ℕ) → token.kind ≡ kind → NumbersInOrder old middle all
+    → NumbersOne middle new (Some (kind, upto)) → NumbersInOrder old new (all ++ token ∷ [])
+numbers_more old middle new all token kind upto is before here = record {
+  names = take_up_more name_entry all token (length old.names) (length middle.names) (length new.names) before.names
+      (subst (λ (x : Kind). TakesUp (name_entry x) (length middle.names) (length new.names)) (sym is) here.names);
+  texts = take_up_more text_entry all token (length old.texts) (length middle.texts) (length new.texts) before.texts
+      (subst (λ (x : Kind). TakesUp (text_entry x) (length middle.texts) (length new.texts)) (sym is) here.texts);
 }
 
 -- the end names no entry
-pub used_finish : (old new : Tables) (all : List Token) (token : Token) → IsUsed old new all → IsUsed old new (all ++ token ∷ [])
-used_finish old new all token h = record {
-  names = λ entry from below. has_more name_entry all token entry (h.names entry from below);
-  texts = λ entry from below. has_more text_entry all token entry (h.texts entry from below);
-}
+pub numbers_finish : (old new : Tables) (all : List Token) (token : Token) → token.kind ≡ kinds.Finish → NumbersInOrder old new all
+    → NumbersInOrder old new (all ++ token ∷ [])
+numbers_finish old new all token is h = numbers_more old new new all token kinds.Finish 0 is h (record { names = refl; texts = refl })

@@ -10,4 +10,7 @@ pub mod Growing
 pub mod Steps
 pub mod Unique
 pub mod Refusing
+pub mod SameNumbers
+pub mod Front
+pub mod Checked
 pub mod Laws

@@ -199,23 +199,36 @@ next_places tables tables' text i t u h g =
     g.reads.longest h.reads.lexeme t.span.upto (subst (λ (x : ℕ). Spells text h.reads.lexeme x t.span.upto) from h.reads.spelled) in
     (from, omega arith)
 
-next_same : (tables : Tables) (text : List ℕ) (i : ℕ) (t u : Token) → IsDistinct tables.names → IsDistinct tables.texts → IsNext tables text i t
-    → IsNext tables text i u → t ≡ u
-next_same tables text i t u names texts h g =
-    let places = next_places tables tables text i t u h g in
+-- and is for one lexeme
+pub next_lexeme : (tables tables' : Tables) (text : List ℕ) (i : ℕ) (t u : Token) (h : IsNext tables text i t) → IsNext tables' text i u
+    → IsKindOf tables' h.reads.lexeme u.kind
+next_lexeme tables tables' text i t u h g =
+    let places = next_places tables tables' text i t u h g in
     let there : Spells text g.reads.lexeme t.span.from t.span.upto =
     subst (λ (x : ℕ). Spells text g.reads.lexeme t.span.from x) (sym places.1) (subst (λ (x : ℕ). Spells text g.reads.lexeme x u.span.upto) (sym places.0) g.reads.spelled) in
     let lexeme : g.reads.lexeme ≡ h.reads.lexeme = lexeme_same text g.reads.lexeme h.reads.lexeme t.span.from t.span.upto there h.reads.spelled in
-    let kind : t.kind ≡ u.kind =
-    kind_same tables h.reads.lexeme t.kind u.kind names texts h.reads.is (subst (λ (x : Lexeme). IsKindOf tables x u.kind) lexeme g.reads.is) in
-    token_same t u kind places.0 places.1
+    subst (λ (x : Lexeme). IsKindOf tables' x u.kind) lexeme g.reads.is
+
+-- and differs by its kind alone
+pub next_alike : (tables tables' : Tables) (text : List ℕ) (i : ℕ) (t u : Token) → IsNext tables text i t → IsNext tables' text i u → record t { kind = u.kind } ≡ u
+next_alike tables tables' text i t u h g =
+    let places = next_places tables tables' text i t u h g in
+    token_same (record t { kind = u.kind }) u refl places.0 places.1
     (same_truth t.broken u.broken (SomeByte is_break text i t.span.from) h.broken (subst (λ (x : ℕ). IsTrue u.broken ↔ SomeByte is_break text i x) (sym places.0) g.broken))
 
+pub same_token : (tables tables' : Tables) (text : List ℕ) (i : ℕ) (t u : Token) → t.kind ≡ u.kind → IsNext tables text i t → IsNext tables' text i u → t ≡ u
+same_token tables tables' text i t u kind h g = ap (λ (k : Kind). record t { kind = k }) kind ∙ next_alike tables tables' text i t u h g
+
+next_same : (tables : Tables) (text : List ℕ) (i : ℕ) (t u : Token) → IsDistinct tables.names → IsDistinct tables.texts → IsNext tables text i t
+    → IsNext tables text i u → t ≡ u
+next_same tables text i t u names texts h g =
+    same_token tables tables text i t u (kind_same tables h.reads.lexeme t.kind u.kind names texts h.reads.is (next_lexeme tables tables text i t u h g)) h g
+
 -- no token stands next from i on
-abbrev IsOver : List ℕ → ℕ → Type 0
+abbrev pub IsOver : List ℕ → ℕ → Type 0
 IsOver text i = (tables : Tables) (token : Token) → IsNext tables text i token → ⊥
 
-finish_over : (text : List ℕ) (i : ℕ) (t : Token) → IsFinish text i t → IsOver text i
+pub finish_over : (text : List ℕ) (i : ℕ) (t : Token) → IsFinish text i t → IsOver text i
 finish_over text i t h tables u g =
     let same : length text ≡ u.span.from =
     gap_same text i (length text) u.span.from h.places g.places h.gap g.gap (unspaced_end text)
@@ -230,7 +243,7 @@ stuck_over text i at places gap stuck tables u g =
     stuck.no_lexeme g.reads.lexeme u.span.upto (subst (λ (x : ℕ). Spells text g.reads.lexeme x u.span.upto) (sym same) g.reads.spelled)
 
 -- tokens that are all go up to one place, whatever the tables
-stop_same : (tables tables' : Tables) (text : List ℕ) (i j j' : ℕ) (all all' : List Token) → AreTokens tables text i all j → AreTokens tables' text i all' j'
+pub stop_same : (tables tables' : Tables) (text : List ℕ) (i j j' : ℕ) (all all' : List Token) → AreTokens tables text i all j → AreTokens tables' text i all' j'
     → IsOver text j → IsOver text j' → j ≡ j'
 stop_same tables tables' text i j j' [] [] h g over over' = sym h ∙ g
 stop_same tables tables' text i j j' [] (u ∷ rest') h g over over' = absurd (over tables' u (subst (λ (x : ℕ). IsNext tables' text x u) h g.0))
@@ -250,7 +263,7 @@ all_same tables text i j j' (t ∷ rest) (u ∷ rest') names texts h g over over
     let on : AreTokens tables text t.span.upto rest' j' = subst (λ (x : Token). AreTokens tables text x.span.upto rest' j') (sym same) g.1 in
     ap (λ (x : Token). x ∷ rest) same ∙ ap (λ (x : List Token). u ∷ x) (all_same tables text t.span.upto j j' rest rest' names texts h.1 on over over')
 
-finish_same : (text : List ℕ) (i : ℕ) (t u : Token) → IsFinish text i t → IsFinish text i u → t ≡ u
+pub finish_same : (text : List ℕ) (i : ℕ) (t u : Token) → IsFinish text i t → IsFinish text i u → t ≡ u
 finish_same text i t u h g =
     token_same t u (h.kind ∙ sym g.kind) (h.from ∙ sym g.from) (h.upto ∙ sym g.upto)
     (same_truth t.broken u.broken (SomeByte is_break text i (length text)) h.broken g.broken)

@@ -6,6 +6,7 @@ use Rattle.sts_base.specs.declared.refused.Code.{Code}
 use Rattle.sts_lexer.specs.Tables.{Extends}
 use Rattle.sts_lexer.specs.Tokens.{IsTokenization}
 use Rattle.sts_lexer.specs.Refusals.{IsRefusal}
+use Rattle.sts_lexer.specs.Uses.{NumbersInOrder}
 use Rattle.sts_lexer.specs.declared.token.Token.{Token}
 
 -- A text is read in one way: it has one list of tokens by given tables of distinct strings, or one refusal, and
@@ -22,3 +23,17 @@ pub record OneReading : Type 0 where
 pub record SpellingsStay : Type 0 where
   pub tokens : (tables tables' : Tables) (text : List ℕ) (all : List Token) → Extends tables.names tables'.names
       → Extends tables.texts tables'.texts → IsTokenization tables text all → IsTokenization tables' text all
+
+-- The tokens of a text that is read over old tables, and the tables behind it.
+pub record IsRead (old : Tables) (text : List ℕ) (new : Tables) (all : List Token) : Type 0 where
+  pub tokens : IsTokenization new text all
+  pub names : IsDistinct new.names
+  pub texts : IsDistinct new.texts
+  pub more_names : Extends old.names new.names
+  pub more_texts : Extends old.texts new.texts
+  pub in_order : NumbersInOrder old new all
+
+-- A text that is read over given tables has one list of tokens and leaves one pair of tables.
+pub record OneNumbering : Type 0 where
+  pub one : (old new new' : Tables) (text : List ℕ) (all all' : List Token) → IsRead old text new all → IsRead old text new' all'
+      → (new ≡ new') × (all ≡ all')

@@ -1,5 +1,5 @@
--- Which entries of the tables tokens name.
-use Rattle.std.specs.Prelude.{◌≡◌, ℕ, ◌<◌, ◌≤◌, ◌⊎◌, List, [], ◌∷◌, length, Option, Some, None}
+-- Which entries of the tables tokens name, and in which order new strings are taken up.
+use Rattle.std.specs.Prelude.{◌≡◌, ℕ, ◌+◌, ◌<◌, ◌⊎◌, List, [], ◌∷◌, length, Option, Some, None}
 use Rattle.sts_base.specs.declared.tables.Tables.{Tables}
 use Rattle.sts_lexer.specs.declared.token.Kind.{Kind}
 use Rattle.sts_lexer.specs.declared.token.Kind.TheVariants as kinds
@@ -15,15 +15,21 @@ abbrev pub text_entry : Kind → Option ℕ
 text_entry (kinds.Text entry) = Some entry
 text_entry kind = None
 
--- some token of the list names this entry
-abbrev pub HasEntry : (Kind → Option ℕ) → List Token → ℕ → Type 0
-HasEntry entry_of [] entry = ⊥
-HasEntry entry_of (token ∷ rest) entry = (entry_of token.kind ≡ Some entry) ⊎ HasEntry entry_of rest entry
+-- A table of so many strings has so many behind a token that names this entry, or none: an entry that is there adds nothing, and a new
+-- string is the next entry.
+abbrev pub TakesUp : Option ℕ → (before after : ℕ) → Type 0
+TakesUp None before after = after ≡ before
+TakesUp (Some entry) before after = ((entry < before) × (after ≡ before)) ⊎ ((entry ≡ before) × (after ≡ before + 1))
 
--- Nothing else was taken up: each string behind the old ones is named by a token.
-pub record IsUsed (old new : Tables) (all : List Token) : Type 0 where
-  pub names : (entry : ℕ) → length old.names ≤ entry → entry < length new.names → HasEntry name_entry all entry
-  pub texts : (entry : ℕ) → length old.texts ≤ entry → entry < length new.texts → HasEntry text_entry all entry
+-- the same of tokens, one behind the other
+abbrev pub TakeUp : (Kind → Option ℕ) → List Token → (before after : ℕ) → Type 0
+TakeUp entry_of [] before after = after ≡ before
+TakeUp entry_of (token ∷ rest) before after = (next : ℕ) × TakesUp (entry_of token.kind) before next × TakeUp entry_of rest next after
+
+-- The strings behind the old ones are those that tokens name and the old tables lack, in the order in which they first appear.
+pub record NumbersInOrder (old new : Tables) (all : List Token) : Type 0 where
+  pub names : TakeUp name_entry all (length old.names) (length new.names)
+  pub texts : TakeUp text_entry all (length old.texts) (length new.texts)
 
 -- the entry of the one token that was read, if one was
 abbrev pub entry_found : (Kind → Option ℕ) → Option (Kind × ℕ) → Option ℕ
@@ -31,6 +37,6 @@ entry_found entry_of None = None
 entry_found entry_of (Some read) = entry_of read.0
 
 -- the same of one token, if one was read
-pub record IsUsedBy (old new : Tables) (found : Option (Kind × ℕ)) : Type 0 where
-  pub names : (entry : ℕ) → length old.names ≤ entry → entry < length new.names → entry_found name_entry found ≡ Some entry
-  pub texts : (entry : ℕ) → length old.texts ≤ entry → entry < length new.texts → entry_found text_entry found ≡ Some entry
+pub record NumbersOne (old new : Tables) (found : Option (Kind × ℕ)) : Type 0 where
+  pub names : TakesUp (entry_found name_entry found) (length old.names) (length new.names)
+  pub texts : TakesUp (entry_found text_entry found) (length old.texts) (length new.texts)

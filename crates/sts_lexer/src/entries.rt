@@ -3,6 +3,7 @@ ghost use Rattle.std.specs.Prelude.{◌≡◌, ℕ, ◌+◌, ◌<◌, ◌≤◌,
 ghost use Rattle.sts_base.specs.Distinct.{IsDistinct};
 ghost use Rattle.sts_lexer.specs.Tables.{Extends};
 ghost use Rattle.sts_lexer.specs.Entries.{Indexes, Notes, IsIndexed};
+ghost use Rattle.sts_lexer.specs.Uses.{TakesUp};
 
 use std::alloc::Global;
 use std::collections::BTreeMap;
@@ -69,7 +70,7 @@ pub fn entry_of(
     ensures distinct { IsDistinct strings.new }
     ensures extended { Extends strings.old strings.new }
     ensures few { length strings.new ≤ length strings.old + 1 }
-    ensures used { IfOk result (λ entry. (k : ℕ) → length strings.old ≤ k → k < length strings.new → entry ≡ k) }
+    ensures in_order { IfOk result (λ entry. TakesUp (Some entry) (length strings.old) (length strings.new)) }
 {
     if let Some(entry) = entries.get(bytes) {
         return Ok(*entry);

@@ -1,11 +1,12 @@
 // The token that stands at a place.
 ghost use Rattle.std.specs.Prelude.{◌≡◌, ℕ, ◌+◌, ◌<◌, ◌≤◌, ◌^◌, length, slice_index, false, Some, IsTrue, IfOk, IfSome, IfNone, OnOk};
+ghost use Rattle.sts_base.specs.declared.tables.Tables.{Tables};
 ghost use Rattle.sts_lexer.specs.Bytes as bytes;
 ghost use Rattle.sts_lexer.specs.Lexemes.{Lexeme, Spells};
 ghost use Rattle.sts_lexer.specs.Tokens.{Reads};
 ghost use Rattle.sts_lexer.specs.Tables.{GrewBy, AreDistinct};
 ghost use Rattle.sts_lexer.specs.Entries.{IsIndexed};
-ghost use Rattle.sts_lexer.specs.Uses.{IsUsedBy};
+ghost use Rattle.sts_lexer.specs.Uses.{NumbersOne};
 
 use crate::bytes::{Class, begins_name, is_quote, run_end};
 use crate::entries::{Index, entry_of};
@@ -31,7 +32,7 @@ fn name_at(
     requires room { length tables.old.names < 2 ^ 32 }
     requires indexed { IsIndexed tables.old index.old }
     ensures reads { IfOk result (λ r. Reads tables.new text.now at r.0 r.1) }
-    ensures used { IfOk result (λ r. IsUsedBy tables.old tables.new (Some r)) }
+    ensures in_order { IfOk result (λ r. NumbersOne tables.old tables.new (Some r)) }
     ensures within { IfOk result (λ r. (at < r.1) × (r.1 ≤ length text.now)) }
     ensures indexed { OnOk result (IsIndexed tables.new index.new) }
     ensures distinct { AreDistinct tables.new }
@@ -60,7 +61,7 @@ fn text_at(
     requires room { length tables.old.texts < 2 ^ 32 }
     requires indexed { IsIndexed tables.old index.old }
     ensures reads { IfOk result (λ found. IfSome found (λ r. Reads tables.new text.now at r.0 r.1)) }
-    ensures used { IfOk result (IsUsedBy tables.old tables.new) }
+    ensures in_order { IfOk result (NumbersOne tables.old tables.new) }
     ensures within { IfOk result (λ found. IfSome found (λ r. (at < r.1) × (r.1 ≤ length text.now))) }
     ensures none { IfOk result (λ found. IfNone found ((lexeme : Lexeme) (end : ℕ) → Spells text.now lexeme at end → ⊥)) }
     ensures indexed { OnOk result (IsIndexed tables.new index.new) }
@@ -81,6 +82,7 @@ fn plain_at(text: &[u8], at: usize) -> Option<(Kind, usize)>
     requires no_name { bytes.begins_name (slice_index text.now at) ≡ false }
     requires no_quote { bytes.is_quote (slice_index text.now at) ≡ false }
     ensures reads { IfSome result (λ r. (tables : Tables) → Reads tables text.now at r.0 r.1) }
+    ensures in_order { (tables : Tables) → NumbersOne tables tables result }
     ensures within { IfSome result (λ r. (at < r.1) × (r.1 ≤ length text.now)) }
     ensures none { IfNone result ((lexeme : Lexeme) (end : ℕ) → Spells text.now lexeme at end → ⊥) }
 {
@@ -109,7 +111,7 @@ pub fn kind_at(
     requires texts_room { length tables.old.texts < 2 ^ 32 }
     requires indexed { IsIndexed tables.old index.old }
     ensures reads { IfOk result (λ found. IfSome found (λ r. Reads tables.new text.now at r.0 r.1)) }
-    ensures used { IfOk result (IsUsedBy tables.old tables.new) }
+    ensures in_order { IfOk result (NumbersOne tables.old tables.new) }
     ensures within { IfOk result (λ found. IfSome found (λ r. (at < r.1) × (r.1 ≤ length text.now))) }
     ensures none { IfOk result (λ found. IfNone found ((lexeme : Lexeme) (end : ℕ) → Spells text.now lexeme at end → ⊥)) }
     ensures indexed { OnOk result (IsIndexed tables.new index.new) }

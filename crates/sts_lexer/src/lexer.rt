@@ -7,7 +7,7 @@ ghost use Rattle.sts_lexer.specs.Entries.{IsIndexed};
 ghost use Rattle.sts_lexer.specs.Refusals.{Refuses, cause};
 ghost use Rattle.sts_lexer.specs.Tables.{Extends, GrewBy, AreDistinct};
 ghost use Rattle.sts_lexer.specs.Tokens.{IsTokenization};
-ghost use Rattle.sts_lexer.specs.Uses.{IsUsed};
+ghost use Rattle.sts_lexer.specs.Uses.{NumbersInOrder};
 
 use crate::bytes::{has_break, is_quote};
 use crate::entries::{Index, index_of};
@@ -70,7 +70,7 @@ fn read_all(
     requires few_texts { length tables.old.texts < 2 ^ 31 }
     requires indexed { IsIndexed tables.old index.old }
     ensures tokens { IfOk result (IsTokenization tables.new text.now) }
-    ensures used { IfOk result (IsUsed tables.old tables.new) }
+    ensures in_order { IfOk result (NumbersInOrder tables.old tables.new) }
     ensures refused { IfErr result (Refuses text.now) }
     ensures distinct { AreDistinct tables.new }
     ensures grew { GrewBy most_bytes tables.old tables.new }
@@ -111,7 +111,7 @@ pub fn tokens(alloc: Global, text: &[u8], tables: &mut Tables) -> Result<Seq<Tok
     requires few_names { length tables.old.names < 2 ^ 31 }
     requires few_texts { length tables.old.texts < 2 ^ 31 }
     ensures tokens { IfOk result (IsTokenization tables.new text.now) }
-    ensures used { IfOk result (IsUsed tables.old tables.new) }
+    ensures in_order { IfOk result (NumbersInOrder tables.old tables.new) }
     ensures refused { IfErr result (Refuses text.now) }
     ensures names_extended { Extends tables.old.names tables.new.names }
     ensures texts_extended { Extends tables.old.texts tables.new.texts }

@@ -1,5 +1,5 @@
 // Laws of tokens.
-ghost use Rattle.sts_lexer.specs.Laws.{OneReading, SpellingsStay};
+ghost use Rattle.sts_lexer.specs.Laws.{OneNumbering, OneReading, SpellingsStay};
 
 /// A text has one list of tokens by given tables, or one refusal, and never both.
 pub fn one_reading()
@@ -9,4 +9,9 @@ pub fn one_reading()
 /// Tokens stay tokens of their text when the tables grow.
 pub fn spellings_stay()
     ensures { SpellingsStay }
+{}
+
+/// A text that is read over given tables has one list of tokens, and leaves one pair of tables.
+pub fn one_numbering()
+    ensures { OneNumbering }
 {}

@@ -1,5 +1,6 @@
-use Rattle.std.proofs.Common.{◌≡◌, ◌++◌, ◌∷◌, [], List, ℕ, length, sym, subst, ◌∙◌, ap}
+use Rattle.std.proofs.Common.{◌≡◌, ◌++◌, ◌∷◌, [], List, ℕ, length, refl, sym, subst, ◌∙◌, ap, inl}
 use Rattle.std.specs.Prelude.{Some, slice_get}
+use Rattle.std.proofs.lemmas.Option.{slice_get_within}
 use Rattle.sts_base.specs.Distinct.{IsDistinct}
 use Rattle.sts_lexer.specs.Entries.{Indexes}
 use Rattle.sts_lexer.proofs.Numbering.{distinct_added, indexes_added, slice_get_added, known, unknown}
@@ -8,6 +9,10 @@ use Rattle.sts_lexer.proofs.entries.entry_of.Goals as goal
 pub returns-in-Some-clause-entry : goal.returns-in-Some-clause-entry
 returns-in-Some-clause-entry c =
     known c.args.entries.now c.args.strings.now c.args.bytes.now c.in-Some.entry.now c.requires.indexed c.in-Some.ensures.value
+
+pub returns-in-Some-clause-in_order : goal.returns-in-Some-clause-in_order
+returns-in-Some-clause-in_order c =
+    inl (slice_get_within c.args.strings.now c.in-Some.entry.now c.args.bytes.now (known c.args.entries.now c.args.strings.now c.args.bytes.now c.in-Some.entry.now c.requires.indexed c.in-Some.ensures.value), refl)
 
 pub returns-in_err-note-clause-distinct : goal.returns-in_err-note-clause-distinct
 returns-in_err-note-clause-distinct c =

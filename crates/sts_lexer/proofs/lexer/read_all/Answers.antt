@@ -5,8 +5,8 @@ use Rattle.sts_lexer.specs.Spaces.{start_of}
 use Rattle.sts_lexer.specs.Lexemes.{Lexeme, Spells}
 use Rattle.sts_lexer.specs.Tokens.{AreTokens}
 use Rattle.sts_lexer.specs.declared.token.Token.{Token}
-use Rattle.sts_lexer.specs.Uses.{IsUsed, IsUsedBy}
-use Rattle.sts_lexer.proofs.Growing.{used_more, used_finish, extends_on, tokens_stay, tokens_more}
+use Rattle.sts_lexer.specs.Uses.{NumbersInOrder, NumbersOne}
+use Rattle.sts_lexer.proofs.Growing.{numbers_more, numbers_finish, extends_on, tokens_stay, tokens_more}
 use Rattle.sts_lexer.proofs.Steps.{mapped, at_ok, on_ok, finish_of, next_of, refusal_of}
 use Rattle.sts_lexer.proofs.lexer.read_all.Goals as goal
 
@@ -28,11 +28,11 @@ returns-then-from-text-clause-tokens c =
       all_is = on_ok c.push.result _ _ pushed c.push.ensures.ok;
     }
 
-pub returns-then-from-text-clause-used : goal.returns-then-from-text-clause-used
-returns-then-from-text-clause-used c =
+pub returns-then-from-text-clause-in_order : goal.returns-then-from-text-clause-in_order
+returns-then-from-text-clause-in_order c =
     let pushed : c.push.result ≡ Ok c.in_ok-map_err.field-0 = mapped c.push.result c.map_err.result _ _ c.map_err.ensures.cases c.map_err.ensures.variant c.in_ok-map_err.was in
-    subst (λ (x : List Token). IsUsed c.args.tables.now c.reading.tables x) (sym (on_ok c.push.result _ _ pushed c.push.ensures.ok))
-    (used_finish c.args.tables.now c.reading.tables c.reading.all c.make_token.result c.reading.invariant.used)
+    subst (λ (x : List Token). NumbersInOrder c.args.tables.now c.reading.tables x) (sym (on_ok c.push.result _ _ pushed c.push.ensures.ok))
+    (numbers_finish c.args.tables.now c.reading.tables c.reading.all c.make_token.result c.make_token.ensures.kind c.reading.invariant.in_order)
 
 pub returns-in_default-clause-refused : goal.returns-in_default-clause-refused
 returns-in_default-clause-refused c =
@@ -72,8 +72,8 @@ reading-preserved c =
     mapped c.push-in-reading.result c.map_err-in-reading-2.result _ _ c.map_err-in-reading-2.ensures.cases c.map_err-in-reading-2.ensures.variant c.in_ok-map_err-2.was in
     let reads = MatchOption-at_some _ _ _ c.in-Some.is (at_ok c.kind_at.result _ c.in_ok-found.found found c.kind_at.ensures.reads) in
     let ends = MatchOption-at_some _ _ _ c.in-Some.is (at_ok c.kind_at.result _ c.in_ok-found.found found c.kind_at.ensures.within) in
-    let used : IsUsedBy old new (Some (c.in-Some.kind, c.in-Some.upto)) =
-    subst (λ x. IsUsedBy old new x) c.in-Some.is (at_ok c.kind_at.result _ c.in_ok-found.found found c.kind_at.ensures.used) in
+    let taken : NumbersOne old new (Some (c.in-Some.kind, c.in-Some.upto)) =
+    subst (λ x. NumbersOne old new x) c.in-Some.is (at_ok c.kind_at.result _ c.in_ok-found.found found c.kind_at.ensures.in_order) in
     let grew = c.kind_at.ensures.grew in
     let made = c.make_token-in-reading.ensures in
     let next = next_of new text c.reading.at from c.in-Some.upto c.in-Some.kind token c.has_break-broken.result made.kind made.from made.upto made.broken
@@ -87,7 +87,7 @@ reading-preserved c =
       names = extends_on _ _ _ before.names grew.names;
       texts = extends_on _ _ _ before.texts grew.texts;
       few_names = omega (arith, grew.few_names, before.few_names, ends.0, c.gap_end-from.ensures.after);
-      used = subst (λ (x : List Token). IsUsed c.args.tables.now new x) (sym (on_ok c.push-in-reading.result _ _ pushed c.push-in-reading.ensures.ok))
-          (used_more c.args.tables.now old new c.reading.all token c.in-Some.kind c.in-Some.upto made.kind before.used used);
+      in_order = subst (λ (x : List Token). NumbersInOrder c.args.tables.now new x) (sym (on_ok c.push-in-reading.result _ _ pushed c.push-in-reading.ensures.ok))
+          (numbers_more c.args.tables.now old new c.reading.all token c.in-Some.kind c.in-Some.upto made.kind before.in_order taken);
       few_texts = omega (arith, grew.few_texts, before.few_texts, ends.0, c.gap_end-from.ensures.after);
     }

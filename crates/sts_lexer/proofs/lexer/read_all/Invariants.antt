@@ -3,7 +3,7 @@ use Rattle.sts_lexer.specs.Spaces.{start_of}
 use Rattle.sts_lexer.specs.Tokens.{AreTokens}
 use Rattle.sts_lexer.specs.Tables.{Extends}
 use Rattle.sts_lexer.specs.Entries.{IsIndexed}
-use Rattle.sts_lexer.specs.Uses.{IsUsed}
+use Rattle.sts_lexer.specs.Uses.{NumbersInOrder}
 use Rattle.sts_lexer.proofs.lexer.read_all.Given as goal
 
 abbrev pub invariant-reading : goal.invariant-reading
@@ -14,7 +14,7 @@ invariant-reading l = record {
   names : Extends l.initial.tables.names l.tables.names;
   texts : Extends l.initial.tables.texts l.tables.texts;
   few_names : length l.tables.names ≤ length l.initial.tables.names + l.at;
-  used : IsUsed l.initial.tables l.tables l.all;
+  in_order : NumbersInOrder l.initial.tables l.tables l.all;
   few_texts : length l.tables.texts ≤ length l.initial.tables.texts + l.at;
 }
 

@@ -1,0 +1,4 @@
+mod Tokens
+mod Renumbered
+mod Spelling
+mod Refusals

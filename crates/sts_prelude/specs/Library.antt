@@ -1,0 +1,127 @@
+-- The tree of the library's text, over the text's tokens, which are counted from 0.
+use Rattle.std.specs.Prelude.{ℕ, ℤ, pos, ◌+◌, false, Some, None, List, [], ◌∷◌, slice_get}
+use Rattle.sts_lexer.specs.declared.token.Kind.{Kind}
+use Rattle.sts_lexer.specs.declared.token.Kind.TheVariants as k
+use Rattle.sts_lexer.specs.declared.token.Token.{Token}
+use Rattle.sts_syntax.specs.Annotations as a
+use Rattle.sts_syntax.specs.Annotations.{Annotation}
+use Rattle.sts_syntax.specs.Trees.{Parameter, Tree, Num, Text, Name, Binary, Choice, Set, Member, Call, Trees, none, more, present, Statement, Block, Let, While, Return, Plain, Statements, done, also, Declare, ended, next, Does}
+use Rattle.sts_syntax.specs.Programs.{TopLevel, Function, Program}
+use Rattle.sts_grammar.specs.Source.{kind_of, place_of}
+
+abbrev pub entry_of : Kind → ℕ
+entry_of (k.Name entry) = entry
+entry_of (k.Word word entry) = entry
+entry_of (k.Text entry) = entry
+entry_of other = 0
+
+-- a return of a value, as the whole of a function
+abbrev pub returned : ℕ → Tree → Statements
+returned at value = also (Return at (present value)) done
+
+module _ (tokens : List Token) where
+  -- the place of the token at i, and the entry that it names
+  abbrev pub place : ℕ → ℕ
+  place i = place_of (slice_get tokens i)
+
+  abbrev pub entry : ℕ → ℕ
+  entry i = entry_of (kind_of (slice_get tokens i))
+
+  -- the name and the number at i
+  abbrev pub name : ℕ → Tree
+  name i = Name (place i) (entry i)
+
+  abbrev pub number : ℕ → ℤ → Tree
+  number i value = Num (place i) value
+
+  abbrev pub text : ℕ → Tree
+  text i = Text (place i) (entry i)
+
+  -- `f(..)` from i on, and `x.f(argument)` as a statement
+  abbrev pub call : ℕ → Trees → Tree
+  call i args = Call (place i) (name i) args
+
+  abbrev pub member_call : ℕ → (argument : Tree) → Statement
+  member_call i argument = Plain (place i) (Call (place i) (Member (place i) (name i) (entry (i + 2))) (more argument none))
+
+  -- `$show(x)` and `basic.pause(400)` from i on
+  abbrev pub show : ℕ → Statement
+  show i = Plain (place i) (call i (more (name (i + 2)) none))
+
+  abbrev pub pause : ℕ → Statement
+  pause i = member_call i (number (i + 4) (pos 400))
+
+  -- `$glyph(x, index)` from i on, and `let x = first`
+  abbrev pub glyph : ℕ → (index : Tree) → Tree
+  glyph i index = call i (more (name (i + 2)) (more index none))
+
+  abbrev pub declare : ℕ → (first : Tree) → Statement
+  declare i first = Let (place i) false (next (Declare (place (i + 1)) (entry (i + 1)) None (present first)) ended)
+
+  -- `i += 1` and `g = $glyph(x, i)` from i on
+  abbrev pub count : ℕ → Statement
+  count i = Plain (place i) (Set (place i) (Some 13) (name i) (number (i + 2) (pos 1)))
+
+  abbrev pub next_glyph : ℕ → Statement
+  next_glyph i = Plain (place i) (Set (place i) None (name i) (glyph (i + 2) (name (i + 6))))
+
+  -- `$show(g); basic.pause(400); i += 1; g = $glyph(x, i)` from i on
+  abbrev pub turn : ℕ → Statements
+  turn i = also (show i) (also (pause (i + 5)) (also (count (i + 12)) (also (next_glyph (i + 16)) done)))
+
+  -- `while (g >= 0) { .. }` from i on
+  abbrev pub glyph_loop : ℕ → Statement
+  glyph_loop i = While (place i) (Binary (place (i + 2)) 9 (name (i + 2)) (number (i + 4) (pos 0))) (Block (place (i + 6)) (turn (i + 7)))
+
+  -- `let g = $glyph(x, 0)` from i on
+  abbrev pub first_glyph : ℕ → Statement
+  first_glyph i = declare i (glyph (i + 3) (number (i + 7) (pos 0)))
+
+  -- the statements of `$showNumber` and `$showString`, from i on
+  abbrev pub show_glyphs : ℕ → Statements
+  show_glyphs i = also (declare i (number (i + 3) (pos 0))) (also (first_glyph (i + 4)) (also (glyph_loop (i + 13)) done))
+
+  -- of `$showLeds` and `$writeLine`
+  abbrev pub show_leds : ℕ → Statements
+  show_leds i = also (show i) (also (pause (i + 5)) done)
+
+  abbrev pub write_line : ℕ → Statements
+  write_line i = also (member_call i (name (i + 4))) (also (member_call (i + 7) (text (i + 11))) done)
+
+  -- `return n < 0 ? 0 - n : n` and `return a < b ? a : b`, with the number of the operator, from i on
+  abbrev pub absolute : ℕ → Statements
+  absolute i =
+      returned (place i)
+      (Choice (place (i + 1)) (Binary (place (i + 1)) 6 (name (i + 1)) (number (i + 3) (pos 0)))
+      (Binary (place (i + 5)) 14 (number (i + 5) (pos 0)) (name (i + 7))) (name (i + 9)))
+
+  abbrev pub one_of_two : ℕ → (op : ℕ) → Statements
+  one_of_two i op =
+      returned (place i) (Choice (place (i + 1)) (Binary (place (i + 1)) op (name (i + 1)) (name (i + 3))) (name (i + 5)) (name (i + 7)))
+
+  abbrev pub parameter : ℕ → Annotation → Parameter
+  parameter i type = record { at = place i; name = entry i; shape = Some type }
+
+  -- `function NAME(..): gives { .. }` from i on
+  abbrev pub function : ℕ → List Parameter → Annotation → Statements → TopLevel
+  function i params gives all = Function (entry (i + 1)) (Does (place (i + 1)) params (Some gives) all false)
+
+  -- a function of a number or of a text that gives nothing
+  abbrev pub of_number : ℕ → Statements → TopLevel
+  of_number i all = function i (parameter (i + 3) a.Number ∷ []) a.Nothing all
+
+  abbrev pub of_text : ℕ → Statements → TopLevel
+  of_text i all = function i (parameter (i + 3) a.Text ∷ []) a.Nothing all
+
+  -- `$abs`, and `$min` and `$max` by the number of the operator
+  abbrev pub abs : ℕ → TopLevel
+  abs i = function i (parameter (i + 3) a.Number ∷ []) a.Number (absolute (i + 10))
+
+  abbrev pub least_or_greatest : ℕ → (op : ℕ) → TopLevel
+  least_or_greatest i op = function i (parameter (i + 3) a.Number ∷ parameter (i + 7) a.Number ∷ []) a.Number (one_of_two (i + 14) op)
+
+  -- the library
+  abbrev pub library : Program
+  library =
+      of_number 0 (show_leds 10) ∷ of_number 22 (show_glyphs 32) ∷ of_text 78 (show_glyphs 88) ∷ of_text 134 (write_line 144)
+      ∷ abs 158 ∷ least_or_greatest 179 6 ∷ least_or_greatest 202 7 ∷ []
