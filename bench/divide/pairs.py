@@ -1,0 +1,75 @@
+"""Writes pairs of a dividend and a divisor, or tests what was made of them.
+
+    pairs.py write SEED COUNT > PAIRS
+    pairs.py test PAIRS < ANSWERS
+
+Quotient and remainder are Python's of the magnitudes, with the signs that ECMA-262 gives them, through ToInt32. The instructions are counted along the
+routine's branches: it is a long division, bit by bit from the highest on.
+"""
+import random
+import sys
+
+LOW, HIGH = -(2**31), 2**31 - 1
+EDGES = [0, 1, -1, 2, -2, 3, -3, 7, -7, 10, -13, 255, 256, -256, 65535, 65536, -65536, 2**30, -(2**30), HIGH, HIGH - 1, LOW, LOW + 1]
+
+
+def expected(dividend, divisor):
+    if divisor == 0:
+        return 0, 0
+    quotient, remainder = divmod(abs(dividend), abs(divisor))
+    if (dividend < 0) != (divisor < 0):
+        quotient = -quotient
+    if quotient == 2**31:
+        quotient = LOW
+    return quotient, -remainder if dividend < 0 else remainder
+
+
+def instructions(dividend, divisor):
+    if divisor == 0:
+        return 4
+    count = 2
+    count += 5 if dividend < 0 else 3
+    count += 4 if divisor < 0 else 2
+    count += 3
+    ones = bin(abs(dividend) // abs(divisor)).count("1")
+    count += 6 * (32 - ones) + 8 * ones
+    count += 4 if dividend < 0 else 3
+    count += 6 if (dividend < 0) != (divisor < 0) else 5
+    return count
+
+
+def number(chosen):
+    """A number whose magnitude has any length with the same chance, or one at an edge."""
+    kind = chosen.random()
+    if kind < 0.1:
+        return chosen.choice(EDGES)
+    size = chosen.randint(0, 31)
+    return max(LOW, min(HIGH, chosen.choice([1, -1]) * chosen.getrandbits(size + 1)))
+
+
+def write(seed, count):
+    chosen = random.Random(seed)
+    for _ in range(count):
+        print(number(chosen), number(chosen))
+
+
+def test(path):
+    wrong = most = 0
+    rows = 0
+    with open(path, encoding="ascii") as pairs:
+        for pair, answer in zip(pairs, sys.stdin, strict=True):
+            dividend, divisor = map(int, pair.split())
+            due = (*expected(dividend, divisor), instructions(dividend, divisor))
+            rows += 1
+            most = max(most, due[2])
+            if answer.split() != [str(number) for number in due]:
+                wrong += 1
+                print(f"{dividend} {divisor}: {answer.strip()}, not {due}")
+    print(f"divide: {rows} pairs, {wrong} wrong, at most {most} instructions")
+    return wrong == 0 and most <= 280
+
+
+if sys.argv[1] == "write":
+    write(int(sys.argv[2]), int(sys.argv[3]))
+else:
+    sys.exit(0 if test(sys.argv[2]) else 1)

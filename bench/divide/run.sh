@@ -1,0 +1,14 @@
+#!/bin/sh
+# Random pairs through the division routine on the machine, beside Python's division: quotient, remainder and instructions. The program is built where it
+# isn't there.
+# usage: bench/divide/run.sh [SEED] [COUNT]
+set -eu
+here=$(cd "$(dirname "$0")" && pwd)
+crate=$here/../../crates/divide_rows
+program=$crate/out/divide_rows
+[ -x "$program" ] || (cd "$crate" && rt run -- < /dev/null > /dev/null) || [ -x "$program" ]
+folder=$(mktemp -d)
+trap 'rm -rf "$folder"' EXIT
+python3 "$here/pairs.py" write "${1:-1}" "${2:-1000000}" > "$folder/pairs"
+"$program" < "$folder/pairs" > "$folder/answers"
+python3 "$here/pairs.py" test "$folder/pairs" < "$folder/answers"

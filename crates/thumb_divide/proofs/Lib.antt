@@ -1,0 +1,6 @@
+mod Signed
+mod Sums
+mod Loop
+mod Whole
+mod Reading
+pub mod Laws

@@ -1,0 +1,4 @@
+pub mod Routine
+pub mod Steady
+pub mod Divides
+pub mod Banked
