@@ -1,0 +1,30 @@
+-- Going through parameters, and the place of a function.
+use Rattle.std.proofs.Common.{◌≡◌, ℕ, zero, suc, ◌+◌, ◌<◌, List, [], ◌∷◌, length, take, drop, get_or, refl, ap, ◌∙◌}
+use Rattle.std.specs.Prelude.{not}
+use Rattle.sts_base.specs.declared.refused.Code.TheVariants.{TwiceNamed, NeedsType}
+use Rattle.sts_syntax.specs.declared.trees.Param.{Param}
+use Rattle.sts_syntax.specs.declared.trees.Body.{Body, out-Body}
+use Rattle.sts_syntax.specs.Views.{parameter, parameters, routine, optional_annotation}
+use Rattle.sts_syntax.proofs.Laws.{routine_parts}
+use Rattle.sts_scope.specs.Faults.{◌then◌, own, unless}
+use Rattle.sts_scope.specs.Entries.{Naming}
+use Rattle.sts_scope.specs.Headings.{takes_name, written_fault, parameters_fault, routine_at}
+use Rattle.sts_scope.proofs.Lists.{drop_at}
+
+parameters_take : (ps : List Param) (i : ℕ) → take i (parameters ps) ≡ parameters (take i ps)
+parameters_take [] zero = refl
+parameters_take [] (suc i) = refl
+parameters_take (p ∷ ps) zero = refl
+parameters_take (p ∷ ps) (suc i) = ap (λ xs. parameter p ∷ xs) (parameters_take ps i)
+
+pub parameters_step : (names : Naming) (ps : List Param) (i : ℕ) (p : Param) → i < length ps → p ≡ get_or ps i p →
+    parameters_fault names (parameters ps) i (parameters (drop i ps))
+    ≡ ((own (optional_annotation p.shape) NeedsType p.at then unless (not (takes_name (parameters (take i ps)) p.name)) TwiceNamed p.at then written_fault names (optional_annotation p.shape))
+    then parameters_fault names (parameters ps) (i + 1) (parameters (drop (i + 1) ps)))
+parameters_step names ps i p lt is =
+    ap (λ xs. parameters_fault names (parameters ps) i (parameters xs)) (drop_at ps i p lt is)
+    ∙ ap (λ qs. (own (optional_annotation p.shape) NeedsType p.at then unless (not (takes_name qs p.name)) TwiceNamed p.at then written_fault names (optional_annotation p.shape))
+    then parameters_fault names (parameters ps) (i + 1) (parameters (drop (i + 1) ps))) (parameters_take ps i)
+
+pub method_at : (b : Body) → routine_at (routine b) ≡ (out-Body b).at
+method_at b = ap routine_at (routine_parts b)

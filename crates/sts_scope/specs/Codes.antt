@@ -1,0 +1,54 @@
+-- Why a node has no type although its parts have: the first cause of the list.
+use Rattle.std.specs.Prelude.{Option, Some, None}
+use Rattle.sts_base.specs.declared.refused.Code.{Code}
+use Rattle.sts_base.specs.declared.refused.Code.TheVariants.{UnknownName, Captures, NeedsType, BadHandler, Mismatch}
+use Rattle.sts_scope.specs.declared.kinds.Kind.{Kind}
+use Rattle.sts_scope.specs.declared.known.This.{This}
+use Rattle.sts_scope.specs.declared.known.This.TheVariants as this
+use Rattle.sts_scope.specs.declared.known.Found.{Found}
+use Rattle.sts_scope.specs.declared.known.Found.TheVariants as found
+use Rattle.sts_scope.specs.declared.known.Part.{Part}
+use Rattle.sts_scope.specs.declared.known.Part.TheVariants as part
+
+-- a name that is read
+abbrev pub why_name : Found → Code
+why_name found.Unknown = UnknownName
+why_name (found.Class c) = UnknownName
+why_name found.Captured = Captures
+why_name (found.Local i) = NeedsType
+why_name (found.Global d) = NeedsType
+why_name (found.Function d) = BadHandler
+
+abbrev pub why_this : This → Code
+why_this this.Nowhere = UnknownName
+why_this (this.Hidden c) = Captures
+why_this (this.Object c) = Mismatch
+
+-- a member that is read
+abbrev pub why_part : Part → Code
+why_part part.Missing = UnknownName
+why_part (part.Field d) = NeedsType
+why_part (part.Method d) = BadHandler
+why_part (part.Push t) = BadHandler
+why_part (part.Pop t) = BadHandler
+why_part part.Length = Mismatch
+
+-- a call of what gives this
+abbrev pub why_call : Option Kind → Code
+why_call None = NeedsType
+why_call (Some t) = Mismatch
+
+-- the class name of `new`
+abbrev pub why_make : Found → Code
+why_make found.Captured = Captures
+why_make found.Unknown = UnknownName
+why_make (found.Class c) = Mismatch
+why_make (found.Local i) = UnknownName
+why_make (found.Global d) = UnknownName
+why_make (found.Function d) = UnknownName
+
+-- `super.m(..)` where there is no such method of a base
+abbrev pub why_super : This → Code
+why_super this.Nowhere = UnknownName
+why_super (this.Object c) = UnknownName
+why_super (this.Hidden c) = Captures

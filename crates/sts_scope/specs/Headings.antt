@@ -1,0 +1,86 @@
+-- The headings of functions and members of classes: types are known, parameters have one, and no name stands twice.
+use Rattle.std.specs.Prelude.{ℕ, ◌+◌, Bool, true, false, not, ◌||◌, ◌==◌, Option, Some, None, List, [], ◌∷◌, length, is_some, take}
+use Rattle.sts_base.specs.declared.refused.Code.TheVariants.{UnknownName, TwiceNamed, NeedsType}
+use Rattle.sts_syntax.specs.Annotations as s
+use Rattle.sts_syntax.specs.Annotations.{Annotation}
+use Rattle.sts_syntax.specs.Trees.{Parameter, OptionalTree, absent, present, Declaration, Declare, Routine, Does}
+use Rattle.sts_syntax.specs.Programs.{ClassMember, Field, Method, Constructor, TopLevel, Class, Function, Main, Program}
+use Rattle.sts_scope.specs.declared.entries.Owner.TheVariants as o
+use Rattle.sts_scope.specs.declared.entries.Entry.{Entry}
+use Rattle.sts_scope.specs.declared.entries.ClassHead.{ClassHead}
+use Rattle.sts_scope.specs.Faults.{Fault, ◌then◌, unless, own}
+use Rattle.sts_scope.specs.Entries.{Naming, classes_in, item_entries, member_entry}
+use Rattle.sts_scope.specs.Lookup.{is_second, inherited, inherits_field}
+
+-- an unknown type name, at that name
+abbrev pub type_fault : Naming → Annotation → Option Fault
+type_fault names (s.Named at x) = own (names x) UnknownName at
+type_fault names (s.ListOf a) = type_fault names a
+type_fault names s.Number = None
+type_fault names s.Boolean = None
+type_fault names s.Text = None
+type_fault names s.Nothing = None
+
+abbrev pub written_fault : Naming → Option Annotation → Option Fault
+written_fault names None = None
+written_fault names (Some a) = type_fault names a
+
+-- a parameter of this name stands among these
+abbrev pub takes_name : List Parameter → ℕ → Bool
+takes_name [] x = false
+takes_name (p ∷ rest) x = p.name == x || takes_name rest x
+
+-- the first failure of the parameters from the i-th on; one without a type fails before one that is a second
+abbrev pub parameters_fault : Naming → List Parameter → ℕ → List Parameter → Option Fault
+parameters_fault names all i [] = None
+parameters_fault names all i (p ∷ rest) =
+    (own p.shape NeedsType p.at then unless (not (takes_name (take i all) p.name)) TwiceNamed p.at then written_fault names p.shape) then parameters_fault names all (i + 1) rest
+
+abbrev pub routine_fault : Naming → Routine → Option Fault
+routine_fault names (Does at params gives all arrow) = parameters_fault names params 0 params then written_fault names gives
+
+abbrev pub routine_at : Routine → ℕ
+routine_at (Does at params gives all arrow) = at
+
+-- a field has a type or an initialiser
+abbrev pub is_typed : Option Annotation → OptionalTree → Bool
+is_typed (Some a) first = true
+is_typed None absent = false
+is_typed None (present e) = true
+
+abbrev pub is_constructor : ClassMember → Bool
+is_constructor (Field a) = false
+is_constructor (Method x r) = false
+is_constructor (Constructor r) = true
+
+-- The member that is the d-th of all declarations, of the class c, behind a constructor or not.
+module _ (names : Naming) (entries : List Entry) (classes : List ClassHead) where
+  abbrev pub field_fault : ℕ → ℕ → Declaration → Option Fault
+  field_fault c d (Declare at x shape first) =
+      unless (not (is_second entries d (o.Class c) x)) TwiceNamed at then unless (not (is_some (inherited entries classes c x))) TwiceNamed at
+      then unless (is_typed shape first) NeedsType at then written_fault names shape
+
+  abbrev pub method_fault : ℕ → ℕ → ℕ → Routine → Option Fault
+  method_fault c d x r =
+      unless (not (is_second entries d (o.Class c) x)) TwiceNamed (routine_at r) then unless (not (inherits_field entries classes c x)) TwiceNamed (routine_at r)
+      then routine_fault names r
+
+  abbrev pub member_fault : ℕ → ℕ → Bool → ClassMember → Option Fault
+  member_fault c d made (Field a) = field_fault c d a
+  member_fault c d made (Method x r) = method_fault c d x r
+  member_fault c d made (Constructor r) = unless (not made) TwiceNamed (routine_at r) then routine_fault names r
+
+  abbrev pub members_fault : ℕ → ℕ → Bool → List ClassMember → Option Fault
+  members_fault c d made [] = None
+  members_fault c d made (m ∷ rest) = member_fault c d made m then members_fault c (d + length (member_entry names c m)) (made || is_constructor m) rest
+
+  -- of a part of the text, which begins with the class c and the d-th declaration
+  abbrev pub item_fault : ℕ → ℕ → TopLevel → Option Fault
+  item_fault c d (Class at x base base_at members) = members_fault c (d + 1) false members
+  item_fault c d (Function x r) = routine_fault names r
+  item_fault c d (Main a) = None
+
+  -- the first failure in text order
+  abbrev pub headings_fault : ℕ → ℕ → Program → Option Fault
+  headings_fault c d [] = None
+  headings_fault c d (i ∷ rest) = item_fault c d i then headings_fault (c + classes_in i) (d + length (item_entries names c i)) rest

@@ -1,0 +1,17 @@
+pub mod Kinds
+pub mod Faults
+pub mod Entries
+pub mod Lookup
+pub mod Globals
+pub mod Bases
+pub mod Headings
+pub mod Scopes
+pub mod Places
+pub mod Rules
+pub mod Codes
+pub mod Values
+pub mod Adding
+pub mod Seen
+pub mod Known
+pub mod Lists
+pub mod Rows

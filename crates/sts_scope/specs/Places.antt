@@ -1,0 +1,99 @@
+-- What a name stands for where it is used.
+use Rattle.std.specs.Prelude.{ℕ, suc, Bool, false, not, ◌&&◌, ◌==◌, nat_lt, nat_le, Option, Some, None, List, [], ◌∷◌, ◌++◌, length, if◌then◌else◌}
+use Rattle.sts_scope.specs.declared.kinds.Kind.{Kind}
+use Rattle.sts_scope.specs.declared.entries.Owner.TheVariants as o
+use Rattle.sts_scope.specs.declared.entries.Sort.{Sort}
+use Rattle.sts_scope.specs.declared.entries.Sort.TheVariants as sort
+use Rattle.sts_scope.specs.declared.known.Known.{Known}
+use Rattle.sts_scope.specs.declared.known.Local.{Local}
+use Rattle.sts_scope.specs.declared.known.This.{This}
+use Rattle.sts_scope.specs.declared.known.This.TheVariants as this
+use Rattle.sts_scope.specs.declared.known.Found.{Found}
+use Rattle.sts_scope.specs.declared.known.Found.TheVariants as found
+use Rattle.sts_scope.specs.Globals.{is_dollar}
+use Rattle.sts_scope.specs.Lookup.{entry_number, sort_of}
+
+-- Where something stands: the parameters and locals in scope, outermost first, of which those from `floor` on are of this function and those from
+-- `block` on of this block; what `this` is; what a `return` gives; and whether it is the library.
+pub record Place : Type 0 where
+  pub locals : List Local
+  pub floor : ℕ
+  pub block : ℕ
+  pub this : This
+  pub gives : Option Kind
+  pub library : Bool
+
+-- the last one of this name, where the first has the number n
+abbrev pub last_from : ℕ → List Local → ℕ → Option ℕ
+last_from n [] x = None
+last_from n (l ∷ ls) x = elim (last_from (suc n) ls x) [ Some m ↦ Some m | None ↦ if l.name == x then Some n else None ]
+
+abbrev pub last_named : List Local → ℕ → Option ℕ
+last_named locals x = last_from 0 locals x
+
+-- a local of this function, or one of a function around it
+abbrev pub local_or_captured : ℕ → ℕ → Found
+local_or_captured floor i = if nat_lt i floor then found.Captured else found.Local i
+
+abbrev pub entry_found : ℕ → Sort → Found
+entry_found d (sort.Global fixed) = found.Global d
+entry_found d sort.Function = found.Function d
+entry_found d (sort.Class c) = found.Class c
+entry_found d sort.Field = found.Unknown
+entry_found d sort.Method = found.Unknown
+
+abbrev pub sort_found : ℕ → Option Sort → Found
+sort_found d None = found.Unknown
+sort_found d (Some s) = entry_found d s
+
+-- The declaration of the whole text of this name. In the library none of the text is known.
+abbrev pub whole_found : Known → Bool → Option ℕ → Found
+whole_found k library None = found.Unknown
+whole_found k library (Some d) = if library && nat_le k.library d then found.Unknown else sort_found d (sort_of k.entries d)
+
+abbrev pub global_named : Known → Bool → ℕ → Found
+global_named k library x = whole_found k library (entry_number k.entries o.Whole x)
+
+-- The innermost local, else the declaration of the whole text. A name that begins with `$` stands for something in the library alone.
+abbrev pub found_among : Known → Place → ℕ → Option ℕ → Found
+found_among k p x (Some i) = local_or_captured p.floor i
+found_among k p x None = global_named k p.library x
+
+abbrev pub is_hidden : List (List ℕ) → Place → ℕ → Bool
+is_hidden spellings p x = not p.library && is_dollar spellings x
+
+abbrev pub name_found : List (List ℕ) → Known → Place → ℕ → Found
+name_found spellings k p x = if is_hidden spellings p x then found.Unknown else found_among k p x (last_named p.locals x)
+
+-- a second local of this name in the block
+abbrev pub is_from : ℕ → Option ℕ → Bool
+is_from block None = false
+is_from block (Some i) = nat_le block i
+
+abbrev pub is_twice : Place → ℕ → Bool
+is_twice p x = is_from p.block (last_named p.locals x)
+
+-- behind a declaration
+abbrev pub local : ℕ → Option Kind → Bool → Local
+local x kind fixed = record { name = x; kind = kind; fixed = fixed }
+
+abbrev pub with : Place → ℕ → Option Kind → Bool → Place
+with p x kind fixed = record p { locals = p.locals ++ local x kind fixed ∷ [] }
+
+-- in a block that begins here
+abbrev pub inner : Place → Place
+inner p = record p { block = length p.locals }
+
+-- `this` in a handler
+abbrev pub hidden : This → This
+hidden (this.Object c) = this.Hidden c
+hidden (this.Hidden c) = this.Hidden c
+hidden this.Nowhere = this.Nowhere
+
+-- in a handler that begins here, whose result is this
+abbrev pub in_handler : Place → Option Kind → Place
+in_handler p gives = record { locals = p.locals; floor = length p.locals; block = length p.locals; this = hidden p.this; gives = gives; library = p.library }
+
+-- outside all functions, where a class's objects may be meant by `this`
+abbrev pub outside : This → Bool → Option Kind → Place
+outside this library gives = record { locals = []; floor = 0; block = 0; this = this; gives = gives; library = library }

@@ -1,0 +1,24 @@
+//! Names, bases and headings of a text: which declarations there are, what they are given, and the first failure.
+//! Definitions speak of trees without pointers, of the library's behind which the text's stand.
+#![tactic(auto)]
+
+mod build;
+mod by_number;
+mod collect;
+mod entries;
+mod faults;
+mod heading_checks;
+mod kinds;
+mod known;
+mod lookup;
+mod names;
+mod resolution;
+mod rows;
+
+pub use by_number::ByNumber;
+pub use collect::Declared;
+pub use entries::{ClassHead, Entry, Owner, Sort};
+pub use kinds::{Base, Kind};
+pub use known::{Found, Known, Local, Part, This};
+pub use resolution::{Scopes, headings, resolve};
+pub use rows::{rows_of_bases, rows_of_headings, rows_of_names};
