@@ -1,0 +1,44 @@
+-- What the ops of flat code make of values, beyond what the source's operators do.
+use Rattle.std.specs.Prelude.{◌≡◌, ℕ, zero, suc, pos, negsuc, ◌+ℤ◌, Bool, if◌then◌else◌, ◌==◌, List, [], ◌∷◌}
+use Rattle.sts_syntax.specs.Types.{ValueType}
+use Rattle.sts_syntax.specs.BoardTable.{BoardAction, Service, Library, Repeats}
+use Rattle.sts_syntax.specs.Nodes.{is_among}
+use Rattle.sts_meaning.specs.Todo.{gives_value}
+use Rattle.sts_meaning.specs.Values.{Value, Whole, default, Outcome, Gives, Stuck, then_gives, whole, to_int32, negated}
+use Rattle.sts_meaning.specs.Heaps.{HeapOf}
+
+-- of an array's items nothing is noted
+abbrev pub FlatHeap : Type 0
+FlatHeap = HeapOf (Unit {0})
+
+-- The prefix operators of the source by their numbers, and 5 and 6, which give one more and one less than a number, through ToInt32.
+abbrev pub prefixed_by : ℕ → Value → Outcome Value
+prefixed_by op v =
+    if op == 5 then then_gives (whole v) (λ x. Gives (Whole (to_int32 (x +ℤ pos 1))))
+    else if op == 6 then then_gives (whole v) (λ x. Gives (Whole (to_int32 (x +ℤ negsuc 0))))
+    else negated op v
+
+-- the services that answer with a number; of all others the value is 0
+abbrev pub answering : List ℕ
+answering = 7 ∷ (8 ∷ (9 ∷ (16 ∷ (17 ∷ []))))
+
+abbrev pub answers : ℕ → Bool
+answers service = is_among answering service
+
+-- a call of the board has a value where its service answers
+abbrev pub IsAnswered : BoardAction → ValueType → Type 0
+IsAnswered (Service number places) gives = gives_value gives ≡ answers number
+IsAnswered (Library function) gives = Unit {0}
+IsAnswered Repeats gives = Unit {0}
+
+-- the default, so many times
+abbrev pub zeros : ℕ → List Value
+zeros zero = []
+zeros (suc n) = default ∷ zeros n
+
+-- exactly so many arguments
+abbrev pub exactly : ℕ → List Value → Outcome (Unit {0})
+exactly zero [] = Gives tt
+exactly zero (v ∷ vs) = Stuck
+exactly (suc n) [] = Stuck
+exactly (suc n) (v ∷ vs) = exactly n vs
