@@ -12,7 +12,7 @@ use Rattle.run_tool.specs.declared.fetched.Fetched.TheVariants.{Text, Absent, Lo
 use Rattle.sts_words.specs.Orders.{Asked, check_program, build_program, run_program, run_image, run_big}
 use Rattle.run_tool.specs.Fetches.{limit, MayFetch}
 use Rattle.run_tool.specs.Answers.{Answer, says, Ends, ending_number}
-use Rattle.run_tool.specs.Images.{run_status}
+use Rattle.run_tool.specs.RunHex.{run_status}
 use Rattle.run_tool.specs.Orders.{file_of, RunsTextWhere, RunsHexOn, is_built_run, AnswersText, AnswersFetched, AnswersFile, AnswersNamed, MayAnswer, IsStatusOf, Completes, AsksForImage}
 
 -- the file that the folder tells is the one that is fetched

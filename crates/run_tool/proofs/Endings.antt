@@ -15,7 +15,8 @@ use Rattle.run_tool.specs.declared.fetched.Fetched.{Fetched}
 use Rattle.run_tool.specs.declared.fetched.Fetched.TheVariants.{Text, Absent, Long, Failed}
 use Rattle.run_tool.specs.Fetches.{MayFetch}
 use Rattle.run_tool.specs.Answers.{Answer, says, Ends, GivesOneOf}
-use Rattle.run_tool.specs.Programs.{Refuses, RunsText}
+use Rattle.run_tool.specs.Refusals.{Refuses}
+use Rattle.run_tool.specs.Run.{RunsText}
 use Rattle.sts_base.specs.Int32.{to_int32}
 use Rattle.sts_whole.specs.First.{number_transcript}
 use Rattle.run_tool.specs.declared.ending.Status.TheVariants.{Done}

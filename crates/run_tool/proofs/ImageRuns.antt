@@ -19,7 +19,7 @@ use Rattle.run_tool.specs.declared.ending.Status.TheVariants as status
 use Rattle.run_tool.specs.declared.ending.Ending.{Ending}
 use Rattle.run_tool.specs.declared.ending.Ending.TheVariants.{Cut}
 use Rattle.run_tool.specs.Answers.{says, GivesOneOf}
-use Rattle.run_tool.specs.Images.{image_refused_line, run_status, RunsImage, RunsHex}
+use Rattle.run_tool.specs.RunHex.{image_refused_line, run_status, RunsImage, RunsHex}
 use Rattle.run_tool.proofs.Endings.{gives-more}
 
 extent-fits : (cells : List Cell) → AllByRecursion (λ cell. cell.at < flash_bytes) cells → extent cells ≤ flash_bytes

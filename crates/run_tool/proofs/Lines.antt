@@ -1,6 +1,6 @@
 -- The line of a refusal, in pieces.
 use Rattle.std.proofs.Common.{◌≡◌, ℕ, List, [], ◌++◌, ◌∙◌, ap, append_assoc, decimal, codes}
-use Rattle.run_tool.specs.Programs.{refused_line}
+use Rattle.run_tool.specs.Refusals.{refused_line}
 
 seven : (a b c d e f g : List ℕ) → a ++ b ++ c ++ d ++ e ++ f ++ g ≡ a ++ (b ++ (c ++ (d ++ (e ++ (f ++ g)))))
 seven a b c d e f g =

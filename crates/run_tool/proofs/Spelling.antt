@@ -19,7 +19,8 @@ use Rattle.sts_grammar.specs.Texts as parsed
 use Rattle.parse_unit.specs.Answers.{Answers}
 use Rattle.run_tool.specs.declared.ending.Ending.{Ending}
 use Rattle.run_tool.specs.Answers.{GivesOneOf}
-use Rattle.run_tool.specs.Programs.{Reads, Refuses, ChecksText}
+use Rattle.run_tool.specs.Check.{Reads, ChecksText}
+use Rattle.run_tool.specs.Refusals.{Refuses}
 use Rattle.run_tool.proofs.Endings.{gives-more}
 
 -- a text has one token at least

@@ -7,7 +7,7 @@ use Rattle.hex_image.specs.Spells.{Spells, Breaks}
 use Rattle.hex_image.proofs.AnswerLemmas.{one_reading-of}
 use Rattle.run_tool.specs.declared.ending.Status.{Status}
 use Rattle.run_tool.specs.Answers.{Answer, says, status_number}
-use Rattle.run_tool.specs.Images.{run_status, RunsHex}
+use Rattle.run_tool.specs.RunHex.{run_status, RunsHex}
 use Rattle.run_tool.specs.Laws.{HexStatuses}
 
 abbrev number_of : Answer → ℕ

@@ -2,7 +2,7 @@
 use Rattle.std.specs.Prelude.{◌≡◌, ◌⊎◌, ℕ, List}
 use Rattle.hex_image.specs.declared.refused.HexCode.{HexCode}
 use Rattle.hex_image.specs.Spells.{Spells, Breaks}
-use Rattle.run_tool.specs.Images.{RunsHex}
+use Rattle.run_tool.specs.RunHex.{RunsHex}
 use Rattle.run_tool.specs.Orders.{IsStatusOf}
 
 -- The status of an answer of `run-hex` is that of a run where the text spells an image, and that of a refusal where it breaks a rule.

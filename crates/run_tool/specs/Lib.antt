@@ -1,7 +1,10 @@
 pub mod Big
 pub mod Fetches
 pub mod Answers
-pub mod Programs
-pub mod Images
+pub mod Refusals
+pub mod Check
+pub mod Run
+pub mod RunHex
+pub mod NotBuilt
 pub mod Orders
 pub mod Laws

@@ -10,8 +10,10 @@ use Rattle.sts_words.specs.Words.{order_of}
 use Rattle.run_tool.specs.Fetches.{limit, MayFetch}
 use Rattle.run_tool.specs.Answers.{Answer, says, status_number}
 use Rattle.run_tool.specs.Big.{big_refused_lines}
-use Rattle.run_tool.specs.Programs.{RunsText, ChecksText, NotBuilt}
-use Rattle.run_tool.specs.Images.{RunsHex}
+use Rattle.run_tool.specs.Run.{RunsText}
+use Rattle.run_tool.specs.Check.{ChecksText}
+use Rattle.run_tool.specs.NotBuilt.{NotBuilt}
+use Rattle.run_tool.specs.RunHex.{RunsHex}
 
 -- the file that an order names first, if it names one
 abbrev pub file_of : Asked → Option (List ℕ)

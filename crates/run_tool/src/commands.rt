@@ -10,13 +10,17 @@ ghost use Rattle.sts_words.specs.Views.{spoken};
 ghost use Rattle.std.specs.Option.{option_map};
 
 use crate::big::big;
+use crate::check::check;
 use crate::ending::{Ending, Status};
-use crate::images::run_hex;
-use crate::programs::{check, not_built, run};
+use crate::not_built::not_built;
+use crate::run::run;
+use crate::run_hex::run_hex;
 use crate::said::say;
 use board_ports::Device;
+use command_line::read_command_line;
 use std::alloc::Global;
-use sts_words::{Order, read_words};
+use sts_base::NoMemory;
+use sts_words::Order;
 use tool_io::{Folder, Sink};
 
 /// The budget of the runs that can be built so far.
@@ -108,9 +112,10 @@ fn perform<F: Folder, K: Sink>(
     ensures folder_later { F.faults folder.old ≤ F.faults folder.new }
     ensures untouched { order_of (map string_bytes words.now) ≡ None → folder.new ≡ folder.old }
 {
-    match read_words(words) {
-        None => say(out, Status::Usage, b"usage\n"),
-        Some(order) => perform_order(alloc, order, folder, out),
+    match read_command_line(alloc, words) {
+        Ok(None) => say(out, Status::Usage, b"usage\n"),
+        Ok(Some(order)) => perform_order(alloc, order, folder, out),
+        Err(NoMemory) => Ending::NoMemory,
     }
 }
 

@@ -2,12 +2,14 @@
 #![tactic(auto)]
 
 mod big;
+mod check;
 mod commands;
 mod ending;
 mod fetched;
-mod images;
 mod laws;
-mod programs;
+mod not_built;
+mod run;
+mod run_hex;
 mod said;
 
 pub use big::big_text;

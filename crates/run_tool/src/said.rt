@@ -3,7 +3,7 @@ ghost use Rattle.std.specs.Prelude.{◌≡◌, ◌≤◌, ◌<◌, length};
 ghost use Rattle.sts_base.specs.Numbers.{number_of};
 ghost use Rattle.tool_io.specs.Putting.{PutsTo};
 ghost use Rattle.run_tool.specs.Answers.{says, GivesOneOf};
-ghost use Rattle.run_tool.specs.Programs.{Refuses, refused_line};
+ghost use Rattle.run_tool.specs.Refusals.{Refuses, refused_line};
 
 use crate::ending::{Ending, Status};
 use sts_base::{Code, number, place};

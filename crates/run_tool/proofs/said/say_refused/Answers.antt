@@ -1,7 +1,7 @@
 use Rattle.std.proofs.Common.{refl}
 use Rattle.sts_base.specs.Numbers.{number_of}
 use Rattle.run_tool.specs.declared.ending.Status.TheVariants.{Refused}
-use Rattle.run_tool.specs.Programs.{refused_line}
+use Rattle.run_tool.specs.Refusals.{refused_line}
 use Rattle.run_tool.proofs.said.say_refused.Goals as goal
 
 pub returns-in-Err : goal.returns-in-Err

@@ -1,7 +1,7 @@
 use Rattle.sts_base.specs.Faults.{Rose}
-use Rattle.run_tool.specs.Programs.{ChecksText}
+use Rattle.run_tool.specs.Check.{ChecksText}
 use Rattle.run_tool.proofs.Endings.{text-gives, no-text-gives}
-use Rattle.run_tool.proofs.programs.check.Goals as goal
+use Rattle.run_tool.proofs.check.check.Goals as goal
 
 pub returns-in-Ok-clause-answer : goal.returns-in-Ok-clause-answer
 returns-in-Ok-clause-answer g c =

@@ -1,5 +1,5 @@
 use Rattle.run_tool.proofs.Endings.{refused-gives, not-of-form, sum-cut}
-use Rattle.run_tool.proofs.programs.run_text.Goals as goal
+use Rattle.run_tool.proofs.run.run_text.Goals as goal
 
 pub returns-in-Err-NotThisForm : goal.returns-in-Err-NotThisForm
 returns-in-Err-NotThisForm g c =

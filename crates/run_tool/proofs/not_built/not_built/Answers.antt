@@ -1,7 +1,7 @@
 use Rattle.sts_base.specs.Faults.{Rose}
-use Rattle.run_tool.specs.Programs.{NotBuilt}
+use Rattle.run_tool.specs.NotBuilt.{NotBuilt}
 use Rattle.run_tool.proofs.Endings.{text-gives, no-text-gives}
-use Rattle.run_tool.proofs.programs.not_built.Goals as goal
+use Rattle.run_tool.proofs.not_built.not_built.Goals as goal
 
 pub returns-in-Ok-clause-answer : goal.returns-in-Ok-clause-answer
 returns-in-Ok-clause-answer g c =

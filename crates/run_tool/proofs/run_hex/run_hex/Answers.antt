@@ -1,7 +1,7 @@
 use Rattle.sts_base.specs.Faults.{Rose}
-use Rattle.run_tool.specs.Images.{RunsHex}
+use Rattle.run_tool.specs.RunHex.{RunsHex}
 use Rattle.run_tool.proofs.Endings.{text-gives, no-text-gives}
-use Rattle.run_tool.proofs.images.run_hex.Goals as goal
+use Rattle.run_tool.proofs.run_hex.run_hex.Goals as goal
 
 pub returns-in-Ok-clause-answer : goal.returns-in-Ok-clause-answer
 returns-in-Ok-clause-answer g c =

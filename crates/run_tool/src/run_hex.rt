@@ -1,4 +1,4 @@
-// The commands over the HEX text of an image.
+// The command `run-hex`.
 ghost use Rattle.std.specs.Prelude.{◌≡◌, ◌≤◌, List, ℕ};
 ghost use Rattle.tool_io.specs.Putting.{PutsTo};
 ghost use Rattle.hex_image.specs.Codes.{number_of};
@@ -6,7 +6,7 @@ ghost use Rattle.hex_image.specs.Spells.{flash_bytes};
 ghost use Rattle.run_tool.specs.declared.ending.Status.TheVariants as status;
 ghost use Rattle.sts_words.specs.Orders.{IsBudget};
 ghost use Rattle.run_tool.specs.Answers.{GivesOneOf, says};
-ghost use Rattle.run_tool.specs.Images.{RunsImage, RunsHex, image_refused_line};
+ghost use Rattle.run_tool.specs.RunHex.{RunsImage, RunsHex, image_refused_line};
 ghost use Rattle.run_tool.specs.Orders.{OverFile};
 ghost use Rattle.std.specs.Prelude.{vec_len};
 

@@ -1,8 +1,8 @@
-// The commands over the text of a program.
+// The command `check`.
 ghost use Rattle.std.specs.Prelude.{◌≡◌, ◌≤◌, ◌<◌, length, List, ℕ};
 ghost use Rattle.run_tool.specs.Answers.{GivesOneOf};
 ghost use Rattle.sts_grammar.specs.Texts.{HasTokens};
-ghost use Rattle.run_tool.specs.Programs.{RunsText, ChecksText, NotBuilt, Reads};
+ghost use Rattle.run_tool.specs.Check.{ChecksText, Reads};
 ghost use Rattle.run_tool.specs.Orders.{OverFile};
 
 use crate::ending::{Ending, Status};
@@ -10,56 +10,9 @@ use crate::fetched::text_of;
 use crate::said::{say, say_refused};
 use parse_unit::parse;
 use std::alloc::Global;
-use sts_base::{Code, Refused, Seq, Tables};
+use sts_base::{Refused, Seq, Tables};
 use sts_lexer::{Token, tokens};
-use sts_whole::{First, first_run};
 use tool_io::{Folder, Sink};
-
-/// Builds and runs a text.
-fn run_text<K: Sink>(alloc: Global, text: &[u8], out: &mut K) -> Ending
-    ensures { GivesOneOf K.taken K.faults out.old out.new (RunsText text.now) result }
-{
-    match first_run(alloc, text, out) {
-        Ok(()) => Ending::Gave(Status::Done),
-        Err(First::NotThisForm) => say_refused(out, text, Code::NotThisForm, 0),
-        Err(First::SinkFault) => Ending::Cut,
-        Err(First::NoMemory) => Ending::NoMemory,
-    }
-}
-
-/// The command `run`.
-pub fn run<F: Folder, K: Sink>(alloc: Global, name: &str, folder: &mut F, out: &mut K) -> Ending
-    ensures answer { GivesOneOf K.taken K.faults out.old out.new (OverFile F.holds F.faults folder.old folder.new name.now RunsText) result }
-    ensures folder_later { F.faults folder.old ≤ F.faults folder.new }
-{
-    match text_of(alloc, name, folder, out) {
-        Ok(text) => run_text(alloc, &text, out),
-        Err(ending) => ending,
-    }
-}
-
-/// Refuses a text whose form can't be built yet.
-fn refuse_form<K: Sink>(text: &[u8], out: &mut K) -> Ending
-    ensures { GivesOneOf K.taken K.faults out.old out.new (NotBuilt text.now) result }
-{
-    say_refused(out, text, Code::NotThisForm, 0)
-}
-
-/// A command over a file whose form can't be built yet.
-pub fn not_built<F: Folder, K: Sink>(
-    alloc: Global,
-    name: &str,
-    folder: &mut F,
-    out: &mut K,
-) -> Ending
-    ensures answer { GivesOneOf K.taken K.faults out.old out.new (OverFile F.holds F.faults folder.old folder.new name.now NotBuilt) result }
-    ensures folder_later { F.faults folder.old ≤ F.faults folder.new }
-{
-    match text_of(alloc, name, folder, out) {
-        Ok(text) => refuse_form(&text, out),
-        Err(ending) => ending,
-    }
-}
 
 /// Reads the program that the tokens of a text spell. Refused exactly where they spell none.
 fn read_tokens(alloc: Global, tokens: &Seq<Token>, tables: &Tables) -> Result<(), Refused>

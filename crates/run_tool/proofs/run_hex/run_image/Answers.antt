@@ -1,5 +1,5 @@
 use Rattle.run_tool.proofs.ImageRuns.{image-cut}
-use Rattle.run_tool.proofs.images.run_image.Goals as goal
+use Rattle.run_tool.proofs.run_hex.run_image.Goals as goal
 
 pub returns-in-Ok-SinkFault : goal.returns-in-Ok-SinkFault
 returns-in-Ok-SinkFault g c =

@@ -1,8 +1,8 @@
 use Rattle.std.proofs.Common.{refl}
 use Rattle.hex_image.specs.Codes.{number_of}
 use Rattle.run_tool.specs.declared.ending.Status.TheVariants.{ImageRefused}
-use Rattle.run_tool.specs.Images.{image_refused_line}
-use Rattle.run_tool.proofs.images.say_image_refused.Goals as goal
+use Rattle.run_tool.specs.RunHex.{image_refused_line}
+use Rattle.run_tool.proofs.run_hex.say_image_refused.Goals as goal
 
 pub returns-in-Err : goal.returns-in-Err
 returns-in-Err g c =

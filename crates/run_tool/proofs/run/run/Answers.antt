@@ -1,7 +1,7 @@
 use Rattle.sts_base.specs.Faults.{Rose}
-use Rattle.run_tool.specs.Programs.{RunsText}
+use Rattle.run_tool.specs.Run.{RunsText}
 use Rattle.run_tool.proofs.Endings.{text-gives, no-text-gives}
-use Rattle.run_tool.proofs.programs.run.Goals as goal
+use Rattle.run_tool.proofs.run.run.Goals as goal
 
 pub returns-in-Ok-clause-answer : goal.returns-in-Ok-clause-answer
 returns-in-Ok-clause-answer g c =

@@ -1,5 +1,5 @@
 use Rattle.run_tool.proofs.Spelling.{refusal-within, reads-none, checked-gives}
-use Rattle.run_tool.proofs.programs.check_text.Goals as goal
+use Rattle.run_tool.proofs.check.check_text.Goals as goal
 
 pub say_refused-requires-clause-within : goal.say_refused-requires-clause-within
 say_refused-requires-clause-within g c =

@@ -2,7 +2,7 @@ use Rattle.std.proofs.Common.{rules}
 use Rattle.hex_image.specs.Codes.{number_of}
 use Rattle.tool_io.proofs.Laws.{puts-as, puts-none}
 use Rattle.run_tool.proofs.ImageRuns.{image-refusal-pieces}
-use Rattle.run_tool.proofs.images.put_image_refused.Goals as goal
+use Rattle.run_tool.proofs.run_hex.put_image_refused.Goals as goal
 
 pub returns : goal.returns
 returns g c =

@@ -1,7 +1,7 @@
 use Rattle.std.proofs.Common.{◌≤◌, length, arith}
 use Rattle.hex_image.specs.Spells.{flash_bytes}
 use Rattle.run_tool.proofs.ImageRuns.{image-fits, spelled-gives, broken-gives}
-use Rattle.run_tool.proofs.images.run_hex_text.Goals as goal
+use Rattle.run_tool.proofs.run_hex.run_hex_text.Goals as goal
 
 pub run_image-requires-clause-size : goal.run_image-requires-clause-size
 run_image-requires-clause-size g c =
