@@ -2,3 +2,4 @@ mod Tokens
 mod Renumbered
 mod Spelling
 mod Refusals
+mod Resolving

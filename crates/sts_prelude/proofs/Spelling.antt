@@ -63,13 +63,13 @@ front_same (a ∷ xs) (b ∷ ys) x y h =
     ap (λ (t : Token). t ∷ xs) heads ∙ ap (λ (ts : List Token). b ∷ ts) (front_same xs ys x y tails)
 
 -- the tokens of the text by any tables
-own_tokens_are : (tables : Tables) (tokens : List Token) → IsDistinct tables.names → IsDistinct tables.texts → IsTokenization tables LIBRARY.now tokens
+pub own_tokens_are : (tables : Tables) (tokens : List Token) → IsDistinct tables.names → IsDistinct tables.texts → IsTokenization tables LIBRARY.now tokens
     → tokens ≡ tokens_by (moved own.names tables.names) (moved own.texts tables.texts)
 own_tokens_are tables tokens names texts h =
     tokens_other own tables names texts LIBRARY.now own_tokens tokens own_tokenized h
 
 -- the string of a name among them
-string_of : (tables : Tables) (names texts : ℕ → ℕ) (tokens : List Token) (n entry : ℕ) (token : Token) → IsTokenization tables LIBRARY.now tokens
+pub string_of : (tables : Tables) (names texts : ℕ → ℕ) (tokens : List Token) (n entry : ℕ) (token : Token) → IsTokenization tables LIBRARY.now tokens
     → tokens ≡ tokens_by names texts → slice_get (map (renumber names texts) front) n ≡ Some token → token.kind ≡ k.Name entry
     → slice_get tables.names entry ≡ Some (slice_range LIBRARY.now token.span.from token.span.upto)
 string_of tables names texts tokens n entry token h same here kind =

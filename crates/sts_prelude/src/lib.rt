@@ -9,4 +9,4 @@ mod theorems;
 
 pub use prelude::library;
 pub use text::LIBRARY;
-pub use theorems::text_spells_library;
+pub use theorems::{text_spells_library, tree_becomes_routines};

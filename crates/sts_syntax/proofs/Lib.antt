@@ -5,3 +5,4 @@ pub mod BoardLookup
 pub mod Measured
 pub mod Holds
 pub mod FrameBounds
+mod WorkedRows

@@ -39,6 +39,67 @@ pub enum BoardAction {
     Repeats,
 }
 
+/// places that are all written
+const ONE_WRITTEN: &[ServicePlace] = &[ServicePlace::Written];
+
+const TWO_WRITTEN: &[ServicePlace] = &[ServicePlace::Written, ServicePlace::Written];
+
+const THREE_WRITTEN: &[ServicePlace] = &[
+    ServicePlace::Written,
+    ServicePlace::Written,
+    ServicePlace::Written,
+];
+
+const FOUR_WRITTEN: &[ServicePlace] = &[
+    ServicePlace::Written,
+    ServicePlace::Written,
+    ServicePlace::Written,
+    ServicePlace::Written,
+];
+
+/// the frame without a light
+const DARK: &[ServicePlace] = &[ServicePlace::Always(0)];
+
+/// a column and a row, and what becomes of the light there
+const LIGHT_OFF: &[ServicePlace] = &[
+    ServicePlace::Written,
+    ServicePlace::Written,
+    ServicePlace::Always(0),
+];
+
+const LIGHT_ON: &[ServicePlace] = &[
+    ServicePlace::Written,
+    ServicePlace::Written,
+    ServicePlace::Always(1),
+];
+
+const LIGHT_TURNED: &[ServicePlace] = &[
+    ServicePlace::Written,
+    ServicePlace::Written,
+    ServicePlace::Always(2),
+];
+
+/// a button, its event of a press, and a handler
+const PRESSED: &[ServicePlace] = &[
+    ServicePlace::Written,
+    ServicePlace::Always(3),
+    ServicePlace::Written,
+];
+
+/// what calls take that hear of events
+const EVENT_HANDLER: &[BoardParameter] = &[
+    BoardParameter::Number,
+    BoardParameter::Number,
+    BoardParameter::Handler,
+];
+
+const EVENT_HANDLER_FLAGS: &[BoardParameter] = &[
+    BoardParameter::Number,
+    BoardParameter::Number,
+    BoardParameter::Handler,
+    BoardParameter::Number,
+];
+
 /// All calls, in the order of the interface's table.
 const CALLS: [BoardCall; 31] = [
     BoardCall::Pause,
@@ -174,17 +235,8 @@ impl BoardCall {
             | BoardCall::Max
             | BoardCall::NumberGlyph => &[BoardParameter::Number, BoardParameter::Number],
             BoardCall::OnButtonPressed => &[BoardParameter::Number, BoardParameter::Handler],
-            BoardCall::OnEvent => &[
-                BoardParameter::Number,
-                BoardParameter::Number,
-                BoardParameter::Handler,
-            ],
-            BoardCall::OnEventFlags => &[
-                BoardParameter::Number,
-                BoardParameter::Number,
-                BoardParameter::Handler,
-                BoardParameter::Number,
-            ],
+            BoardCall::OnEvent => EVENT_HANDLER,
+            BoardCall::OnEventFlags => EVENT_HANDLER_FLAGS,
             BoardCall::TextGlyph => &[BoardParameter::Text, BoardParameter::Number],
         }
     }
@@ -233,98 +285,37 @@ impl BoardCall {
         ensures { board_action result ≡ (row_of self).action }
     {
         match self {
-            BoardCall::Pause => BoardAction::Service(2, &[ServicePlace::Written]),
+            BoardCall::Pause => BoardAction::Service(2, ONE_WRITTEN),
             BoardCall::Forever => BoardAction::Repeats,
             BoardCall::ShowLeds => BoardAction::Library(0),
             BoardCall::ShowNumber => BoardAction::Library(1),
             BoardCall::ShowString => BoardAction::Library(2),
-            BoardCall::ClearScreen => BoardAction::Service(11, &[ServicePlace::Always(0)]),
-            BoardCall::Unplot => BoardAction::Service(
-                10,
-                &[
-                    ServicePlace::Written,
-                    ServicePlace::Written,
-                    ServicePlace::Always(0),
-                ],
-            ),
-            BoardCall::Plot => BoardAction::Service(
-                10,
-                &[
-                    ServicePlace::Written,
-                    ServicePlace::Written,
-                    ServicePlace::Always(1),
-                ],
-            ),
-            BoardCall::Toggle => BoardAction::Service(
-                10,
-                &[
-                    ServicePlace::Written,
-                    ServicePlace::Written,
-                    ServicePlace::Always(2),
-                ],
-            ),
-            BoardCall::OnButtonPressed => BoardAction::Service(
-                5,
-                &[
-                    ServicePlace::Written,
-                    ServicePlace::Always(3),
-                    ServicePlace::Written,
-                ],
-            ),
-            BoardCall::ButtonIsPressed => BoardAction::Service(9, &[ServicePlace::Written]),
+            BoardCall::ClearScreen => BoardAction::Service(11, DARK),
+            BoardCall::Unplot => BoardAction::Service(10, LIGHT_OFF),
+            BoardCall::Plot => BoardAction::Service(10, LIGHT_ON),
+            BoardCall::Toggle => BoardAction::Service(10, LIGHT_TURNED),
+            BoardCall::OnButtonPressed => BoardAction::Service(5, PRESSED),
+            BoardCall::ButtonIsPressed => BoardAction::Service(9, ONE_WRITTEN),
             BoardCall::RunningTime => BoardAction::Service(7, &[]),
-            BoardCall::InBackground => BoardAction::Service(4, &[ServicePlace::Written]),
-            BoardCall::OnEvent => BoardAction::Service(
-                5,
-                &[
-                    ServicePlace::Written,
-                    ServicePlace::Written,
-                    ServicePlace::Written,
-                ],
-            ),
-            BoardCall::OnEventFlags => BoardAction::Service(
-                22,
-                &[
-                    ServicePlace::Written,
-                    ServicePlace::Written,
-                    ServicePlace::Written,
-                    ServicePlace::Written,
-                ],
-            ),
-            BoardCall::RaiseEvent => BoardAction::Service(
-                6,
-                &[ServicePlace::Written, ServicePlace::Written],
-            ),
-            BoardCall::RaiseNow => BoardAction::Service(
-                23,
-                &[ServicePlace::Written, ServicePlace::Written],
-            ),
-            BoardCall::WaitForEvent => BoardAction::Service(
-                3,
-                &[ServicePlace::Written, ServicePlace::Written],
-            ),
+            BoardCall::InBackground => BoardAction::Service(4, ONE_WRITTEN),
+            BoardCall::OnEvent => BoardAction::Service(5, THREE_WRITTEN),
+            BoardCall::OnEventFlags => BoardAction::Service(22, FOUR_WRITTEN),
+            BoardCall::RaiseEvent => BoardAction::Service(6, TWO_WRITTEN),
+            BoardCall::RaiseNow => BoardAction::Service(23, TWO_WRITTEN),
+            BoardCall::WaitForEvent => BoardAction::Service(3, TWO_WRITTEN),
             BoardCall::EventValue => BoardAction::Service(8, &[]),
-            BoardCall::Panic => BoardAction::Service(1, &[ServicePlace::Written]),
-            BoardCall::WriteNumber => BoardAction::Service(12, &[ServicePlace::Written]),
-            BoardCall::WriteString => BoardAction::Service(13, &[ServicePlace::Written]),
+            BoardCall::Panic => BoardAction::Service(1, ONE_WRITTEN),
+            BoardCall::WriteNumber => BoardAction::Service(12, ONE_WRITTEN),
+            BoardCall::WriteString => BoardAction::Service(13, ONE_WRITTEN),
             BoardCall::WriteLine => BoardAction::Library(3),
-            BoardCall::DigitalWritePin => BoardAction::Service(
-                14,
-                &[ServicePlace::Written, ServicePlace::Written],
-            ),
-            BoardCall::SendNumber => BoardAction::Service(15, &[ServicePlace::Written]),
+            BoardCall::DigitalWritePin => BoardAction::Service(14, TWO_WRITTEN),
+            BoardCall::SendNumber => BoardAction::Service(15, ONE_WRITTEN),
             BoardCall::Abs => BoardAction::Library(4),
             BoardCall::Min => BoardAction::Library(5),
             BoardCall::Max => BoardAction::Library(6),
-            BoardCall::Show => BoardAction::Service(11, &[ServicePlace::Written]),
-            BoardCall::NumberGlyph => BoardAction::Service(
-                17,
-                &[ServicePlace::Written, ServicePlace::Written],
-            ),
-            BoardCall::TextGlyph => BoardAction::Service(
-                16,
-                &[ServicePlace::Written, ServicePlace::Written],
-            ),
+            BoardCall::Show => BoardAction::Service(11, ONE_WRITTEN),
+            BoardCall::NumberGlyph => BoardAction::Service(17, TWO_WRITTEN),
+            BoardCall::TextGlyph => BoardAction::Service(16, TWO_WRITTEN),
         }
     }
 }

@@ -12,8 +12,6 @@ mod library_laws;
 mod measures;
 pub mod operators;
 mod shapes;
-#[cfg(test)]
-mod tests;
 mod trees;
 mod typed;
 mod types;

@@ -1,0 +1,34 @@
+// The measures of worked functions.
+ghost use Rattle.std.specs.Prelude.{◌<◌, ◌^◌, IfOk};
+ghost use Rattle.sts_syntax.specs.Sizes.{routine_nodes};
+ghost use Rattle.sts_syntax.specs.TypedViews.{typed_routine};
+
+use crate::routines::{counts_on, deep, mid, starts_at_one, waits, worker, writes_mid};
+use std::alloc::{AllocError, Global};
+use sts_base::NoMemory;
+use sts_syntax::{TypedBody, frame_words, weight};
+
+/// The function of a name, which has few nodes.
+fn routine_of(alloc: Global, name: &str) -> Result<TypedBody, NoMemory>
+    ensures { IfOk result (λ b. routine_nodes (typed_routine b) < 2 ^ 32) }
+{
+    match name {
+        "deep" => deep(alloc),
+        "mid" => mid(alloc),
+        "writes_mid" => writes_mid(alloc),
+        "counts_on" => counts_on(alloc),
+        "starts_at_one" => starts_at_one(alloc),
+        "waits" => waits(alloc),
+        _ => worker(alloc),
+    }
+}
+
+/// The words of a function's frame, and its weight.
+pub fn show_measures(alloc: Global, name: &str) -> Result<String, AllocError> {
+    let Ok(body) = routine_of(alloc, name) else {
+        return Err(AllocError);
+    };
+    let words = frame_words(&body);
+    let weight = weight(&body);
+    format!(in alloc; "  frame {words}, weight {weight}\n")
+}
