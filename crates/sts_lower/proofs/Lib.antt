@@ -1,0 +1,11 @@
+pub mod Sums
+pub mod Opened
+pub mod Fitted
+pub mod Loads
+pub mod Spans
+pub mod Makers
+pub mod Assigning
+pub mod Turns
+pub mod Bounds
+pub mod Lowerable
+pub mod Made

@@ -1,0 +1,14 @@
+use Rattle.std.proofs.Common.{◌≡◌, ◌++◌, sym, subst}
+use Rattle.std.specs.Prelude.{OnOk}
+use Rattle.sts_syntax.specs.TypedTrees.{TypedStatement}
+use Rattle.sts_syntax.proofs.FrameBounds.{block_is}
+use Rattle.sts_lower.specs.Works.{opened_statement}
+use Rattle.sts_lower.specs.Shown.{layout, works}
+use Rattle.sts_lower.proofs.statements.open_statement.Goals as goal
+
+pub returns-in-Block : goal.returns-in-Block
+returns-in-Block c =
+    let P : TypedStatement → Type 0 =
+    λ a. OnOk c.open_block.result (works c.open_block.new.stack ≡ opened_statement (layout c.args.frame.now) a c.args.at c.args.next c.args.out c.args.again ++ works c.args.stack.now)
+    in
+    subst P (sym (block_is c.args.s.now c.in-Block.all c.in-Block.is)) c.open_block.ensures

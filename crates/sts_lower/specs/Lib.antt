@@ -1,0 +1,8 @@
+pub mod Sizes
+pub mod Code
+pub mod Statements
+pub mod Repeated
+pub mod Lowered
+pub mod Works
+pub mod Fitting
+pub mod Shown

@@ -1,0 +1,489 @@
+// The pieces of a statement.
+ghost use Rattle.std.specs.Prelude.{◌≡◌, suc, ◌+◌, ◌<◌, ◌^◌, [], ◌∷◌, ◌++◌, pos, OnOk};
+ghost use Rattle.sts_syntax.specs.TypedViews.{typed_tree, optional_typed_tree, typed_statement, typed_statements, typed_declarations};
+ghost use Rattle.sts_lower.specs.Sizes as z;
+ghost use Rattle.sts_lower.specs.Statements as t;
+ghost use Rattle.sts_lower.specs.Works as p;
+ghost use Rattle.sts_lower.specs.Fitting.{Fits};
+ghost use Rattle.sts_lower.specs.Shown.{works, layout};
+
+use crate::assign::ONE_MORE;
+use crate::frame::Frame;
+use crate::ops::set_op;
+use crate::sizes::size_of;
+use crate::statement_sizes::{
+    ITEM_SIZE, initial_size, statement_size, statements_size, step_size, test_size,
+};
+use crate::values::{evaluate, put};
+use crate::work::{Stack, Work};
+use flat_ir::Op;
+use sts_base::{NoMemory, Seq};
+use sts_syntax::operators::LESS;
+use sts_syntax::{Spot, TypedBinding, TypedExpr, TypedStmt};
+
+/// What a `return` without a value does comes next, and running off the end.
+pub(crate) fn open_bare(stack: &mut Stack, frame: &Frame) -> Result<(), NoMemory>
+    ensures { OnOk result (works stack.new ≡ p.puts (t.bare_code frame.now.maker frame.now.base) ++ works stack.old) }
+{
+    put(stack, Op::Return { from: frame.base })?;
+    if frame.maker {
+        put(
+            stack,
+            Op::Copy {
+                to: frame.base,
+                from: 0,
+            },
+        )
+    } else {
+        put(
+            stack,
+            Op::Const {
+                to: frame.base,
+                value: 0,
+            },
+        )
+    }
+}
+
+/// What a `return` does behind its value comes next.
+fn open_returned(stack: &mut Stack, frame: &Frame) -> Result<(), NoMemory>
+    ensures { OnOk result (works stack.new ≡ p.puts (t.return_code frame.now.maker frame.now.base) ++ works stack.old) }
+{
+    if frame.maker {
+        open_bare(stack, frame)
+    } else {
+        put(stack, Op::Return { from: frame.base })
+    }
+}
+
+/// The first operand is to be the value of a declared name.
+fn open_initial<'a>(
+    stack: &mut Stack<'a>,
+    frame: &Frame<'a>,
+    first: &'a Option<TypedExpr>,
+    at: u32,
+) -> Result<(), NoMemory>
+    requires { at + z.initial_size (optional_typed_tree first.now) < 2 ^ 32 }
+    ensures { OnOk result (works stack.new ≡ p.opened_initial (layout frame.now) (optional_typed_tree first.now) at ++ works stack.old) }
+{
+    match first {
+        None => put(
+            stack,
+            Op::Const {
+                to: frame.base,
+                value: 0,
+            },
+        ),
+        Some(a) => evaluate(stack, a, 0, at),
+    }
+}
+
+/// The next declared name, and those behind it.
+pub(crate) fn open_declarations<'a>(
+    stack: &mut Stack<'a>,
+    frame: &Frame<'a>,
+    each: &'a [TypedBinding],
+    at: u32,
+) -> Result<(), NoMemory>
+    requires fits { Fits (layout frame.now) (p.Declares (typed_declarations each.now) at) }
+    ensures { OnOk result (works stack.new ≡ p.opened_declarations (layout frame.now) (typed_declarations each.now) at ++ works stack.old) }
+{
+    match each {
+        [] => Ok(()),
+        [binding, rest @ ..] => {
+            let behind = at + initial_size(&binding.first) + 1;
+            stack.push(Work::Declares {
+                each: rest,
+                at: behind,
+            })?;
+            put(stack, set_op(frame.params, frame.base, binding.name))?;
+            open_initial(stack, frame, &binding.first, at)
+        }
+    }
+}
+
+/// A test of a condition comes next, whose value isn't 0 where it goes on at `so`.
+fn open_test<'a>(
+    stack: &mut Stack<'a>,
+    frame: &Frame<'a>,
+    test: &'a TypedExpr,
+    at: u32,
+    so: u32,
+) -> Result<(), NoMemory>
+    requires { at + z.size (typed_tree test.now) < 2 ^ 32 }
+    ensures { OnOk result (works stack.new ≡ p.Value (typed_tree test.now) 0 at (at + z.size (typed_tree test.now)) ∷ (p.Put (Op.Branch (frame.now.base + 0) so) ∷ works stack.old)) }
+{
+    put(
+        stack,
+        Op::Branch {
+            when: frame.base,
+            target: so,
+        },
+    )?;
+    evaluate(stack, test, 0, at)
+}
+
+/// A statement comes next.
+fn open_does<'a>(
+    stack: &mut Stack<'a>,
+    a: &'a TypedStmt,
+    at: u32,
+    next: u32,
+    out: u32,
+    again: u32,
+) -> Result<(), NoMemory>
+    ensures { OnOk result (works stack.new ≡ p.Does (typed_statement a.now) at next out again ∷ works stack.old) }
+{
+    stack.push(Work::Does {
+        a,
+        at,
+        next,
+        out,
+        again,
+    })
+}
+
+/// A block comes next.
+fn open_block<'a>(
+    stack: &mut Stack<'a>,
+    all: &'a Seq<TypedStmt>,
+    at: u32,
+    next: u32,
+    out: u32,
+    again: u32,
+) -> Result<(), NoMemory>
+    ensures { OnOk result (works stack.new ≡ p.DoesAll (typed_statements all.now) at next out again ∷ works stack.old) }
+{
+    stack.push(Work::DoesAll {
+        all: all.as_slice(),
+        at,
+        next,
+        out,
+        again,
+    })
+}
+
+/// `if (test) a` comes next.
+fn open_if<'a>(
+    stack: &mut Stack<'a>,
+    frame: &Frame<'a>,
+    test: &'a TypedExpr,
+    a: &'a TypedStmt,
+    at: u32,
+    next: u32,
+    out: u32,
+    again: u32,
+) -> Result<(), NoMemory>
+    requires { at + z.size (typed_tree test.now) + 2 < 2 ^ 32 }
+    ensures { OnOk result (works stack.new ≡ p.Value (typed_tree test.now) 0 at (at + z.size (typed_tree test.now)) ∷ (p.Put (Op.Branch (frame.now.base + 0) (at + z.size (typed_tree test.now) + 1 + 1)) ∷ (p.Put (Op.Jump next) ∷ (p.Does (typed_statement a.now) (at + z.size (typed_tree test.now) + 1 + 1) next out again ∷ works stack.old)))) }
+{
+    let so = at + size_of(test) + 1 + 1;
+    open_does(stack, a, so, next, out, again)?;
+    put(stack, Op::Jump { target: next })?;
+    open_test(stack, frame, test, at, so)
+}
+
+/// `if (test) a else o` comes next. The ops of `a` stand behind those of `o`.
+fn open_if_else<'a>(
+    stack: &mut Stack<'a>,
+    frame: &Frame<'a>,
+    test: &'a TypedExpr,
+    a: &'a TypedStmt,
+    o: &'a TypedStmt,
+    at: u32,
+    next: u32,
+    out: u32,
+    again: u32,
+) -> Result<(), NoMemory>
+    requires { at + z.size (typed_tree test.now) + 1 + z.statement_size frame.now.maker (typed_statement o.now) + 1 < 2 ^ 32 }
+    ensures { let so = at + z.size (typed_tree test.now) + 1 + z.statement_size frame.now.maker (typed_statement o.now) + 1 in OnOk result (works stack.new ≡ p.Value (typed_tree test.now) 0 at (at + z.size (typed_tree test.now)) ∷ (p.Put (Op.Branch (frame.now.base + 0) so) ∷ (p.Does (typed_statement o.now) (at + z.size (typed_tree test.now) + 1) next out again ∷ (p.Put (Op.Jump next) ∷ (p.Does (typed_statement a.now) so next out again ∷ works stack.old))))) }
+{
+    let otherwise = at + size_of(test) + 1;
+    let so = otherwise + statement_size(o, frame.maker) + 1;
+    open_does(stack, a, so, next, out, again)?;
+    put(stack, Op::Jump { target: next })?;
+    open_does(stack, o, otherwise, next, out, again)?;
+    open_test(stack, frame, test, at, so)
+}
+
+/// `while (test) a` comes next.
+fn open_while<'a>(
+    stack: &mut Stack<'a>,
+    frame: &Frame<'a>,
+    test: &'a TypedExpr,
+    a: &'a TypedStmt,
+    at: u32,
+    next: u32,
+) -> Result<(), NoMemory>
+    requires { at + z.size (typed_tree test.now) + 1 + 1 + z.statement_size frame.now.maker (typed_statement a.now) < 2 ^ 32 }
+    ensures { let turn = at + z.size (typed_tree test.now) + 1 + 1 + z.statement_size frame.now.maker (typed_statement a.now) in OnOk result (works stack.new ≡ p.Value (typed_tree test.now) 0 at (at + z.size (typed_tree test.now)) ∷ (p.Put (Op.Branch (frame.now.base + 0) (at + z.size (typed_tree test.now) + 1 + 1)) ∷ (p.Put (Op.Jump next) ∷ (p.Does (typed_statement a.now) (at + z.size (typed_tree test.now) + 1 + 1) turn next turn ∷ (p.Put (Op.Jump at) ∷ works stack.old))))) }
+{
+    let body = at + size_of(test) + 1 + 1;
+    let turn = body + statement_size(a, frame.maker);
+    put(stack, Op::Jump { target: at })?;
+    open_does(stack, a, body, turn, next, turn)?;
+    put(stack, Op::Jump { target: next })?;
+    open_test(stack, frame, test, at, body)
+}
+
+/// `do a while (test)` comes next.
+fn open_do_while<'a>(
+    stack: &mut Stack<'a>,
+    frame: &Frame<'a>,
+    a: &'a TypedStmt,
+    test: &'a TypedExpr,
+    at: u32,
+    next: u32,
+) -> Result<(), NoMemory>
+    requires { at + z.statement_size frame.now.maker (typed_statement a.now) + z.size (typed_tree test.now) + 2 < 2 ^ 32 }
+    ensures { let turn = at + z.statement_size frame.now.maker (typed_statement a.now) in OnOk result (works stack.new ≡ p.Does (typed_statement a.now) at turn next turn ∷ (p.Value (typed_tree test.now) 0 turn (turn + z.size (typed_tree test.now)) ∷ (p.Put (Op.Branch (frame.now.base + 0) (turn + z.size (typed_tree test.now) + 1 + 1)) ∷ (p.Put (Op.Jump next) ∷ (p.Put (Op.Jump at) ∷ works stack.old))))) }
+{
+    let turn = at + statement_size(a, frame.maker);
+    put(stack, Op::Jump { target: at })?;
+    put(stack, Op::Jump { target: next })?;
+    open_test(stack, frame, test, turn, turn + size_of(test) + 1 + 1)?;
+    open_does(stack, a, at, turn, next, turn)
+}
+
+/// The test of a `for` comes next, where there is one.
+fn open_may_test<'a>(
+    stack: &mut Stack<'a>,
+    frame: &Frame<'a>,
+    test: &'a Option<TypedExpr>,
+    at: u32,
+    next: u32,
+) -> Result<(), NoMemory>
+    requires { at + z.test_size (optional_typed_tree test.now) < 2 ^ 32 }
+    ensures { OnOk result (works stack.new ≡ p.opened_test (layout frame.now) (optional_typed_tree test.now) at next ++ works stack.old) }
+{
+    match test {
+        None => Ok(()),
+        Some(test) => {
+            put(stack, Op::Jump { target: next })?;
+            open_test(stack, frame, test, at, at + size_of(test) + 1 + 1)
+        }
+    }
+}
+
+/// The step of a `for` comes next, where there is one.
+fn open_step<'a>(
+    stack: &mut Stack<'a>,
+    frame: &Frame<'a>,
+    step: &'a Option<TypedExpr>,
+    at: u32,
+) -> Result<(), NoMemory>
+    requires { at + z.step_size (optional_typed_tree step.now) < 2 ^ 32 }
+    ensures { OnOk result (works stack.new ≡ p.opened_step (layout frame.now) (optional_typed_tree step.now) at ++ works stack.old) }
+{
+    match step {
+        None => Ok(()),
+        Some(step) => evaluate(stack, step, 0, at),
+    }
+}
+
+/// The turns of a `for` come next, from the place of the first on.
+fn open_turns<'a>(
+    stack: &mut Stack<'a>,
+    frame: &Frame<'a>,
+    test: &'a Option<TypedExpr>,
+    step: &'a Option<TypedExpr>,
+    a: &'a TypedStmt,
+    at: u32,
+    next: u32,
+) -> Result<(), NoMemory>
+    requires { at + z.test_size (optional_typed_tree test.now) + z.statement_size frame.now.maker (typed_statement a.now) + z.step_size (optional_typed_tree step.now) < 2 ^ 32 }
+    ensures { let body = at + z.test_size (optional_typed_tree test.now) in let turn = body + z.statement_size frame.now.maker (typed_statement a.now) in OnOk result (works stack.new ≡ p.opened_test (layout frame.now) (optional_typed_tree test.now) at next ++ (p.Does (typed_statement a.now) body turn next turn ∷ (p.opened_step (layout frame.now) (optional_typed_tree step.now) turn ++ (p.Put (Op.Jump at) ∷ works stack.old)))) }
+{
+    let body = at + test_size(test);
+    let step_at = body + statement_size(a, frame.maker);
+    put(stack, Op::Jump { target: at })?;
+    open_step(stack, frame, step, step_at)?;
+    open_does(stack, a, body, step_at, next, step_at)?;
+    open_may_test(stack, frame, test, at, next)
+}
+
+/// What comes before each turn of a loop over items: whether there is a next one, its item, and the move of the index. The item is
+/// the local `i`, the array the one behind it, and the index the one behind that.
+fn open_item(stack: &mut Stack, frame: &Frame, i: u32, at: u32, next: u32) -> Result<(), NoMemory>
+    requires locals { frame.now.params + suc (suc i) < 2 ^ 32 }
+    requires places { at + 4 < 2 ^ 32 }
+    ensures { OnOk result (works stack.new ≡ p.puts (p.takes_item (layout frame.now) i at next) ++ works stack.old) }
+{
+    let item = frame.params + i;
+    let array = item + 1;
+    let index = item + 2;
+    put(
+        stack,
+        Op::Unary {
+            to: index,
+            op: ONE_MORE,
+            from: index,
+        },
+    )?;
+    put(
+        stack,
+        Op::ItemGet {
+            to: item,
+            array,
+            index,
+        },
+    )?;
+    put(stack, Op::Jump { target: next })?;
+    put(
+        stack,
+        Op::Branch {
+            when: frame.base,
+            target: at + 1 + 1 + 1 + 1,
+        },
+    )?;
+    put(
+        stack,
+        Op::Binary {
+            to: frame.base,
+            op: LESS,
+            left: index,
+            right: frame.base,
+        },
+    )?;
+    put(
+        stack,
+        Op::Length {
+            to: frame.base,
+            array,
+        },
+    )
+}
+
+/// `for (let x of list) a` comes next, whose item is the local `i`.
+fn open_for_of<'a>(
+    stack: &mut Stack<'a>,
+    frame: &Frame<'a>,
+    i: u32,
+    list: &'a TypedExpr,
+    a: &'a TypedStmt,
+    at: u32,
+    next: u32,
+) -> Result<(), NoMemory>
+    requires locals { frame.now.params + suc (suc i) < 2 ^ 32 }
+    requires places { at + z.size (typed_tree list.now) + 3 + z.item_size < 2 ^ 32 }
+    ensures { let turn = at + z.size (typed_tree list.now) + 1 + 1 + 1 in OnOk result (works stack.new ≡ p.Value (typed_tree list.now) 0 at (at + z.size (typed_tree list.now)) ∷ (p.Put (Op.Copy (frame.now.params + suc i) (frame.now.base + 0)) ∷ (p.Put (Op.Const (frame.now.base + 0) (pos 0)) ∷ (p.Put (Op.Copy (frame.now.params + suc (suc i)) (frame.now.base + 0)) ∷ (p.puts (p.takes_item (layout frame.now) i turn next) ++ (p.Does (typed_statement a.now) (turn + z.item_size) turn next turn ∷ (p.Put (Op.Jump turn) ∷ works stack.old))))))) }
+{
+    let item = frame.params + i;
+    let turn = at + size_of(list) + 1 + 1 + 1;
+    put(stack, Op::Jump { target: turn })?;
+    open_does(stack, a, turn + ITEM_SIZE, turn, next, turn)?;
+    open_item(stack, frame, i, turn, next)?;
+    put(
+        stack,
+        Op::Copy {
+            to: item + 2,
+            from: frame.base,
+        },
+    )?;
+    put(
+        stack,
+        Op::Const {
+            to: frame.base,
+            value: 0,
+        },
+    )?;
+    put(
+        stack,
+        Op::Copy {
+            to: item + 1,
+            from: frame.base,
+        },
+    )?;
+    evaluate(stack, list, 0, at)
+}
+
+/// The pieces of a statement come next.
+pub(crate) fn open_statement<'a>(
+    stack: &mut Stack<'a>,
+    frame: &Frame<'a>,
+    s: &'a TypedStmt,
+    at: u32,
+    next: u32,
+    out: u32,
+    again: u32,
+) -> Result<(), NoMemory>
+    requires { Fits (layout frame.now) (p.Does (typed_statement s.now) at next out again) }
+    ensures { OnOk result (works stack.new ≡ p.opened_statement (layout frame.now) (typed_statement s.now) at next out again ++ works stack.old) }
+{
+    match s {
+        TypedStmt::Block(all) => open_block(stack, all, at, next, out, again),
+        TypedStmt::Let { each, .. } => stack.push(Work::Declares {
+            each: each.as_slice(),
+            at,
+        }),
+        TypedStmt::If(test, a, None) => open_if(stack, frame, test, a, at, next, out, again),
+        TypedStmt::If(test, a, Some(o)) => {
+            open_if_else(stack, frame, test, a, o, at, next, out, again)
+        }
+        TypedStmt::While(test, a) => open_while(stack, frame, test, a, at, next),
+        TypedStmt::DoWhile(a, test) => open_do_while(stack, frame, a, test, at, next),
+        TypedStmt::For(None, test, step, a) => open_turns(stack, frame, test, step, a, at, next),
+        TypedStmt::For(Some(first), test, step, a) => {
+            let turns = at + statement_size(first, frame.maker);
+            open_turns(stack, frame, test, step, a, turns, next)?;
+            open_does(stack, first, at, turns, out, again)
+        }
+        TypedStmt::ForOf {
+            name,
+            list,
+            body,
+            ..
+        } => match name {
+            Spot::Local(i) => open_for_of(stack, frame, *i, list, body, at, next),
+            Spot::Param(_) | Spot::Global(_) => put(stack, Op::Jump { target: next }),
+        },
+        TypedStmt::Return(None) => open_bare(stack, frame),
+        TypedStmt::Return(Some(a)) => {
+            open_returned(stack, frame)?;
+            evaluate(stack, a, 0, at)
+        }
+        TypedStmt::Break => put(stack, Op::Jump { target: out }),
+        TypedStmt::Continue => put(stack, Op::Jump { target: again }),
+        TypedStmt::Plain(a) => stack.push(Work::Value {
+            e: a,
+            d: 0,
+            at,
+            next,
+        }),
+        TypedStmt::Empty => Ok(()),
+    }
+}
+
+/// The next statement, and those behind it.
+pub(crate) fn open_statements<'a>(
+    stack: &mut Stack<'a>,
+    frame: &Frame<'a>,
+    all: &'a [TypedStmt],
+    at: u32,
+    next: u32,
+    out: u32,
+    again: u32,
+) -> Result<(), NoMemory>
+    requires { Fits (layout frame.now) (p.DoesAll (typed_statements all.now) at next out again) }
+    ensures { OnOk result (works stack.new ≡ p.opened_statements (layout frame.now) (typed_statements all.now) at next out again ++ works stack.old) }
+{
+    match all {
+        [] => Ok(()),
+        [a, rest @ ..] => {
+            let behind = at + statement_size(a, frame.maker);
+            stack.push(Work::DoesAll {
+                all: rest,
+                at: behind,
+                next,
+                out,
+                again,
+            })?;
+            let go = if statements_size(rest, frame.maker) == 0 {
+                next
+            } else {
+                behind
+            };
+            open_does(stack, a, at, go, out, again)
+        }
+    }
+}

@@ -1,0 +1,53 @@
+// The pieces of an expression.
+ghost use Rattle.std.specs.Prelude.{◌≡◌, suc, ◌+◌, ◌<◌, ◌^◌, ◌∷◌, OnOk};
+ghost use Rattle.sts_syntax.specs.TypedViews.{typed_tree};
+ghost use Rattle.sts_lower.specs.Sizes as z;
+ghost use Rattle.sts_lower.specs.Works as p;
+ghost use Rattle.sts_lower.specs.Shown.{works};
+
+use crate::sizes::size_of;
+use crate::work::{Stack, Work};
+use flat_ir::Op;
+use sts_base::NoMemory;
+use sts_syntax::TypedExpr;
+
+/// An op comes next.
+pub(crate) fn put(stack: &mut Stack, op: Op) -> Result<(), NoMemory>
+    ensures { OnOk result (works stack.new ≡ p.Put op ∷ works stack.old) }
+{
+    stack.push(Work::Put(op))
+}
+
+/// An expression comes next, and behind it the op that stands on top.
+pub(crate) fn evaluate<'a>(
+    stack: &mut Stack<'a>,
+    a: &'a TypedExpr,
+    d: u32,
+    at: u32,
+) -> Result<(), NoMemory>
+    requires { at + z.size (typed_tree a.now) < 2 ^ 32 }
+    ensures { OnOk result (works stack.new ≡ p.Value (typed_tree a.now) d at (at + z.size (typed_tree a.now)) ∷ works stack.old) }
+{
+    stack.push(Work::Value {
+        e: a,
+        d,
+        at,
+        next: at + size_of(a),
+    })
+}
+
+/// Two expressions come next, and behind them the op that stands on top.
+pub(crate) fn evaluate_both<'a>(
+    stack: &mut Stack<'a>,
+    a: &'a TypedExpr,
+    b: &'a TypedExpr,
+    d: u32,
+    at: u32,
+) -> Result<(), NoMemory>
+    requires places { at + z.size (typed_tree a.now) + z.size (typed_tree b.now) < 2 ^ 32 }
+    requires operands { d + 1 < 2 ^ 32 }
+    ensures { OnOk result (works stack.new ≡ p.Value (typed_tree a.now) d at (at + z.size (typed_tree a.now)) ∷ (p.Value (typed_tree b.now) (suc d) (at + z.size (typed_tree a.now)) (at + z.size (typed_tree a.now) + z.size (typed_tree b.now)) ∷ works stack.old)) }
+{
+    evaluate(stack, b, d + 1, at + size_of(a))?;
+    evaluate(stack, a, d, at)
+}
