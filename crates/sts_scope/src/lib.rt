@@ -20,5 +20,6 @@ pub use collect::Declared;
 pub use entries::{ClassHead, Entry, Owner, Sort};
 pub use kinds::{Base, Kind};
 pub use known::{Found, Known, Local, Part, This};
+pub use lookup::{entry_number, inherited, is_dollar, member_number, sort_of};
 pub use resolution::{Scopes, headings, resolve};
 pub use rows::{rows_of_bases, rows_of_headings, rows_of_names};

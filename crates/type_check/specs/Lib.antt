@@ -1,0 +1,11 @@
+pub mod Nodes
+pub mod Passes
+pub mod Making
+pub mod Handlers
+pub mod Numbers
+pub mod Built
+pub mod Programs
+pub mod Limits
+pub mod Accepted
+pub mod Laws
+pub mod Rows

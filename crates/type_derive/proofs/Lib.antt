@@ -1,0 +1,5 @@
+pub mod Going
+pub mod Locals
+pub mod Single
+pub mod Grows
+pub mod ReturnsGrow

@@ -1,0 +1,95 @@
+-- What declarations make known, and the first value that a function returns.
+use Rattle.std.specs.Prelude.{ℕ, Bool, true, false, Option, Some, None, List, [], ◌∷◌, length, if◌then◌else◌}
+use Rattle.sts_base.specs.declared.tables.Tables.{Tables}
+use Rattle.sts_syntax.specs.Annotations.{Annotation}
+use Rattle.sts_syntax.specs.Trees.{Parameter, Tree, Null, Items, none, OptionalTree, absent, present, Statement, Block, Let, IfOnly, IfElse, While, DoWhile, For, ForOf, Return, Break, Continue, Plain, Empty, Statements, done, also, OptionalStatement, omitted, written, Declaration, Declare, Declarations, ended, next}
+use Rattle.sts_scope.specs.declared.kinds.Kind.{Kind}
+use Rattle.sts_scope.specs.declared.known.Known.{Known}
+use Rattle.sts_scope.specs.declared.known.Local.{Local}
+use Rattle.sts_scope.specs.declared.known.This.{This}
+use Rattle.sts_scope.specs.Kinds.{nothing, is_array, item}
+use Rattle.sts_scope.specs.Entries.{Naming, kind_of, written_kind}
+use Rattle.sts_scope.specs.Places.{Place, with, inner, local}
+use Rattle.type_derive.specs.declared.roles.Role.TheVariants.{Free}
+use Rattle.type_derive.specs.Typing.{type_of}
+
+-- `null` or `[]`, which give no type to what they are the initialiser of
+abbrev pub is_alone : Tree → Bool
+is_alone (Null at) = true
+is_alone (Items at none) = true
+is_alone _ = false
+
+-- the first of two, where the first may be none
+abbrev pub or_else : {A : Type 0} → Option A → Option A → Option A
+or_else (Some a) b = Some a
+or_else None b = b
+
+-- the parameters of a function, each with its type
+abbrev pub parameter_locals : Naming → List Parameter → List Local
+parameter_locals names [] = []
+parameter_locals names (p ∷ rest) = local p.name (written_kind names p.shape) false ∷ parameter_locals names rest
+
+-- where a function's statements begin: its parameters are known, and its own block begins behind them
+abbrev pub within : List Local → This → Option Kind → Bool → Place
+within params this gives library = record { locals = params; floor = 0; block = length params; this = this; gives = gives; library = library }
+
+-- Types are written by the names of classes.
+module _ (tables : Tables) (names : Naming) (k : Known) where
+  -- the type of a declared name: the one that is written, else its initialiser's
+  abbrev pub bound : Place → Option Annotation → OptionalTree → Option Kind
+  bound p (Some a) first = kind_of names a
+  bound p None absent = None
+  bound p None (present e) = if is_alone e then None else type_of tables k p Free e
+
+  -- behind a declared name
+  abbrev pub declared : Place → Bool → Declaration → Place
+  declared p fixed (Declare at x shape first) = with p x (bound p shape first) fixed
+
+  abbrev pub all_declared : Place → Bool → Declarations → Place
+  all_declared p fixed ended = p
+  all_declared p fixed (next a rest) = all_declared (declared p fixed a) fixed rest
+
+  -- behind a statement of the same block
+  abbrev pub after : Place → Statement → Place
+  after p (Let at fixed each) = all_declared p fixed each
+  after p _ = p
+
+  abbrev pub after_first : Place → OptionalStatement → Place
+  after_first p omitted = p
+  after_first p (written a) = after p a
+
+  -- the type of the items that a loop goes through
+  abbrev pub items_of : Option Kind → Option Kind
+  items_of None = None
+  items_of (Some t) = if is_array t then Some (item t) else None
+
+  -- in the body of a `for of`
+  abbrev pub looped : Place → Bool → ℕ → Tree → Place
+  looped p fixed x list = with (inner p) x (items_of (type_of tables k p Free list)) fixed
+
+  -- The first value that is returned: none, or its type if it has one.
+  abbrev mutual
+    pub returned : Place → Statement → Option (Option Kind)
+    returned p (Return at (present e)) = Some (type_of tables k p Free e)
+    returned p (Return at absent) = None
+    returned p (Block at all) = all_returned (inner p) all
+    returned p (IfOnly at test a) = returned (inner p) a
+    returned p (IfElse at test a b) = or_else (returned (inner p) a) (returned (inner p) b)
+    returned p (While at test a) = returned (inner p) a
+    returned p (DoWhile at a test) = returned (inner p) a
+    returned p (For at first test step a) = returned (inner (after_first (inner p) first)) a
+    returned p (ForOf at fixed x list a) = returned (inner (looped p fixed x list)) a
+    returned p (Let at fixed each) = None
+    returned p (Break at) = None
+    returned p (Continue at) = None
+    returned p (Plain at e) = None
+    returned p (Empty at) = None
+
+    pub all_returned : Place → Statements → Option (Option Kind)
+    all_returned p done = None
+    all_returned p (also s rest) = or_else (returned p s) (all_returned (after p s) rest)
+
+  -- the result of a function without a written one: nothing where no value is returned
+  abbrev pub answered : Option (Option Kind) → Option Kind
+  answered None = Some nothing
+  answered (Some kind) = kind

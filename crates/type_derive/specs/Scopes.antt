@@ -1,0 +1,6 @@
+-- What the code's view of a place stands for.
+use Rattle.sts_scope.specs.Places.{Place}
+use Rattle.type_derive.specs.declared.scopes.Scope.{Scope}
+
+abbrev pub place : Scope → Place
+place s = record { locals = s.locals.items; floor = s.floor; block = s.block; this = s.this; gives = s.gives; library = s.library }

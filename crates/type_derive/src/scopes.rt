@@ -1,0 +1,297 @@
+// Where something stands, and what names stand for there.
+ghost use Rattle.std.specs.Prelude.{◌≡◌, ◌≤◌, length};
+ghost use Rattle.sts_scope.specs.Places as name;
+ghost use Rattle.sts_scope.specs.Rules as rule;
+ghost use Rattle.type_derive.specs.Scopes.{place};
+
+use crate::kinds::{class_of, flat, is_array, item, same};
+use sts_base::Tables;
+use sts_scope::{
+    Base, Entry, Found, Kind, Known, Local, Owner, Part, Sort, This, entry_number, is_dollar,
+    member_number, sort_of,
+};
+
+/// Where something stands.
+#[derive(Drop)]
+pub struct Scope {
+    /// the parameters and locals in scope, outermost first
+    pub locals: Vec<Local>,
+    /// those from here on are of this function
+    pub floor: usize,
+    /// those from here on are of this block
+    pub block: usize,
+    /// what `this` is
+    pub this: This,
+    /// what a `return` gives, where it is known
+    pub gives: Option<Kind>,
+    /// whether it is the library
+    pub library: bool,
+}
+
+/// The last local of a name.
+pub fn last_named(locals: &[Local], x: u32) -> Option<usize>
+    ensures { result ≡ name.last_named locals.now x }
+{
+    let mut i = locals.len();
+    while i > 0 {
+        i -= 1;
+        if locals[i].name == x {
+            return Some(i);
+        }
+    }
+    None
+}
+
+fn entry_found(d: usize, sort: Sort) -> Found
+    ensures { result ≡ name.entry_found d sort }
+{
+    match sort {
+        Sort::Global { fixed: _ } => Found::Global(d),
+        Sort::Function => Found::Function(d),
+        Sort::Class(c) => Found::Class(c),
+        Sort::Field => Found::Unknown,
+        Sort::Method => Found::Unknown,
+    }
+}
+
+/// The declaration of the whole text of a name.
+fn global_named(known: &Known, library: bool, x: u32) -> Found
+    ensures { result ≡ name.global_named known.now library x }
+{
+    let entries = known.entries.as_slice();
+    match entry_number(entries, Owner::Whole, x) {
+        None => Found::Unknown,
+        Some(d) => {
+            if library && known.library <= d {
+                Found::Unknown
+            } else {
+                match sort_of(entries, d) {
+                    None => Found::Unknown,
+                    Some(sort) => entry_found(d, sort),
+                }
+            }
+        }
+    }
+}
+
+/// What a name stands for.
+pub fn name_found(tables: &Tables, known: &Known, scope: &Scope, x: u32) -> Found
+    ensures { result ≡ name.name_found tables.now.names known.now (place scope.now) x }
+{
+    if !scope.library && is_dollar(tables, x) {
+        return Found::Unknown;
+    }
+    match last_named(&scope.locals, x) {
+        Some(i) => {
+            if i < scope.floor {
+                Found::Captured
+            } else {
+                Found::Local(i)
+            }
+        }
+        None => global_named(known, scope.library, x),
+    }
+}
+
+/// Whether a local of a name stands in the block.
+pub fn is_twice(scope: &Scope, x: u32) -> bool
+    ensures { result ≡ name.is_twice (place scope.now) x }
+{
+    match last_named(&scope.locals, x) {
+        None => false,
+        Some(i) => scope.block <= i,
+    }
+}
+
+/// The type of a declaration.
+pub fn kind_at(known: &Known, d: usize) -> Option<Kind>
+    ensures { result ≡ rule.kind_at known.now d }
+{
+    match known.kinds.get(d) {
+        None => None,
+        Some(kind) => *kind,
+    }
+}
+
+/// The type of a name.
+pub fn name_kind(known: &Known, scope: &Scope, found: Found) -> Option<Kind>
+    ensures { result ≡ rule.name_kind known.now (place scope.now) found }
+{
+    match found {
+        Found::Local(i) => match scope.locals.get(i) {
+            None => None,
+            Some(l) => l.kind,
+        },
+        Found::Global(d) => kind_at(known, d),
+        Found::Captured => None,
+        Found::Function(_) => None,
+        Found::Class(_) => None,
+        Found::Unknown => None,
+    }
+}
+
+/// The type of `this`.
+pub fn this_kind(this: This) -> Option<Kind>
+    ensures { result ≡ rule.this_kind this }
+{
+    match this {
+        This::Object(c) => Some(flat(Base::Class(c))),
+        This::Hidden(_) => None,
+        This::Nowhere => None,
+    }
+}
+
+fn sort_fixed(sort: Option<Sort>) -> bool
+    ensures { result ≡ rule.sort_fixed sort }
+{
+    match sort {
+        None => false,
+        Some(Sort::Global { fixed }) => fixed,
+        Some(Sort::Function) => false,
+        Some(Sort::Class(_)) => false,
+        Some(Sort::Field) => false,
+        Some(Sort::Method) => false,
+    }
+}
+
+/// Whether a name is `const`.
+pub fn name_fixed(known: &Known, scope: &Scope, found: Found) -> bool
+    ensures { result ≡ rule.name_fixed known.now (place scope.now) found }
+{
+    match found {
+        Found::Local(i) => match scope.locals.get(i) {
+            None => false,
+            Some(l) => l.fixed,
+        },
+        Found::Global(d) => sort_fixed(sort_of(known.entries.as_slice(), d)),
+        Found::Captured => false,
+        Found::Function(_) => false,
+        Found::Class(_) => false,
+        Found::Unknown => false,
+    }
+}
+
+/// Whether a name is spelled so.
+#[tactic(auto, using(sts_syntax::proofs::BoardLookup::same_bytes_is))]
+fn is_spelled(tables: &Tables, x: u32, bytes: &[u8]) -> bool
+    ensures { result ≡ rule.is_spelled tables.now.names x bytes.now }
+{
+    match tables.names.get(x as usize) {
+        None => false,
+        Some(these) => these.as_slice() == bytes,
+    }
+}
+
+/// What an array of items of a type has.
+fn array_part(tables: &Tables, t: Kind, m: u32) -> Part
+    ensures { result ≡ rule.array_part tables.now.names t m }
+{
+    if is_spelled(tables, m, b"length") {
+        Part::Length
+    } else if is_spelled(tables, m, b"push") {
+        Part::Push(t)
+    } else if is_spelled(tables, m, b"pop") {
+        Part::Pop(t)
+    } else {
+        Part::Missing
+    }
+}
+
+fn member_part(d: usize, sort: Option<Sort>) -> Part
+    ensures { result ≡ rule.member_part d sort }
+{
+    match sort {
+        None => Part::Missing,
+        Some(Sort::Field) => Part::Field(d),
+        Some(Sort::Method) => Part::Method(d),
+        Some(Sort::Function) => Part::Missing,
+        Some(Sort::Class(_)) => Part::Missing,
+        Some(Sort::Global { fixed: _ }) => Part::Missing,
+    }
+}
+
+fn class_part(known: &Known, class: Option<u32>, m: u32) -> Part
+    ensures { result ≡ rule.class_part known.now class m }
+{
+    let entries = known.entries.as_slice();
+    match class {
+        None => Part::Missing,
+        Some(c) => match member_number(entries, known.classes.as_slice(), c, m) {
+            None => Part::Missing,
+            Some(d) => member_part(d, sort_of(entries, d)),
+        },
+    }
+}
+
+/// What stands behind the dot of a value of a type.
+#[tactic(auto, unfolding(sts_scope::specs::Rules::part_of))]
+pub fn part_of(tables: &Tables, known: &Known, t: Kind, m: u32) -> Part
+    ensures { result ≡ rule.part_of tables.now.names known.now t m }
+{
+    if is_array(t) {
+        array_part(tables, item(t), m)
+    } else {
+        class_part(known, class_of(t), m)
+    }
+}
+
+/// The type of a member that is read.
+pub fn part_kind(known: &Known, part: Part) -> Option<Kind>
+    ensures { result ≡ rule.part_kind known.now part }
+{
+    match part {
+        Part::Field(d) => kind_at(known, d),
+        Part::Method(_) => None,
+        Part::Length => Some(flat(Base::Number)),
+        Part::Push(_) => None,
+        Part::Pop(_) => None,
+        Part::Missing => None,
+    }
+}
+
+/// Whether a member may be set.
+pub fn part_settable(part: Part) -> bool
+    ensures { result ≡ rule.part_settable part }
+{
+    match part {
+        Part::Field(_) => true,
+        Part::Method(_) => false,
+        Part::Length => false,
+        Part::Push(_) => false,
+        Part::Pop(_) => false,
+        Part::Missing => false,
+    }
+}
+
+fn takes_nothing(entries: &[Entry], d: usize) -> bool
+    ensures { result ≡ rule.none_taken (rule.takes_at entries.now d) }
+{
+    match entries.get(d) {
+        None => true,
+        Some(e) => match e.takes.as_slice() {
+            [] => true,
+            [_, ..] => false,
+        },
+    }
+}
+
+/// Whether a name is that of a function without parameters and without a value.
+#[tactic(auto, unfolding(sts_scope::specs::Rules::serves))]
+pub fn serves(known: &Known, found: Found) -> bool
+    ensures { result ≡ rule.serves known.now found }
+{
+    match found {
+        Found::Function(d) => {
+            takes_nothing(known.entries.as_slice(), d)
+                && match kind_at(known, d) {
+                    None => false,
+                    Some(t) => same(t, flat(Base::Nothing)),
+                }
+        }
+        Found::Local(_) => false,
+        Found::Captured => false,
+        Found::Global(_) => false,
+        Found::Class(_) => false,
+        Found::Unknown => false,
+    }
+}
