@@ -1,8 +1,8 @@
 -- What the getters of matches give.
 use Rattle.std.proofs.Common.{◌≡◌, ℕ, ◌≤◌, List, [], ◌∷◌, length, refl, sym, ap, ◌∙◌, subst, Bool, true, false, codes, arith}
-use Rattle.std.specs.Prelude.{Option, Some, None, slice_get, option_and_then, Box}
+use Rattle.std.specs.Prelude.{◌||◌, Option, Some, None, slice_get, option_and_then, Box}
 use Rattle.std.specs.Option.{option_map}
-use Rattle.clap.specs.Words.{Text, Row, Rule, App, app_of, rule_of, shape_of, with_rule, with_subcommand, first_value, one_of, rows_of, subcommand_rows_of, subcommand_name_of, AddsArg, AddsSubcommand}
+use Rattle.clap.specs.Words.{Text, Row, Rule, App, app_of, rule_of, with_rule, first_value, one_of, rows_of, subcommand_rows_of, subcommand_name_of, AddsArg}
 use Rattle.clap.specs.Matches.{one_text}
 use Rattle.clap.specs.declared.parser.matches.Found.{Found}
 use Rattle.clap.specs.declared.parser.matches.ArgMatches.{ArgMatches}
@@ -107,6 +107,5 @@ entered-rows m command rows found e is =
 pub arg-added : (old new : Command) (a : Arg) (rule : Rule) (app : App) → AddsArg old a new → a.global ≡ false → rule_of a ≡ rule → app_of old ≡ app → app_of new ≡ with_rule app rule
 arg-added old new a rule app adds local e is = adds.shape local ∙ ap (λ x. with_rule x (rule_of a)) is ∙ ap (with_rule app) e
 
-pub subcommand-added : (old new sub : Command) (app : App) (below : App) → AddsSubcommand old sub new → (out-Command sub).has_globals ≡ false → app_of sub ≡ below → app_of old ≡ app
-    → app_of new ≡ with_subcommand app below.top
-subcommand-added old new sub app below adds local e is = adds.shape local ∙ ap (λ x. with_subcommand x (shape_of sub)) is ∙ ap (λ x. with_subcommand app x.top) e
+pub arg-local : (old new : Command) (a : Arg) → AddsArg old a new → a.global ≡ false → (out-Command old).has_globals ≡ false → (out-Command new).has_globals ≡ false
+arg-local old new a adds local is = adds.globals ∙ ap (λ b. b || a.global) is ∙ local

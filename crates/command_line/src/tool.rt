@@ -1,6 +1,6 @@
 // The command line, as `clap` is told of it.
-ghost use Rattle.std.specs.Prelude.{◌≡◌, IfOk, false};
-ghost use Rattle.clap.specs.Words.{app_of, rule_of};
+ghost use Rattle.std.specs.Prelude.{◌≡◌, IfOk, IsErr, false};
+ghost use Rattle.clap.specs.Words.{app_of, rule_of, with_rule, with_subcommand};
 ghost use Rattle.clap.specs.declared.Command.{out-Command};
 ghost use Rattle.command_line.specs.Tool as spec;
 
@@ -55,19 +55,24 @@ fn image<'a>(alloc: Global) -> Arg<'a>
         .action(ArgAction::SetTrue)
 }
 
+/// A command with its names.
+fn with_names<'a>(alloc: Global, line: Command<'a>) -> Result<Command<'a>, AllocError>
+    requires { (out-Command line).has_globals ≡ false }
+    ensures app { IfOk result (λ c. app_of c ≡ with_rule (with_rule (app_of line.entry) spec.name_rule) spec.script_rule) }
+    ensures local { IfOk result (λ c. (out-Command c).has_globals ≡ false) }
+{
+    line.arg(name(alloc))?.arg(script(alloc))
+}
+
 /// The command of that name.
 fn command<'a>(alloc: Global, text: &'a str) -> Result<Command<'a>, AllocError>
     ensures app { IfOk result (λ c. app_of c ≡ spec.command_app text.entry.now) }
     ensures local { IfOk result (λ c. (out-Command c).has_globals ≡ false) }
 {
-    Ok(
-        Command::new(alloc, text)
-            .arg(name(alloc))?
-            .arg(script(alloc))?
-            .arg(budget(alloc))?
-            .arg(stats(alloc))?
-            .arg(image(alloc))?,
-    )
+    let line = with_names(alloc, Command::new(alloc, text))?;
+    line.arg(budget(alloc))?
+        .arg(stats(alloc))?
+        .arg(image(alloc))
 }
 
 /// The command line without its commands: no word stands before them, and there is no help.
@@ -81,21 +86,35 @@ fn bare<'a>(alloc: Global) -> Command<'a>
         .subcommand_required(true)
 }
 
+/// Lets a value go where memory was wanting for another.
+fn lost<T: Drop, R>(error: AllocError, it: T) -> Result<R, AllocError>
+    ensures { IsErr result }
+{
+    let _ = it;
+    Err(error)
+}
+
+/// The command line with one more command.
+fn with_command<'a>(
+    alloc: Global,
+    line: Command<'a>,
+    name: &'a str,
+) -> Result<Command<'a>, AllocError>
+    ensures { IfOk result (λ c. app_of c ≡ with_subcommand (app_of line.entry) (spec.command_app name.entry.now).top) }
+{
+    match command(alloc, name) {
+        Ok(below) => line.subcommand(below),
+        Err(error) => lost(error, line),
+    }
+}
+
 /// The command line.
 pub fn tool<'a>(alloc: Global) -> Result<Command<'a>, AllocError>
     ensures { IfOk result (λ c. app_of c ≡ spec.tool_app) }
 {
-    let check = command(alloc, "check")?;
-    let build = command(alloc, "build")?;
-    let run = command(alloc, "run")?;
-    let run_hex = command(alloc, "run-hex")?;
-    let big = command(alloc, "big")?;
-    Ok(
-        bare(alloc)
-            .subcommand(check)?
-            .subcommand(build)?
-            .subcommand(run)?
-            .subcommand(run_hex)?
-            .subcommand(big)?,
-    )
+    let line = with_command(alloc, bare(alloc), "check")?;
+    let line = with_command(alloc, line, "build")?;
+    let line = with_command(alloc, line, "run")?;
+    let line = with_command(alloc, line, "run-hex")?;
+    with_command(alloc, line, "big")
 }

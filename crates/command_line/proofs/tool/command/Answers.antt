@@ -1,10 +1,17 @@
-use Rattle.command_line.proofs.Given.{arg-added}
+use Rattle.std.proofs.Common.{ap, ◌∙◌}
+use Rattle.std.proofs.lemmas.Result.{IfOk-weaker}
+use Rattle.clap.specs.Words.{with_rule}
+use Rattle.command_line.specs.Tool.{name_rule, script_rule}
+use Rattle.command_line.proofs.Given.{arg-added, arg-local}
 use Rattle.command_line.proofs.tool.command.Goals as goal
 
 pub returns-clause-app : goal.returns-clause-app
-returns-clause-app c =
-    arg-added _ _ c.image.result _ _ c.in_ok-arg-5.ensures c.image.ensures.local c.image.ensures.rule
-    (arg-added _ _ c.stats.result _ _ c.in_ok-arg-4.ensures c.stats.ensures.local c.stats.ensures.rule
-    (arg-added _ _ c.budget.result _ _ c.in_ok-arg-3.ensures c.budget.ensures.local c.budget.ensures.rule
-    (arg-added _ _ c.script.result _ _ c.in_ok-arg-2.ensures c.script.ensures.local c.script.ensures.rule
-    (arg-added _ _ c.name.result _ _ c.in_ok-arg.ensures c.name.ensures.local c.name.ensures.rule c.new.ensures.app))))
+returns-clause-app c = IfOk-weaker c.arg-3.result _ _ (λ r adds. arg-added _ r c.image.result _ _ adds c.image.ensures.local c.image.ensures.rule
+    (arg-added _ _ c.stats.result _ _ c.in_ok-arg-2.ensures c.stats.ensures.local c.stats.ensures.rule
+    (arg-added _ _ c.budget.result _ _ c.in_ok-arg.ensures c.budget.ensures.local c.budget.ensures.rule
+    (c.in_ok-line.ensures.app ∙ ap (λ a. with_rule (with_rule a name_rule) script_rule) c.new.ensures.app)))) c.arg-3.ensures
+
+pub returns-clause-local : goal.returns-clause-local
+returns-clause-local c = IfOk-weaker c.arg-3.result _ _ (λ r adds. arg-local _ r c.image.result adds c.image.ensures.local
+    (arg-local _ _ c.stats.result c.in_ok-arg-2.ensures c.stats.ensures.local
+    (arg-local _ _ c.budget.result c.in_ok-arg.ensures c.budget.ensures.local c.in_ok-line.ensures.local))) c.arg-3.ensures
