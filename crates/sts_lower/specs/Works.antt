@@ -100,6 +100,54 @@ module _ (L : Layout) where
   ops_of_all [] = []
   ops_of_all (w ∷ ws) = ops_of w ++ ops_of_all ws
 
+  -- an expression whose ops go on behind them, and two of them one after the other
+  abbrev pub valued : TypedTree → (d at : ℕ) → Work
+  valued a d at = Value a d at (at + size a)
+
+  abbrev pub two : TypedTree → TypedTree → (d at : ℕ) → List Work
+  two a b d at = valued a d at ∷ (valued b (suc d) (at + size a) ∷ [])
+
+  -- The pieces of the forms that go on in more than one way: `a && b`, `a || b`, and `test ? a : b`.
+  abbrev pub both : TypedTree → TypedTree → (d at next : ℕ) → List Work
+  both a b d at next = (let behind = at + size a + 1 + 1 in valued a d at ∷ (Put (Branch (L.base + d) behind) ∷ (Put (Jump next) ∷ (Value b d behind next ∷ []))))
+
+  abbrev pub either : TypedTree → TypedTree → (d at next : ℕ) → List Work
+  either a b d at next = valued a d at ∷ (Put (Branch (L.base + d) next) ∷ (Value b d (at + size a + 1) next ∷ []))
+
+  abbrev pub choice : TypedTree → TypedTree → TypedTree → (d at next : ℕ) → List Work
+  choice test a b d at next =
+      (let so = at + size test + 1 + size b + 1 in
+      valued test d at ∷ (Put (Branch (L.base + d) so) ∷ (Value b d (at + size test + 1) next ∷ (Put (Jump next) ∷ (Value a d so next ∷ [])))))
+
+  -- of assignments, `++` and `--`
+  abbrev pub assigned : TypedTree → TypedTree → (d at : ℕ) → List Work
+  assigned x r d at = Reach x d at ∷ (valued r (held_at (target x) d) (at + reach_size x) ∷ puts (stores (target x) d))
+
+  abbrev pub compounded : ℕ → TypedTree → TypedTree → (d at : ℕ) → List Work
+  compounded op x r d at =
+      (let held = held_at (target x) d in
+      Reach x d at ∷ (Put (reads (target x) d) ∷ (valued r (suc held) (at + reach_size x + 1)
+      ∷ (Put (Binary (L.base + held) op (L.base + held) (L.base + suc held)) ∷ puts (stores (target x) d)))))
+
+  abbrev pub bumped : TypedTree → ℤ → Bool → (d at : ℕ) → List Work
+  bumped x by late d at = Reach x d at ∷ puts (bumps (target x) by late d)
+
+  -- of calls, new objects and arrays
+  abbrev pub called : Callee → TypedTrees → (d at : ℕ) → List Work
+  called f args d at = Arguments (places_of f) args d at ∷ puts (invokes f (handler_of args) d (passed_by f (how_many args)))
+
+  abbrev pub called_above : ℕ → TypedTrees → (d at : ℕ) → List Work
+  called_above f args d at =
+      Put (Copy (L.base + d) 0) ∷ (Arguments [] args (suc d) (at + 1) ∷ (Put (Call (L.base + d) f (span (L.base + d) (suc (how_many args)) [])) ∷ []))
+
+  abbrev pub made : ℕ → TypedTrees → (d at : ℕ) → List Work
+  made class args d at =
+      (let object = L.base + (how_many args + d) in
+      Arguments [] args d at ∷ (Put (MakeObject object class) ∷ (Put (Call (L.base + d) (maker_of L.classes class) (object ∷ span (L.base + d) (how_many args) [])) ∷ [])))
+
+  abbrev pub listed : TypedTrees → (d at : ℕ) → List Work
+  listed items d at = Put (MakeArray (L.base + d) (how_many items)) ∷ (Elements items d (at + 1) ∷ [])
+
   -- The pieces of an expression.
   abbrev pub opened_value : TypedTree → (d at next : ℕ) → List Work
   opened_value (e.Num u n) d at next = Put (Const (L.base + d) n) ∷ []
@@ -108,50 +156,39 @@ module _ (L : Layout) where
   opened_value (e.Null u) d at next = Put (Const (L.base + d) (pos 0)) ∷ []
   opened_value (e.This u) d at next = Put (Copy (L.base + d) 0) ∷ []
   opened_value (e.Name u x) d at next = Put (get_op L.params (L.base + d) x) ∷ []
-  opened_value (e.Unary u op a) d at next = Value a d at (at + size a) ∷ (Put (Unary (L.base + d) op (L.base + d)) ∷ [])
-  opened_value (e.Binary u op a b) d at next =
-      Value a d at (at + size a) ∷ (Value b (suc d) (at + size a) (at + size a + size b) ∷ (Put (Binary (L.base + d) op (L.base + d) (L.base + suc d)) ∷ []))
-  opened_value (e.Both u a b) d at next =
-      Value a d at (at + size a) ∷ (Put (Branch (L.base + d) (at + size a + 1 + 1)) ∷ (Put (Jump next) ∷ (Value b d (at + size a + 1 + 1) next ∷ [])))
-  opened_value (e.Either u a b) d at next = Value a d at (at + size a) ∷ (Put (Branch (L.base + d) next) ∷ (Value b d (at + size a + 1) next ∷ []))
-  opened_value (e.Choice u test a b) d at next =
-      Value test d at (at + size test) ∷ (Put (Branch (L.base + d) (at + size test + 1 + size b + 1)) ∷ (Value b d (at + size test + 1) next
-      ∷ (Put (Jump next) ∷ (Value a d (at + size test + 1 + size b + 1) next ∷ []))))
-  opened_value (e.Set u None x r) d at next =
-      Reach x d at ∷ (Value r (held_at (target x) d) (at + reach_size x) (at + reach_size x + size r)
-      ∷ puts (stores (target x) d))
-  opened_value (e.Set u (Some op) x r) d at next =
-      (let at_value = held_at (target x) d in
-      Reach x d at ∷ (Put (reads (target x) d) ∷ (Value r (suc at_value) (at + reach_size x + 1) (at + reach_size x + 1 + size r)
-      ∷ (Put (Binary (L.base + at_value) op (L.base + at_value) (L.base + suc at_value)) ∷ puts (stores (target x) d)))))
-  opened_value (e.Bump u x by late) d at next = Reach x d at ∷ puts (bumps (target x) by late d)
-  opened_value (e.Field u a f) d at next = Value a d at (at + size a) ∷ (Put (FieldGet (L.base + d) (L.base + d) f) ∷ [])
-  opened_value (e.Length u a) d at next = Value a d at (at + size a) ∷ (Put (Length (L.base + d) (L.base + d)) ∷ [])
-  opened_value (e.Item u a i) d at next =
-      Value a d at (at + size a) ∷ (Value i (suc d) (at + size a) (at + size a + size i) ∷ (Put (ItemGet (L.base + d) (L.base + d) (L.base + suc d)) ∷ []))
-  opened_value (e.Call u f args) d at next =
-      Arguments (places_of f) args d at ∷ puts (invokes f (handler_of args) d (passed_by f (how_many args)))
-  opened_value (e.SuperCall u f args) d at next =
-      Put (Copy (L.base + d) 0) ∷ (Arguments [] args (suc d) (at + 1) ∷ (Put (Call (L.base + d) f (span (L.base + d) (suc (how_many args)) [])) ∷ []))
-  opened_value (e.Make u class args) d at next =
-      Arguments [] args d at ∷ (Put (MakeObject (L.base + (how_many args + d)) class)
-      ∷ (Put (Call (L.base + d) (maker_of L.classes class) ((L.base + (how_many args + d)) ∷ span (L.base + d) (how_many args) [])) ∷ []))
-  opened_value (e.Items u items) d at next = Put (MakeArray (L.base + d) (how_many items)) ∷ (Elements items d (at + 1) ∷ [])
+  opened_value (e.Unary u op a) d at next = valued a d at ∷ (Put (Unary (L.base + d) op (L.base + d)) ∷ [])
+  opened_value (e.Binary u op a b) d at next = two a b d at ++ Put (Binary (L.base + d) op (L.base + d) (L.base + suc d)) ∷ []
+  opened_value (e.Both u a b) d at next = both a b d at next
+  opened_value (e.Either u a b) d at next = either a b d at next
+  opened_value (e.Choice u test a b) d at next = choice test a b d at next
+  opened_value (e.Set u None x r) d at next = assigned x r d at
+  opened_value (e.Set u (Some op) x r) d at next = compounded op x r d at
+  opened_value (e.Bump u x by late) d at next = bumped x by late d at
+  opened_value (e.Field u a f) d at next = valued a d at ∷ (Put (FieldGet (L.base + d) (L.base + d) f) ∷ [])
+  opened_value (e.Length u a) d at next = valued a d at ∷ (Put (Length (L.base + d) (L.base + d)) ∷ [])
+  opened_value (e.Item u a i) d at next = two a i d at ++ Put (ItemGet (L.base + d) (L.base + d) (L.base + suc d)) ∷ []
+  opened_value (e.Call u f args) d at next = called f args d at
+  opened_value (e.SuperCall u f args) d at next = called_above f args d at
+  opened_value (e.Make u class args) d at next = made class args d at
+  opened_value (e.Items u items) d at next = listed items d at
   opened_value (e.Handler u f) d at next = Put (HandlerOf (L.base + d) f) ∷ []
 
   -- of a target
   abbrev pub opened_reach : TypedTree → (d at : ℕ) → List Work
-  opened_reach (e.Field u a f) d at = Value a d at (at + size a) ∷ []
-  opened_reach (e.Item u a i) d at = Value a d at (at + size a) ∷ (Value i (suc d) (at + size a) (at + size a + size i) ∷ [])
+  opened_reach (e.Field u a f) d at = valued a d at ∷ []
+  opened_reach (e.Item u a i) d at = two a i d at
   opened_reach x d at = []
 
   -- of arguments, and of items
+  abbrev pub argument : List ServicePlace → TypedTree → TypedTrees → (d at : ℕ) → List Work
+  argument places a rest d at = valued a d at ∷ (Arguments places rest (suc d) (at + size a) ∷ [])
+
   abbrev pub opened_arguments : List ServicePlace → TypedTrees → (d at : ℕ) → List Work
   opened_arguments [] e.none d at = []
-  opened_arguments [] (e.more a rest) d at = Value a d at (at + size a) ∷ (Arguments [] rest (suc d) (at + size a) ∷ [])
+  opened_arguments [] (e.more a rest) d at = argument [] a rest d at
   opened_arguments (Always n ∷ ps) args d at = Put (Const (L.base + d) n) ∷ (Arguments ps args (suc d) (at + 1) ∷ [])
   opened_arguments (Written ∷ ps) e.none d at = Arguments ps e.none d at ∷ []
-  opened_arguments (Written ∷ ps) (e.more a rest) d at = Value a d at (at + size a) ∷ (Arguments ps rest (suc d) (at + size a) ∷ [])
+  opened_arguments (Written ∷ ps) (e.more a rest) d at = argument ps a rest d at
 
   abbrev pub opened_elements : TypedTrees → (d at : ℕ) → List Work
   opened_elements e.none d at = []
@@ -161,7 +198,7 @@ module _ (L : Layout) where
   -- of declared names
   abbrev pub opened_initial : Option TypedTree → (at : ℕ) → List Work
   opened_initial None at = Put (Const (L.base + 0) (pos 0)) ∷ []
-  opened_initial (Some a) at = Value a 0 at (at + size a) ∷ []
+  opened_initial (Some a) at = valued a 0 at ∷ []
 
   abbrev pub opened_declarations : List TypedDeclaration → (at : ℕ) → List Work
   opened_declarations [] at = []
@@ -174,42 +211,64 @@ module _ (L : Layout) where
 
   abbrev pub opened_test : Option TypedTree → (at next : ℕ) → List Work
   opened_test None at next = []
-  opened_test (Some a) at next = Value a 0 at (at + size a) ∷ (Put (Branch (L.base + 0) (at + size a + 1 + 1)) ∷ (Put (Jump next) ∷ []))
+  opened_test (Some a) at next = valued a 0 at ∷ (Put (Branch (L.base + 0) (at + size a + 1 + 1)) ∷ (Put (Jump next) ∷ []))
 
   abbrev pub opened_step : Option TypedTree → (at : ℕ) → List Work
   opened_step None at = []
-  opened_step (Some a) at = Value a 0 at (at + size a) ∷ []
+  opened_step (Some a) at = valued a 0 at ∷ []
+
+  -- a test, which goes on at a place where it holds
+  abbrev pub tested : TypedTree → (at so : ℕ) → List Work
+  tested test at so = valued test 0 at ∷ (Put (Branch (L.base + 0) so) ∷ [])
+
+  -- of the forms of statements
+  abbrev pub if_only : TypedTree → TypedStatement → (at next out again : ℕ) → List Work
+  if_only test a at next out again = (let so = at + size test + 1 + 1 in tested test at so ++ (Put (Jump next) ∷ (Does a so next out again ∷ [])))
+
+  abbrev pub if_else : TypedTree → TypedStatement → TypedStatement → (at next out again : ℕ) → List Work
+  if_else test a o at next out again =
+      (let so = at + size test + 1 + statement_size L.maker o + 1 in
+      tested test at so ++ (Does o (at + size test + 1) next out again ∷ (Put (Jump next) ∷ (Does a so next out again ∷ []))))
+
+  abbrev pub while_turns : TypedTree → TypedStatement → (at next : ℕ) → List Work
+  while_turns test a at next =
+      (let body = at + size test + 1 + 1 in
+      let turn = body + statement_size L.maker a in
+      tested test at body ++ (Put (Jump next) ∷ (Does a body turn next turn ∷ (Put (Jump at) ∷ []))))
+
+  abbrev pub do_turns : TypedStatement → TypedTree → (at next : ℕ) → List Work
+  do_turns a test at next =
+      (let turn = at + statement_size L.maker a in
+      Does a at turn next turn ∷ (tested test turn (turn + size test + 1 + 1) ++ (Put (Jump next) ∷ (Put (Jump at) ∷ []))))
+
+  abbrev pub for_turns : Option TypedTree → Option TypedTree → TypedStatement → (at next : ℕ) → List Work
+  for_turns test step a at next =
+      (let body = at + test_size test in
+      let turn = body + statement_size L.maker a in
+      opened_test test at next ++ (Does a body turn next turn ∷ (opened_step step turn ++ (Put (Jump at) ∷ []))))
+
+  abbrev pub item_turns : ℕ → TypedTree → TypedStatement → (at next : ℕ) → List Work
+  item_turns i list a at next =
+      (let turn = at + size list + 1 + 1 + 1 in
+      valued list 0 at ∷ (Put (set_op L.params (L.base + 0) (Local (suc i))) ∷ (Put (Const (L.base + 0) (pos 0))
+      ∷ (Put (set_op L.params (L.base + 0) (Local (suc (suc i)))) ∷ (puts (takes_item i turn next)
+      ++ (Does a (turn + item_size) turn next turn ∷ (Put (Jump turn) ∷ [])))))))
 
   -- of a statement
   abbrev pub opened_statement : TypedStatement → (at next out again : ℕ) → List Work
   opened_statement (e.Block all) at next out again = DoesAll all at next out again ∷ []
   opened_statement (e.Let fixed each) at next out again = Declares each at ∷ []
-  opened_statement (e.IfOnly test a) at next out again =
-      Value test 0 at (at + size test) ∷ (Put (Branch (L.base + 0) (at + size test + 1 + 1)) ∷ (Put (Jump next) ∷ (Does a (at + size test + 1 + 1) next out again ∷ [])))
-  opened_statement (e.IfElse test a o) at next out again =
-      (let so = at + size test + 1 + statement_size L.maker o + 1 in
-      Value test 0 at (at + size test) ∷ (Put (Branch (L.base + 0) so) ∷ (Does o (at + size test + 1) next out again ∷ (Put (Jump next) ∷ (Does a so next out again ∷ [])))))
-  opened_statement (e.While test a) at next out again =
-      (let turn = at + size test + 1 + 1 + statement_size L.maker a in
-      Value test 0 at (at + size test) ∷ (Put (Branch (L.base + 0) (at + size test + 1 + 1)) ∷ (Put (Jump next)
-      ∷ (Does a (at + size test + 1 + 1) turn next turn ∷ (Put (Jump at) ∷ [])))))
-  opened_statement (e.DoWhile a test) at next out again =
-      (let turn = at + statement_size L.maker a in
-      Does a at turn next turn ∷ (Value test 0 turn (turn + size test) ∷ (Put (Branch (L.base + 0) (turn + size test + 1 + 1)) ∷ (Put (Jump next) ∷ (Put (Jump at) ∷ [])))))
+  opened_statement (e.IfOnly test a) at next out again = if_only test a at next out again
+  opened_statement (e.IfElse test a o) at next out again = if_else test a o at next out again
+  opened_statement (e.While test a) at next out again = while_turns test a at next
+  opened_statement (e.DoWhile a test) at next out again = do_turns a test at next
   opened_statement (e.For first test step a) at next out again =
-      (let loop = at + first_size L.maker first in
-      let body = loop + test_size test in
-      let turn = body + statement_size L.maker a in
-      opened_first first at loop out again ++ (opened_test test loop next ++ (Does a body turn next turn ∷ (opened_step step turn ++ (Put (Jump loop) ∷ [])))))
-  opened_statement (e.ForOf fixed (Local i) list a) at next out again =
-      (let turn = at + size list + 1 + 1 + 1 in
-      Value list 0 at (at + size list) ∷ (Put (set_op L.params (L.base + 0) (Local (suc i))) ∷ (Put (Const (L.base + 0) (pos 0))
-      ∷ (Put (set_op L.params (L.base + 0) (Local (suc (suc i)))) ∷ (puts (takes_item i turn next)
-      ++ (Does a (turn + item_size) turn next turn ∷ (Put (Jump turn) ∷ [])))))))
+      (let loop = at + first_size L.maker first in opened_first first at loop out again ++ for_turns test step a loop next)
+  opened_statement (e.ForOf fixed (Local i) list a) at next out again = item_turns i list a at next
   opened_statement (e.ForOf fixed (Param i) list a) at next out again = Put (Jump next) ∷ []
   opened_statement (e.ForOf fixed (Global g) list a) at next out again = Put (Jump next) ∷ []
   opened_statement (e.Return None) at next out again = puts (bare_code L.maker L.base)
-  opened_statement (e.Return (Some a)) at next out again = Value a 0 at (at + size a) ∷ puts (return_code L.maker L.base)
+  opened_statement (e.Return (Some a)) at next out again = valued a 0 at ∷ puts (return_code L.maker L.base)
   opened_statement e.Break at next out again = Put (Jump out) ∷ []
   opened_statement e.Continue at next out again = Put (Jump again) ∷ []
   opened_statement (e.Plain a) at next out again = Value a 0 at next ∷ []

@@ -183,7 +183,7 @@ pub(crate) fn open_call<'a>(
 ) -> Result<(), NoMemory>
     requires temporaries { frame.now.base + d + p.passed_by callee (how_many (typed_trees args.now)) < 2 ^ 32 }
     requires functions { frame.now.functions + length frame.now.repeated.now < 2 ^ 32 }
-    ensures { OnOk result (works stack.new ≡ p.Arguments (p.places_of callee) (typed_trees args.now) d at ∷ (p.puts (p.invokes (layout frame.now) callee (k.handler_of (typed_trees args.now)) d (p.passed_by callee (how_many (typed_trees args.now)))) ++ works stack.old)) }
+    ensures { OnOk result (works stack.new ≡ p.called (layout frame.now) callee (typed_trees args.now) d at ++ works stack.old) }
 {
     let n = own_numbers(callee) + args.len() as u32;
     invoke(
@@ -216,7 +216,7 @@ pub(crate) fn open_super_call<'a>(
 ) -> Result<(), NoMemory>
     requires temporaries { frame.now.base + d + (how_many (typed_trees args.now) + 1) < 2 ^ 32 }
     requires places { at + 1 < 2 ^ 32 }
-    ensures { OnOk result (works stack.new ≡ p.Put (Op.Copy (frame.now.base + d) 0) ∷ (p.Arguments [] (typed_trees args.now) (suc d) (at + 1) ∷ (p.Put (Op.Call (frame.now.base + d) function (k.span (frame.now.base + d) (suc (how_many (typed_trees args.now))) [])) ∷ works stack.old))) }
+    ensures { OnOk result (works stack.new ≡ p.called_above (layout frame.now) function (typed_trees args.now) d at ++ works stack.old) }
 {
     let to = frame.base + d;
     let numbers = span(alloc, to, args.len() as u32 + 1)?;
@@ -263,7 +263,7 @@ pub(crate) fn open_make<'a>(
     at: u32,
 ) -> Result<(), NoMemory>
     requires temporaries { frame.now.base + d + (how_many (typed_trees args.now) + 1) < 2 ^ 32 }
-    ensures { OnOk result (works stack.new ≡ p.Arguments [] (typed_trees args.now) d at ∷ (p.Put (Op.MakeObject (frame.now.base + (how_many (typed_trees args.now) + d)) class) ∷ (p.Put (Op.Call (frame.now.base + d) (k.maker_of (class_entries frame.now.classes.now) class) ((frame.now.base + (how_many (typed_trees args.now) + d)) ∷ k.span (frame.now.base + d) (how_many (typed_trees args.now)) [])) ∷ works stack.old))) }
+    ensures { OnOk result (works stack.new ≡ p.made (layout frame.now) class (typed_trees args.now) d at ++ works stack.old) }
 {
     let to = frame.base + d;
     let n = args.len() as u32;
@@ -298,7 +298,7 @@ pub(crate) fn open_items<'a>(
 ) -> Result<(), NoMemory>
     requires temporaries { frame.now.base + d < 2 ^ 32 }
     requires places { at + 1 + how_many (typed_trees items.now) < 2 ^ 32 }
-    ensures { OnOk result (works stack.new ≡ p.Put (Op.MakeArray (frame.now.base + d) (how_many (typed_trees items.now))) ∷ (p.Elements (typed_trees items.now) d (at + 1) ∷ works stack.old)) }
+    ensures { OnOk result (works stack.new ≡ p.listed (layout frame.now) (typed_trees items.now) d at ++ works stack.old) }
 {
     stack.push(Work::Elements {
         items: items.as_slice(),

@@ -31,7 +31,7 @@ fn open_both<'a>(
 ) -> Result<(), NoMemory>
     requires places { at + z.size (typed_tree a.now) + 2 < 2 ^ 32 }
     requires temporaries { frame.now.base + d < 2 ^ 32 }
-    ensures { OnOk result (works stack.new ≡ p.Value (typed_tree a.now) d at (at + z.size (typed_tree a.now)) ∷ (p.Put (Op.Branch (frame.now.base + d) (at + z.size (typed_tree a.now) + 1 + 1)) ∷ (p.Put (Op.Jump next) ∷ (p.Value (typed_tree b.now) d (at + z.size (typed_tree a.now) + 1 + 1) next ∷ works stack.old)))) }
+    ensures { OnOk result (works stack.new ≡ p.both (layout frame.now) (typed_tree a.now) (typed_tree b.now) d at next ++ works stack.old) }
 {
     let behind = at + size_of(a) + 1 + 1;
     stack.push(Work::Value {
@@ -65,7 +65,7 @@ fn open_either<'a>(
 ) -> Result<(), NoMemory>
     requires places { at + z.size (typed_tree a.now) + 1 < 2 ^ 32 }
     requires temporaries { frame.now.base + d < 2 ^ 32 }
-    ensures { OnOk result (works stack.new ≡ p.Value (typed_tree a.now) d at (at + z.size (typed_tree a.now)) ∷ (p.Put (Op.Branch (frame.now.base + d) next) ∷ (p.Value (typed_tree b.now) d (at + z.size (typed_tree a.now) + 1) next ∷ works stack.old))) }
+    ensures { OnOk result (works stack.new ≡ p.either (layout frame.now) (typed_tree a.now) (typed_tree b.now) d at next ++ works stack.old) }
 {
     stack.push(Work::Value {
         e: b,
@@ -96,7 +96,7 @@ fn open_choice<'a>(
 ) -> Result<(), NoMemory>
     requires places { at + z.size (typed_tree test.now) + 1 + z.size (typed_tree b.now) + 1 < 2 ^ 32 }
     requires temporaries { frame.now.base + d < 2 ^ 32 }
-    ensures { OnOk result (works stack.new ≡ p.Value (typed_tree test.now) d at (at + z.size (typed_tree test.now)) ∷ (p.Put (Op.Branch (frame.now.base + d) (at + z.size (typed_tree test.now) + 1 + z.size (typed_tree b.now) + 1)) ∷ (p.Value (typed_tree b.now) d (at + z.size (typed_tree test.now) + 1) next ∷ (p.Put (Op.Jump next) ∷ (p.Value (typed_tree a.now) d (at + z.size (typed_tree test.now) + 1 + z.size (typed_tree b.now) + 1) next ∷ works stack.old))))) }
+    ensures { OnOk result (works stack.new ≡ p.choice (layout frame.now) (typed_tree test.now) (typed_tree a.now) (typed_tree b.now) d at next ++ works stack.old) }
 {
     let otherwise = at + size_of(test) + 1;
     let so = otherwise + size_of(b) + 1;
@@ -136,7 +136,7 @@ fn open_store<'a>(
     requires places { at + z.reach_size (typed_tree x.now) + z.size (typed_tree r.now) < 2 ^ 32 }
     requires temporaries { frame.now.base + p.held_at (layout frame.now) (z.target (typed_tree x.now)) d < 2 ^ 32 }
     requires names { IsTarget frame.now.params (typed_tree x.now) }
-    ensures { OnOk result (works stack.new ≡ p.Reach (typed_tree x.now) d at ∷ (p.Value (typed_tree r.now) (p.held_at (layout frame.now) (z.target (typed_tree x.now)) d) (at + z.reach_size (typed_tree x.now)) (at + z.reach_size (typed_tree x.now) + z.size (typed_tree r.now)) ∷ (p.puts (p.stores (layout frame.now) (z.target (typed_tree x.now)) d) ++ works stack.old))) }
+    ensures { OnOk result (works stack.new ≡ p.assigned (layout frame.now) (typed_tree x.now) (typed_tree r.now) d at ++ works stack.old) }
 {
     let target = target_of(x);
     store(stack, frame, target, d)?;
@@ -160,7 +160,7 @@ fn open_compound<'a>(
     requires places { at + z.reach_size (typed_tree x.now) + 1 + z.size (typed_tree r.now) < 2 ^ 32 }
     requires temporaries { frame.now.base + suc (p.held_at (layout frame.now) (z.target (typed_tree x.now)) d) < 2 ^ 32 }
     requires names { IsTarget frame.now.params (typed_tree x.now) }
-    ensures { let held = p.held_at (layout frame.now) (z.target (typed_tree x.now)) d in OnOk result (works stack.new ≡ p.Reach (typed_tree x.now) d at ∷ (p.Put (p.reads (layout frame.now) (z.target (typed_tree x.now)) d) ∷ (p.Value (typed_tree r.now) (suc held) (at + z.reach_size (typed_tree x.now) + 1) (at + z.reach_size (typed_tree x.now) + 1 + z.size (typed_tree r.now)) ∷ (p.Put (Op.Binary (frame.now.base + held) op (frame.now.base + held) (frame.now.base + suc held)) ∷ (p.puts (p.stores (layout frame.now) (z.target (typed_tree x.now)) d) ++ works stack.old))))) }
+    ensures { OnOk result (works stack.new ≡ p.compounded (layout frame.now) op (typed_tree x.now) (typed_tree r.now) d at ++ works stack.old) }
 {
     let target = target_of(x);
     let held = stored_at(frame, target, d);
@@ -193,7 +193,7 @@ fn open_bump<'a>(
 ) -> Result<(), NoMemory>
     requires temporaries { frame.now.base + p.held_at (layout frame.now) (z.target (typed_tree x.now)) d < 2 ^ 32 }
     requires names { IsTarget frame.now.params (typed_tree x.now) }
-    ensures { OnOk result (works stack.new ≡ p.Reach (typed_tree x.now) d at ∷ (p.puts (p.bumps (layout frame.now) (z.target (typed_tree x.now)) by late d) ++ works stack.old)) }
+    ensures { OnOk result (works stack.new ≡ p.bumped (layout frame.now) (typed_tree x.now) by late d at ++ works stack.old) }
 {
     bump(stack, frame, target_of(x), by, late, d)?;
     stack.push(Work::Reach { target: x, d, at })

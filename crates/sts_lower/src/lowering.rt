@@ -164,7 +164,8 @@ fn lower_classes(alloc: Global, classes: &Seq<TypedClass>) -> Result<Seq<FlatCla
 fn all_functions(alloc: Global, typed: &Typed) -> Result<Seq<Function>, NoMemory>
     requires few { length typed.now.functions + length (l.repeated_in_program (typed_program typed.now)) < 2 ^ 32 }
     requires fits { AllByRecursion IsLowerableRoutine (typed_routines typed.now.functions) }
-    ensures { IfOk result (λ all. all ≡ l.lowered_routines (typed_program typed.now) 0 (typed_routines typed.now.functions) ++ l.repeating_functions (l.repeated_in_program (typed_program typed.now))) }
+    ensures { IfOk result (λ all. all ≡ l.lowered_routines (typed_program typed.now) 0 (typed_routines typed.now.functions)
+        ++ l.repeating_functions (l.repeated_in_program (typed_program typed.now))) }
 {
     let mut repeated = Seq::new(alloc);
     note_functions(&mut repeated, &typed.functions)?;

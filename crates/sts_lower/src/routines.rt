@@ -68,7 +68,10 @@ pub(crate) fn ops_of<'a>(
 ) -> Result<Seq<Op>, NoMemory>
     requires fits { let end = z.statements_size frame.now.maker (typed_statements all.now) in Fits (layout frame.now) (p.DoesAll (typed_statements all.now) 0 end end end) }
     requires functions { frame.now.functions + length frame.now.repeated.now < 2 ^ 32 }
-    ensures { let end = z.statements_size frame.now.maker (typed_statements all.now) in IfOk result (λ ops. ops ≡ t.statements_code (layout frame.now).classes (layout frame.now).repeating frame.now.params frame.now.base frame.now.maker (typed_statements all.now) 0 end end end ++ t.bare_code frame.now.maker frame.now.base) }
+    ensures { let end = z.statements_size frame.now.maker (typed_statements all.now) in
+        IfOk result (λ ops. ops ≡ t.statements_code (layout frame.now).classes (layout frame.now).repeating
+        frame.now.params frame.now.base frame.now.maker (typed_statements all.now) 0 end end end
+        ++ t.bare_code frame.now.maker frame.now.base) }
 {
     let end = statements_size(all, frame.maker);
     let mut stack = Stack::new(alloc);

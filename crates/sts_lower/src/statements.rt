@@ -111,7 +111,7 @@ fn open_test<'a>(
     so: u32,
 ) -> Result<(), NoMemory>
     requires { at + z.size (typed_tree test.now) < 2 ^ 32 }
-    ensures { OnOk result (works stack.new ≡ p.Value (typed_tree test.now) 0 at (at + z.size (typed_tree test.now)) ∷ (p.Put (Op.Branch (frame.now.base + 0) so) ∷ works stack.old)) }
+    ensures { OnOk result (works stack.new ≡ p.tested (layout frame.now) (typed_tree test.now) at so ++ works stack.old) }
 {
     put(
         stack,
@@ -175,7 +175,7 @@ fn open_if<'a>(
     again: u32,
 ) -> Result<(), NoMemory>
     requires { at + z.size (typed_tree test.now) + 2 < 2 ^ 32 }
-    ensures { OnOk result (works stack.new ≡ p.Value (typed_tree test.now) 0 at (at + z.size (typed_tree test.now)) ∷ (p.Put (Op.Branch (frame.now.base + 0) (at + z.size (typed_tree test.now) + 1 + 1)) ∷ (p.Put (Op.Jump next) ∷ (p.Does (typed_statement a.now) (at + z.size (typed_tree test.now) + 1 + 1) next out again ∷ works stack.old)))) }
+    ensures { OnOk result (works stack.new ≡ p.if_only (layout frame.now) (typed_tree test.now) (typed_statement a.now) at next out again ++ works stack.old) }
 {
     let so = at + size_of(test) + 1 + 1;
     open_does(stack, a, so, next, out, again)?;
@@ -196,7 +196,7 @@ fn open_if_else<'a>(
     again: u32,
 ) -> Result<(), NoMemory>
     requires { at + z.size (typed_tree test.now) + 1 + z.statement_size frame.now.maker (typed_statement o.now) + 1 < 2 ^ 32 }
-    ensures { let so = at + z.size (typed_tree test.now) + 1 + z.statement_size frame.now.maker (typed_statement o.now) + 1 in OnOk result (works stack.new ≡ p.Value (typed_tree test.now) 0 at (at + z.size (typed_tree test.now)) ∷ (p.Put (Op.Branch (frame.now.base + 0) so) ∷ (p.Does (typed_statement o.now) (at + z.size (typed_tree test.now) + 1) next out again ∷ (p.Put (Op.Jump next) ∷ (p.Does (typed_statement a.now) so next out again ∷ works stack.old))))) }
+    ensures { OnOk result (works stack.new ≡ p.if_else (layout frame.now) (typed_tree test.now) (typed_statement a.now) (typed_statement o.now) at next out again ++ works stack.old) }
 {
     let otherwise = at + size_of(test) + 1;
     let so = otherwise + statement_size(o, frame.maker) + 1;
@@ -216,7 +216,7 @@ fn open_while<'a>(
     next: u32,
 ) -> Result<(), NoMemory>
     requires { at + z.size (typed_tree test.now) + 1 + 1 + z.statement_size frame.now.maker (typed_statement a.now) < 2 ^ 32 }
-    ensures { let turn = at + z.size (typed_tree test.now) + 1 + 1 + z.statement_size frame.now.maker (typed_statement a.now) in OnOk result (works stack.new ≡ p.Value (typed_tree test.now) 0 at (at + z.size (typed_tree test.now)) ∷ (p.Put (Op.Branch (frame.now.base + 0) (at + z.size (typed_tree test.now) + 1 + 1)) ∷ (p.Put (Op.Jump next) ∷ (p.Does (typed_statement a.now) (at + z.size (typed_tree test.now) + 1 + 1) turn next turn ∷ (p.Put (Op.Jump at) ∷ works stack.old))))) }
+    ensures { OnOk result (works stack.new ≡ p.while_turns (layout frame.now) (typed_tree test.now) (typed_statement a.now) at next ++ works stack.old) }
 {
     let body = at + size_of(test) + 1 + 1;
     let turn = body + statement_size(a, frame.maker);
@@ -236,7 +236,7 @@ fn open_do_while<'a>(
     next: u32,
 ) -> Result<(), NoMemory>
     requires { at + z.statement_size frame.now.maker (typed_statement a.now) + z.size (typed_tree test.now) + 2 < 2 ^ 32 }
-    ensures { let turn = at + z.statement_size frame.now.maker (typed_statement a.now) in OnOk result (works stack.new ≡ p.Does (typed_statement a.now) at turn next turn ∷ (p.Value (typed_tree test.now) 0 turn (turn + z.size (typed_tree test.now)) ∷ (p.Put (Op.Branch (frame.now.base + 0) (turn + z.size (typed_tree test.now) + 1 + 1)) ∷ (p.Put (Op.Jump next) ∷ (p.Put (Op.Jump at) ∷ works stack.old))))) }
+    ensures { OnOk result (works stack.new ≡ p.do_turns (layout frame.now) (typed_statement a.now) (typed_tree test.now) at next ++ works stack.old) }
 {
     let turn = at + statement_size(a, frame.maker);
     put(stack, Op::Jump { target: at })?;
@@ -292,7 +292,7 @@ fn open_turns<'a>(
     next: u32,
 ) -> Result<(), NoMemory>
     requires { at + z.test_size (optional_typed_tree test.now) + z.statement_size frame.now.maker (typed_statement a.now) + z.step_size (optional_typed_tree step.now) < 2 ^ 32 }
-    ensures { let body = at + z.test_size (optional_typed_tree test.now) in let turn = body + z.statement_size frame.now.maker (typed_statement a.now) in OnOk result (works stack.new ≡ p.opened_test (layout frame.now) (optional_typed_tree test.now) at next ++ (p.Does (typed_statement a.now) body turn next turn ∷ (p.opened_step (layout frame.now) (optional_typed_tree step.now) turn ++ (p.Put (Op.Jump at) ∷ works stack.old)))) }
+    ensures { OnOk result (works stack.new ≡ p.for_turns (layout frame.now) (optional_typed_tree test.now) (optional_typed_tree step.now) (typed_statement a.now) at next ++ works stack.old) }
 {
     let body = at + test_size(test);
     let step_at = body + statement_size(a, frame.maker);
@@ -366,7 +366,7 @@ fn open_for_of<'a>(
 ) -> Result<(), NoMemory>
     requires locals { frame.now.params + suc (suc i) < 2 ^ 32 }
     requires places { at + z.size (typed_tree list.now) + 3 + z.item_size < 2 ^ 32 }
-    ensures { let turn = at + z.size (typed_tree list.now) + 1 + 1 + 1 in OnOk result (works stack.new ≡ p.Value (typed_tree list.now) 0 at (at + z.size (typed_tree list.now)) ∷ (p.Put (Op.Copy (frame.now.params + suc i) (frame.now.base + 0)) ∷ (p.Put (Op.Const (frame.now.base + 0) (pos 0)) ∷ (p.Put (Op.Copy (frame.now.params + suc (suc i)) (frame.now.base + 0)) ∷ (p.puts (p.takes_item (layout frame.now) i turn next) ++ (p.Does (typed_statement a.now) (turn + z.item_size) turn next turn ∷ (p.Put (Op.Jump turn) ∷ works stack.old))))))) }
+    ensures { OnOk result (works stack.new ≡ p.item_turns (layout frame.now) i (typed_tree list.now) (typed_statement a.now) at next ++ works stack.old) }
 {
     let item = frame.params + i;
     let turn = at + size_of(list) + 1 + 1 + 1;

@@ -46,7 +46,9 @@ pub(crate) fn evaluate_both<'a>(
 ) -> Result<(), NoMemory>
     requires places { at + z.size (typed_tree a.now) + z.size (typed_tree b.now) < 2 ^ 32 }
     requires operands { d + 1 < 2 ^ 32 }
-    ensures { OnOk result (works stack.new ≡ p.Value (typed_tree a.now) d at (at + z.size (typed_tree a.now)) ∷ (p.Value (typed_tree b.now) (suc d) (at + z.size (typed_tree a.now)) (at + z.size (typed_tree a.now) + z.size (typed_tree b.now)) ∷ works stack.old)) }
+    ensures { OnOk result (works stack.new ≡ p.Value (typed_tree a.now) d at (at + z.size (typed_tree a.now))
+        ∷ (p.Value (typed_tree b.now) (suc d) (at + z.size (typed_tree a.now))
+        (at + z.size (typed_tree a.now) + z.size (typed_tree b.now)) ∷ works stack.old)) }
 {
     evaluate(stack, b, d + 1, at + size_of(a))?;
     evaluate(stack, a, d, at)
