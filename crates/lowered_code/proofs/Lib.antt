@@ -1,0 +1,9 @@
+mod Lengths
+mod Entries
+mod Typed
+pub mod Laws
+mod Sums
+mod Formed
+mod Outgoing
+mod Handlers
+mod Programs
