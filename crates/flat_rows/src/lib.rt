@@ -3,4 +3,4 @@
 
 mod rows;
 
-pub use rows::{code_of_calls, code_of_handlers, ops_of_tight_forms};
+pub use rows::{code_of_a_game, code_of_calls, code_of_handlers, ops_of_tight_forms};
