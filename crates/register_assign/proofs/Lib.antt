@@ -1,0 +1,4 @@
+pub mod Marking
+pub mod Covering
+pub mod Assigning
+pub mod Checking

@@ -1,0 +1,4 @@
+pub mod Sound
+pub mod Marks
+pub mod Intervals
+pub mod Checks

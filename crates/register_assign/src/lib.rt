@@ -1,0 +1,14 @@
+//! Where the temporaries of a function of flat code stand: in registers r4 to r7, in slots of its frame, or where its arguments come in.
+#![tactic(auto)]
+
+mod assignment;
+mod checks;
+mod copies;
+mod intervals;
+mod liveness;
+mod ops;
+mod places;
+
+pub use assignment::assign;
+pub use checks::check_places;
+pub use places::{Place, Placed};
