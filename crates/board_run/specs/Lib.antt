@@ -1,0 +1,11 @@
+pub mod Places
+pub mod Shown
+pub mod Represents
+pub mod Run
+pub mod Serving
+pub mod Idling
+pub mod View
+pub mod Served
+pub mod Blocking
+pub mod Ports
+pub mod Arriving

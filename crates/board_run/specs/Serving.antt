@@ -1,0 +1,30 @@
+-- What the running fiber's turn makes of a board.
+use Rattle.std.specs.Prelude.{◌≡◌, ℕ, Bool, List, Some}
+use Rattle.board_world.specs.Observations.{End}
+use Rattle.board_world.specs.Kinds.{Turn}
+use Rattle.board_world.specs.Activities.{World}
+use Rattle.board_world.specs.World.{acted, stops}
+use Rattle.bank_model.specs.Fibers.{Fiber, Shared}
+use Rattle.bank_model.specs.Standing.{fiber_on}
+use Rattle.bank_model.specs.BoardMachine.{fibers}
+use Rattle.fiber_runtime.specs.declared.turning.Turning.{Turning}
+use Rattle.board_run.specs.Shown.{acting}
+use Rattle.board_run.specs.Represents.{BoardState, Represents, behind}
+use Rattle.board_run.specs.Run.{Move, Meets}
+
+-- The world behind a turn of the running fiber, t, which the world has as its first activity, marked so.
+abbrev pub turned : List ℕ → (Fiber → Shared → Turn Fiber Shared) → BoardState → Turning → Bool → World Fiber Shared → World Fiber Shared
+turned image turn b t mark w = acted (fibers image) (acting (fiber_on b.runtime.machine) t mark) (behind image b) w (turn (fiber_on b.runtime.machine) w.shared)
+
+-- The new board shows what the running fiber's turn makes of each world that the old one shows. The run isn't over, these moves were met,
+-- and no free word was used.
+abbrev pub Acts : List ℕ → (Fiber → Shared → Turn Fiber Shared) → List Move → BoardState → BoardState → Type 0
+Acts image turn moves old new =
+    (t : Turning) → old.runtime.running ≡ Some t → (w : World Fiber Shared) (h : Represents image old w)
+    → (let v = turned image turn old t h.mark w in
+    Represents image new v × (v.board.end ≡ w.board.end) × (v.shared.free ≡ w.shared.free) × Meets moves w.board v.board)
+
+-- The running fiber's turn ends the run so, in each world that the board shows, and changes nothing else.
+abbrev pub StopsAt : List ℕ → (Fiber → Shared → Turn Fiber Shared) → End → BoardState → Type 0
+StopsAt image turn end b =
+    (t : Turning) → b.runtime.running ≡ Some t → (w : World Fiber Shared) (h : Represents image b w) → turned image turn b t h.mark w ≡ stops end w

@@ -1,0 +1,23 @@
+//! A board without its outside: one machine, records and lists, a bus and dispatch places, which together show the bank machine's world at
+//! each instruction.
+#![tactic(auto)]
+
+mod arguments;
+mod asking;
+mod begin;
+mod blocking;
+mod end;
+mod ending;
+mod engine;
+mod idle;
+mod instruct;
+mod place;
+mod places;
+mod reckoning;
+mod serve;
+mod texts;
+
+pub use end::{Counts, Stop};
+pub use engine::{Engine, Served, Sight};
+pub use place::Place;
+pub use places::Places;
