@@ -1,5 +1,6 @@
 -- Each step of a typed activity leaves all typed, and is no fault.
 use Rattle.std.proofs.Common.{◌≡◌, ℕ, zero, suc, ◌+◌, ◌-◌, ◌<◌, inl, inr, ℤ, pos, Bool, true, false, if◌then◌else◌, nat_lt, List, [], ◌∷◌, length, Option, Some, None, refl, ap, sym, ◌∙◌, subst, arith}
+use Rattle.std.specs.Prelude.{◌+ℤ◌}
 use Rattle.std.proofs.lemmas.Bool.Decides.{nat_tests}
 use Rattle.board_world.specs.declared.requests.Request.{Request}
 use Rattle.board_world.specs.declared.requests.Request.TheVariants as q
@@ -18,7 +19,7 @@ use Rattle.sts_syntax.specs.Measures.{object_words, array_words}
 use Rattle.sts_syntax.specs.TypeRules.{entry, HasClass, HasRoutine, MayBegin}
 use Rattle.sts_syntax.specs.WellTyped.{Setting, IsSound}
 use Rattle.sts_syntax.specs.WellTypedPrograms.{is_maker, setting, base_of_maker, IsWellTyped}
-use Rattle.sts_meaning.specs.Values.{bumped, then_gives, Value, Whole, Object, Text, Code, default, Outcome, Gives, Breaks, Stuck, there, applied, negated, decided, changed, with_entry}
+use Rattle.sts_meaning.specs.Values.{to_int32, bumped, then_gives, Value, Whole, Object, Text, Code, default, Outcome, Gives, Breaks, Stuck, there, applied, negated, decided, changed, with_entry}
 use Rattle.sts_meaning.specs.Heaps.{popped, Fields, Items, Heap, with_cell, read_field, write_field, read_item, write_item, length_at, pushed, next_item}
 use Rattle.sts_meaning.specs.Services.{requested}
 use Rattle.sts_meaning.specs.Todo.{Todo, Put, Get, Store, Drop, Unary, Apply, Choose, Both, Either, Read, Peek, Write, At, PeekAt, SetAt, Bump, BumpField, BumpAt, Measure, Push, Pop, Open, Append, New, Build, Invoke, Send, Ask, Repeat, Again, Each, Leave, Give, Round, runs}
@@ -289,7 +290,7 @@ module _ (P : TypedProgram) (good : IsWellTyped P) (texts : List ByteList) where
     next_typed i s vs k u None turn a p fits c known sound = stays [] vs k tt fits
     next_typed i s vs k u (Some x) turn a p fits c known sound =
         further used h _ [] vs (runs (is_maker P.classes f) s k (Each i s k) (Each i s k)) same
-        (local_named i u x.1 (with_local (suc (suc i)) (Whole (pos (suc x.0))) n) a p (local_named (suc (suc i)) t.Number (Whole (pos (suc x.0))) n c tt names))
+        (local_named i u x.1 (with_local (suc (suc i)) (Whole (to_int32 (pos x.0 +ℤ pos 1))) n) a p (local_named (suc (suc i)) t.Number (Whole (to_int32 (pos x.0 +ℤ pos 1))) n c tt names))
         tt (subst (λ (m : Bool). Fits P S (runs m s k (Each i s k) (Each i s k)) []) (sym kind) (runs_fit P S this s true known k (Each i s k) (Each i s k) sound fits turn turn))
 
     -- the arguments that are taken

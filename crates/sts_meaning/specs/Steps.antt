@@ -1,5 +1,5 @@
 -- The step of an activity, and the source of programs as a kind of activity.
-use Rattle.std.specs.Prelude.{ℕ, suc, ◌+◌, ◌-◌, pos, Bool, false, if◌then◌else◌, nat_lt, List, [], ◌∷◌, length, Option, Some, None}
+use Rattle.std.specs.Prelude.{ℕ, suc, ◌+◌, ◌-◌, pos, ◌+ℤ◌, Bool, false, if◌then◌else◌, nat_lt, List, [], ◌∷◌, length, Option, Some, None}
 use Rattle.board_world.specs.declared.requests.Request.TheVariants.{Spawn}
 use Rattle.board_world.specs.Limits.{depth_limit}
 use Rattle.board_world.specs.Panics.{depth_panic}
@@ -14,7 +14,7 @@ use Rattle.sts_syntax.specs.TypedTrees.{TypedStatement, TypedRoutine, TypedProgr
 use Rattle.sts_syntax.specs.Measures.{frame_words, repeating_words, object_words, array_words}
 use Rattle.sts_syntax.specs.TypeRules.{entry}
 use Rattle.sts_syntax.specs.WellTypedPrograms.{is_maker}
-use Rattle.sts_meaning.specs.Values.{Value, Whole, Object, Code, default, Outcome, then_gives, there, applied, negated, bumped, decided, map_of}
+use Rattle.sts_meaning.specs.Values.{Value, Whole, Object, Code, default, Outcome, then_gives, there, applied, negated, bumped, decided, map_of, to_int32}
 use Rattle.sts_meaning.specs.Heaps.{Fields, Items, Heap, with_cell, object_at, read_field, write_field, read_item, write_item, length_at, pushed, popped, next_item}
 use Rattle.sts_meaning.specs.Services.{requested}
 use Rattle.sts_meaning.specs.Todo.{Todo, Put, Get, Store, Drop, Unary, Apply, Choose, Both, Either, Read, Peek, Write, At, PeekAt, SetAt, Bump, BumpField, BumpAt, Measure, Push, Pop, Open, Append, New, Build, Invoke, Send, Ask, Repeat, Again, Each, Leave, Give, Round, Amiss, runs, runs_all, bare}
@@ -99,7 +99,7 @@ module _ (P : TypedProgram) (texts : List ByteList) where
     takes_item i s vs k None = Goes (now vs k) h
     takes_item i s vs k (Some x) =
         (let turn = Each i s k in
-        Goes (now_with (with_local i x.1 (with_local (suc (suc i)) (Whole (pos (suc x.0))) n)) vs (runs (is_maker P.classes f) s k turn turn)) h)
+        Goes (now_with (with_local i x.1 (with_local (suc (suc i)) (Whole (to_int32 (pos x.0 +ℤ pos 1))) n)) vs (runs (is_maker P.classes f) s k turn turn)) h)
 
     -- one counted step
     abbrev pub act : Todo → List Value → Turn Activity Heap

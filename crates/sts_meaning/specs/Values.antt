@@ -125,9 +125,9 @@ pub record Bumped : Type 0 where
   pub new : Value
   pub given : Value
 
--- the value is the old number where the mark stands after its target
+-- the value is the old number, through ToInt32, where the mark stands after its target
 abbrev pub bumped : ℤ → Bool → Value → Outcome Bumped
-bumped by late a = then_gives (whole a) (λ x. (let y = Whole (to_int32 (x +ℤ by)) in Gives (record { new = y; given = if late then Whole x else y })))
+bumped by late a = then_gives (whole a) (λ x. (let y = Whole (to_int32 (x +ℤ by)) in Gives (record { new = y; given = if late then Whole (to_int32 x) else y })))
 
 -- what a condition decides
 abbrev pub decided : Value → Outcome Bool

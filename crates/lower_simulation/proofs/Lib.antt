@@ -1,0 +1,10 @@
+mod Requests
+mod Boards
+mod Expressions
+mod Statements
+mod Temporaries
+mod Functions
+mod Turns
+mod Follows
+mod Whole
+mod Faults

@@ -1,0 +1,41 @@
+-- What an op may weigh, so that a counted step of the source weighs no more than it may.
+use Rattle.std.specs.Prelude.{◌≡◌, ℕ, ◌≤◌, List, Some}
+use Rattle.flat_ir.specs.declared.ops.Op.{Op}
+use Rattle.flat_ir.specs.declared.ops.Op.TheVariants.{Const, Copy, Unary, Binary, GlobalGet, GlobalSet, FieldGet, FieldSet, ItemGet, ItemSet, Length, Pop, TextOf, MakeObject, MakeArray, Call, CallSlot, HandlerOf, Ask, Jump, Branch, Return}
+use Rattle.flat_ir.specs.declared.ops.FlatCode.{FlatCode}
+use Rattle.flat_meaning.specs.Operators.{FlatHeap}
+use Rattle.flat_meaning.specs.Frames.{FlatFrame, FlatActivity, Enters, Stands, op_at}
+
+-- the list of bounds; a call's is with the entry of the function that it calls
+abbrev pub limit : Op → ℕ
+limit (Const to value) = 8
+limit (Copy to from) = 8
+limit (Unary to op from) = 16
+limit (Binary to op left right) = 320
+limit (GlobalGet to slot) = 12
+limit (GlobalSet slot from) = 12
+limit (FieldGet to object field) = 24
+limit (FieldSet object field from) = 24
+limit (ItemGet to array index) = 40
+limit (ItemSet array index from) = 40
+limit (Length to array) = 24
+limit (Pop to array) = 40
+limit (TextOf to text) = 8
+limit (MakeObject to class) = 160
+limit (MakeArray to room) = 32
+limit (Call to function args) = 200
+limit (CallSlot to slot args) = 220
+limit (HandlerOf to function) = 8
+limit (Ask to service args) = 32
+limit (Jump target) = 8
+limit (Branch when target) = 16
+limit (Return from) = 24
+
+-- and of the call with which an activity begins
+abbrev pub entry_limit : ℕ
+entry_limit = 160
+
+-- the weights of steps keep within the list
+pub record IsLight (C : FlatCode) (weight : FlatActivity → FlatHeap → ℕ) : Type 0 where
+  pub enters : (f base : ℕ) (h : FlatHeap) → weight (Enters f base) h ≤ entry_limit
+  pub ops : (f : FlatFrame) (callers : List FlatFrame) (base : ℕ) (h : FlatHeap) (op : Op) → op_at C f ≡ Some op → weight (Stands f callers base) h ≤ limit op
