@@ -54,7 +54,7 @@ pub enum Op {
         /// where its new value stands
         from: u32,
     },
-    /// reads a field of an object; panic 104 through null
+    /// reads a field of an object; panic 105 through null
     FieldGet {
         /// where its value goes
         to: u32,
@@ -63,7 +63,7 @@ pub enum Op {
         /// the field, by its number in the object's class, from 0
         field: u32,
     },
-    /// writes a field of an object; panic 104 through null
+    /// writes a field of an object; panic 105 through null
     FieldSet {
         /// where the object stands
         object: u32,
@@ -90,11 +90,11 @@ pub enum Op {
         /// where its new value stands
         from: u32,
     },
-    /// the number of an array's items, or of a text's bytes
+    /// the number of an array's items; panic 105 through null
     Length {
         /// where the number goes
         to: u32,
-        /// where the array or text stands
+        /// where the array stands
         array: u32,
     },
     /// takes the last item off an array
@@ -134,7 +134,7 @@ pub enum Op {
         /// where the arguments stand
         args: Seq<u32>,
     },
-    /// calls the method that stands in a slot of the class of the first argument; panic 104 through null
+    /// calls the method that stands in a slot of the class of the first argument; panic 105 through null
     CallSlot {
         /// where its result goes
         to: u32,
