@@ -135,6 +135,16 @@ starts_waiters =
 abbrev pub paddle_x : TypedTree → TypedTree
 paddle_x a = Field t.Number a 0
 
+-- `x: number = 2` and `constructor () { led.plot(2, 4) }`
+abbrev pub makes_paddle : TypedRoutine
+makes_paddle =
+    record {
+      params = t.Object 0 ∷ [];
+      locals = [];
+      gives = t.Nothing;
+      all = also (set None (paddle_x (This (t.Object 0))) (number (pos 2))) (also (ask b.Plot (two (number (pos 2)) (number (pos 4)))) done);
+    }
+
 abbrev pub moves_paddle : TypedRoutine
 moves_paddle =
     let x = paddle_x (This (t.Object 0)) in
