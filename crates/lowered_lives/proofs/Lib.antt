@@ -1,0 +1,7 @@
+pub mod Laws
+mod Named
+mod Dead
+mod Expressions
+mod Blocks
+mod Starts
+mod WorkedRows

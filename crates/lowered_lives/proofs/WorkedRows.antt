@@ -1,0 +1,37 @@
+-- Worked rows of the definitions: what names which text, and what is live where a function begins.
+use Rattle.std.proofs.Common.{◌<◌, [], ◌∷◌, Some, false, refl, inl, inr, ⊎_elim, arith}
+use Rattle.std.specs.Prelude.{pos}
+use Rattle.flat_ir.specs.declared.ops.Op.TheVariants.{Const, TextOf}
+use Rattle.flat_ir.specs.Liveness.{OnlyParametersAreLive, is_read}
+use Rattle.sts_syntax.specs.declared.typed.Spot.TheVariants.{Local}
+use Rattle.sts_syntax.specs.Types as y
+use Rattle.sts_syntax.specs.TypedTrees as e
+use Rattle.sts_syntax.specs.TypedTrees.{TypedStatement, TypedStatements, TypedRoutine, TypedProgram}
+use Rattle.sts_lower.specs.Lowered.{lowered_routine}
+use Rattle.lowered_lives.specs.Texts.{NamesOneOf}
+
+-- The op of text 2 names one of 1 and 2, but not of 1 and 3; a number's op names none.
+named : NamesOneOf (1 ∷ (2 ∷ [])) (TextOf 0 2)
+named = inr (inl refl)
+
+not_named : NamesOneOf (1 ∷ (3 ∷ [])) (TextOf 0 2) → ⊥
+not_named h = ⊎_elim (λ e. omega arith) (λ r. ⊎_elim (λ e. omega arith) (λ no. no) r) h
+
+none_named : NamesOneOf [] (Const 0 (pos 2))
+none_named = tt
+
+-- `{ return x; let x = 1 }`, in which a name is read in front of its declaration. It isn't well typed, and the local is live where its code begins.
+abbrev too_early : TypedRoutine
+too_early =
+    record {
+      params = [];
+      locals = y.Number ∷ [];
+      gives = y.Number;
+      all = e.also (e.Return (Some (e.Name y.Number (Local 0)))) (e.also (e.Let false (record { name = Local 0; first = Some (e.Num y.Number (pos 1)) } ∷ [])) e.done);
+    }
+
+abbrev alone : TypedProgram
+alone = record { classes = []; functions = too_early ∷ []; globals = []; main = 0 }
+
+local_is_live : OnlyParametersAreLive (lowered_routine alone 0 too_early) → ⊥
+local_is_live h = let no : 0 < 0 = h 0 (is_read 0 _ refl (0, omega arith, refl)) in omega arith
