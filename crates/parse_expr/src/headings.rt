@@ -125,7 +125,7 @@ impl<'a> Reader<'a> {
     }
 
     /// Parameters from the first on, and the token behind their `)`.
-    #[tactic(auto, using(crate::proofs::Loops::parameters_at, crate::proofs::Rows::parameters_put), unfolding(sts_grammar::specs::ReadHeadings::read_more_parameters))]
+    #[tactic(auto, using(crate::proofs::Loops::parameters_at, crate::proofs::OneMore::parameters_put), unfolding(sts_grammar::specs::ReadHeadings::read_more_parameters))]
     fn some_parameters(&self, at: usize) -> Result<(Seq<Param>, usize), Unread>
         ensures { Gives (found parameters) result (read.read_more_parameters (source self.now) (length self.now.tokens.now) [] at) }
     {
