@@ -4,7 +4,7 @@
 pub use Rattle.bank_model.proofs.FollowsRam.{bank_follows_instruction, bank_follows_steps}
 pub use Rattle.bank_model.proofs.OneStep.{step_follows, reset_agrees}
 -- the steps of a world with one fiber, and how its run begins
-pub use Rattle.bank_model.proofs.OneFiber.{lone_start, lone_goes, lone_writes, lone_ends, lone_panics, lone_faults}
+pub use Rattle.bank_model.proofs.OneFiber.{single_start, single_goes, single_writes, single_ends, single_panics, single_faults}
 -- a step of the machine keeps what is above the base, and it is the turn of who stands there; whose bank is what the RAM shows
 pub use Rattle.bank_model.proofs.AboveBase.{step_keeps, base_good, good_base}
 pub use Rattle.bank_model.proofs.OnStack.{same_above, same_words, length_words, bank_shows, shown_bank, shown_inside}

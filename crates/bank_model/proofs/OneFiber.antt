@@ -6,30 +6,30 @@ use Rattle.board_world.specs.World.{tick, acted, idled}
 use Rattle.thumb_code.specs.Machine.{main_of}
 use Rattle.bank_model.specs.Fibers.{Fiber, Shared, begins, shared_at_reset}
 use Rattle.bank_model.specs.BankMachine.{fibers, fiber_turn, bank_start}
-use Rattle.bank_model.specs.Lone.{lone, ended}
+use Rattle.bank_model.specs.SingleFiber.{single, ended}
 
 module _ (flash : List ℕ) (until : ℕ) (seen : List Observation) (f : Fiber) (s : Shared) where
   by_turn : (x y : Turn Fiber Shared) → x ≡ y
-      → idled (fibers flash) (acted (fibers flash) (record { self = f; value = pos 0; listener = None; seated = true; suspended = false }) [] (lone until seen f s) x)
-      ≡ idled (fibers flash) (acted (fibers flash) (record { self = f; value = pos 0; listener = None; seated = true; suspended = false }) [] (lone until seen f s) y)
-  by_turn x y e = ap (λ turn. idled (fibers flash) (acted (fibers flash) (record { self = f; value = pos 0; listener = None; seated = true; suspended = false }) [] (lone until seen f s) turn)) e
+      → idled (fibers flash) (acted (fibers flash) (record { self = f; value = pos 0; listener = None; seated = true; suspended = false }) [] (single until seen f s) x)
+      ≡ idled (fibers flash) (acted (fibers flash) (record { self = f; value = pos 0; listener = None; seated = true; suspended = false }) [] (single until seen f s) y)
+  by_turn x y e = ap (λ turn. idled (fibers flash) (acted (fibers flash) (record { self = f; value = pos 0; listener = None; seated = true; suspended = false }) [] (single until seen f s) turn)) e
 
-  pub lone_goes : (g : Fiber) (t : Shared) → fiber_turn flash f s ≡ Goes g t → tick (fibers flash) (lone until seen f s) ≡ lone until seen g t
-  lone_goes g t e = by_turn _ _ e
+  pub single_goes : (g : Fiber) (t : Shared) → fiber_turn flash f s ≡ Goes g t → tick (fibers flash) (single until seen f s) ≡ single until seen g t
+  single_goes g t e = by_turn _ _ e
 
-  pub lone_writes : (g : Fiber) (t : Shared) (c : ℕ) (cs : List ℕ) → fiber_turn flash f s ≡ Asks (Writes (c ∷ cs)) (λ answer. (g, t))
-      → tick (fibers flash) (lone until seen f s) ≡ lone until (seen ++ Serial 0 (c ∷ cs) ∷ []) g t
-  lone_writes g t c cs e = by_turn _ _ e
+  pub single_writes : (g : Fiber) (t : Shared) (c : ℕ) (cs : List ℕ) → fiber_turn flash f s ≡ Asks (Writes (c ∷ cs)) (λ answer. (g, t))
+      → tick (fibers flash) (single until seen f s) ≡ single until (seen ++ Serial 0 (c ∷ cs) ∷ []) g t
+  single_writes g t c cs e = by_turn _ _ e
 
-  pub lone_ends : (again : ℕ → Fiber) (t : Shared) → fiber_turn flash f s ≡ Ends again t → (tick (fibers flash) (lone until seen f s)).board ≡ ended until seen 0 Quietly
-  lone_ends again t e = ap (λ w. w.board) (by_turn _ _ e)
+  pub single_ends : (again : ℕ → Fiber) (t : Shared) → fiber_turn flash f s ≡ Ends again t → (tick (fibers flash) (single until seen f s)).board ≡ ended until seen 0 Quietly
+  single_ends again t e = ap (λ w. w.board) (by_turn _ _ e)
 
-  pub lone_panics : (code : ℕ) → fiber_turn flash f s ≡ Panics code → (tick (fibers flash) (lone until seen f s)).board ≡ ended until seen 1 (Panicked code)
-  lone_panics code e = ap (λ w. w.board) (by_turn _ _ e)
+  pub single_panics : (code : ℕ) → fiber_turn flash f s ≡ Panics code → (tick (fibers flash) (single until seen f s)).board ≡ ended until seen 1 (Panicked code)
+  single_panics code e = ap (λ w. w.board) (by_turn _ _ e)
 
-  pub lone_faults : (kind address : ℕ) → fiber_turn flash f s ≡ Faults kind address → (tick (fibers flash) (lone until seen f s)).board ≡ ended until seen 1 (Faulted kind address)
-  lone_faults kind address e = ap (λ w. w.board) (by_turn _ _ e)
+  pub single_faults : (kind address : ℕ) → fiber_turn flash f s ≡ Faults kind address → (tick (fibers flash) (single until seen f s)).board ≡ ended until seen 1 (Faulted kind address)
+  single_faults kind address e = ap (λ w. w.board) (by_turn _ _ e)
 
 -- A run with one fiber begins so.
-pub lone_start : (flash : List ℕ) (until : ℕ) (free : List ℕ) → bank_start flash until [] free ≡ lone until [] (begins flash (main_of flash)) (shared_at_reset free)
-lone_start flash until free = refl
+pub single_start : (flash : List ℕ) (until : ℕ) (free : List ℕ) → bank_start flash until [] free ≡ single until [] (begins flash (main_of flash)) (shared_at_reset free)
+single_start flash until free = refl

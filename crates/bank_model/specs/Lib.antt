@@ -11,6 +11,6 @@ pub mod BoardMachine
 pub mod Standing
 pub mod Watched
 pub mod BankMachine
-pub mod Lone
+pub mod SingleFiber
 pub mod SmallImages
 pub mod BoardRows

@@ -7,7 +7,7 @@ ghost use Rattle.thumb_code.specs.Machine.{State, reset, main_of};
 ghost use Rattle.bank_model.specs.Shows.{Agrees};
 ghost use Rattle.bank_model.specs.Fibers.{Fiber, Shared, begins, shared_at_reset};
 ghost use Rattle.bank_model.specs.BankMachine.{memory_of, fibers, fiber_turn, bank_start};
-ghost use Rattle.bank_model.specs.Lone.{lone, ended};
+ghost use Rattle.bank_model.specs.SingleFiber.{single, ended};
 
 /// Main's fiber begins with the registers of the machine at reset, and its bank agrees with the RAM there.
 pub fn main_begins_at_reset()
@@ -17,15 +17,15 @@ pub fn main_begins_at_reset()
 
 /// While main's fiber is the only one, a step of the world is a turn of that fiber; where it ends, the run ends quiet.
 pub fn one_fiber_steps_alone()
-    ensures starts { (image free : List ℕ) (until : ℕ) → bank_start image until [] free ≡ lone until [] (begins image (main_of image)) (shared_at_reset free) }
+    ensures starts { (image free : List ℕ) (until : ℕ) → bank_start image until [] free ≡ single until [] (begins image (main_of image)) (shared_at_reset free) }
     ensures goes { (image : List ℕ) (until : ℕ) (seen : List Observation) (f g : Fiber) (s t : Shared) → fiber_turn image f s ≡ Goes g t
-        → tick (fibers image) (lone until seen f s) ≡ lone until seen g t }
+        → tick (fibers image) (single until seen f s) ≡ single until seen g t }
     ensures writes { (image : List ℕ) (until : ℕ) (seen : List Observation) (f g : Fiber) (s t : Shared) (c : ℕ) (cs : List ℕ) → fiber_turn image f s ≡ Asks (Writes (c ∷ cs)) (λ answer. (g, t))
-        → tick (fibers image) (lone until seen f s) ≡ lone until (seen ++ Serial 0 (c ∷ cs) ∷ []) g t }
+        → tick (fibers image) (single until seen f s) ≡ single until (seen ++ Serial 0 (c ∷ cs) ∷ []) g t }
     ensures ends { (image : List ℕ) (until : ℕ) (seen : List Observation) (f : Fiber) (s t : Shared) (again : ℕ → Fiber) → fiber_turn image f s ≡ Ends again t
-        → (tick (fibers image) (lone until seen f s)).board ≡ ended until seen 0 Quietly }
+        → (tick (fibers image) (single until seen f s)).board ≡ ended until seen 0 Quietly }
     ensures panics { (image : List ℕ) (until : ℕ) (seen : List Observation) (f : Fiber) (s : Shared) (code : ℕ) → fiber_turn image f s ≡ Panics code
-        → (tick (fibers image) (lone until seen f s)).board ≡ ended until seen 1 (Panicked code) }
+        → (tick (fibers image) (single until seen f s)).board ≡ ended until seen 1 (Panicked code) }
     ensures faults { (image : List ℕ) (until : ℕ) (seen : List Observation) (f : Fiber) (s : Shared) (kind address : ℕ) → fiber_turn image f s ≡ Faults kind address
-        → (tick (fibers image) (lone until seen f s)).board ≡ ended until seen 1 (Faulted kind address) }
+        → (tick (fibers image) (single until seen f s)).board ≡ ended until seen 1 (Faulted kind address) }
 {}

@@ -7,7 +7,7 @@ use Rattle.std.proofs.lemmas.List.Folds.{find-append}
 use Rattle.std.proofs.lemmas.Bool.{false≢true}
 use Rattle.clap.specs.Words.{Text, Row}
 use Rattle.clap.specs.Walk.{at_row, has_row}
-use Rattle.command_line.specs.Rows.{row_at}
+use Rattle.command_line.specs.Found.{row_at}
 
 never-found : {A : Type 0} (b : Bool) (r : Row) (o : Option Row) (x : A) → cond b (Some r) o ≡ None → b ≡ false
 never-found true r o x e = cc

@@ -18,7 +18,7 @@ use Rattle.sts_words.specs.Numbers.{number_within}
 use Rattle.sts_words.specs.Orders.{most_budget}
 use Rattle.sts_words.specs.Words.{Said, a_budget, budget_part}
 use Rattle.sts_words.specs.Reading.{added}
-use Rattle.command_line.specs.Rows.{Says, SpellsBudget, flag_text, text_at}
+use Rattle.command_line.specs.Found.{Says, SpellsBudget, flag_text, text_at}
 
 -- ---- names
 

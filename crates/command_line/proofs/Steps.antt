@@ -7,7 +7,7 @@ use Rattle.clap.specs.Walk.{Held, Walk, Waiting, idle, option, walked, settled_r
 use Rattle.clap.specs.declared.builder.value_parser.Reading.{Reading}
 use Rattle.command_line.proofs.Find.{at_row-missing}
 use Rattle.clap.specs.declared.parser.matches.ValueSource.TheVariants.{CommandLine}
-use Rattle.command_line.specs.Rows.{row_at}
+use Rattle.command_line.specs.Found.{row_at}
 use Rattle.clap.specs.Takes.{turn_passes, settle_passes}
 use Rattle.clap.proofs.OnLiterals.{clap_on_literals}
 use Rattle.command_line.specs.Tool.{command_app, name_rule, script_rule, budget_rule, stats_rule, image_rule}

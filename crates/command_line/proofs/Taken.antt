@@ -16,7 +16,7 @@ use Rattle.sts_words.specs.Orders.{Asked, order_view}
 use Rattle.sts_words.specs.Words.{Said, order_of, asked_by}
 use Rattle.sts_words.specs.Reading.{said_with, nothing}
 use Rattle.sts_words.proofs.Laws.{said-from-nothing}
-use Rattle.command_line.specs.Rows.{Says}
+use Rattle.command_line.specs.Found.{Says}
 use Rattle.command_line.specs.Tool.{tool_app}
 use Rattle.command_line.proofs.Steps.{rules, shape, whole}
 use Rattle.command_line.proofs.Whole.{AllGo, true-and, words-go}

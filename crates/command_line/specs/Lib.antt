@@ -1,2 +1,2 @@
 pub mod Tool
-pub mod Rows
+pub mod Found

@@ -18,7 +18,7 @@ use Rattle.sts_whole.specs.declared.instruction.End.{End}
 use Rattle.sts_whole.specs.declared.instruction.End.TheVariants.{Quiet, Panic, Fault}
 use Rattle.sts_whole.specs.declared.alone.Alone.TheVariants.{SinkFault}
 use Rattle.sts_whole.specs.Alone.{alone, RunsAlone, RanTo, RanAlone}
-use Rattle.sts_whole.specs.Course.{end_of, told, answer_of, Reaches, Stops, Closes}
+use Rattle.sts_whole.specs.AloneRuns.{end_of, told, answer_of, Reaches, Stops, Closes}
 
 pub lines-append : (xs ys : List Observation) → lines (xs ++ ys) ≡ lines xs ++ lines ys
 lines-append [] ys = refl

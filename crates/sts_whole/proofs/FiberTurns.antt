@@ -21,12 +21,12 @@ use Rattle.bank_model.specs.Steps.{bank_step, FollowsStep}
 use Rattle.bank_model.specs.Fibers.{Fiber, Shared}
 use Rattle.bank_model.specs.Services.{service}
 use Rattle.bank_model.specs.BankMachine.{memory_of, fiber_of, shared_of, turn_of, fiber_turn, fibers, bank_run}
-use Rattle.bank_model.specs.Lone.{lone}
-use Rattle.bank_model.proofs.Laws.{step_follows, lone_goes, lone_writes, lone_ends, lone_panics, lone_faults}
+use Rattle.bank_model.specs.SingleFiber.{single}
+use Rattle.bank_model.proofs.Laws.{step_follows, single_goes, single_writes, single_ends, single_panics, single_faults}
 use Rattle.sts_whole.specs.declared.instruction.End.TheVariants.{Quiet, Panic, Fault}
 use Rattle.sts_whole.specs.declared.instruction.Done.{Done}
 use Rattle.sts_whole.specs.declared.instruction.Done.TheVariants.{Went, Wrote, Ended}
-use Rattle.sts_whole.specs.Course.{IsTurn, Reaches, Comes}
+use Rattle.sts_whole.specs.AloneRuns.{IsTurn, Reaches, Comes}
 
 -- The decimal text of a word as a signed number isn't empty.
 text_of : (word : ℕ) (t : Bool) → nat_lt word (2 ^ 31) ≡ t → 0 < length (decimal_text (cast_signed w32 word))
@@ -78,13 +78,13 @@ module _ (image : List ℕ) (n : ℕ) (seen : List Observation) (old new : State
   abbrev shared : List ℕ → Shared
   shared rest = shared_of (r.bank, used ++ rest)
 
-  one_more : (rest : List ℕ) → bank_run image 1000 [] ((r.used ++ used) ++ rest) (suc n) ≡ tick (fibers image) (lone 1000 seen (before rest) (shared rest))
+  one_more : (rest : List ℕ) → bank_run image 1000 [] ((r.used ++ used) ++ rest) (suc n) ≡ tick (fibers image) (single 1000 seen (before rest) (shared rest))
   one_more rest = ap (λ free. bank_run image 1000 [] free (suc n)) (append_assoc r.used used rest) ∙ ap (tick (fibers image)) (r.world (used ++ rest))
 
   writes_text : (rest text : List ℕ) → 0 < length text → fiber_turn image (before rest) (shared rest) ≡ Asks (Writes text) (λ answer. (fiber_of new.registers (u, rest), shared_of (u, rest)))
-      → tick (fibers image) (lone 1000 seen (before rest) (shared rest)) ≡ lone 1000 (seen ++ Serial 0 text ∷ []) (fiber_of new.registers (u, rest)) (shared_of (u, rest))
+      → tick (fibers image) (single 1000 seen (before rest) (shared rest)) ≡ single 1000 (seen ++ Serial 0 text ∷ []) (fiber_of new.registers (u, rest)) (shared_of (u, rest))
   writes_text rest [] some e = absurd (omega arith)
-  writes_text rest (c ∷ cs) some e = lone_writes image 1000 seen (before rest) (shared rest) (fiber_of new.registers (u, rest)) (shared_of (u, rest)) c cs e
+  writes_text rest (c ∷ cs) some e = single_writes image 1000 seen (before rest) (shared rest) (fiber_of new.registers (u, rest)) (shared_of (u, rest)) c cs e
 
   comes : Agrees image new.registers.sp new.memory u → (done : Done)
       → ((rest : List ℕ) → IsTurn done (fiber_turn image (before rest) (shared rest)) (fiber_of new.registers (u, rest)) (shared_of (u, rest)))
@@ -94,7 +94,7 @@ module _ (image : List ℕ) (n : ℕ) (seen : List Observation) (old new : State
         used = r.used ++ used;
         bank = u;
         agrees = a;
-        world = λ rest. one_more rest ∙ lone_goes image 1000 seen (before rest) (shared rest) (fiber_of new.registers (u, rest)) (shared_of (u, rest)) (t rest);
+        world = λ rest. one_more rest ∙ single_goes image 1000 seen (before rest) (shared rest) (fiber_of new.registers (u, rest)) (shared_of (u, rest)) (t rest);
       }
   comes a (Wrote number) t =
       record {
@@ -104,11 +104,11 @@ module _ (image : List ℕ) (n : ℕ) (seen : List Observation) (old new : State
         world = λ rest. one_more rest ∙ writes_text rest (decimal_text number) (t rest).0 (t rest).1;
       }
   comes a (Ended Quiet) t =
-      record { used = (r.used ++ used) ++ []; seats = 0; board = ap (λ w. w.board) (one_more []) ∙ lone_ends image 1000 seen (before []) (shared []) (t []).0 (shared_of (u, [])) (t []).1 }
+      record { used = (r.used ++ used) ++ []; seats = 0; board = ap (λ w. w.board) (one_more []) ∙ single_ends image 1000 seen (before []) (shared []) (t []).0 (shared_of (u, [])) (t []).1 }
   comes a (Ended (Panic code)) t =
-      record { used = (r.used ++ used) ++ []; seats = 1; board = ap (λ w. w.board) (one_more []) ∙ lone_panics image 1000 seen (before []) (shared []) code (t []) }
+      record { used = (r.used ++ used) ++ []; seats = 1; board = ap (λ w. w.board) (one_more []) ∙ single_panics image 1000 seen (before []) (shared []) code (t []) }
   comes a (Ended (Fault fault address)) t =
-      record { used = (r.used ++ used) ++ []; seats = 1; board = ap (λ w. w.board) (one_more []) ∙ lone_faults image 1000 seen (before []) (shared []) (number_of fault) address (t []) }
+      record { used = (r.used ++ used) ++ []; seats = 1; board = ap (λ w. w.board) (one_more []) ∙ single_faults image 1000 seen (before []) (shared []) (number_of fault) address (t []) }
 
 -- The machine's step as what an instruction came to.
 module _ (image : List ℕ) (n : ℕ) (seen : List Observation) (old : State) (r : Reaches image n seen old) where

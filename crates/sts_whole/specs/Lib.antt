@@ -3,4 +3,4 @@ pub mod Image
 pub mod Services
 pub mod First
 pub mod Alone
-pub mod Course
+pub mod AloneRuns

@@ -7,7 +7,7 @@ ghost use Rattle.thumb_code.specs.Map.{flash_end};
 ghost use Rattle.thumb_code.specs.Machine.{reset};
 ghost use Rattle.tool_io.specs.Putting.{Puts};
 ghost use Rattle.sts_whole.specs.Alone.{RanAlone};
-ghost use Rattle.sts_whole.specs.Course.{end_of, told, Reaches, Advances, Closes};
+ghost use Rattle.sts_whole.specs.AloneRuns.{end_of, told, Reaches, Advances, Closes};
 
 use crate::instruction::{Done, End, instruct};
 use crate::lines::{

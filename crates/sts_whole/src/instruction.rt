@@ -7,7 +7,7 @@ ghost use Rattle.bank_model.specs.Bank.{Bank};
 ghost use Rattle.bank_model.specs.Division.{quotient, remainder};
 ghost use Rattle.bank_model.specs.BankMachine.{fiber_of, shared_of};
 ghost use Rattle.bank_model.specs.Services.{service as turn_of_service};
-ghost use Rattle.sts_whole.specs.Course.{IsTurn, Reaches, Comes};
+ghost use Rattle.sts_whole.specs.AloneRuns.{IsTurn, Reaches, Comes};
 
 use armv6m_machine::{Fault, Machine, Turn};
 

@@ -3,7 +3,7 @@ use Rattle.std.specs.Prelude.{Some}
 use Rattle.clap.specs.Words.{found_of, rows_of}
 use Rattle.sts_words.specs.Views.{said_view}
 use Rattle.sts_words.specs.Words.{asked_by}
-use Rattle.command_line.specs.Rows.{Says}
+use Rattle.command_line.specs.Found.{Says}
 use Rattle.command_line.proofs.Given.{entered-name, entered-rows}
 use Rattle.command_line.proofs.matches.order_in.Goals as goal
 

@@ -1,7 +1,7 @@
 use Rattle.std.proofs.Common.{◌≡◌, ◌≤◌, suc, ◌++◌, [], subst, sym, add-one, arith}
 use Rattle.std.specs.Prelude.{Ok}
 use Rattle.tool_io.proofs.Laws.{took-nothing}
-use Rattle.sts_whole.specs.Course.{Advances, Reaches}
+use Rattle.sts_whole.specs.AloneRuns.{Advances, Reaches}
 use Rattle.sts_whole.proofs.Endings.{ran_out, ran_to, cut_short, took_lines, took_then_nothing, first_reaches}
 use Rattle.sts_whole.proofs.alone.run_machine.Goals as goal
 

@@ -3,7 +3,7 @@ use Rattle.tool_io.specs.Putting.{Took}
 use Rattle.thumb_code.specs.Machine.{reset}
 use Rattle.board_world.specs.Observations.{Observation}
 use Rattle.board_world.specs.Transcript.{lines}
-use Rattle.sts_whole.specs.Course.{Reaches}
+use Rattle.sts_whole.specs.AloneRuns.{Reaches}
 use Rattle.sts_whole.proofs.alone.run_machine.Given as goal
 
 -- as many instructions as the counter says, and the lines of what was seen are written

@@ -2,7 +2,7 @@ use Rattle.std.proofs.Common.{subst}
 use Rattle.thumb_code.specs.declared.register_file.Registers.{Registers}
 use Rattle.bank_model.specs.BankMachine.{fiber_of, shared_of}
 use Rattle.bank_model.specs.Services.{service}
-use Rattle.sts_whole.specs.Course.{IsTurn}
+use Rattle.sts_whole.specs.AloneRuns.{IsTurn}
 use Rattle.sts_whole.proofs.FiberTurns.{comes_went, comes_served, comes_faulted}
 use Rattle.sts_whole.proofs.instruction.instruct.Goals as goal
 

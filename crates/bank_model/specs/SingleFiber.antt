@@ -6,8 +6,8 @@ use Rattle.board_world.specs.Activities.{World}
 use Rattle.bank_model.specs.Fibers.{Fiber, Shared}
 
 -- Main's fiber is the only one and goes on, on a script without entries that ends at `until`; this was seen.
-abbrev pub lone : ℕ → List Observation → Fiber → Shared → World Fiber Shared
-lone until seen f s =
+abbrev pub single : ℕ → List Observation → Fiber → Shared → World Fiber Shared
+single until seen f s =
     record {
       board = record (start_board until []) { seen = seen };
       shared = s;

@@ -13,7 +13,7 @@ use Rattle.bank_model.specs.Bank.{Bank}
 use Rattle.bank_model.specs.Shows.{Agrees}
 use Rattle.bank_model.specs.Fibers.{Fiber, Shared}
 use Rattle.bank_model.specs.BankMachine.{fiber_of, shared_of, bank_run}
-use Rattle.bank_model.specs.Lone.{lone, ended}
+use Rattle.bank_model.specs.SingleFiber.{single, ended}
 use Rattle.sts_whole.specs.declared.instruction.End.{End}
 use Rattle.sts_whole.specs.declared.instruction.End.TheVariants.{Quiet, Panic, Fault}
 use Rattle.sts_whole.specs.declared.instruction.Done.{Done}
@@ -41,7 +41,7 @@ pub record Reaches (image : List ℕ) (n : ℕ) (seen : List Observation) (s : S
   pub used : List ℕ
   pub bank : Bank
   pub agrees : Agrees image s.registers.sp s.memory bank
-  pub world : (rest : List ℕ) → bank_run image 1000 [] (used ++ rest) n ≡ lone 1000 seen (fiber_of s.registers (bank, rest)) (shared_of (bank, rest))
+  pub world : (rest : List ℕ) → bank_run image 1000 [] (used ++ rest) n ≡ single 1000 seen (fiber_of s.registers (bank, rest)) (shared_of (bank, rest))
 
 -- After n instructions, with some free words, the image's run has ended so, and this was seen.
 pub record Stops (image : List ℕ) (n : ℕ) (seen : List Observation) (end : RunEnd) : Type 0 where
