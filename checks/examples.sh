@@ -1,0 +1,22 @@
+#!/bin/sh
+# Each program of examples/ has a transcript NAME.txt, and most a script NAME.json: the transcript was worked out from the rules, and is what the rules give
+# as bench/programs/reading.py reads them, with no code of this repository. The program takes each example's text.
+# usage: checks/examples.sh [PROGRAM]
+set -eu
+top=$(cd "$(dirname "$0")/.." && pwd)
+program=${1:-$top/crates/sts/out/sts}
+[ -x "$program" ] || "$top/bin/sts" > /dev/null || [ -x "$program" ]
+wrong=0
+count=0
+for text in "$top"/examples/*.ts; do
+    name=$(basename "$text" .ts)
+    [ "$name" != board.d ] || continue
+    count=$((count + 1))
+    script=$top/examples/$name.json
+    [ -f "$script" ] || script=
+    python3 "$top/bench/programs/reading.py" "$text" $script | cmp - "$top/examples/$name.txt" || wrong=$((wrong + 1))
+    said=$("$program" check "$text")
+    [ "$said" = spelled ] || { echo "examples: check says of $name: $said"; wrong=$((wrong + 1)); }
+done
+echo "examples: $count programs, $wrong wrong"
+[ "$wrong" -eq 0 ] && [ "$count" -ge 10 ]
