@@ -1,8 +1,6 @@
-//! Whether a text is accepted: the first failure of its names and types, and the typed tree of what has none.
+//! Whether a text is accepted, in code: the first failure of its names and types, and the typed tree of what has none.
 #![tactic(auto)]
 
-mod rows;
-mod theorems;
+mod limits;
 
-pub use rows::{rows_of_accepted, rows_of_failures, rows_of_functions, rows_of_limits};
-pub use theorems::no_failure_has_a_type;
+pub use limits::class_fits;

@@ -4,3 +4,12 @@ pub mod Returns
 pub mod Derived
 pub mod Laws
 pub mod Growth
+pub mod Nodes
+pub mod Passes
+pub mod Making
+pub mod Handlers
+pub mod Numbers
+pub mod Built
+pub mod Programs
+pub mod Limits
+pub mod Accepted

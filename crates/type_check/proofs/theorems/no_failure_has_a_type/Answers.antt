@@ -1,6 +1,0 @@
-use Rattle.type_derive.specs.Typing.{type_of}
-use Rattle.type_check.proofs.Typed.{typed, some}
-use Rattle.type_check.proofs.theorems.no_failure_has_a_type.Goals as goal
-
-pub returns : goal.returns
-returns c = λ tables names k p r e i h. some (type_of tables k p r e) (typed tables names k p r e i h)

@@ -1,0 +1,22 @@
+-- Laws of failures and types.
+use Rattle.std.specs.Prelude.{◌≡◌, None, IsSome}
+use Rattle.sts_base.specs.declared.tables.Tables.{Tables}
+use Rattle.sts_syntax.specs.Trees.{Tree}
+use Rattle.sts_scope.specs.declared.known.Known.{Known}
+use Rattle.sts_scope.specs.Entries.{Naming}
+use Rattle.sts_scope.specs.Places.{Place}
+use Rattle.type_derive.specs.declared.roles.Role.{Role}
+use Rattle.type_derive.specs.declared.roles.Role.TheVariants.{Free, Given, Called, Served}
+use Rattle.type_derive.specs.Typing.{type_of}
+use Rattle.type_derive.specs.Nodes.{fault}
+
+-- a place that reads what stands there
+abbrev pub IsRead : Role → Type 0
+IsRead Free = Unit {0}
+IsRead Given = Unit {0}
+IsRead Called = ⊥
+IsRead Served = ⊥
+
+-- an expression without a failure has a type, where it is read
+abbrev pub HasTypes : Type 0
+HasTypes = (tables : Tables) (names : Naming) (k : Known) (p : Place) (r : Role) (e : Tree) → IsRead r → fault tables names k p r e ≡ None → IsSome (type_of tables k p r e)

@@ -1,0 +1,43 @@
+//! Worked rows: small programs and their first failure. Codes and places were set by hand from the rules.
+ghost use Rattle.std.specs.Prelude.{◌≡◌, Some, None, pos, [], ◌∷◌};
+ghost use Rattle.sts_base.specs.declared.refused.Code.TheVariants.{UnknownName, Captures, NeedsType, ClassCycle, Mismatch, BadHandler, OverLimit};
+ghost use Rattle.sts_syntax.specs.Types as t;
+ghost use Rattle.sts_syntax.specs.TypedTrees as e;
+ghost use Rattle.sts_syntax.specs.declared.typed.Callee.TheVariants as c;
+ghost use Rattle.sts_syntax.specs.declared.board_calls.BoardCall.TheVariants.{WriteNumber};
+ghost use Rattle.sts_scope.specs.Faults.{fault_at};
+ghost use Rattle.typed_laws.specs.Rows.{refused, built, sum_names, written_sum, unknown_names, unknown, v_names, null_alone, a_names, own_base, array_names, arrays, captured_names, captured, empties, no_names, overriding_names, overriding, handler_names, bad_handler, call_names, calling, calling_itself};
+
+/// Texts with one failure.
+pub fn rows_of_failures()
+    ensures unknown { refused unknown_names unknown ≡ fault_at UnknownName 19 }
+    ensures null_alone { refused v_names null_alone ≡ fault_at NeedsType 4 }
+    ensures own_base { refused a_names own_base ≡ fault_at ClassCycle 6 }
+    ensures arrays { refused array_names arrays ≡ fault_at Mismatch 80 }
+    ensures captured { refused captured_names captured ≡ fault_at Captures 101 }
+{}
+
+/// A text without one, and its typed tree.
+pub fn rows_of_accepted()
+    ensures accepted { refused sum_names written_sum ≡ None }
+    ensures main { (built sum_names written_sum).functions ≡ record {
+      params = [];
+      locals = [];
+      gives = t.Nothing;
+      all = e.also (e.Plain (e.Call t.Nothing (c.Board WriteNumber) (e.more (e.Binary t.Number 13 (e.Num t.Number (pos 2147483647)) (e.Num t.Number (pos 1))) e.none))) e.done;
+    } ∷ [] }
+{}
+
+/// Overriding methods, handlers, and results that are derived.
+pub fn rows_of_functions()
+    ensures overriding { refused overriding_names overriding ≡ fault_at Mismatch 46 }
+    ensures bad_handler { refused handler_names bad_handler ≡ fault_at BadHandler 26 }
+    ensures derived { refused call_names calling ≡ None }
+    ensures underived { refused call_names calling_itself ≡ fault_at NeedsType 22 }
+{}
+
+/// The weight of the main program: 4 and 1 a statement.
+pub fn rows_of_limits()
+    ensures at_the_limit { refused no_names (empties 1196) ≡ None }
+    ensures over_the_limit { refused no_names (empties 1197) ≡ fault_at OverLimit 0 }
+{}
