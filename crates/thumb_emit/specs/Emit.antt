@@ -1,0 +1,229 @@
+-- The pieces of each op, of a function's entry, and of a function. r0 to r3 are free between ops; temporaries stand in their places.
+use Rattle.std.specs.Prelude.{ℕ, zero, suc, ◌+◌, ◌*◌, min, List, [], ◌∷◌, ◌++◌, length, Bool, true, ◌==◌, ◌||◌, nat_lt, if◌then◌else◌}
+use Rattle.std.specs.Int.{cast_unsigned, w32}
+use Rattle.thumb_code.specs.declared.instructions.Instr.{Instr}
+use Rattle.thumb_code.specs.declared.instructions.Instr.TheVariants.{MovImm, CmpImm, CmpReg, AddReg, SubReg, AddImm8, SubImm8, And, Eor, Orr, Mul, Mvn, Rsb, LslImm, LslReg, AsrReg, LsrReg, MovHigh, StrSp, LdrSp, StrImm, LdrImm, StrReg, LdrReg, Push, Pop as PopMany, Svc, Blx}
+use Rattle.thumb_layout.specs.declared.pieces.What.TheVariants.{Function as FunctionOf, Text, Class}
+use Rattle.thumb_layout.specs.declared.pieces.Piece.{Piece}
+use Rattle.thumb_layout.specs.declared.pieces.Piece.TheVariants.{Plain, Label, Go, CallTo, Number, Address}
+use Rattle.thumb_layout.specs.Pieces.{always}
+use Rattle.flat_ir.specs.declared.ops.Op.{Op}
+use Rattle.flat_ir.specs.declared.ops.Op.TheVariants.{Const, Copy, Unary, Binary, GlobalGet, GlobalSet, FieldGet, FieldSet, ItemGet, ItemSet, Length, Pop, TextOf, MakeObject, MakeArray, Call, CallSlot, HandlerOf, Ask, Jump, Branch, Return}
+use Rattle.flat_ir.specs.declared.ops.Function.{Function}
+use Rattle.register_assign.specs.declared.places.Place.{Place}
+use Rattle.register_assign.specs.declared.places.Place.TheVariants.{Reg, Slot, Incoming}
+use Rattle.register_assign.specs.declared.places.Placed.{Placed}
+use Rattle.register_assign.specs.Sound.{place_of}
+use Rattle.thumb_emit.specs.Frame.{own, words, from_place, to_place, raises, lowers, kept_registers}
+
+-- conditions of branches (ARM DDI 0419, table A6-1)
+abbrev pub equal : ℕ
+equal = 0
+
+abbrev pub unequal : ℕ
+unequal = 1
+
+abbrev pub at_least_unsigned : ℕ
+at_least_unsigned = 2
+
+abbrev pub below_unsigned : ℕ
+below_unsigned = 3
+
+abbrev pub at_least : ℕ
+at_least = 10
+
+abbrev pub less : ℕ
+less = 11
+
+abbrev pub greater : ℕ
+greater = 12
+
+abbrev pub at_most : ℕ
+at_most = 13
+
+-- the function number that names the division routine, which has the quotient in r0 and the remainder in r1
+abbrev pub division : ℕ
+division = 4294967295
+
+-- a number of words or bytes as a word; there is less of anything than the greatest word
+abbrev pub counted_word : ℕ → ℕ
+counted_word n = min n 4294967295
+
+-- a panic, unless the condition holds
+abbrev pub unless : ℕ → ℕ → ℕ → List Piece
+unless cond code label = Go cond label ∷ Plain (MovImm 0 code) ∷ Plain (Svc 1) ∷ Label label ∷ []
+
+-- r0 isn't null, or panic 105
+abbrev pub tests_null : ℕ → List Piece
+tests_null label = Plain (CmpImm 0 0) ∷ unless unequal 105 label
+
+-- the index in r1 is below the length of the array at r0, as words, or panic 104
+abbrev pub tests_index : ℕ → List Piece
+tests_index label = Plain (LdrImm 2 0 1) ∷ Plain (CmpReg 1 2) ∷ unless below_unsigned 104 label
+
+-- the item of the array at r0 with the index in r1 stands at r2 + r1
+abbrev pub finds_item : List Piece
+finds_item = Plain (LdrImm 2 0 3) ∷ Plain (LslImm 1 1 2) ∷ []
+
+-- r0 becomes 1 where the condition holds of r0 against r1, and else 0
+abbrev pub compares : ℕ → ℕ → List Piece
+compares cond label = Plain (MovImm 2 1) ∷ Plain (CmpReg 0 1) ∷ Go cond label ∷ Plain (MovImm 2 0) ∷ Label label ∷ Plain (MovHigh 0 2) ∷ []
+
+-- r0 shifted by r1 modulo 32
+abbrev pub shifts : Instr → List Piece
+shifts instr = Plain (MovImm 2 31) ∷ Plain (And 1 2) ∷ Plain instr ∷ []
+
+-- r0 becomes 1 where it is 0, and else 0
+abbrev pub inverts : ℕ → List Piece
+inverts label = Plain (MovImm 1 1) ∷ Plain (CmpImm 0 0) ∷ Go equal label ∷ Plain (MovImm 1 0) ∷ Label label ∷ Plain (MovHigh 0 1) ∷ []
+
+-- a prefix operator of r0, by its number: `-`, `+`, `!`, `~`, one more, one less
+abbrev pub unary : ℕ → ℕ → List Piece
+unary op label =
+    if op == 1 then Plain (Rsb 0 0) ∷ []
+    else if op == 2 then []
+    else if op == 3 then inverts label
+    else if op == 4 then Plain (Mvn 0 0) ∷ []
+    else if op == 5 then Plain (AddImm8 0 1) ∷ []
+    else Plain (SubImm8 0 1) ∷ []
+
+-- an operator of r0 and r1, by its number: `|`, `^`, `&`, `==`, `!=`, `<`, `>`, `<=`, `>=`, `<<`, `>>`, `>>>`, `+`, `-`, `*`, `/`, `%`
+abbrev pub binary : ℕ → ℕ → List Piece
+binary op label =
+    if op == 1 then Plain (Orr 0 1) ∷ []
+    else if op == 2 then Plain (Eor 0 1) ∷ []
+    else if op == 3 then Plain (And 0 1) ∷ []
+    else if op == 4 then compares equal label
+    else if op == 5 then compares unequal label
+    else if op == 6 then compares less label
+    else if op == 7 then compares greater label
+    else if op == 8 then compares at_most label
+    else if op == 9 then compares at_least label
+    else if op == 10 then shifts (LslReg 0 1)
+    else if op == 11 then shifts (AsrReg 0 1)
+    else if op == 12 then shifts (LsrReg 0 1)
+    else if op == 13 then Plain (AddReg 0 0 1) ∷ []
+    else if op == 14 then Plain (SubReg 0 0 1) ∷ []
+    else if op == 15 then Plain (Mul 0 1) ∷ []
+    else if op == 16 then CallTo division ∷ []
+    else CallTo division ∷ Plain (MovHigh 0 1) ∷ []
+
+-- A field of the object at r0 stands behind the object's class. An immediate counts to 31 words; a field past them is found by r2.
+abbrev pub field_offset : ℕ → ℕ
+field_offset field = counted_word (4 * (field + 1))
+
+abbrev pub loads_field : ℕ → List Piece
+loads_field field =
+    if nat_lt field 31 then Plain (LdrImm 0 0 (field + 1)) ∷ []
+    else Number 2 (field_offset field) ∷ Plain (LdrReg 0 0 2) ∷ []
+
+-- r1 goes there
+abbrev pub stores_field : ℕ → List Piece
+stores_field field =
+    if nat_lt field 31 then Plain (StrImm 1 0 (field + 1)) ∷ []
+    else Number 2 (field_offset field) ∷ Plain (StrReg 1 0 2) ∷ []
+
+-- the global's address into r1
+abbrev pub finds_global : ℕ → Piece
+finds_global slot = Number 1 (0x20000000 + 4 * slot)
+
+-- the services that answer in r0; behind each other one r0 becomes 0
+abbrev pub answers : ℕ → Bool
+answers service = service == 7 || service == 8 || service == 9 || service == 16 || service == 17
+
+abbrev pub asks : ℕ → List Piece
+asks service = if answers service then Plain (Svc service) ∷ [] else Plain (Svc service) ∷ Plain (MovImm 0 0) ∷ []
+
+-- Words for an object of a class, whose first word in flash says how many; then the class's address goes into the first of them. RAM
+-- begins with zeros and no word is given out twice, so the fields are 0 already.
+abbrev pub makes_object : ℕ → List Piece
+makes_object class = Address 1 (Class class) ∷ Plain (LdrImm 0 1 0) ∷ Plain (Svc 18) ∷ Plain (StrImm 1 0 0) ∷ []
+
+-- Words for an array's header and room; then the room, and the address of the items behind the header. The length is 0 already.
+abbrev pub makes_array : ℕ → List Piece
+makes_array room =
+    Number 0 (counted_word (4 + room)) ∷ Plain (Svc 18) ∷ Number 1 (counted_word room) ∷ Plain (StrImm 1 0 2)
+    ∷ Plain (MovHigh 1 0) ∷ Plain (AddImm8 1 16) ∷ Plain (StrImm 1 0 3) ∷ []
+
+-- the last item of the array at r0 into r0, and the length one less; of an empty one it is panic 104
+abbrev pub pops : ℕ → List Piece
+pops label =
+    Plain (LdrImm 1 0 1) ∷ Plain (CmpImm 1 0) ∷ unless unequal 104 label
+    ++ (Plain (SubImm8 1 1) ∷ Plain (StrImm 1 0 1) ∷ finds_item ++ (Plain (LdrReg 0 2 1) ∷ []))
+
+-- the method in a slot of the class of the object in the first outgoing word is called
+abbrev pub calls_slot : ℕ → ℕ → List Piece
+calls_slot slot label = Plain (LdrSp 0 0) ∷ tests_null label ++ (Plain (LdrImm 1 0 0) ∷ Plain (LdrImm 1 1 (slot + 1)) ∷ Plain (Blx 1) ∷ [])
+
+-- a function, and the place of each temporary
+module _ (f : Function) (place : ℕ → Place) where
+  -- a temporary into a low register, and back
+  abbrev pub get : ℕ → ℕ → Piece
+  get rd t = from_place f rd (place t)
+
+  abbrev pub put : ℕ → ℕ → Piece
+  put rs t = to_place f rs (place t)
+
+  -- arguments into outgoing words, from word k on; and into registers, from rk on
+  abbrev pub passes : ℕ → List ℕ → List Piece
+  passes k [] = []
+  passes k (t ∷ ts) = get 0 t ∷ Plain (StrSp 0 k) ∷ passes (k + 1) ts
+
+  abbrev pub loads : ℕ → List ℕ → List Piece
+  loads k [] = []
+  loads k (t ∷ ts) = get k t ∷ loads (k + 1) ts
+
+  -- Op k. The labels 3 k + 1 and 3 k + 2 are its own.
+  abbrev pub op_pieces : ℕ → Op → List Piece
+  op_pieces k (Const to value) = Number 0 (cast_unsigned w32 value) ∷ put 0 to ∷ []
+  op_pieces k (Copy to from) = get 0 from ∷ put 0 to ∷ []
+  op_pieces k (Unary to op from) = get 0 from ∷ unary op (3 * k + 1) ++ (put 0 to ∷ [])
+  op_pieces k (Binary to op left right) = get 0 left ∷ get 1 right ∷ binary op (3 * k + 1) ++ (put 0 to ∷ [])
+  op_pieces k (GlobalGet to slot) = finds_global slot ∷ Plain (LdrImm 0 1 0) ∷ put 0 to ∷ []
+  op_pieces k (GlobalSet slot from) = get 0 from ∷ finds_global slot ∷ Plain (StrImm 0 1 0) ∷ []
+  op_pieces k (FieldGet to object field) = get 0 object ∷ tests_null (3 * k + 1) ++ (loads_field field ++ (put 0 to ∷ []))
+  op_pieces k (FieldSet object field from) = get 0 object ∷ tests_null (3 * k + 1) ++ (get 1 from ∷ stores_field field)
+  op_pieces k (ItemGet to array index) =
+      get 0 array ∷ get 1 index ∷ tests_null (3 * k + 1) ++ (tests_index (3 * k + 2) ++ (finds_item ++ (Plain (LdrReg 0 2 1) ∷ put 0 to ∷ [])))
+  op_pieces k (ItemSet array index from) =
+      get 0 array ∷ get 1 index ∷ tests_null (3 * k + 1) ++ (tests_index (3 * k + 2) ++ (finds_item ++ (get 3 from ∷ Plain (StrReg 3 2 1) ∷ [])))
+  op_pieces k (Length to array) = get 0 array ∷ tests_null (3 * k + 1) ++ (Plain (LdrImm 0 0 1) ∷ put 0 to ∷ [])
+  op_pieces k (Pop to array) = get 0 array ∷ tests_null (3 * k + 1) ++ (pops (3 * k + 2) ++ (put 0 to ∷ []))
+  op_pieces k (TextOf to text) = Address 0 (Text text) ∷ put 0 to ∷ []
+  op_pieces k (MakeObject to class) = makes_object class ++ (put 0 to ∷ [])
+  op_pieces k (MakeArray to room) = makes_array room ++ (put 0 to ∷ [])
+  op_pieces k (Call to function args) = passes 0 args ++ (CallTo function ∷ put 0 to ∷ [])
+  op_pieces k (CallSlot to slot args) = passes 0 args ++ (calls_slot slot (3 * k + 1) ++ (put 0 to ∷ []))
+  op_pieces k (HandlerOf to function) = Address 0 (FunctionOf function) ∷ put 0 to ∷ []
+  op_pieces k (Ask to service args) = loads 0 args ++ (asks service ++ (put 0 to ∷ []))
+  op_pieces k (Jump target) = Go always (3 * target) ∷ []
+  op_pieces k (Branch when target) = get 0 when ∷ Plain (CmpImm 0 0) ∷ Go unequal (3 * target) ∷ []
+  op_pieces k (Return from) = get 0 from ∷ raises (own f) ++ (Plain (PopMany kept_registers true) ∷ [])
+
+  -- a parameter that doesn't stay where it comes in is moved to its place, by way of r0
+  abbrev pub move_pieces : Place → ℕ → List Piece
+  move_pieces (Incoming j) t = []
+  move_pieces (Reg r) t = from_place f 0 (Incoming t) ∷ to_place f 0 (Reg r) ∷ []
+  move_pieces (Slot j) t = from_place f 0 (Incoming t) ∷ to_place f 0 (Slot j) ∷ []
+
+  -- so are the n parameters from t on
+  abbrev pub moves_pieces : ℕ → ℕ → List Piece
+  moves_pieces t zero = []
+  moves_pieces t (suc n) = move_pieces (place t) t ++ moves_pieces (t + 1) n
+
+  -- The entry, whose label is 3 times the number of ops. LR is kept in r3, since a far branch may change it. The frame is written only where
+  -- it fits above the stack region's 32 words of slack; else it is panic 102.
+  abbrev pub entry_pieces : List Piece
+  entry_pieces =
+      Plain (MovHigh 3 14) ∷ Plain (MovHigh 0 13) ∷ Number 1 (0x20003080 + 4 * words f) ∷ Plain (CmpReg 0 1)
+      ∷ unless at_least_unsigned 102 (3 * length f.ops)
+      ++ (Plain (MovHigh 14 3) ∷ Plain (Push kept_registers true) ∷ lowers (own f) ++ moves_pieces 0 f.params)
+
+  -- the ops from op k on, each behind its label
+  abbrev pub ops_pieces : ℕ → List Op → List Piece
+  ops_pieces k [] = []
+  ops_pieces k (op ∷ ops) = Label (3 * k) ∷ op_pieces k op ++ ops_pieces (k + 1) ops
+
+-- a function's pieces
+abbrev pub function_pieces : Placed → List Piece
+function_pieces p = entry_pieces p.function (place_of p.places) ++ ops_pieces p.function (place_of p.places) 0 p.function.ops

@@ -1,0 +1,5 @@
+pub mod Frame
+pub mod Emit
+pub mod Bounds
+pub mod InFlash
+pub mod Small

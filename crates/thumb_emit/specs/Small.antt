@@ -1,0 +1,14 @@
+-- A small function with its places, of which worked rows speak.
+use Rattle.std.specs.Prelude.{List, [], ◌∷◌}
+use Rattle.flat_ir.specs.declared.ops.Op.TheVariants.{Return}
+use Rattle.flat_ir.specs.declared.ops.Function.{Function}
+use Rattle.register_assign.specs.declared.places.Place.{Place}
+use Rattle.register_assign.specs.declared.places.Place.TheVariants.{Reg, Slot, Incoming}
+
+-- two parameters, a local and two operands; it passes two arguments
+abbrev pub small : Function
+small = record { params = 2; locals = 1; operands = 2; outgoing = 2; ops = Return 4 ∷ [] }
+
+-- the first parameter stays, the second goes to r6; the local has a slot, and the operands have r4 and r5
+abbrev pub small_places : List Place
+small_places = Incoming 0 ∷ Reg 6 ∷ Slot 0 ∷ Reg 4 ∷ Reg 5 ∷ []

@@ -1,0 +1,8 @@
+//! Emission: from a function of flat code with places to pieces of Thumb code.
+//!
+//! `specs/` has the pieces of each op, of an entry and of a function, what they take at most, and what a flash shows of a whole program.
+#![tactic(auto)]
+
+mod worked;
+
+pub use worked::rows_of_pieces;
