@@ -89,7 +89,7 @@ module _ (flash : List ℕ) where
         either s.used s₀ t₀ (word_argument f 0 == 0) _ _ _ _ refl (either s.used s₀ t₀ (is_text flash (word_argument f 0)) _ _ _ _ (h (text_at flash (word_argument f 0))) (fault 8))
 
     allocated : (n : ℕ) (f' : ℕ → Fiber) (s' : ℕ → Shared) → Good (f' s.used) → (s' s.used).used ≡ s.used + n → Same (Takes n (λ used. (f' used, s' used))) (Takes n (λ used. (f' used, record (s' used) { free = y })))
-    allocated n f' s' h e = (refl, going (s.used + n) s₀ t₀ (s' s.used) y (f' s.used) h e)
+    allocated n f' s' h e = (refl, λ fits. going (s.used + n) s₀ t₀ (s' s.used) y (f' s.used) h e)
 
     pushed : Same (pushes at f s) (pushes at f t)
     pushed =

@@ -2,6 +2,7 @@
 use Rattle.std.proofs.Common.{◌≡◌, ℕ, zero, suc, ◌+◌, ◌≤◌, ℤ, refl, sym, ◌∙◌, subst, arith}
 use Rattle.board_world.specs.declared.events.Event.{Event}
 use Rattle.board_world.specs.declared.events.Listener.{Listener}
+use Rattle.board_world.specs.Limits.{arena_limit}
 use Rattle.board_world.specs.Kinds.{Kind, Turn, Goes, Asks, Takes, Pauses, Waits, Spawns, Listens, RaisesNow, Ends, Panics, Faults, Question}
 use Rattle.board_world.specs.Simulation.{Ties, Onward, Going, Listening, Begins, Matches, Path, Follows, Simulation}
 use Rattle.board_world.specs.Composed.{seen, joined_seen}
@@ -83,7 +84,7 @@ module _ {A B C S R D : Type 0} (K : Kind A S) (L : Kind B R) (M : Kind C D) (do
 
     takes_on : (q p : ℕ) (f : ℕ → A × S) (g : ℕ → B × R) (z : Turn C D) → Matches K L T used s (down s) (Takes q f) (Takes p g) → Matches L M U used t v (Takes p g) z → Matches K M tied used s u (Takes q f) z
     takes_on q p f g (Takes r i) h k =
-        (h.0 ∙ k.0, going_on (used + q) used s t u v (f used) (g used) (i used) h.1 between (subst (λ (n : ℕ). Going U (used + n) t v (g used) (i used)) (sym h.0) k.1))
+        (h.0 ∙ k.0, λ fits. going_on (used + q) used s t u v (f used) (g used) (i used) (h.1 fits) between (subst (λ (n : ℕ). used + n ≤ arena_limit → Going U (used + n) t v (g used) (i used)) (sym h.0) k.1 fits))
     takes_on q p f g _ h k = absurd k
 
     pauses_on : (n m : ℤ) (x : A × S) (y : B × R) (z : Turn C D) → Matches K L T used s (down s) (Pauses n x.0 x.1) (Pauses m y.0 y.1) → Matches L M U used t v (Pauses m y.0 y.1) z → Matches K M tied used s u (Pauses n x.0 x.1) z

@@ -48,7 +48,7 @@ module _ {A S C D : Type 0} (K : Kind A S) (L : Kind C D) (I : Typing A S) (T : 
   matches_within : (used : ℕ) (s : S) (t : D) (x : Turn A S) (y : Turn C D) → Stays I used s x → Matches K L T used s t x y → Matches K L both used s t x y
   matches_within used s t (Goes a s') (Goes b t') h k = going_within used s t (a, s') (b, t') h k
   matches_within used s t (Asks q f) (Asks p g) h k = (k.0, λ n. going_within used s t (f n) (g n) (h n) (k.1 n))
-  matches_within used s t (Takes n f) (Takes m g) h k = (k.0, going_within (used + n) s t (f used) (g used) h k.1)
+  matches_within used s t (Takes n f) (Takes m g) h k = (k.0, λ fits. going_within (used + n) s t (f used) (g used) h (k.1 fits))
   matches_within used s t (Pauses n a s') (Pauses m b t') h k = (k.0, k.1, going_within used s t (a, s') (b, t') h k.2)
   matches_within used s t (Waits e a s') (Waits d b t') h k = (k.0, k.1, going_within used s t (a, s') (b, t') h k.2)
   matches_within used s t (Spawns f a s') (Spawns g b t') h k = ((h.0, k.0), going_within used s t (a, s') (b, t') h.1 k.1)
@@ -176,7 +176,7 @@ module _ {A S : Type 0} (K : Kind A S) where
     matches_itself used s (Faults c x) h = absurd h
     matches_itself used s (Goes a s') h = going_itself used s (a, s') h
     matches_itself used s (Asks q f) h = (refl, λ n. going_itself used s (f n) (h n))
-    matches_itself used s (Takes n f) h = (refl, going_itself (used + n) s (f used) h)
+    matches_itself used s (Takes n f) h = (refl, λ fits. going_itself (used + n) s (f used) h)
     matches_itself used s (Pauses n a s') h = (refl, refl, going_itself used s (a, s') h)
     matches_itself used s (Waits e a s') h = (refl, refl, going_itself used s (a, s') h)
     matches_itself used s (Spawns f a s') h = ((refl, h.0), going_itself used s (a, s') h.1)

@@ -430,7 +430,7 @@ module _ (P : TypedProgram) (texts : List ByteList) (fine : IsFine P) (weight : 
             let heap : (at : ℕ) → forget (with_cell at (Fields c (defaults x.fields)) h) ≡ with_cell at (Fields c (zeros (length x.fields))) (forget h) =
             λ at. new_agrees h at c x ∙ ap (λ vs. with_cell at (Fields c vs) (forget h)) (zeros_are (length x.fields)) in
             subst (λ m. M used h (Takes (object_words x) (λ at. (now_with n (Object at ∷ vs) k, with_cell at (Fields c (defaults x.fields)) h))) (flat.makes (lowered P) texts (forget h) (fr j pc temps) waiting base (params + locals + length p) c m)) e
-            (sym e, going P texts weight light (used + object_words x) h _ _ _ _ (heap used) (goes_on n (None ∷ p) (Object used ∷ vs) k (pc + 1) (with_entry (params + locals + length p) (Object used) temps) (shows_put params locals n None p (Object used) vs temps tt shows) near))
+            (sym e, λ fits. going P texts weight light (used + object_words x) h _ _ _ _ (heap used) (goes_on n (None ∷ p) (Object used ∷ vs) k (pc + 1) (with_entry (params + locals + length p) (Object used) temps) (shows_put params locals n None p (Object used) vs temps tt shows) near))
 
     -- the method in a slot of an object's class
     method_agrees : (ob : Value) (s : ℕ) → Agree (λ x y. x ≡ y) (source.method P texts h ob s) (then_gives (object_at (forget h) ob) (λ c. then_gives (there (entry (flat_classes P.classes) c.0)) (λ class. there (entry class.slots s))))
@@ -925,7 +925,7 @@ module _ (P : TypedProgram) (texts : List ByteList) (fine : IsFine P) (weight : 
     act_follows (Open item room k) p vs pc temps shows lies nf =
         let d = params + locals + length p in
         alone (Open item room k) vs pc temps (o.MakeArray d room) (omega arith) lies.0
-        (refl, going P texts weight light (used + array_words room) h _ _ _ _ (open_agrees h used item room) (goes_on n (None ∷ p) (Object used ∷ vs) k (pc + 1) (with_entry d (Object used) temps) (shows_put params locals n None p (Object used) vs temps tt shows) lies.1))
+        (refl, λ fits. going P texts weight light (used + array_words room) h _ _ _ _ (open_agrees h used item room) (goes_on n (None ∷ p) (Object used ∷ vs) k (pc + 1) (with_entry d (Object used) temps) (shows_put params locals n None p (Object used) vs temps tt shows) lies.1))
     act_follows (Append k) (m ∷ (m' ∷ q)) (v ∷ (ob ∷ vs)) pc temps shows lies nf =
         let d = params + locals + length q in
         let e = params + locals + suc (length q) in

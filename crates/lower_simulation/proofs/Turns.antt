@@ -89,7 +89,7 @@ module _ (P : TypedProgram) (texts : List ByteList) (weight : FlatActivity → F
       by (Button button) names = (refl, goes)
       by (TextGlyph text index) names = goes _
       by (NumberGlyph number index) names = goes _
-      by (Allocate words) names = (refl, going (used + words) h _ _ _ _ (heap _) (tied _))
+      by (Allocate words) names = (refl, λ fits. going (used + words) h _ _ _ _ (heap _) (tied _))
       by (Push array value) names = (refl, refl)
       by (Panic code) names = refl
       by End names = (record { each = re }, record { shared = (heap (pos 0), tt); others = λ a b x. x })
@@ -100,7 +100,7 @@ module _ (P : TypedProgram) (texts : List ByteList) (weight : FlatActivity → F
     where
       by : (n : ℕ) → Match used h (grown n h' a) (grown n t' b)
       by zero = going used h h' t' a b heap tied
-      by (suc k) = (refl, going (used + suc k) h h' t' a b heap tied)
+      by (suc k) = (refl, λ fits. going (used + suc k) h h' t' a b heap tied)
 
   -- Flat code makes a turn of the source, in ops that together weigh at most so much.
   pub record Makes (bound used : ℕ) (h : Heap) (u : Turn Activity Heap) (b : FlatActivity) (t : FlatHeap) : Type 0 where

@@ -94,7 +94,7 @@ module _ (program : List Routine) where
   told_matches : (used : ℕ) (s t : ℤ) (known : Bool) (u : Turn Clerk ℤ) → Matches (tellers program) (clerks program) tied used s t (told known u) u
   told_matches used s t known (Goes c s') = going_same used s s' t known c
   told_matches used s t known (Asks q f) = (refl, λ n. going_same used s (f n).1 t known (f n).0)
-  told_matches used s t known (Takes n f) = (refl, going_same (used + n) s (f used).1 t known (f used).0)
+  told_matches used s t known (Takes n f) = (refl, λ fits. going_same (used + n) s (f used).1 t known (f used).0)
   told_matches used s t known (Pauses n c s') = (refl, refl, going_same used s s' t known c)
   told_matches used s t known (Waits e c s') = (refl, refl, going_same used s s' t known c)
   told_matches used s t known (Spawns f c s') = (refl, going_same used s s' t known c)

@@ -104,7 +104,7 @@ module _ (program : List Routine) (code : List Op) (at : ℕ → ℕ) (here : (f
     request_alike (Button n) = (refl, on_with)
     request_alike (TextGlyph n i) = on_with _
     request_alike (NumberGlyph n i) = on_with _
-    request_alike (Allocate n) = (refl, record { self = (on_with _).self; onward = onward (used + n) s s t t same })
+    request_alike (Allocate n) = (refl, λ fits. record { self = (on_with _).self; onward = onward (used + n) s s t t same })
     request_alike (Push a v) = on_with answer
     request_alike (Panic n) = refl
     request_alike End = (begin_alike s t, onward used s s t t same)

@@ -28,7 +28,7 @@ module _ {A S : Type 0} (K : Kind A S) (T : Ties A S (Slowed A) S) (easy : Easy 
   slowed_matches : (used : ℕ) (s t : S) (turn : Turn A S) → Matches K (slow K) T used s t turn (slowed turn)
   slowed_matches used s t (Goes a s') = going used s t s' a
   slowed_matches used s t (Asks q f) = (refl, λ n. going used s t (f n).1 (f n).0)
-  slowed_matches used s t (Takes n f) = (refl, going (used + n) s t (f used).1 (f used).0)
+  slowed_matches used s t (Takes n f) = (refl, λ fits. going (used + n) s t (f used).1 (f used).0)
   slowed_matches used s t (Pauses n a s') = (refl, refl, going used s t s' a)
   slowed_matches used s t (Waits e a s') = (refl, refl, going used s t s' a)
   slowed_matches used s t (Spawns f a s') = (easy.code f, going used s t s' a)
