@@ -1,0 +1,7 @@
+pub mod Accesses
+pub mod Plain
+pub mod Stack
+pub mod Puts
+pub mod Kept
+pub mod Calls
+pub mod Grows
