@@ -61,6 +61,10 @@ op_bytes (Jump target) = 6
 op_bytes (Branch when target) = 10
 op_bytes (Return from) = 8
 
+abbrev pub ops_bytes : List Op → ℕ
+ops_bytes [] = 0
+ops_bytes (op ∷ ops) = op_bytes op + ops_bytes ops
+
 -- those of the entry of a function, which has at most 8 parameters
 abbrev pub entry_cost : ℕ
 entry_cost = 55

@@ -1,5 +1,7 @@
 pub mod Frame
 pub mod Emit
 pub mod Bounds
+pub mod Names
 pub mod InFlash
+pub mod Ready
 pub mod Small

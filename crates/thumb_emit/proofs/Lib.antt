@@ -1,0 +1,8 @@
+mod Lists
+mod Fine
+mod Sound
+mod Labels
+mod Once
+mod Within
+mod Naming
+pub mod Laws

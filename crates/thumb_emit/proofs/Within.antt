@@ -1,0 +1,159 @@
+-- What the pieces of an op and of an entry take at most.
+use Rattle.std.proofs.Common.{◌≡◌, ℕ, zero, suc, ◌+◌, ◌*◌, ◌<◌, ◌≤◌, ◌==◌, true, nat_lt, List, [], ◌∷◌, ◌++◌, length, refl, ap, sym, ◌∙◌, add_assoc, zero-add, arith}
+use Rattle.thumb_code.specs.declared.instructions.Instr.TheVariants.{Pop as PopMany}
+use Rattle.thumb_layout.specs.declared.pieces.Piece.{Piece}
+use Rattle.thumb_layout.specs.declared.pieces.Piece.TheVariants.{Plain, CallTo}
+use Rattle.thumb_layout.specs.Rounds.{total_most, counted, has_bytes}
+use Rattle.flat_ir.specs.declared.ops.Op.{Op}
+use Rattle.flat_ir.specs.declared.ops.Op.TheVariants.{Const, Copy, Unary, Binary, GlobalGet, GlobalSet, FieldGet, FieldSet, ItemGet, ItemSet, Length, Pop, TextOf, MakeObject, MakeArray, Call, CallSlot, HandlerOf, Ask, Jump, Branch, Return}
+use Rattle.flat_ir.specs.declared.ops.Function.{Function}
+use Rattle.register_assign.specs.declared.places.Place.{Place}
+use Rattle.register_assign.specs.declared.places.Placed.{Placed}
+use Rattle.register_assign.specs.Sound.{place_of}
+use Rattle.register_assign.specs.declared.places.Place.TheVariants.{Reg, Slot, Incoming}
+use Rattle.thumb_emit.specs.Frame.{own, lowers, kept_registers}
+use Rattle.thumb_emit.specs.Emit.{get, put, passes, loads, op_pieces, tests_null, asks, answers, calls_slot, move_pieces, moves_pieces, entry_pieces, ops_pieces, function_pieces}
+use Rattle.thumb_emit.specs.Bounds.{total_cost, op_cost, op_bytes, ops_bytes, entry_cost, entry_bytes}
+use Rattle.thumb_emit.proofs.Lists.{if_has, cost_append, most_append}
+
+module _ (f : Function) (place : ℕ → Place) where
+  -- instructions
+  takes_passes : (k : ℕ) (ts : List ℕ) → total_cost (passes f place k ts) ≡ 4 * length ts
+  takes_passes k [] = refl
+  takes_passes k (t ∷ ts) = let h = takes_passes (k + 1) ts in omega (arith, h)
+
+  takes_loads : (k : ℕ) (ts : List ℕ) → total_cost (loads f place k ts) ≡ 2 * length ts
+  takes_loads k [] = refl
+  takes_loads k (t ∷ ts) = let h = takes_loads (k + 1) ts in omega (arith, h)
+
+  pub op_takes : (k : ℕ) (op : Op) → total_cost (op_pieces f place k op) ≤ op_cost op
+  op_takes k (Unary to op from) =
+      let P : List Piece → Type 0 = λ xs. total_cost (get f place 0 from ∷ xs ++ (put f place 0 to ∷ [])) ≤ 15 in
+      if_has P (op == 1) _ _ (omega arith) (if_has P (op == 2) _ _ (omega arith) (if_has P (op == 3) _ _ (omega arith) (if_has P (op == 4) _ _ (omega arith) (if_has P (op == 5) _ _ (omega arith) (omega arith)))))
+  op_takes k (Binary to op left right) =
+      let P : List Piece → Type 0 = λ xs. total_cost (get f place 0 left ∷ get f place 1 right ∷ xs ++ (put f place 0 to ∷ [])) ≤ 17 in
+      if_has P (op == 1) _ _ (omega arith) (if_has P (op == 2) _ _ (omega arith) (if_has P (op == 3) _ _ (omega arith) (if_has P (op == 4) _ _ (omega arith) (if_has P (op == 5) _ _ (omega arith) (if_has P (op == 6) _ _ (omega arith) (if_has P (op == 7) _ _ (omega arith) (if_has P (op == 8) _ _ (omega arith) (if_has P (op == 9) _ _ (omega arith) (if_has P (op == 10) _ _ (omega arith) (if_has P (op == 11) _ _ (omega arith) (if_has P (op == 12) _ _ (omega arith) (if_has P (op == 13) _ _ (omega arith) (if_has P (op == 14) _ _ (omega arith) (if_has P (op == 15) _ _ (omega arith) (if_has P (op == 16) _ _ (omega arith) (omega arith))))))))))))))))
+  op_takes k (FieldGet to object field) =
+      if_has (λ xs. total_cost (get f place 0 object ∷ tests_null (3 * k + 1) ++ (xs ++ (put f place 0 to ∷ []))) ≤ 17) (nat_lt field 31) _ _ (omega arith) (omega arith)
+  op_takes k (FieldSet object field from) =
+      if_has (λ xs. total_cost (get f place 0 object ∷ tests_null (3 * k + 1) ++ (get f place 1 from ∷ xs)) ≤ 17) (nat_lt field 31) _ _ (omega arith) (omega arith)
+  op_takes k (Call to function args) = let a = cost_append (passes f place 0 args) (CallTo function ∷ put f place 0 to ∷ []) in let b = takes_passes 0 args in omega (arith, a, b)
+  op_takes k (CallSlot to slot args) = let a = cost_append (passes f place 0 args) (calls_slot slot (3 * k + 1) ++ (put f place 0 to ∷ [])) in let b = takes_passes 0 args in omega (arith, a, b)
+  op_takes k (Ask to service args) =
+      let a = cost_append (loads f place 0 args) (asks service ++ (put f place 0 to ∷ [])) in let b = takes_loads 0 args in
+      let c : total_cost (asks service ++ (put f place 0 to ∷ [])) ≤ 6 = if_has (λ xs. total_cost (xs ++ (put f place 0 to ∷ [])) ≤ 6) (answers service) _ _ (omega arith) (omega arith) in
+      omega (arith, a, b, c)
+  op_takes k (Return from) = if_has (λ xs. total_cost (get f place 0 from ∷ xs ++ (Plain (PopMany kept_registers true) ∷ [])) ≤ 8) (nat_lt 127 (own f)) _ _ (omega arith) (omega arith)
+  op_takes k (Const to value) = omega arith
+  op_takes k (Copy to from) = omega arith
+  op_takes k (GlobalGet to slot) = omega arith
+  op_takes k (GlobalSet slot from) = omega arith
+  op_takes k (ItemGet to array index) = omega arith
+  op_takes k (ItemSet array index from) = omega arith
+  op_takes k (Length to array) = omega arith
+  op_takes k (Pop to array) = omega arith
+  op_takes k (TextOf to text) = omega arith
+  op_takes k (MakeObject to class) = omega arith
+  op_takes k (MakeArray to room) = omega arith
+  op_takes k (HandlerOf to function) = omega arith
+  op_takes k (Jump target) = omega arith
+  op_takes k (Branch when target) = omega arith
+
+  takes_move : (p : Place) (t : ℕ) → total_cost (move_pieces f place p t) ≤ 4
+  takes_move (Incoming j) t = omega arith
+  takes_move (Reg r) t = omega arith
+  takes_move (Slot j) t = omega arith
+
+  takes_moves : (t n : ℕ) → total_cost (moves_pieces f place t n) ≤ 4 * n
+  takes_moves t zero = omega arith
+  takes_moves t (suc n) = let a = cost_append (move_pieces f place (place t) t) (moves_pieces f place (t + 1) n) in let b = takes_move (place t) t in let c = takes_moves (t + 1) n in omega (arith, a, b, c)
+
+  pub entry_takes : f.params ≤ 8 → total_cost (entry_pieces f place) ≤ entry_cost
+  entry_takes h =
+      let a = cost_append (lowers (own f)) (moves_pieces f place 0 f.params) in let b = takes_moves 0 f.params in
+      let c : total_cost (lowers (own f)) ≤ 4 = if_has (λ xs. total_cost xs ≤ 4) (nat_lt 127 (own f)) _ _ (omega arith) (omega arith) in
+      omega (arith, a, b, c)
+
+  -- bytes
+  fills_passes : (k : ℕ) (ts : List ℕ) → total_most (passes f place k ts) ≡ 4 * length ts
+  fills_passes k [] = refl
+  fills_passes k (t ∷ ts) = let h = fills_passes (k + 1) ts in omega (arith, h)
+
+  fills_loads : (k : ℕ) (ts : List ℕ) → total_most (loads f place k ts) ≡ 2 * length ts
+  fills_loads k [] = refl
+  fills_loads k (t ∷ ts) = let h = fills_loads (k + 1) ts in omega (arith, h)
+
+  pub op_fills : (k : ℕ) (op : Op) → total_most (op_pieces f place k op) ≤ op_bytes op
+  op_fills k (Unary to op from) =
+      let P : List Piece → Type 0 = λ xs. total_most (get f place 0 from ∷ xs ++ (put f place 0 to ∷ [])) ≤ 18 in
+      if_has P (op == 1) _ _ (omega arith) (if_has P (op == 2) _ _ (omega arith) (if_has P (op == 3) _ _ (omega arith) (if_has P (op == 4) _ _ (omega arith) (if_has P (op == 5) _ _ (omega arith) (omega arith)))))
+  op_fills k (Binary to op left right) =
+      let P : List Piece → Type 0 = λ xs. total_most (get f place 0 left ∷ get f place 1 right ∷ xs ++ (put f place 0 to ∷ [])) ≤ 20 in
+      if_has P (op == 1) _ _ (omega arith) (if_has P (op == 2) _ _ (omega arith) (if_has P (op == 3) _ _ (omega arith) (if_has P (op == 4) _ _ (omega arith) (if_has P (op == 5) _ _ (omega arith) (if_has P (op == 6) _ _ (omega arith) (if_has P (op == 7) _ _ (omega arith) (if_has P (op == 8) _ _ (omega arith) (if_has P (op == 9) _ _ (omega arith) (if_has P (op == 10) _ _ (omega arith) (if_has P (op == 11) _ _ (omega arith) (if_has P (op == 12) _ _ (omega arith) (if_has P (op == 13) _ _ (omega arith) (if_has P (op == 14) _ _ (omega arith) (if_has P (op == 15) _ _ (omega arith) (if_has P (op == 16) _ _ (omega arith) (omega arith))))))))))))))))
+  op_fills k (FieldGet to object field) =
+      if_has (λ xs. total_most (get f place 0 object ∷ tests_null (3 * k + 1) ++ (xs ++ (put f place 0 to ∷ []))) ≤ 28) (nat_lt field 31) _ _ (omega arith) (omega arith)
+  op_fills k (FieldSet object field from) =
+      if_has (λ xs. total_most (get f place 0 object ∷ tests_null (3 * k + 1) ++ (get f place 1 from ∷ xs)) ≤ 28) (nat_lt field 31) _ _ (omega arith) (omega arith)
+  op_fills k (Call to function args) = let a = most_append (passes f place 0 args) (CallTo function ∷ put f place 0 to ∷ []) in let b = fills_passes 0 args in omega (arith, a, b)
+  op_fills k (CallSlot to slot args) = let a = most_append (passes f place 0 args) (calls_slot slot (3 * k + 1) ++ (put f place 0 to ∷ [])) in let b = fills_passes 0 args in omega (arith, a, b)
+  op_fills k (Ask to service args) =
+      let a = most_append (loads f place 0 args) (asks service ++ (put f place 0 to ∷ [])) in let b = fills_loads 0 args in
+      let c : total_most (asks service ++ (put f place 0 to ∷ [])) ≤ 6 = if_has (λ xs. total_most (xs ++ (put f place 0 to ∷ [])) ≤ 6) (answers service) _ _ (omega arith) (omega arith) in
+      omega (arith, a, b, c)
+  op_fills k (Return from) = if_has (λ xs. total_most (get f place 0 from ∷ xs ++ (Plain (PopMany kept_registers true) ∷ [])) ≤ 8) (nat_lt 127 (own f)) _ _ (omega arith) (omega arith)
+  op_fills k (Const to value) = omega arith
+  op_fills k (Copy to from) = omega arith
+  op_fills k (GlobalGet to slot) = omega arith
+  op_fills k (GlobalSet slot from) = omega arith
+  op_fills k (ItemGet to array index) = omega arith
+  op_fills k (ItemSet array index from) = omega arith
+  op_fills k (Length to array) = omega arith
+  op_fills k (Pop to array) = omega arith
+  op_fills k (TextOf to text) = omega arith
+  op_fills k (MakeObject to class) = omega arith
+  op_fills k (MakeArray to room) = omega arith
+  op_fills k (HandlerOf to function) = omega arith
+  op_fills k (Jump target) = omega arith
+  op_fills k (Branch when target) = omega arith
+
+  fills_move : (p : Place) (t : ℕ) → total_most (move_pieces f place p t) ≤ 4
+  fills_move (Incoming j) t = omega arith
+  fills_move (Reg r) t = omega arith
+  fills_move (Slot j) t = omega arith
+
+  fills_moves : (t n : ℕ) → total_most (moves_pieces f place t n) ≤ 4 * n
+  fills_moves t zero = omega arith
+  fills_moves t (suc n) = let a = most_append (move_pieces f place (place t) t) (moves_pieces f place (t + 1) n) in let b = fills_move (place t) t in let c = fills_moves (t + 1) n in omega (arith, a, b, c)
+
+  pub entry_fills : f.params ≤ 8 → total_most (entry_pieces f place) ≤ entry_bytes
+  entry_fills h =
+      let a = most_append (lowers (own f)) (moves_pieces f place 0 f.params) in let b = fills_moves 0 f.params in
+      let c : total_most (lowers (own f)) ≤ 4 = if_has (λ xs. total_most xs ≤ 4) (nat_lt 127 (own f)) _ _ (omega arith) (omega arith) in
+      omega (arith, a, b, c)
+
+  bytes_of_ops : (k : ℕ) (ops : List Op) → total_most (ops_pieces f place k ops) ≤ ops_bytes ops
+  bytes_of_ops k [] = omega arith
+  bytes_of_ops k (op ∷ ops) =
+      let a = most_append (op_pieces f place k op) (ops_pieces f place (k + 1) ops) in let b = op_fills k op in let c = bytes_of_ops (k + 1) ops in
+      omega (arith, a, b, c)
+
+pub function_fills : (p : Placed) → p.function.params ≤ 8 → total_most (function_pieces p) ≤ ops_bytes p.function.ops + entry_bytes
+function_fills p h =
+    let f = p.function in let place = place_of p.places in
+    let a = most_append (entry_pieces f place) (ops_pieces f place 0 f.ops) in let b = entry_fills f place h in let c = bytes_of_ops f place 0 f.ops in
+    omega (arith, a, b, c)
+
+-- pieces with bytes
+counted_append : (xs ys : List Piece) → counted (xs ++ ys) ≡ counted xs + counted ys
+counted_append [] ys = sym (zero-add (counted ys))
+counted_append (x ∷ xs) ys = ap (λ n. has_bytes x + n) (counted_append xs ys) ∙ sym (add_assoc (has_bytes x) (counted xs) (counted ys))
+
+pub entry_some : (f : Function) (place : ℕ → Place) → 0 < counted (entry_pieces f place)
+entry_some f place = omega arith
+
+pub op_some : (f : Function) (place : ℕ → Place) (k : ℕ) (op : Op) → 0 < counted (op_pieces f place k op)
+op_some f place k (Call to function args) = let a = counted_append (passes f place 0 args) (CallTo function ∷ put f place 0 to ∷ []) in omega (arith, a)
+op_some f place k (CallSlot to slot args) = let a = counted_append (passes f place 0 args) (calls_slot slot (3 * k + 1) ++ (put f place 0 to ∷ [])) in omega (arith, a)
+op_some f place k (Ask to service args) =
+    let a = counted_append (loads f place 0 args) (asks service ++ (put f place 0 to ∷ [])) in let b = counted_append (asks service) (put f place 0 to ∷ []) in omega (arith, a, b)
+op_some f place k op = omega arith
