@@ -31,7 +31,7 @@ module _ {C D : Type 0} (M : Kind C D) (weight : C → D → ℕ) where
   way_step b t c u e = (1, (c, u, 0, e, omega arith, (refl, refl, refl)))
 
 -- what isn't a fault is matched by what isn't
-no_fault_below : {A S C D : Type 0} (K : Kind A S) (L : Kind C D) (T : Ties A S C D) (used : ℕ) (s : S) (t : D) (x : Turn A S) (y : Turn C D) → Matches K L T used s t x y → NoFault x → NoFault y
+pub no_fault_below : {A S C D : Type 0} (K : Kind A S) (L : Kind C D) (T : Ties A S C D) (used : ℕ) (s : S) (t : D) (x : Turn A S) (y : Turn C D) → Matches K L T used s t x y → NoFault x → NoFault y
 no_fault_below K L T used s t (Goes a s') (Goes b t') h p = tt
 no_fault_below K L T used s t (Asks q f) (Asks r g) h p = tt
 no_fault_below K L T used s t (Takes q f) (Takes r g) h p = tt
@@ -53,14 +53,14 @@ module _ {A B C S R D : Type 0} (K : Kind A S) (L : Kind B R) (M : Kind C D) (do
   tied = joined_seen down Fine Act Code U
 
   -- from s to s' for the two upper ones, and from t to u' for the lower one, t having been reached from s
-  onward_on : (used used' : ℕ) (s s' : S) (t t' : R) (u u' v : D) → Onward T used s s' (down s) t' → Onward U used' (down s) t u v → Onward U used t t' v u' → Onward tied used s s' u u'
+  pub onward_on : (used used' : ℕ) (s s' : S) (t t' : R) (u u' v : D) → Onward T used s s' (down s) t' → Onward U used' (down s) t u v → Onward U used t t' v u' → Onward tied used s s' u u'
   onward_on used used' s s' t t' u u' v x between y =
       record {
         shared = (x.shared.1, subst (λ (z : R). U.Shared used z u') (sym x.shared.0) y.shared);
         others = λ c d h. (h.0, x.others c h.0 h.1, subst (λ (z : R). U.Active z u' h.0 d) (sym x.shared.0) (y.others h.0 d (between.others h.0 d h.2)));
       }
 
-  going_on : (used used' : ℕ) (s : S) (t : R) (u v : D) (x : A × S) (y : B × R) (z : C × D) → Going T used s (down s) x y → Onward U used' (down s) t u v → Going U used t v y z → Going tied used s u x z
+  pub going_on : (used used' : ℕ) (s : S) (t : R) (u v : D) (x : A × S) (y : B × R) (z : C × D) → Going T used s (down s) x y → Onward U used' (down s) t u v → Going U used t v y z → Going tied used s u x z
   going_on used used' s t u v x y z h between k =
       record {
         self = (y.0, h.self, subst (λ (q : R). U.Active q z.1 y.0 z.0) (sym h.onward.shared.0) k.self);
@@ -122,7 +122,7 @@ module _ {A B C S R D : Type 0} (K : Kind A S) (L : Kind B R) (M : Kind C D) (do
     faults_on c a d b (Faults e f) h k = (h.0 ∙ k.0, h.1 ∙ k.1)
     faults_on c a d b _ h k = absurd k
 
-    matches_on : (x : Turn A S) (y : Turn B R) (z : Turn C D) → Matches K L T used s (down s) x y → Matches L M U used t v y z → Matches K M tied used s u x z
+    pub matches_on : (x : Turn A S) (y : Turn B R) (z : Turn C D) → Matches K L T used s (down s) x y → Matches L M U used t v y z → Matches K M tied used s u x z
     matches_on (Goes a s') (Goes b t') z h k = goes_on' (a, s') (b, t') z h k
     matches_on (Asks q f) (Asks p g) z h k = asks_on q p f g z h k
     matches_on (Takes q f) (Takes p g) z h k = takes_on q p f g z h k
@@ -137,11 +137,11 @@ module _ {A B C S R D : Type 0} (K : Kind A S) (L : Kind B R) (M : Kind C D) (do
     matches_on _ _ z h k = absurd h
 
   -- what a turn that only goes on is matched by
-  goes_matched : (used : ℕ) (t : R) (u : D) (b : B) (t' : R) (z : Turn C D) → Matches L M U used t u (Goes b t') z → (c : C) × (u' : D) × (z ≡ Goes c u') × Going U used t u (b, t') (c, u')
+  pub goes_matched : (used : ℕ) (t : R) (u : D) (b : B) (t' : R) (z : Turn C D) → Matches L M U used t u (Goes b t') z → (c : C) × (u' : D) × (z ≡ Goes c u') × Going U used t u (b, t') (c, u')
   goes_matched used t u b t' (Goes c u') h = (c, u', refl, h)
   goes_matched used t u b t' _ h = absurd h
 
-  onward_trans : (used : ℕ) (s t t' : R) (u v v' : D) → Onward U used s t u v → Onward U used t t' v v' → Onward U used s t' u v'
+  pub onward_trans : (used : ℕ) (s t t' : R) (u v v' : D) → Onward U used s t u v → Onward U used t t' v v' → Onward U used s t' u v'
   onward_trans used s t t' u v v' x y = record { shared = y.shared; others = λ c d h. y.others c d (x.others c d h) }
 
   -- the upper kind is followed where its turn is a P, and the middle one where its turn is a Q
@@ -207,7 +207,7 @@ module _ {A B C S R D : Type 0} (K : Kind A S) (L : Kind B R) (M : Kind C D) (do
           match = matches_on used s f.memory u r.memory r.onward (K.step a s) (L.step f.last f.memory) (M.step g.last g.memory) f.match g.match;
         })
 
-  begins_joined : (used : ℕ) (s : S) (u : D) (f h : ℕ)
+  pub begins_joined : (used : ℕ) (s : S) (u : D) (f h : ℕ)
       → ((g : ℕ) → T.Shared used s (down s) → T.Code f g → T.Active s (down s) (K.begin f) (L.begin g)) → ((g : ℕ) → U.Shared used (down s) u → U.Code g h → U.Active (down s) u (L.begin g) (M.begin h))
       → tied.Shared used s u → tied.Code f h → tied.Active s u (K.begin f) (M.begin h)
   begins_joined used s u f h upper lower x y = (L.begin y.0, upper y.0 (refl, x.0) y.1, lower y.0 x.1 y.2)

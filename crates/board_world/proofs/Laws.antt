@@ -16,8 +16,7 @@ pub use Rattle.board_world.proofs.Pairs.{chosen-append, left-append, length_chos
 -- no answer and no act takes words of the arena
 pub use Rattle.board_world.proofs.Lift.{used_answer, used_arrive}
 -- simulations: lifted to runs, under arrivals, ending in time
-pub use Rattle.board_world.proofs.Lift.{lifts}
-pub use Rattle.board_world.proofs.Arrive.{lifts_with}
+pub use Rattle.board_world.proofs.Arrive.{lifts, lifts_with}
 pub use Rattle.board_world.proofs.Whole.{ends_in_time, ends_in_time_with}
 -- one behind the other, and lagging
 pub use Rattle.board_world.proofs.Compose.{Way, way_on, way_step}
@@ -26,4 +25,6 @@ pub use Rattle.board_world.proofs.Lag.{up_to_date, onward_lagging, catch_up, par
 -- what every move of the world keeps of the board
 pub use Rattle.board_world.proofs.Boards.{kept_run, kept_arrive, ends_soundly, extends_run, extends_arrive}
 -- typed activities make no fault, and there a simulation that owes nothing at faults is a whole one
-pub use Rattle.board_world.proofs.Sound.{holds, loosened, partial_loosened, starts, sound_lifts, sound_in_time, never_faults, sound_below, implements}
+pub use Rattle.board_world.proofs.Sound.{holds, loosened, partial_loosened, starts, never_faults, sound_below, implements, trailing_implements}
+-- simulations that trail behind a turn
+pub use Rattle.board_world.proofs.Trails.{is_complete, partial_trails_by_nothing, partial_trailing_compose}

@@ -4,6 +4,8 @@ mod Stays
 mod Pairs
 mod Lift
 mod Compose
+mod Trails
+mod Between
 mod Arrive
 mod Settle
 mod Before

@@ -11,10 +11,12 @@ use Rattle.board_world.specs.Composed.{level}
 use Rattle.board_world.specs.Arrivals.{Arrival, acts, Rises, RisesTo, Keeps, run_with}
 use Rattle.board_world.specs.Sound.{NoFault, PartialSimulation, Typing, After, Further, Ready, Stays, Sound, within}
 use Rattle.board_world.specs.Implements.{Implements}
+use Rattle.board_world.specs.Trailing.{TrailingSimulation, PartialTrailingSimulation}
+use Rattle.board_world.proofs.Trails.{partial_trails_by_nothing}
 use Rattle.board_world.proofs.Stays.{if_keeps}
 use Rattle.board_world.proofs.Boards.{kept_run, kept_arrive, sound_closed}
-use Rattle.board_world.proofs.Arrive.{lifts_with}
-use Rattle.board_world.proofs.Whole.{ends_in_time}
+use Rattle.board_world.proofs.Arrive.{lifts_with, trailing_lifts_with}
+use Rattle.board_world.proofs.Whole.{trailing_ends_in_time}
 
 pub stays_runs : {A S : Type 0} (I : Typing A S) (used : ℕ) (s : S) (u : Turn A S) → Stays I used s u → NoFault u
 stays_runs I used s (Faults k a) h = h
@@ -70,6 +72,22 @@ module _ {A S C D : Type 0} (K : Kind A S) (L : Kind C D) (I : Typing A S) (T : 
             record { steps = f.steps; cost = f.cost; last = f.last; memory = f.memory; path = f.path; light = f.light; match = matches_within used s t (K.step a s) (L.step f.last f.memory) stays f.match });
       }
 
+  -- so is one that trails
+  pub trailing_holds : (weight : C → D → ℕ) (r : ℕ) (bound : A → S → ℕ) → Sound K I → PartialTrailingSimulation K L T weight r bound → TrailingSimulation K L both weight r bound
+  trailing_holds weight r bound sound sim =
+      record {
+        begins = λ used s t f g h c. (sound.begins used s f h.0 c.0, sim.begins used s t f g h.1 c.1);
+        follows = λ used s t a c h k.
+            (let stays = sound.steps used s a h.0 k.0 in
+            let x = sim.follows used s t a c h.1 k.1 (stays_runs I used s (K.step a s) stays) in
+            let f = x.trails in
+            record {
+              room = x.room;
+              fits = x.fits;
+              trails = record { steps = f.steps; cost = f.cost; last = f.last; memory = f.memory; path = f.path; light = f.light; turn = f.turn; completes = f.completes; match = matches_within used s t (K.step a s) f.turn stays f.match };
+            });
+      }
+
 -- a greater bound holds too; it need be greater only where the kinds are tied, and the upper step is no fault
 module _ {A S C D : Type 0} (K : Kind A S) (L : Kind C D) (T : Ties A S C D) (weight : C → D → ℕ) (bound greater : A → S → ℕ) where
   looser : (less more : ℕ) → less ≤ more → (used : ℕ) (s : S) (t : D) (a : A) (c : C) → Follows K L T weight less used s t a c t → Follows K L T weight more used s t a c t
@@ -92,33 +110,37 @@ module _ {A S C D : Type 0} (K : Kind A S) (L : Kind C D) (T : Ties A S C D) (we
       }
 
 -- two runs begin alike
-pub starts : {A S C D : Type 0} (K : Kind A S) (L : Kind C D) (T : Ties A S C D) (weight : C → D → ℕ) (bound : A → S → ℕ) → Simulation K L T weight bound
+begun_alike : {A S C D : Type 0} (K : Kind A S) (L : Kind C D) (T : Ties A S C D) → ((used : ℕ) (s : S) (t : D) (f g : ℕ) → T.Shared used s t → T.Code f g → T.Active s t (K.begin f) (L.begin g))
     → (f g : ℕ) (s : S) (t : D) (until : ℕ) (script : List Entry) → T.Code f g → T.Shared 0 s t → Alike T (start K f s until script) (start L g t until script)
-starts K L T weight bound sim f g s t until script c h =
+begun_alike K L T begins f g s t until script c h =
     record {
       board = refl;
       related = λ _. record {
         shared = h;
-        ready = (record { self = sim.begins 0 s t f g h c; kept = record { value = refl; listener = refl; seated = refl }; suspended = refl }, tt);
+        ready = (record { self = begins 0 s t f g h c; kept = record { value = refl; listener = refl; seated = refl }; suspended = refl }, tt);
         rest = record { listeners = tt; sleepers = tt; waiters = tt };
       };
     }
 
+pub starts : {A S C D : Type 0} (K : Kind A S) (L : Kind C D) (T : Ties A S C D) (weight : C → D → ℕ) (bound : A → S → ℕ) → Simulation K L T weight bound
+    → (f g : ℕ) (s : S) (t : D) (until : ℕ) (script : List Entry) → T.Code f g → T.Shared 0 s t → Alike T (start K f s until script) (start L g t until script)
+starts K L T weight bound sim = begun_alike K L T sim.begins
+
 -- the whole: the lower run is the upper one, whatever arrives
-pub sound_lifts : {A S C D : Type 0} (K : Kind A S) (L : Kind C D) (bound : ℕ) (I : Typing A S) (T : Ties A S C D) → 0 < bound → Sound K I → PartialSimulation K L T one (always bound)
+pub trailing_sound_lifts : {A S C D : Type 0} (K : Kind A S) (L : Kind C D) (r bound : ℕ) (I : Typing A S) (T : Ties A S C D) → 0 < bound → Sound K I → PartialTrailingSimulation K L T one r (always bound)
     → (f g : ℕ) (s : S) (t : D) → I.Code f → T.Code f g → I.Shared 0 s → T.Shared 0 s t
     → (until : ℕ) (script : List Entry) (arrivals : List Arrival) → Rises 0 arrivals → (m : ℕ) → Keeps K L bound (start K f s until script) (start L g t until script) arrivals m
-sound_lifts K L bound I T positive sound sim f g s t code tied shared alike until script arrivals rises m =
-    (let whole = holds K L I T one (always bound) sound sim in
-    lifts_with K L bound positive (within I T) whole _ _ (starts K L (within I T) one (always bound) whole f g s t until script (code, tied) (shared, alike)) arrivals rises m)
+trailing_sound_lifts K L r bound I T positive sound sim f g s t code tied shared alike until script arrivals rises m =
+    (let whole = trailing_holds K L I T one r (always bound) sound sim in
+    trailing_lifts_with K L bound positive (within I T) r whole _ _ (begun_alike K L (within I T) whole.begins f g s t until script (code, tied) (shared, alike)) arrivals rises m)
 
 -- and ends in time
-pub sound_in_time : {A S C D : Type 0} (K : Kind A S) (L : Kind C D) (bound : ℕ) (I : Typing A S) (T : Ties A S C D) → 0 < bound → Sound K I → PartialSimulation K L T one (always bound)
+pub trailing_sound_in_time : {A S C D : Type 0} (K : Kind A S) (L : Kind C D) (r bound : ℕ) (I : Typing A S) (T : Ties A S C D) → 0 < bound → Sound K I → PartialTrailingSimulation K L T one r (always bound)
     → (f g : ℕ) (s : S) (t : D) → I.Code f → T.Code f g → I.Shared 0 s → T.Shared 0 s t
     → (until : ℕ) (script : List Entry) (n : ℕ) → over (run K n (start K f s until script)).board ≡ true → over (run L (bound * n) (start L g t until script)).board ≡ true
-sound_in_time K L bound I T positive sound sim f g s t code tied shared alike until script n ended =
-    (let whole = holds K L I T one (always bound) sound sim in
-    ends_in_time K L bound positive (within I T) whole _ _ (starts K L (within I T) one (always bound) whole f g s t until script (code, tied) (shared, alike)) n ended)
+trailing_sound_in_time K L r bound I T positive sound sim f g s t code tied shared alike until script n ended =
+    (let whole = trailing_holds K L I T one r (always bound) sound sim in
+    trailing_ends_in_time K L bound positive (within I T) r whole _ _ (begun_alike K L (within I T) whole.begins f g s t until script (code, tied) (shared, alike)) n ended)
 
 -- a kind that panics where another makes a fault
 abbrev calmed : {A S : Type 0} → Turn A S → Turn A S
@@ -212,19 +234,29 @@ rises_from n [] k h = tt
 rises_from n (a ∷ rest) k h = (h.0, rises_from a.count rest k h.1)
 
 -- so the lower run ends by no fault either
-pub sound_below : {A S C D : Type 0} (K : Kind A S) (L : Kind C D) (bound : ℕ) (I : Typing A S) (T : Ties A S C D) → 0 < bound → Sound K I → PartialSimulation K L T one (always bound)
+pub trailing_sound_below : {A S C D : Type 0} (K : Kind A S) (L : Kind C D) (r bound : ℕ) (I : Typing A S) (T : Ties A S C D) → 0 < bound → Sound K I → PartialTrailingSimulation K L T one r (always bound)
     → (f g : ℕ) (s : S) (t : D) → I.Code f → T.Code f g → I.Shared 0 s → T.Shared 0 s t
     → (until : ℕ) (script : List Entry) (arrivals : List Arrival) → Rises 0 arrivals → (m : ℕ) → SoundEnd none (run_with L 0 arrivals m (start L g t until script)).board.end
-sound_below K L bound I T positive sound sim f g s t code tied shared alike until script arrivals rises m =
-    (let kept = sound_lifts K L bound I T positive sound sim f g s t code tied shared alike until script arrivals rises m in
+trailing_sound_below K L r bound I T positive sound sim f g s t code tied shared alike until script arrivals rises m =
+    (let kept = trailing_sound_lifts K L r bound I T positive sound sim f g s t code tied shared alike until script arrivals rises m in
     subst (λ (b : Board). SoundEnd none b.end) kept.board (never_faults K I sound f s code shared until script kept.places (rises_from 0 kept.places kept.k kept.rises) kept.k))
 
 -- all of it
+pub trailing_implements : {A S C D : Type 0} (K : Kind A S) (L : Kind C D) (r bound : ℕ) (I : Typing A S) (T : Ties A S C D) → 0 < bound → Sound K I → PartialTrailingSimulation K L T one r (always bound)
+    → (f g : ℕ) (s : S) (t : D) → I.Code f → T.Code f g → I.Shared 0 s → T.Shared 0 s t → Implements K L bound f s g t
+trailing_implements K L r bound I T positive sound sim f g s t code tied shared alike =
+    record {
+      keeps = trailing_sound_lifts K L r bound I T positive sound sim f g s t code tied shared alike;
+      no_fault = trailing_sound_below K L r bound I T positive sound sim f g s t code tied shared alike;
+      in_time = trailing_sound_in_time K L r bound I T positive sound sim f g s t code tied shared alike;
+    }
+
+-- the same of one that doesn't trail
 pub implements : {A S C D : Type 0} (K : Kind A S) (L : Kind C D) (bound : ℕ) (I : Typing A S) (T : Ties A S C D) → 0 < bound → Sound K I → PartialSimulation K L T one (always bound)
     → (f g : ℕ) (s : S) (t : D) → I.Code f → T.Code f g → I.Shared 0 s → T.Shared 0 s t → Implements K L bound f s g t
-implements K L bound I T positive sound sim f g s t code tied shared alike =
-    record {
-      keeps = sound_lifts K L bound I T positive sound sim f g s t code tied shared alike;
-      no_fault = sound_below K L bound I T positive sound sim f g s t code tied shared alike;
-      in_time = sound_in_time K L bound I T positive sound sim f g s t code tied shared alike;
-    }
+implements K L bound I T positive sound sim = trailing_implements K L 0 bound I T positive sound (partial_trails_by_nothing K L T one (always bound) sim)
+
+pub sound_below : {A S C D : Type 0} (K : Kind A S) (L : Kind C D) (bound : ℕ) (I : Typing A S) (T : Ties A S C D) → 0 < bound → Sound K I → PartialSimulation K L T one (always bound)
+    → (f g : ℕ) (s : S) (t : D) → I.Code f → T.Code f g → I.Shared 0 s → T.Shared 0 s t
+    → (until : ℕ) (script : List Entry) (arrivals : List Arrival) → Rises 0 arrivals → (m : ℕ) → SoundEnd none (run_with L 0 arrivals m (start L g t until script)).board.end
+sound_below K L bound I T positive sound sim = trailing_sound_below K L 0 bound I T positive sound (partial_trails_by_nothing K L T one (always bound) sim)

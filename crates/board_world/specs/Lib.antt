@@ -20,3 +20,4 @@ pub mod Arrivals
 pub mod Invariants
 pub mod Implements
 pub mod Sound
+pub mod Trailing

@@ -11,6 +11,7 @@ ghost use Rattle.board_world.specs.Arrivals.{Arrival, Rises, Keeps, run_with};
 ghost use Rattle.board_world.specs.Invariants.{SoundEnd};
 ghost use Rattle.board_world.specs.Implements.{Implements};
 ghost use Rattle.board_world.specs.Sound.{NoFault, PartialSimulation, PartialLaggingSimulation, Sound, typing};
+ghost use Rattle.board_world.specs.Trailing.{PartialTrailingSimulation};
 
 /// What ties two kinds of activity: their own states, what they share, and the numbers of their functions.
 pub trait Tied {
@@ -101,6 +102,14 @@ pub fn partial_simulations_compose<T: Chained>()
         → PartialSimulation K M (joined_seen T.down T.fine T.active T.code (ties T.lower_shared T.lower_active T.lower_code)) lower_weight bound }
 {}
 
+/// One whose lower activity may trail behind its turns stands behind one that doesn't.
+pub fn trailing_simulations_compose<T: Chained>()
+    ensures { (K : Kind T.Upper T.Shared) (L : Kind T.Middle T.MiddleShared) (M : Kind T.Lower T.LowerShared)
+        (bound : T.Upper → T.Shared → ℕ) (weight : T.Middle → T.MiddleShared → ℕ) (lower_weight : T.Lower → T.LowerShared → ℕ) (r : ℕ)
+        → PartialSimulation K L (seen T.down T.fine T.active T.code) weight bound → PartialTrailingSimulation L M (ties T.lower_shared T.lower_active T.lower_code) lower_weight r weight
+        → PartialTrailingSimulation K M (joined_seen T.down T.fine T.active T.code (ties T.lower_shared T.lower_active T.lower_code)) lower_weight r bound }
+{}
+
 /// And so are their lags caught up.
 pub fn partial_lags_are_caught_up<T: Tied>()
     ensures { (K : Kind T.Upper T.UpperShared) (L : Kind T.Lower T.LowerShared) (weight : T.Lower → T.LowerShared → ℕ) (r : ℕ) (bound : T.Upper → T.UpperShared → ℕ)
@@ -129,6 +138,14 @@ pub fn typed_runs_make_no_fault<T: Typed>()
 pub fn typed_simulations_implement<T: Typed>()
     ensures { (K : Kind T.Upper T.UpperShared) (L : Kind T.Lower T.LowerShared) (bound : ℕ)
         → 0 < bound → Sound K (typing T.typed_shared T.typed T.typed_code) → PartialSimulation K L (ties T.shared T.active T.code) one (always bound)
+        → (main entry : ℕ) (shared : T.UpperShared) (below : T.LowerShared) → T.typed_code main → T.code main entry → T.typed_shared 0 shared → T.shared 0 shared below
+        → Implements K L bound main shared entry below }
+{}
+
+/// So does one whose lower activity may trail behind its turns.
+pub fn typed_trailing_simulations_implement<T: Typed>()
+    ensures { (K : Kind T.Upper T.UpperShared) (L : Kind T.Lower T.LowerShared) (r bound : ℕ)
+        → 0 < bound → Sound K (typing T.typed_shared T.typed T.typed_code) → PartialTrailingSimulation K L (ties T.shared T.active T.code) one r (always bound)
         → (main entry : ℕ) (shared : T.UpperShared) (below : T.LowerShared) → T.typed_code main → T.code main entry → T.typed_shared 0 shared → T.shared 0 shared below
         → Implements K L bound main shared entry below }
 {}

@@ -5,6 +5,7 @@ use Rattle.board_world.specs.Kinds.{Kind}
 use Rattle.board_world.specs.Simulation.{Ties, one, always}
 use Rattle.board_world.specs.Composed.{seen}
 use Rattle.board_world.specs.Sound.{PartialSimulation}
+use Rattle.board_world.specs.Trailing.{PartialTrailingSimulation}
 use Rattle.sts_syntax.specs.TypedTrees.{TypedProgram}
 use Rattle.sts_meaning.specs.Heaps.{Heap}
 use Rattle.sts_meaning.specs.Frames.{Activity}
@@ -24,6 +25,11 @@ lowered Act Code = seen forget (λ used h. Unit {0}) Act Code
 abbrev pub Lowers : {B : Type 0} → TypedProgram → List ByteList → Kind B FlatHeap → (Heap → Activity → B → Type 0) → (ℕ → ℕ → Type 0) → (B → FlatHeap → ℕ) → Type 0
 Lowers P texts flat Act Code weight = PartialSimulation (source P texts) flat (lowered Act Code) weight (always instructions_of_a_step)
 
+-- Behind a turn that goes on at once an image may owe so many instructions: the piece that stores what a service has answered, and those that
+-- write the header of an array for which words were taken.
+abbrev pub trailing_instructions : ℕ
+trailing_instructions = 12
+
 -- Emission, layout and linking: the image does what lowered code does, in at most as many instructions as the step weighs.
 abbrev pub Emits : {B : Type 0} → Kind B FlatHeap → List ℕ → Ties B FlatHeap Fiber Shared → (B → FlatHeap → ℕ) → Type 0
-Emits flat image T weight = PartialSimulation flat (fibers image) T one weight
+Emits flat image T weight = PartialTrailingSimulation flat (fibers image) T one trailing_instructions weight
