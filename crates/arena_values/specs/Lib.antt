@@ -1,0 +1,4 @@
+pub mod Words
+pub mod Lies
+pub mod Seen
+pub mod Operators
