@@ -289,9 +289,9 @@ module _ (P : TypedProgram) (texts : List ByteList) (fine : IsFine P) (weight : 
     -- The heap is changed, and the stored value becomes the only operand: two ops.
     write_follows : (q : Marks) (v : Value) (vs : List Value) (k : Todo) (pc from : ℕ) (temps : ℕ → Value) (op : Op) (x : Outcome Heap) (y : Outcome FlatHeap) → fetch pc ≡ Some op → fetch (pc + 1) ≡ Some (o.Copy (params + locals + length q) from)
         → at_op (forget h) pc temps op ≡ after y (λ t'. Goes (here (pc + 1) temps) t') → Agree IsForgotten x y → temps from ≡ v → Sh n q vs temps → By k (pc + 1 + 1) (None ∷ q)
-        → NoFault (after x (λ h'. Goes (now_with n (v ∷ vs) k) h')) → Mk (limit op + 8) used h (after x (λ h'. Goes (now_with n (v ∷ vs) k) h')) (here pc temps) (forget h)
+        → NoFault (after x (λ h'. Goes (now_with n (v ∷ vs) k) h')) → Mk (limit op + 24) used h (after x (λ h'. Goes (now_with n (v ∷ vs) k) h')) (here pc temps) (forget h)
     write_follows q v vs k pc from temps op x y e e' is agree same shows near nf =
-        then_after P texts weight light IsForgotten 8 used h x y (λ h'. Goes (now_with n (v ∷ vs) k) h') (λ t'. here (pc + 1) temps) (λ t'. t') (fr j pc temps) waiting base (forget h) op e is agree nf
+        then_after P texts weight light IsForgotten 24 used h x y (λ h'. Goes (now_with n (v ∷ vs) k) h') (λ t'. here (pc + 1) temps) (λ t'. t') (fr j pc temps) waiting base (forget h) op e is agree nf
         (λ h' t' heap ok. last (Goes (now_with n (v ∷ vs) k) h') (pc + 1) temps t' (o.Copy (params + locals + length q) from) e' (puts q None v (temps from) vs k (pc + 1) temps h' t' heap same tt shows near))
 
     -- the value that `++` or `--` gives, and the value that it stores
@@ -300,7 +300,7 @@ module _ (P : TypedProgram) (texts : List ByteList) (fine : IsFine P) (weight : 
 
     -- the last op of `++` and `--`: the old value is made of the new one, or this is given
     bumped_last : (by z : ℤ) (late : Bool) → IsOne by → (m : Names) (q : Marks) (vs : List Value) (k : Todo) (pc from : ℕ) (temps : ℕ → Value) (h' : Heap) (t' : FlatHeap) → forget h' ≡ t' → fetch pc ≡ Some (bumped_op by late (params + locals + length q) from)
-        → temps from ≡ Whole (to_int32 (z +ℤ by)) → Sh m q vs temps → By k (pc + 1) (None ∷ q) → Mk 16 used h (Goes (now_with m (given_by by late z ∷ vs) k) h') (here pc temps) t'
+        → temps from ≡ Whole (to_int32 (z +ℤ by)) → Sh m q vs temps → By k (pc + 1) (None ∷ q) → Mk 32 used h (Goes (now_with m (given_by by late z ∷ vs) k) h') (here pc temps) t'
     bumped_last by z true one m q vs k pc from temps h' t' heap e is shows near =
         let d = params + locals + length q in
         let to : at_op t' pc temps (o.Unary d (unbump_op by) from) ≡ Goes (here (pc + 1) (with_entry d (Whole (to_int32 z)) temps)) t' =
@@ -311,7 +311,7 @@ module _ (P : TypedProgram) (texts : List ByteList) (fine : IsFine P) (weight : 
     bumped_last by z false one m q vs k pc from temps h' t' heap e is shows near =
         let d = params + locals + length q in
         let new = Whole (to_int32 (z +ℤ by)) in
-        wide 8 16 _ _ _ (omega arith) (last (Goes (now_with m (new ∷ vs) k) h') pc temps t' (o.Copy d from) e
+        wide 24 32 _ _ _ (omega arith) (last (Goes (now_with m (new ∷ vs) k) h') pc temps t' (o.Copy d from) e
         (subst (λ w. M used h (Goes (now_with m (new ∷ vs) k) h') (Goes (here (pc + 1) (with_entry d w temps)) t')) (sym is)
         (goes m (None ∷ q) (new ∷ vs) k (pc + 1) (with_entry d new temps) h' t' heap (shows_put params locals m None q new vs temps tt shows) near)))
 
@@ -324,10 +324,10 @@ module _ (P : TypedProgram) (texts : List ByteList) (fine : IsFine P) (weight : 
     -- `++` and `--` of a name that is a temporary
     name_bump : (by : ℤ) (late : Bool) → IsOne by → (q : Marks) (vs : List Value) (k : Todo) (pc t : ℕ) (temps : ℕ → Value) (names : Value → Names) (x : Value) → temps t ≡ x
         → fetch pc ≡ Some (o.Unary t (bump_op by) t) → fetch (pc + 1) ≡ Some (bumped_op by late (params + locals + length q) t) → ((y : Value) → Sh (names y) q vs (with_entry t y temps)) → By k (pc + 1 + 1) (None ∷ q)
-        → NoFault (after (bumped by late x) (λ b. Goes (now_with (names b.new) (b.given ∷ vs) k) h)) → Mk 32 used h (after (bumped by late x) (λ b. Goes (now_with (names b.new) (b.given ∷ vs) k) h)) (here pc temps) (forget h)
+        → NoFault (after (bumped by late x) (λ b. Goes (now_with (names b.new) (b.given ∷ vs) k) h)) → Mk 64 used h (after (bumped by late x) (λ b. Goes (now_with (names b.new) (b.given ∷ vs) k) h)) (here pc temps) (forget h)
     name_bump by late one q vs k pc t temps names (Whole z) is e e' shown near nf =
         let new = Whole (to_int32 (z +ℤ by)) in
-        then_ops P texts weight light 16 used h (Goes (now_with (names new) (given_by by late z ∷ vs) k) h) (fr j pc temps) waiting base (forget h) (o.Unary t (bump_op by) t) (here (pc + 1) (with_entry t new temps)) (forget h) e (bump_here by z t pc temps (forget h) one is)
+        then_ops P texts weight light 32 used h (Goes (now_with (names new) (given_by by late z ∷ vs) k) h) (fr j pc temps) waiting base (forget h) (o.Unary t (bump_op by) t) (here (pc + 1) (with_entry t new temps)) (forget h) e (bump_here by z t pc temps (forget h) one is)
         (bumped_last by z late one (names new) q vs k (pc + 1) t (with_entry t new temps) h (forget h) refl e' (entry_same t new temps) (shown new) near)
     name_bump by late one q vs k pc t temps names (Object x) is e e' shown near nf = absurd nf
     name_bump by late one q vs k pc t temps names (Text x) is e e' shown near nf = absurd nf
@@ -339,16 +339,16 @@ module _ (P : TypedProgram) (texts : List ByteList) (fine : IsFine P) (weight : 
         (a3 : (x y : Value) → at_op (forget h) (pc + 1 + 1) (with_entry from y (with_entry from x temps)) op' ≡ after (wr' y) (λ t'. Goes (here (pc + 1 + 1 + 1) (with_entry from y (with_entry from x temps))) t'))
         (agree : (y : Value) → Agree IsForgotten (wr y) (wr' y)) (is : (y v : Value) → F y v ≡ after (wr y) (λ h'. Goes (now_with n (v ∷ vs) k) h'))
         (shown : (x y : Value) → Sh n q vs (with_entry from y (with_entry from x temps))) (high : params + locals + length q ≤ from)
-        (behind : (z : ℤ) (h' : Heap) (t' : FlatHeap) → forget h' ≡ t' → Mk 16 used h (Goes (now_with n (given_by by late z ∷ vs) k) h') (here (pc + 1 + 1 + 1) (with_entry from (Whole (to_int32 (z +ℤ by))) (with_entry from (Whole z) temps))) t') where
-      bump_value : (x y : Value) → x ≡ y → NoFault (after (bumped by late x) (λ b. F b.new b.given)) → Mk (16 + (limit op' + 16)) used h (after (bumped by late x) (λ b. F b.new b.given)) (here (pc + 1) (with_entry from y temps)) (forget h)
+        (behind : (z : ℤ) (h' : Heap) (t' : FlatHeap) → forget h' ≡ t' → Mk 32 used h (Goes (now_with n (given_by by late z ∷ vs) k) h') (here (pc + 1 + 1 + 1) (with_entry from (Whole (to_int32 (z +ℤ by))) (with_entry from (Whole z) temps))) t') where
+      bump_value : (x y : Value) → x ≡ y → NoFault (after (bumped by late x) (λ b. F b.new b.given)) → Mk (32 + (limit op' + 32)) used h (after (bumped by late x) (λ b. F b.new b.given)) (here (pc + 1) (with_entry from y temps)) (forget h)
       bump_value (Whole z) y e nf =
           let new = Whole (to_int32 (z +ℤ by)) in
           let turn = after (wr new) (λ h'. Goes (now_with n (given_by by late z ∷ vs) k) h') in
-          subst (λ w. Mk (16 + (limit op' + 16)) used h (F new (given_by by late z)) (here (pc + 1) (with_entry from w temps)) (forget h)) e
-          (then_ops P texts weight light (limit op' + 16) used h (F new (given_by by late z)) (fr j (pc + 1) (with_entry from (Whole z) temps)) waiting base (forget h) (o.Unary from (bump_op by) from)
+          subst (λ w. Mk (32 + (limit op' + 32)) used h (F new (given_by by late z)) (here (pc + 1) (with_entry from w temps)) (forget h)) e
+          (then_ops P texts weight light (limit op' + 32) used h (F new (given_by by late z)) (fr j (pc + 1) (with_entry from (Whole z) temps)) waiting base (forget h) (o.Unary from (bump_op by) from)
           (here (pc + 1 + 1) (with_entry from new (with_entry from (Whole z) temps))) (forget h) e2 (bump_here by z from (pc + 1) (with_entry from (Whole z) temps) (forget h) one (entry_same from (Whole z) temps))
-          (same_turn P texts weight light (limit op' + 16) used h (F new (given_by by late z)) turn _ _ (is new (given_by by late z))
-          (then_after P texts weight light IsForgotten 16 used h (wr new) (wr' new) (λ h'. Goes (now_with n (given_by by late z ∷ vs) k) h') (λ t'. here (pc + 1 + 1 + 1) (with_entry from new (with_entry from (Whole z) temps))) (λ t'. t')
+          (same_turn P texts weight light (limit op' + 32) used h (F new (given_by by late z)) turn _ _ (is new (given_by by late z))
+          (then_after P texts weight light IsForgotten 32 used h (wr new) (wr' new) (λ h'. Goes (now_with n (given_by by late z ∷ vs) k) h') (λ t'. here (pc + 1 + 1 + 1) (with_entry from new (with_entry from (Whole z) temps))) (λ t'. t')
           (fr j (pc + 1 + 1) (with_entry from new (with_entry from (Whole z) temps))) waiting base (forget h) op' e3 (a3 (Whole z) new) (agree new)
           (same_fault P texts weight light (F new (given_by by late z)) turn (is new (given_by by late z)) nf)
           (λ h' t' heap ok. behind z h' t' heap))))
@@ -357,12 +357,12 @@ module _ (P : TypedProgram) (texts : List ByteList) (fine : IsFine P) (weight : 
       bump_value (Code x) y e nf = absurd nf
 
       heap_bump : (rd rd' : Outcome Value) → fetch pc ≡ Some op → at_op (forget h) pc temps op ≡ after rd' (λ w. Goes (here (pc + 1) (with_entry from w temps)) (forget h)) → Agree (λ v w. v ≡ w) rd rd'
-          → NoFault (after (then_gives rd (bumped by late)) (λ b. F b.new b.given)) → Mk (limit op + (16 + (limit op' + 16))) used h (after (then_gives rd (bumped by late)) (λ b. F b.new b.given)) (here pc temps) (forget h)
+          → NoFault (after (then_gives rd (bumped by late)) (λ b. F b.new b.given)) → Mk (limit op + (32 + (limit op' + 32))) used h (after (then_gives rd (bumped by late)) (λ b. F b.new b.given)) (here pc temps) (forget h)
       heap_bump rd rd' e1 a1 agree1 nf =
           let whole_turn = after rd (λ x. after (bumped by late x) (λ b. F b.new b.given)) in
           let same = after_then rd (bumped by late) (λ b. F b.new b.given) in
-          same_turn P texts weight light (limit op + (16 + (limit op' + 16))) used h (after (then_gives rd (bumped by late)) (λ b. F b.new b.given)) whole_turn _ _ same
-          (then_after P texts weight light (λ v w. v ≡ w) (16 + (limit op' + 16)) used h rd rd' (λ x. after (bumped by late x) (λ b. F b.new b.given)) (λ w. here (pc + 1) (with_entry from w temps)) (λ w. forget h)
+          same_turn P texts weight light (limit op + (32 + (limit op' + 32))) used h (after (then_gives rd (bumped by late)) (λ b. F b.new b.given)) whole_turn _ _ same
+          (then_after P texts weight light (λ v w. v ≡ w) (32 + (limit op' + 32)) used h rd rd' (λ x. after (bumped by late x) (λ b. F b.new b.given)) (λ w. here (pc + 1) (with_entry from w temps)) (λ w. forget h)
           (fr j pc temps) waiting base (forget h) op e1 a1 agree1 (same_fault P texts weight light _ whole_turn same nf) (λ x y e ok. bump_value x y e ok))
 
     -- a call by an op at which the frame then waits
@@ -535,11 +535,11 @@ module _ (P : TypedProgram) (texts : List ByteList) (fine : IsFine P) (weight : 
           ∙ ap (λ x. after x (λ b. Goes (here (if b then pc + 1 + 1 + 1 + 1 else pc + 1 + 1 + 1) (second_temps w l)) (forget h))) e
 
       -- the end of the loop
-      loop_ends : (m l : ℕ) → index ≡ Whole (pos m) → l ≤ m → Mk 344 used h (Goes (now_with n vs k) h) (here (pc + 1) (first_temps l)) (forget h)
+      loop_ends : (m l : ℕ) → index ≡ Whole (pos m) → l ≤ m → Mk 368 used h (Goes (now_with n vs k) h) (here (pc + 1) (first_temps l)) (forget h)
       loop_ends m l is le =
           let w = Whole (pos 0) in
-          then_ops P texts weight light 24 used h _ (fr j (pc + 1) (first_temps l)) waiting base (forget h) (o.Binary d 6 ti d) (here (pc + 1 + 1) (second_temps w l)) (forget h) has.1.0 (compared (pos m) l false is (below_false m l le))
-          (then_ops P texts weight light 8 used h _ (fr j (pc + 1 + 1) (second_temps w l)) waiting base (forget h) (o.Branch d (pc + 1 + 1 + 1 + 1)) (here (pc + 1 + 1 + 1) (second_temps w l)) (forget h) has.1.1.0 (branched w l false refl)
+          then_ops P texts weight light 48 used h _ (fr j (pc + 1) (first_temps l)) waiting base (forget h) (o.Binary d 6 ti d) (here (pc + 1 + 1) (second_temps w l)) (forget h) has.1.0 (compared (pos m) l false is (below_false m l le))
+          (then_ops P texts weight light 24 used h _ (fr j (pc + 1 + 1) (second_temps w l)) waiting base (forget h) (o.Branch d (pc + 1 + 1 + 1 + 1)) (here (pc + 1 + 1 + 1) (second_temps w l)) (forget h) has.1.1.0 (branched w l false refl)
           (last (Goes (now_with n vs k) h) (pc + 1 + 1 + 1) (second_temps w l) (forget h) (o.Jump next) has.1.1.1.0 (goes n [] vs k next (second_temps w l) h (forget h) refl (shown w l) (inl there))))
 
       abbrev moved : ℕ → Value
@@ -551,21 +551,21 @@ module _ (P : TypedProgram) (texts : List ByteList) (fine : IsFine P) (weight : 
       item_there : (m : ℤ) (l : ℕ) (x : Outcome Value) → index ≡ Whole m → int_lt m (pos l) ≡ true → read_item (forget h) list (Whole m) ≡ x → (u : Turn Activity Heap) (nn : ℕ)
           → ((to_item : at_op (forget h) (pc + 1 + 1 + 1 + 1) (second_temps (Whole (pos 1)) l) (o.ItemGet (params + i) tl ti) ≡ after x (λ v. Goes (here (pc + 1 + 1 + 1 + 1 + 1) (item_temps v l)) (forget h)))
           → Mk nn used h u (here (pc + 1 + 1 + 1 + 1) (second_temps (Whole (pos 1)) l)) (forget h))
-          → Mk (320 + (16 + nn)) used h u (here (pc + 1) (first_temps l)) (forget h)
+          → Mk (320 + (24 + nn)) used h u (here (pc + 1) (first_temps l)) (forget h)
       item_there m l x is lt e u nn go =
           let w = Whole (pos 1) in
           let to_item : at_op (forget h) (pc + 1 + 1 + 1 + 1) (second_temps w l) (o.ItemGet (params + i) tl ti) ≡ after x (λ v. Goes (here (pc + 1 + 1 + 1 + 1 + 1) (item_temps v l)) (forget h)) =
           ap (λ z. after (read_item (forget h) z (second_temps w l ti)) (λ v. Goes (here (pc + 1 + 1 + 1 + 1 + 1) (item_temps v l)) (forget h))) (kept w l tl (omega arith) ∙ list_is)
           ∙ ap (λ z. after (read_item (forget h) list z) (λ v. Goes (here (pc + 1 + 1 + 1 + 1 + 1) (item_temps v l)) (forget h))) (kept w l ti (omega arith) ∙ index_is ∙ is)
           ∙ ap (λ z. after z (λ v. Goes (here (pc + 1 + 1 + 1 + 1 + 1) (item_temps v l)) (forget h))) e in
-          then_ops P texts weight light (16 + nn) used h u (fr j (pc + 1) (first_temps l)) waiting base (forget h) (o.Binary d 6 ti d) (here (pc + 1 + 1) (second_temps w l)) (forget h) has.1.0 (compared m l true is lt)
+          then_ops P texts weight light (24 + nn) used h u (fr j (pc + 1) (first_temps l)) waiting base (forget h) (o.Binary d 6 ti d) (here (pc + 1 + 1) (second_temps w l)) (forget h) has.1.0 (compared m l true is lt)
           (then_ops P texts weight light nn used h u (fr j (pc + 1 + 1) (second_temps w l)) waiting base (forget h) (o.Branch d (pc + 1 + 1 + 1 + 1)) (here (pc + 1 + 1 + 1 + 1) (second_temps w l)) (forget h) has.1.1.0 (branched w l true refl)
           (go to_item))
 
       -- the next item
-      loop_goes_on : (m l : ℕ) (v : Value) → index ≡ Whole (pos m) → m < l → read_item (forget h) list (Whole (pos m)) ≡ Gives v → Mk 392 used h (goes_item (Some (m, v))) (here (pc + 1) (first_temps l)) (forget h)
+      loop_goes_on : (m l : ℕ) (v : Value) → index ≡ Whole (pos m) → m < l → read_item (forget h) list (Whole (pos m)) ≡ Gives v → Mk 432 used h (goes_item (Some (m, v))) (here (pc + 1) (first_temps l)) (forget h)
       loop_goes_on m l v is lt e =
-          item_there (pos m) l (Gives v) is (below_true m l lt) e (goes_item (Some (m, v))) 56
+          item_there (pos m) l (Gives v) is (below_true m l lt) e (goes_item (Some (m, v))) 88
           (λ to_item.
           let ne : ti ≢ params + i = λ e. omega arith in
           let at_i : item_temps v l ti ≡ Whole (pos m) = entry_other (params + i) ti v (second_temps (Whole (pos 1)) l) ne ∙ kept (Whole (pos 1)) l ti (omega arith) ∙ index_is ∙ is in
@@ -578,47 +578,47 @@ module _ (P : TypedProgram) (texts : List ByteList) (fine : IsFine P) (weight : 
           let swap : Sh names [] vs (with_entry ti (moved m) (item_temps v l)) = shows_names (with_local (suc (suc i)) (moved m) (with_local i v n)) names [] vs (with_entry ti (moved m) (item_temps v l)) (λ x. refl) (swapped i (suc (suc i)) v (moved m) n.locals apart) two in
           let place : pc + item_size ≡ pc + 1 + 1 + 1 + 1 + 1 + 1 = omega arith in
           let near' = subst (λ x. By (runs (is_maker P.classes f) a k (Each i a k) (Each i a k)) x []) place near in
-          then_ops P texts weight light 16 used h (goes_item (Some (m, v))) (fr j (pc + 1 + 1 + 1 + 1) (second_temps (Whole (pos 1)) l)) waiting base (forget h) (o.ItemGet (params + i) tl ti) (here (pc + 1 + 1 + 1 + 1 + 1) (item_temps v l)) (forget h) has.1.1.1.1.0 to_item
+          then_ops P texts weight light 32 used h (goes_item (Some (m, v))) (fr j (pc + 1 + 1 + 1 + 1) (second_temps (Whole (pos 1)) l)) waiting base (forget h) (o.ItemGet (params + i) tl ti) (here (pc + 1 + 1 + 1 + 1 + 1) (item_temps v l)) (forget h) has.1.1.1.1.0 to_item
           (last (goes_item (Some (m, v))) (pc + 1 + 1 + 1 + 1 + 1) (item_temps v l) (forget h) (o.Unary ti 5 ti) has.1.1.1.1.1.0
           (subst (λ z. M used h (goes_item (Some (m, v))) z) (sym to_next)
           (goes names [] vs (runs (is_maker P.classes f) a k (Each i a k) (Each i a k)) (pc + 1 + 1 + 1 + 1 + 1 + 1) (with_entry ti (moved m) (item_temps v l)) h (forget h) refl swap near'))))
 
       -- an index before the first item
-      loop_breaks : (m l : ℕ) → index ≡ Whole (negsuc m) → read_item (forget h) list (Whole (negsuc m)) ≡ Breaks index_panic → Mk 392 used h (Panics index_panic) (here (pc + 1) (first_temps l)) (forget h)
+      loop_breaks : (m l : ℕ) → index ≡ Whole (negsuc m) → read_item (forget h) list (Whole (negsuc m)) ≡ Breaks index_panic → Mk 432 used h (Panics index_panic) (here (pc + 1) (first_temps l)) (forget h)
       loop_breaks m l is e =
-          wide 376 392 _ _ _ (omega arith)
-          (item_there (negsuc m) l (Breaks index_panic) is (negative_true m l) e (Panics index_panic) 40
+          wide 400 432 _ _ _ (omega arith)
+          (item_there (negsuc m) l (Breaks index_panic) is (negative_true m l) e (Panics index_panic) 56
           (λ to_item. last (Panics index_panic) (pc + 1 + 1 + 1 + 1) (second_temps (Whole (pos 1)) l) (forget h) (o.ItemGet (params + i) tl ti) has.1.1.1.1.0 (subst (λ z. M used h (Panics index_panic) z) (sym to_item) refl)))
 
       reads : (q : RowOf (Unit {0})) (ix : Value) → array_at (forget h) list ≡ Gives q → read_item (forget h) list ix ≡ then_gives (item_at q.items ix) (λ x. Gives x.1)
       reads q ix e = ap (λ x. then_gives x (λ (r : RowOf (Unit {0})). then_gives (item_at r.items ix) (λ x. Gives x.1))) e
 
       by_entry : (m : ℕ) (r : Row) (q : RowOf (Unit {0})) (x : Option Value) → index ≡ Whole (pos m) → r.items ≡ q.items → array_at (forget h) list ≡ Gives q → entry r.items m ≡ x
-          → Mk 392 used h (goes_item (numbered m x)) (here (pc + 1) (first_temps (length q.items))) (forget h)
+          → Mk 432 used h (goes_item (numbered m x)) (here (pc + 1) (first_temps (length q.items))) (forget h)
       by_entry m r q None is same at e =
           let past : length q.items ≤ m = entry_none q.items m (ap (λ (vs : List Value). entry vs m) (sym same) ∙ e) in
-          wide 344 392 _ _ _ (omega arith) (loop_ends m (length q.items) is past)
+          wide 368 432 _ _ _ (omega arith) (loop_ends m (length q.items) is past)
       by_entry m r q (Some v) is same at e =
           let e' : entry q.items m ≡ Some v = ap (λ (vs : List Value). entry vs m) (sym same) ∙ e in
           loop_goes_on m (length q.items) v is (entry_within q.items m v e') (reads q (Whole (pos m)) at ∙ ap (λ x. then_gives (found m x) (λ x. Gives x.1)) e')
 
       by_index : (ix : Value) → index ≡ ix → (r : Row) (q : RowOf (Unit {0})) → r.items ≡ q.items → array_at (forget h) list ≡ Gives q → NoFault (after (next_at r.items ix) goes_item)
-          → Mk 392 used h (after (next_at r.items ix) goes_item) (here (pc + 1) (first_temps (length q.items))) (forget h)
+          → Mk 432 used h (after (next_at r.items ix) goes_item) (here (pc + 1) (first_temps (length q.items))) (forget h)
       by_index (Whole (pos m)) is r q same at nf = by_entry m r q (entry r.items m) is same at refl
       by_index (Whole (negsuc m)) is r q same at nf = loop_breaks m (length q.items) is (reads q (Whole (negsuc m)) at)
       by_index (Object x) is r q same at nf = absurd nf
       by_index (Text x) is r q same at nf = absurd nf
       by_index (Code x) is r q same at nf = absurd nf
 
-      turn_follows : NoFault (after (next_item h list index) goes_item) → Mk 416 used h (after (next_item h list index) goes_item) (here pc temps) (forget h)
+      turn_follows : NoFault (after (next_item h list index) goes_item) → Mk 464 used h (after (next_item h list index) goes_item) (here pc temps) (forget h)
       turn_follows nf =
           let split = after_then (array_at h list) (λ r. next_at r.items index) goes_item in
           let whole_turn = after (array_at h list) (λ r. after (next_at r.items index) goes_item) in
           let to : at_op (forget h) pc temps (o.Length d tl) ≡ after (array_at (forget h) list) (λ q. Goes (here (pc + 1) (first_temps (length q.items))) (forget h)) =
           ap (λ z. after (length_at (forget h) z) (λ v. Goes (here (pc + 1) (with_entry d v temps)) (forget h))) list_is
           ∙ after_then (array_at (forget h) list) (λ (q : RowOf (Unit {0})). Gives (Whole (pos (length q.items)))) (λ v. Goes (here (pc + 1) (with_entry d v temps)) (forget h)) in
-          same_turn P texts weight light 416 used h (after (next_item h list index) goes_item) whole_turn _ _ split
-          (then_after P texts weight light (λ r q. AreRows r q × (array_at h list ≡ Gives r) × (array_at (forget h) list ≡ Gives q)) 392 used h (array_at h list) (array_at (forget h) list) (λ r. after (next_at r.items index) goes_item)
+          same_turn P texts weight light 464 used h (after (next_item h list index) goes_item) whole_turn _ _ split
+          (then_after P texts weight light (λ r q. AreRows r q × (array_at h list ≡ Gives r) × (array_at (forget h) list ≡ Gives q)) 432 used h (array_at h list) (array_at (forget h) list) (λ r. after (next_at r.items index) goes_item)
           (λ q. here (pc + 1) (first_temps (length q.items))) (λ q. forget h) (fr j pc temps) waiting base (forget h) (o.Length d tl) has.0 to (agree_with AreRows (array_at h list) (array_at (forget h) list) (array_agrees h list))
           (same_fault P texts weight light _ whole_turn split nf) (λ r q e ok. by_index index refl r q e.0.items e.2 ok))
 
@@ -629,12 +629,12 @@ module _ (P : TypedProgram) (texts : List ByteList) (fine : IsFine P) (weight : 
     bump_follows (Param i) by late p vs k pc temps has lt one near shows nf =
         let e : pc + (1 + 1) ≡ pc + 1 + 1 = omega arith in
         let near' = subst (λ z. By k z (None ∷ p)) e near in
-        wide 32 400 _ _ _ (omega arith)
+        wide 64 400 _ _ _ (omega arith)
         (name_bump by late one p vs k pc i temps (λ y. with_param i y n) (n.params i) (shows.of_params i lt) has.0 has.1.0 (λ y. shows_param params locals i n p y vs temps lt shows) near' nf)
     bump_follows (Local i) by late p vs k pc temps has lt one near shows nf =
         let e : pc + (1 + 1) ≡ pc + 1 + 1 = omega arith in
         let near' = subst (λ z. By k z (None ∷ p)) e near in
-        wide 32 400 _ _ _ (omega arith)
+        wide 64 400 _ _ _ (omega arith)
         (name_bump by late one p vs k pc (params + i) temps (λ y. with_local i y n) (n.locals i) (shows.of_locals i lt) has.0 has.1.0 (λ y. shows_local params locals i n p y vs temps lt shows) near' nf)
     bump_follows (Global g) by true p vs k pc temps has lt one near shows nf =
         let d = params + locals + length p in
@@ -642,17 +642,17 @@ module _ (P : TypedProgram) (texts : List ByteList) (fine : IsFine P) (weight : 
         let near' = subst (λ z. By k z (None ∷ p)) e near in
         let le : d ≤ d = omega arith in
         let shown : (x y : Value) → Sh n p vs (with_entry d y (with_entry d x temps)) = λ x y. shows_above params locals n p vs (with_entry d x temps) d y le (shows_above params locals n p vs temps d x le shows) in
-        wide 56 400 _ _ _ (omega arith)
+        wide 112 400 _ _ _ (omega arith)
         (heap_bump by true one p vs k pc d temps (o.GlobalGet d g) (o.GlobalSet g d) (λ y. write_global h g y) (λ y. write_global (forget h) g y) (λ y v. after (stored (Global g) y n h) (λ s. Goes (now_with s.0 (v ∷ vs) k) s.1))
         has.1.0 has.1.1.0 (λ x y. ap (λ z. after (write_global (forget h) g z) (λ t'. Goes (here (pc + 1 + 1 + 1) (with_entry d y (with_entry d x temps))) t')) (entry_same d y (with_entry d x temps)))
         (λ y. write_global_agrees h g y) (λ y v. after_then (write_global h g y) with_names (λ s. Goes (now_with s.0 (v ∷ vs) k) s.1)) shown le
         (λ z h' t' heap. bumped_last by z true one n p vs k (pc + 1 + 1 + 1) d (with_entry d (Whole (to_int32 (z +ℤ by))) (with_entry d (Whole z) temps)) h' t' heap has.1.1.1.0 (entry_same d (Whole (to_int32 (z +ℤ by))) (with_entry d (Whole z) temps)) (shown (Whole z) (Whole (to_int32 (z +ℤ by)))) near')
         (there (entry h.globals g)) (there (entry h.globals g)) has.0 refl (agree_same (there (entry h.globals g))) nf)
-    bump_follows (Global g) by false p vs k pc temps has lt one near shows nf = wide 40 400 _ _ _ (omega arith)
-        (same_turn P texts weight light 40 used h (sact (Bump (Global g) by false k) vs) (after (there (entry h.globals g)) (λ x. after (bumped by false x) F)) _ _ split
-        (then_after P texts weight light (λ v w. v ≡ w) 28 used h (there (entry h.globals g)) (there (entry h.globals g)) (λ x. after (bumped by false x) F) (λ w. here (pc + 1) (with_entry d w temps)) (λ w. forget h)
+    bump_follows (Global g) by false p vs k pc temps has lt one near shows nf = wide 80 400 _ _ _ (omega arith)
+        (same_turn P texts weight light 80 used h (sact (Bump (Global g) by false k) vs) (after (there (entry h.globals g)) (λ x. after (bumped by false x) F)) _ _ split
+        (then_after P texts weight light (λ v w. v ≡ w) 56 used h (there (entry h.globals g)) (there (entry h.globals g)) (λ x. after (bumped by false x) F) (λ w. here (pc + 1) (with_entry d w temps)) (λ w. forget h)
         (fr j pc temps) waiting base (forget h) (o.GlobalGet d g) has.0 refl (agree_same (there (entry h.globals g))) (same_fault P texts weight light _ (after (there (entry h.globals g)) (λ x. after (bumped by false x) F)) split nf)
-        (λ x y e ok. subst (λ w. Mk 28 used h (after (bumped by false x) F) (here (pc + 1) (with_entry d w temps)) (forget h)) e (by_value x ok))))
+        (λ x y e ok. subst (λ w. Mk 56 used h (after (bumped by false x) F) (here (pc + 1) (with_entry d w temps)) (forget h)) e (by_value x ok))))
       where
         d : ℕ
         d = params + locals + length p
@@ -666,13 +666,13 @@ module _ (P : TypedProgram) (texts : List ByteList) (fine : IsFine P) (weight : 
         near' : By k (pc + 1 + 1 + 1) (None ∷ p)
         near' = let e : pc + (1 + 1 + 1) ≡ pc + 1 + 1 + 1 = omega arith in subst (λ z. By k z (None ∷ p)) e near
 
-        by_value : (x : Value) → NoFault (after (bumped by false x) F) → Mk 28 used h (after (bumped by false x) F) (here (pc + 1) (with_entry d x temps)) (forget h)
+        by_value : (x : Value) → NoFault (after (bumped by false x) F) → Mk 56 used h (after (bumped by false x) F) (here (pc + 1) (with_entry d x temps)) (forget h)
         by_value (Whole z) ok =
             let new = Whole (to_int32 (z +ℤ by)) in
             let temps' = with_entry d new (with_entry d (Whole z) temps) in
             let kept = shows_above params locals n p vs temps d (Whole z) (omega arith) shows in
             let shown = shows_put params locals n None p new vs (with_entry d (Whole z) temps) tt kept in
-            then_ops P texts weight light 12 used h (F (record { new = new; given = new })) (fr j (pc + 1) (with_entry d (Whole z) temps)) waiting base (forget h) (o.Unary d (bump_op by) d) (here (pc + 1 + 1) temps') (forget h) has.1.0
+            then_ops P texts weight light 24 used h (F (record { new = new; given = new })) (fr j (pc + 1) (with_entry d (Whole z) temps)) waiting base (forget h) (o.Unary d (bump_op by) d) (here (pc + 1 + 1) temps') (forget h) has.1.0
             (bump_here by z d (pc + 1) (with_entry d (Whole z) temps) (forget h) one (entry_same d (Whole z) temps))
             (last (F (record { new = new; given = new })) (pc + 1 + 1) temps' (forget h) (o.GlobalSet g d) has.1.1.0
             (subst (λ w. M used h (F (record { new = new; given = new })) (after (write_global (forget h) g w) (λ t'. Goes (here (pc + 1 + 1 + 1) temps') t'))) (sym (entry_same d new (with_entry d (Whole z) temps)))
@@ -693,7 +693,7 @@ module _ (P : TypedProgram) (texts : List ByteList) (fine : IsFine P) (weight : 
         let rest = shows_rest params locals n m q ob vs temps shows in
         let shown : (x y : Value) → Sh n q vs (with_entry t y (with_entry t x temps)) = λ x y. shows_above params locals n q vs (with_entry t x temps) t y le (shows_above params locals n q vs temps t x le rest) in
         let kept : (x y : Value) → with_entry t y (with_entry t x temps) d ≡ ob = λ x y. entry_other t d y (with_entry t x temps) ne ∙ entry_other t d x temps ne ∙ shows.pending.0 in
-        wide 80 400 _ _ _ (omega arith)
+        wide 144 400 _ _ _ (omega arith)
         (heap_bump by late one q vs k pc t temps (o.FieldGet t d i) (o.FieldSet d i t) (λ y. write_field h ob i y) (λ y. write_field (forget h) ob i y) (λ y v. after (write_field h ob i y) (λ h'. Goes (now_with n (v ∷ vs) k) h'))
         has.1.0 has.1.1.0
         (λ x y. ap (λ z. after (write_field (forget h) z i (with_entry t y (with_entry t x temps) t)) (λ t'. Goes (here (pc + 1 + 1 + 1) (with_entry t y (with_entry t x temps))) t')) (kept x y)
@@ -715,7 +715,7 @@ module _ (P : TypedProgram) (texts : List ByteList) (fine : IsFine P) (weight : 
         let shown : (x y : Value) → Sh n q vs (with_entry t y (with_entry t x temps)) = λ x y. shows_above params locals n q vs (with_entry t x temps) t y le (shows_above params locals n q vs temps t x le rest) in
         let kept : (x y : Value) → with_entry t y (with_entry t x temps) d ≡ ob = λ x y. entry_other t d y (with_entry t x temps) ne ∙ entry_other t d x temps ne ∙ shows.pending.2.0 in
         let kept' : (x y : Value) → with_entry t y (with_entry t x temps) e ≡ ix = λ x y. entry_other t e y (with_entry t x temps) ne' ∙ entry_other t e x temps ne' ∙ shows.pending.0 in
-        wide 112 400 _ _ _ (omega arith)
+        wide 176 400 _ _ _ (omega arith)
         (heap_bump by late one q vs k pc t temps (o.ItemGet t d e) (o.ItemSet d e t) (λ y. write_item h ob ix y) (λ y. write_item (forget h) ob ix y) (λ y v. after (write_item h ob ix y) (λ h'. Goes (now_with n (v ∷ vs) k) h'))
         has.1.0 has.1.1.0
         (λ x y. ap (λ z. after (write_item (forget h) z (with_entry t y (with_entry t x temps) e) (with_entry t y (with_entry t x temps) t)) (λ t'. Goes (here (pc + 1 + 1 + 1) (with_entry t y (with_entry t x temps))) t')) (kept x y)
@@ -738,7 +738,7 @@ module _ (P : TypedProgram) (texts : List ByteList) (fine : IsFine P) (weight : 
         let rest = shows_above params locals n q vs temps d (Code (repeating P g)) le (shows_rest params locals n (Some g) q ob vs temps shows) in
         let shown = shows_put params locals n None q default vs temps' tt rest in
         let spawned : CodeTied P texts (length P.functions + g) (repeating P g) = inr (g, among, refl, refl) in
-        wide 40 400 _ _ _ (omega arith)
+        wide 56 400 _ _ _ (omega arith)
         (then_ops P texts weight light 32 used h (sact (Repeat k) (Code g ∷ vs)) (fr j pc temps) waiting base (forget h) (o.HandlerOf d (repeating P g)) (here (pc + 1) temps') (forget h) e refl
         (last (sact (Repeat k) (Code g ∷ vs)) (pc + 1) temps' (forget h) (o.Ask d 4 (d ∷ [])) e'
         (subst (λ z. M used h (sact (Repeat k) (Code g ∷ vs)) (flat.asks (lowered P) texts (forget h) (fr j (pc + 1) temps') waiting base d 4 (z ∷ []))) (sym (entry_same d (Code (repeating P g)) temps))
@@ -748,21 +748,21 @@ module _ (P : TypedProgram) (texts : List ByteList) (fine : IsFine P) (weight : 
     call_args m r q vs temps above shows = takes m params locals n r q vs temps above shows
 
     -- a word that is one op
-    alone : (k : Todo) (vs : List Value) (pc : ℕ) (temps : ℕ → Value) (op : Op) → limit op ≤ 500 → fetch pc ≡ Some op → M used h (sact k vs) (at_op (forget h) pc temps op) → Mk 500 used h (sact k vs) (here pc temps) (forget h)
-    alone k vs pc temps op le e m = wide (limit op) 500 (sact k vs) (here pc temps) (forget h) le (last (sact k vs) pc temps (forget h) op e m)
+    alone : (k : Todo) (vs : List Value) (pc : ℕ) (temps : ℕ → Value) (op : Op) → limit op ≤ 488 → fetch pc ≡ Some op → M used h (sact k vs) (at_op (forget h) pc temps op) → Mk 488 used h (sact k vs) (here pc temps) (forget h)
+    alone k vs pc temps op le e m = wide (limit op) 488 (sact k vs) (here pc temps) (forget h) le (last (sact k vs) pc temps (forget h) op e m)
 
-    put_follows : (v : Value) (k : Todo) (p : Marks) (vs : List Value) (pc : ℕ) (temps : ℕ → Value) → Sh n p vs temps → LiesIn P texts f j params locals (Put v k) pc p → Mk 500 used h (sact (Put v k) vs) (here pc temps) (forget h)
+    put_follows : (v : Value) (k : Todo) (p : Marks) (vs : List Value) (pc : ℕ) (temps : ℕ → Value) → Sh n p vs temps → LiesIn P texts f j params locals (Put v k) pc p → Mk 488 used h (sact (Put v k) vs) (here pc temps) (forget h)
     put_follows (Whole z) k p vs pc temps shows lies = alone (Put (Whole z) k) vs pc temps (o.Const (params + locals + length p) z) (omega arith) lies.0 (puts p None (Whole z) (Whole z) vs k pc temps h (forget h) refl refl tt shows lies.1)
     put_follows (Text x) k p vs pc temps shows lies = alone (Put (Text x) k) vs pc temps (o.TextOf (params + locals + length p) x) (omega arith) lies.0 (puts p None (Text x) (Text x) vs k pc temps h (forget h) refl refl tt shows lies.1)
     put_follows (Code g) k p vs pc temps shows lies = alone (Put (Code g) k) vs pc temps (o.HandlerOf (params + locals + length p) g) (omega arith) lies.0 (puts p (Some g) (Code g) (Code g) vs k pc temps h (forget h) refl refl refl shows lies.1)
     put_follows (Object x) k p vs pc temps shows lies = absurd lies.0
 
-    light_get : (x : Spot) (t : ℕ) → limit (get_op params t x) ≤ 500
+    light_get : (x : Spot) (t : ℕ) → limit (get_op params t x) ≤ 488
     light_get (Param i) t = omega arith
     light_get (Local i) t = omega arith
     light_get (Global g) t = omega arith
 
-    light_set : (x : Spot) (t : ℕ) → limit (set_op params t x) ≤ 500
+    light_set : (x : Spot) (t : ℕ) → limit (set_op params t x) ≤ 488
     light_set (Param i) t = omega arith
     light_set (Local i) t = omega arith
     light_set (Global g) t = omega arith
@@ -793,7 +793,7 @@ module _ (P : TypedProgram) (texts : List ByteList) (fine : IsFine P) (weight : 
     plain_two m m' q v w vs temps shows = record { of_params = shows.of_params; of_locals = shows.of_locals; pending = (shows.pending.0, tt, (shows.pending.2.0, tt, shows.pending.2.2)) }
 
     called_follows : (g m : ℕ) (k : Todo) (r : Marks) (q : Marks) (vs : List Value) (pc : ℕ) (temps : ℕ → Value) → IsAbove m r q → fetch pc ≡ Some (o.Call (params + locals + length q) g (span (params + locals + length q) m [])) → Sh n r vs temps → By k (pc + 1) (None ∷ q)
-        → NoFault (sact (Invoke g m k) vs) → Mk 500 used h (sact (Invoke g m k) vs) (here pc temps) (forget h)
+        → NoFault (sact (Invoke g m k) vs) → Mk 488 used h (sact (Invoke g m k) vs) (here pc temps) (forget h)
     called_follows g m k r q vs pc temps above e shows near nf =
         let t = call_args m r q vs temps above shows in
         let to : sact (Invoke g m k) vs ≡ source.invoked P texts h base depth g t.these (record { function = f; names = n; values = t.rest; todo = k } ∷ callers) =
@@ -806,7 +806,7 @@ module _ (P : TypedProgram) (texts : List ByteList) (fine : IsFine P) (weight : 
         → fetch pc ≡ Some (o.Call (params + locals + length q) (maker_of P.classes c) ((params + locals + length r) ∷ span (params + locals + length q) m [])) → Sh n (mk ∷ r) (ob ∷ vs) temps → By k (pc + 1) (None ∷ q)
         → (x : Option ClassEntry) → entry P.classes c ≡ x
         → NoFault (after (there x) (λ class. after (taken m vs) (λ x. source.invoked P texts h base depth class.maker (ob ∷ x.0) (record { function = f; names = n; values = x.1; todo = k } ∷ callers))))
-        → Mk 500 used h (after (there x) (λ class. after (taken m vs) (λ x. source.invoked P texts h base depth class.maker (ob ∷ x.0) (record { function = f; names = n; values = x.1; todo = k } ∷ callers)))) (here pc temps) (forget h)
+        → Mk 488 used h (after (there x) (λ class. after (taken m vs) (λ x. source.invoked P texts h base depth class.maker (ob ∷ x.0) (record { function = f; names = n; values = x.1; todo = k } ∷ callers)))) (here pc temps) (forget h)
     built_follows c m k mk r q ob vs pc temps above e shows near None is nf = absurd nf
     built_follows c m k mk r q ob vs pc temps above e shows near (Some class) is nf =
         let t = call_args m r q vs temps above (rest_one mk r ob vs temps shows) in
@@ -815,14 +815,14 @@ module _ (P : TypedProgram) (texts : List ByteList) (fine : IsFine P) (weight : 
         ap (λ x. after x (λ (x : List Value × List Value). source.invoked P texts h base depth class.maker (ob ∷ x.0) (record { function = f; names = n; values = x.1; todo = k } ∷ callers))) t.taken in
         let op = o.Call (params + locals + length q) (maker_of P.classes c) ((params + locals + length r) ∷ span (params + locals + length q) m []) in
         let args : map temps ((params + locals + length r) ∷ span (params + locals + length q) m []) ≡ ob ∷ t.these = ap (λ x. x ∷ map temps (span (params + locals + length q) m [])) shows.pending.0 ∙ ap (λ xs. ob ∷ xs) t.args in
-        wide 200 500 _ _ _ (omega arith)
+        wide 200 488 _ _ _ (omega arith)
         (last _ pc temps (forget h) op e
         (subst (λ u. M used h u (at_op (forget h) pc temps op)) (sym to)
         (subst (λ g. M used h turn (flat.called (lowered P) texts (forget h) base (fr j pc temps ∷ waiting) g (map temps ((params + locals + length r) ∷ span (params + locals + length q) m [])))) (sym (maker_is P c class is))
         (call_matches class.maker (ob ∷ t.these) (map temps ((params + locals + length r) ∷ span (params + locals + length q) m [])) q t.rest k pc temps args (ap result_of e) t.shows near (same_fault P texts weight light _ turn to nf)))))
 
     sent_follows : (s m : ℕ) (k : Todo) (r : Marks) (q : Marks) (vs : List Value) (pc : ℕ) (temps : ℕ → Value) → IsAbove m r q → fetch pc ≡ Some (o.CallSlot (params + locals + length q) s (span (params + locals + length q) m [])) → Sh n r vs temps → By k (pc + 1) (None ∷ q)
-        → NoFault (sact (Send s m k) vs) → Mk 500 used h (sact (Send s m k) vs) (here pc temps) (forget h)
+        → NoFault (sact (Send s m k) vs) → Mk 488 used h (sact (Send s m k) vs) (here pc temps) (forget h)
     sent_follows s m k r q vs pc temps above e shows near nf =
         let t = call_args m r q vs temps above shows in
         let turn = after (then_gives (first t.these) (λ ob. source.method P texts h ob s)) (λ g. source.invoked P texts h base depth g t.these (record { function = f; names = n; values = t.rest; todo = k } ∷ callers)) in
@@ -834,7 +834,7 @@ module _ (P : TypedProgram) (texts : List ByteList) (fine : IsFine P) (weight : 
         (send_matches s t.these (map temps (span (params + locals + length q) m [])) q t.rest k pc temps t.args (ap result_of e) t.shows near (same_fault P texts weight light (sact (Send s m k) vs) turn to nf)))
 
     asked_follows : (service m : ℕ) (gives : Bool) (k : Todo) (r : Marks) (q : Marks) (vs : List Value) (pc : ℕ) (temps : ℕ → Value) → IsAbove m r q → fetch pc ≡ Some (o.Ask (params + locals + length q) service (span (params + locals + length q) m []))
-        → service == 19 ≡ false → gives ≡ answers service → IsProper (length P.functions) r service m → Sh n r vs temps → By k (pc + 1) (None ∷ q) → Mk 500 used h (sact (Ask service m gives k) vs) (here pc temps) (forget h)
+        → service == 19 ≡ false → gives ≡ answers service → IsProper (length P.functions) r service m → Sh n r vs temps → By k (pc + 1) (None ∷ q) → Mk 488 used h (sact (Ask service m gives k) vs) (here pc temps) (forget h)
     asked_follows service m gives k r q vs pc temps above e other answering proper shows near =
         let t = call_args m r q vs temps above shows in
         let d = params + locals + length q in
@@ -851,7 +851,7 @@ module _ (P : TypedProgram) (texts : List ByteList) (fine : IsFine P) (weight : 
         (ask_matches (requested service t.these) gives q t.rest k pc temps (proper vs t.these t.rest (marked temps (params + locals) r vs shows.pending) t.taken) t.shows near)))
 
     -- one counted step, of what is left to do and lies at the frame's place
-    act_follows : (k : Todo) (p : Marks) (vs : List Value) (pc : ℕ) (temps : ℕ → Value) → Sh n p vs temps → LiesIn P texts f j params locals k pc p → NoFault (sact k vs) → Mk 500 used h (sact k vs) (here pc temps) (forget h)
+    act_follows : (k : Todo) (p : Marks) (vs : List Value) (pc : ℕ) (temps : ℕ → Value) → Sh n p vs temps → LiesIn P texts f j params locals k pc p → NoFault (sact k vs) → Mk 488 used h (sact k vs) (here pc temps) (forget h)
     act_follows (Put v k) p vs pc temps shows lies nf = put_follows v k p vs pc temps shows lies
     act_follows (Get x k) p vs pc temps shows lies nf = alone (Get x k) vs pc temps (get_op params (params + locals + length p) x) (light_get x (params + locals + length p)) lies.0 (get_follows x p vs k pc temps lies.1 shows lies.2)
     act_follows (Store x k) (m ∷ q) (v ∷ vs) pc temps shows lies nf =
@@ -883,7 +883,7 @@ module _ (P : TypedProgram) (texts : List ByteList) (fine : IsFine P) (weight : 
         alone (Peek i k) (v ∷ vs) pc temps (o.FieldGet (params + locals + suc (length q)) (params + locals + length q) i) (omega arith) lies.0
         (given_same (None ∷ q) (v ∷ vs) k pc temps (read_field h v i) _ (read_field (forget h) v i) (ap (λ w. read_field (forget h) w i) shows.pending.0) (read_field_agrees h v i) (unmarked m q v vs temps shows) lies.1)
     act_follows (Write i k) (m ∷ (m' ∷ q)) (v ∷ (ob ∷ vs)) pc temps shows lies nf =
-        wide 32 500 _ _ _ (omega arith)
+        wide 64 488 _ _ _ (omega arith)
         (write_follows q v vs k pc (params + locals + suc (length q)) temps (o.FieldSet (params + locals + length q) i (params + locals + suc (length q))) (write_field h ob i v) (write_field (forget h) ob i v) lies.0 lies.1
         (ap (λ w. after (write_field (forget h) w i (temps (params + locals + suc (length q)))) (λ t'. Goes (here (pc + 1) temps) t')) shows.pending.2.0 ∙ ap (λ w. after (write_field (forget h) ob i w) (λ t'. Goes (here (pc + 1) temps) t')) shows.pending.0)
         (write_field_agrees h ob v i) shows.pending.0 (rest_two m m' q v ob vs temps shows) lies.2 nf)
@@ -899,14 +899,14 @@ module _ (P : TypedProgram) (texts : List ByteList) (fine : IsFine P) (weight : 
         let d = params + locals + length q in
         let e = params + locals + suc (length q) in
         let t = params + locals + suc (suc (length q)) in
-        wide 48 500 _ _ _ (omega arith)
+        wide 80 488 _ _ _ (omega arith)
         (write_follows q v vs k pc t temps (o.ItemSet d e t) (write_item h ob ix v) (write_item (forget h) ob ix v) lies.0 lies.1
         (ap (λ w. after (write_item (forget h) w (temps e) (temps t)) (λ t'. Goes (here (pc + 1) temps) t')) shows.pending.2.2.0 ∙ ap (λ w. after (write_item (forget h) ob w (temps t)) (λ t'. Goes (here (pc + 1) temps) t')) shows.pending.2.0
         ∙ ap (λ w. after (write_item (forget h) ob ix w) (λ t'. Goes (here (pc + 1) temps) t')) shows.pending.0)
         (write_item_agrees h ob ix v) shows.pending.0 (rest_one m'' q ob vs temps (rest_two m m' (m'' ∷ q) v ix (ob ∷ vs) temps shows)) lies.2 nf)
-    act_follows (Bump x by late k) p vs pc temps shows lies nf = wide 400 500 _ _ _ (omega arith) (bump_follows x by late p vs k pc temps lies.0 lies.1 lies.2 lies.3 shows nf)
-    act_follows (BumpField i by late k) (m ∷ q) (ob ∷ vs) pc temps shows lies nf = wide 400 500 _ _ _ (omega arith) (field_bump_follows i by late m q ob vs k pc temps lies.0 lies.1 lies.2 shows nf)
-    act_follows (BumpAt by late k) (m ∷ (m' ∷ q)) (ix ∷ (ob ∷ vs)) pc temps shows lies nf = wide 400 500 _ _ _ (omega arith) (item_bump_follows by late m m' q ix ob vs k pc temps lies.0 lies.1 lies.2 shows nf)
+    act_follows (Bump x by late k) p vs pc temps shows lies nf = wide 400 488 _ _ _ (omega arith) (bump_follows x by late p vs k pc temps lies.0 lies.1 lies.2 lies.3 shows nf)
+    act_follows (BumpField i by late k) (m ∷ q) (ob ∷ vs) pc temps shows lies nf = wide 400 488 _ _ _ (omega arith) (field_bump_follows i by late m q ob vs k pc temps lies.0 lies.1 lies.2 shows nf)
+    act_follows (BumpAt by late k) (m ∷ (m' ∷ q)) (ix ∷ (ob ∷ vs)) pc temps shows lies nf = wide 400 488 _ _ _ (omega arith) (item_bump_follows by late m m' q ix ob vs k pc temps lies.0 lies.1 lies.2 shows nf)
     act_follows (Measure k) (m ∷ q) (v ∷ vs) pc temps shows lies nf =
         alone (Measure k) (v ∷ vs) pc temps (o.Length (params + locals + length q) (params + locals + length q)) (omega arith) lies.0
         (given_same q vs k pc temps (length_at h v) _ (length_at (forget h) v) (ap (λ w. length_at (forget h) w) shows.pending.0) (length_agrees h v) (rest_one m q v vs temps shows) lies.1)
@@ -940,8 +940,8 @@ module _ (P : TypedProgram) (texts : List ByteList) (fine : IsFine P) (weight : 
     act_follows (Send s m k) p vs pc temps shows lies nf = sent_follows s m k p lies.0 vs pc temps lies.1 lies.2 shows lies.3 nf
     act_follows (Ask service m gives k) p vs pc temps shows lies nf = asked_follows service m gives k p lies.0 vs pc temps lies.1 lies.2 lies.3 lies.4 lies.5 shows lies.6
     act_follows (Repeat k) (Some g ∷ q) (v ∷ vs) pc temps shows lies nf =
-        subst (λ w. Mk 500 used h (sact (Repeat k) (w ∷ vs)) (here pc temps) (forget h)) (sym shows.pending.1)
-        (wide 400 500 _ _ _ (omega arith) (repeat_follows g q v vs k pc temps lies.0 lies.1 lies.2 lies.3 shows))
+        subst (λ w. Mk 488 used h (sact (Repeat k) (w ∷ vs)) (here pc temps) (forget h)) (sym shows.pending.1)
+        (wide 400 488 _ _ _ (omega arith) (repeat_follows g q v vs k pc temps lies.0 lies.1 lies.2 lies.3 shows))
     act_follows (Again loop k) p vs pc temps shows lies nf =
         let back = turn_at P.classes (length P.functions) (repeating P) (repeated_in_program P) params locals (fetched P texts j) (is_maker P.classes f) this loop lies.1 lies.4 k lies.3 lies.5 lies.6 in
         alone (Again loop k) vs pc temps (o.Jump lies.1) (omega arith) lies.2
@@ -951,7 +951,7 @@ module _ (P : TypedProgram) (texts : List ByteList) (fine : IsFine P) (weight : 
         let turn : LiesIn P texts f j params locals (Each i a k) pc [] = subst (λ q. LiesIn P texts f j params locals (Each i a k) pc q) lies.0 lies in
         let body = statement_at P.classes (length P.functions) (repeating P) (repeated_in_program P) params locals (fetched P texts j) (is_maker P.classes f) this a lies.2 in
         let near = each_at P.classes (length P.functions) (repeating P) (repeated_in_program P) params locals (fetched P texts j) (is_maker P.classes f) this i a body pc lies.3 k turn lies.4 lies.5 in
-        wide 416 500 _ _ _ (omega arith) (turn_follows i a k vs pc lies.3 temps shows' lies.1 lies.4 lies.5 near nf)
+        wide 464 488 _ _ _ (omega arith) (turn_follows i a k vs pc lies.3 temps shows' lies.1 lies.4 lies.5 near nf)
     act_follows (Leave to) p vs pc temps shows lies nf = alone (Leave to) vs pc temps (o.Jump lies.0) (omega arith) lies.1 (goes n p vs to lies.0 temps h (forget h) refl shows (inl lies.2))
     act_follows Give (m ∷ q) (v ∷ vs) pc temps shows lies nf =
         alone Give (v ∷ vs) pc temps (o.Return (params + locals + length q)) (omega arith) lies (ended_matches v (temps (params + locals + length q)) shows.pending.0 callers waiting wait deepness)
@@ -1053,14 +1053,14 @@ module _ (P : TypedProgram) (texts : List ByteList) (fine : IsFine P) (weight : 
       turn : Turn Activity Heap
       turn = source.act P texts h a.function a.names callers base depth a.todo a.values
 
-      acts : (pc : ℕ) → LiesIn P texts a.function b.function tied.0.params tied.0.locals a.todo pc tied.0.marks → Mk 500 used h turn (Stands (fr b.function pc b.temps) waiting base) (forget h)
+      acts : (pc : ℕ) → LiesIn P texts a.function b.function tied.0.params tied.0.locals a.todo pc tied.0.marks → Mk 488 used h turn (Stands (fr b.function pc b.temps) waiting base) (forget h)
       acts pc lies =
           act_follows used h a.function b.function a.names callers waiting base depth tied.0.params tied.0.locals tied.0.words tied.1 tied.3 tied.0.this a.todo tied.0.marks a.values pc b.temps tied.0.shows lies nf
 
       by_near : NearIn P texts a.function b.function tied.0.params tied.0.locals a.todo b.place tied.0.marks → Mk 512 used h turn (Stands b waiting base) (forget h)
-      by_near (inl lies) = within P texts weight light 500 512 used h turn (Stands b waiting base) (forget h) (omega arith) (acts b.place lies)
+      by_near (inl lies) = within P texts weight light 488 512 used h turn (Stands b waiting base) (forget h) (omega arith) (acts b.place lies)
       by_near (inr jump) =
-          within P texts weight light 508 512 used h turn (Stands b waiting base) (forget h) (omega arith)
-          (then_ops P texts weight light 500 used h turn b waiting base (forget h) (o.Jump jump.0) (Stands (fr b.function jump.0 b.temps) waiting base) (forget h) jump.1 refl (acts jump.0 jump.2))
+          within P texts weight light 512 512 used h turn (Stands b waiting base) (forget h) (omega arith)
+          (then_ops P texts weight light 488 used h turn b waiting base (forget h) (o.Jump jump.0) (Stands (fr b.function jump.0 b.temps) waiting base) (forget h) jump.1 refl (acts jump.0 jump.2))
   follows used h t (Starts f base) (Stands b waiting base') e tied nf = absurd tied
   follows used h t (Runs a callers base depth) (Enters i base') e tied nf = absurd tied

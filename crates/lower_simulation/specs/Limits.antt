@@ -8,28 +8,28 @@ use Rattle.flat_meaning.specs.Frames.{FlatFrame, FlatActivity, Enters, Stands, o
 
 -- the list of bounds; a call's is with the entry of the function that it calls
 abbrev pub limit : Op → ℕ
-limit (Const to value) = 8
-limit (Copy to from) = 8
-limit (Unary to op from) = 16
+limit (Const to value) = 24
+limit (Copy to from) = 24
+limit (Unary to op from) = 32
 limit (Binary to op left right) = 320
-limit (GlobalGet to slot) = 12
-limit (GlobalSet slot from) = 12
-limit (FieldGet to object field) = 24
-limit (FieldSet object field from) = 24
-limit (ItemGet to array index) = 40
-limit (ItemSet array index from) = 40
-limit (Length to array) = 24
-limit (Pop to array) = 40
-limit (TextOf to text) = 8
+limit (GlobalGet to slot) = 24
+limit (GlobalSet slot from) = 24
+limit (FieldGet to object field) = 40
+limit (FieldSet object field from) = 40
+limit (ItemGet to array index) = 56
+limit (ItemSet array index from) = 56
+limit (Length to array) = 32
+limit (Pop to array) = 56
+limit (TextOf to text) = 24
 limit (MakeObject to class) = 160
 limit (MakeArray to room) = 32
 limit (Call to function args) = 200
 limit (CallSlot to slot args) = 220
-limit (HandlerOf to function) = 8
+limit (HandlerOf to function) = 24
 limit (Ask to service args) = 32
-limit (Jump target) = 8
-limit (Branch when target) = 16
-limit (Return from) = 24
+limit (Jump target) = 24
+limit (Branch when target) = 24
+limit (Return from) = 32
 
 -- and of the call with which an activity begins
 abbrev pub entry_limit : ℕ
