@@ -1,5 +1,4 @@
 mod Plain
 mod Agreeing
-mod Shown
 mod Passes
 pub mod Laws

@@ -1,4 +1,3 @@
 pub mod Images
 pub mod Forgotten
-pub mod Words
 pub mod Passes
