@@ -13,3 +13,4 @@ pub mod Built
 pub mod Programs
 pub mod Limits
 pub mod Accepted
+pub mod Formed

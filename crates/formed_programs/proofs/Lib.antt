@@ -1,0 +1,3 @@
+mod Trees
+mod Units
+pub mod Laws

@@ -1,0 +1,6 @@
+//! What the grammar says of a program's tree beside its form. `specs/` of `type_derive` has the definition (`Formed`).
+#![tactic(auto)]
+
+mod theorems;
+
+pub use theorems::spelled_programs_are_formed;
