@@ -17,7 +17,7 @@ use Rattle.bank_model.specs.Division.{quotient, remainder}
 use Rattle.bank_model.specs.Fibers.{Fiber, Shared, begins, begins_on, begins_again, begins_above}
 use Rattle.bank_model.specs.Texts.{is_text, text_at, glyph_at}
 use Rattle.bank_model.specs.Arrays.{behind_words, is_array, is_full, room_of, grown_room, stored, moved}
-use Rattle.bank_model.specs.AllServices.{service, word_argument, argument, asked_event, asked_listener, allocates, pushes, with_text, tells, answered, answered_word}
+use Rattle.bank_model.specs.AllServices.{service, word_argument, argument, asked_event, asked_listener, allocates, pushes, with_text, tells, asks, answered, answered_word, number_word}
 use Rattle.bank_model.specs.BoardMachine.{memory_of, fiber_of, shared_in, turn_of}
 use Rattle.bank_model.specs.Standing.{IsInside}
 use Rattle.bank_model.specs.Watched.{goes_steady, watched_turn, watched}
@@ -72,8 +72,8 @@ module _ (flash : List ℕ) where
     told : (q : Question) → Same (tells q f s) (tells q f t)
     told q = (refl, λ n. on f g)
 
-    asked : (q : Question) → Same (Asks q (λ n. (answered f n, s))) (Asks q (λ n. (answered f n, t)))
-    asked q = (refl, λ n. on (answered f n) (answered_good n))
+    asked : (q : Question) → Same (asks q f s) (asks q f t)
+    asked q = (refl, λ n. on (answered_word f (number_word n)) (record { span = g.span; inside = g.inside }))
 
     gives : (n : ℤ) → Same (Goes (answered f n) s) (Goes (answered f n) t)
     gives n = on (answered f n) (answered_good n)

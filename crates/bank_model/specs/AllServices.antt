@@ -1,5 +1,5 @@
 -- All services, for which a fiber asks by SVC with their number.
-use Rattle.std.specs.Prelude.{ℕ, ◌+◌, ◌%◌, ◌^◌, ◌==◌, nat_lt, ℤ, List, if◌then◌else◌}
+use Rattle.std.specs.Prelude.{ℕ, ◌+◌, ◌-◌, ◌%◌, ◌^◌, ◌==◌, nat_lt, ℤ, pos, negsuc, List, if◌then◌else◌}
 use Rattle.std.specs.Int.{cast_signed, cast_unsigned, w32}
 use Rattle.thumb_code.specs.Faults.{bad_service, not_thumb}
 use Rattle.thumb_code.specs.RegisterFile.{low, put_low, is_odd}
@@ -29,6 +29,11 @@ answered_word f word = record f { registers = put_low f.registers 0 word }
 abbrev pub answered : Fiber → ℤ → Fiber
 answered f number = answered_word f (cast_unsigned w32 number)
 
+-- The word of a number modulo 2^32.
+abbrev pub number_word : ℤ → ℕ
+number_word (pos n) = n % 2 ^ 32
+number_word (negsuc n) = 2 ^ 32 - 1 - n % 2 ^ 32
+
 -- The event of R0 and R1.
 abbrev pub asked_event : Fiber → Event
 asked_event f = record { source = argument f 0; value = argument f 1 }
@@ -37,12 +42,12 @@ asked_event f = record { source = argument f 0; value = argument f 1 }
 abbrev pub asked_listener : Fiber → ℤ → Listener
 asked_listener f mode = record { source = argument f 0; value = argument f 1; handler = word_argument f 2; mode = mode }
 
--- A question without an answer, and one whose answer comes in R0.
+-- A question without an answer, and one whose answer comes in R0, modulo 2^32.
 abbrev pub tells : Question → Fiber → Shared → Turn Fiber Shared
 tells question f s = Asks question (λ answer. (f, s))
 
 abbrev pub asks : Question → Fiber → Shared → Turn Fiber Shared
-asks question f s = Asks question (λ answer. (answered f answer, s))
+asks question f s = Asks question (λ answer. (answered_word f (number_word answer), s))
 
 -- An address of code has bit 0 set, or else it is the fault NotThumb.
 abbrev pub with_code : ℕ → ℕ → Turn Fiber Shared → Turn Fiber Shared

@@ -18,7 +18,7 @@ use Rattle.board_world.specs.Kinds.{Question, Raises, Plots, Displays, Writes, S
 use Rattle.board_world.specs.Activities.{World}
 use Rattle.bank_model.specs.Fibers.{Fiber, Shared}
 use Rattle.bank_model.specs.Standing.{fiber_on, shared_on}
-use Rattle.bank_model.specs.AllServices.{service, argument, word_argument, asked_event, answered}
+use Rattle.bank_model.specs.AllServices.{service, argument, word_argument, asked_event, answered, answered_word, number_word}
 use Rattle.bank_model.specs.Division.{quotient, remainder}
 use Rattle.bank_model.specs.Texts.{glyph_at}
 use Rattle.message_bus.specs.BusState.{BusState, queued}
@@ -69,6 +69,11 @@ wrote_plain : (bytes : ByteList) (p : Board) (s : List Observation) (u : List (�
 wrote_plain [] p s u l = absurd (omega (arith, l))
 wrote_plain (c ∷ cs) p s u l = refl
 
+-- the word of a number of 32 bits
+number_of : (z : ℤ) → SFits w32 z → number_word z ≡ cast_unsigned w32 z
+number_of (pos n) f = let l : n < 2 ^ 31 = f.sfits in omega arith
+number_of (negsuc n) f = let l : n < 2 ^ 31 = f.sfits in omega arith
+
 module _ (e : Engine) (image : List ℕ) (t : Turning) (runs : e.runtime.running ≡ Some t) (w : World Fiber Shared) (h : Represents image (state_of e) w) where
   abbrev f : Fiber
   f = fiber_on e.runtime.machine
@@ -94,14 +99,14 @@ module _ (e : Engine) (image : List ℕ) (t : Turning) (runs : e.runtime.running
       asks_leaves image (state_of e) t runs w h rs arena plain moves q (λ a. (f, w.shared)) x.0 none seats end x.1 (same_pair ∙ ap (λ n. (f, shared_on n e.runtime.machine.memory w.shared.free)) (sym used))
 
   -- it gets an answer in R0
-  asks_back : (word : ℕ) (q : Question) (a : ℤ) → ((s : List Observation) (u : List (ℕ × ℕ)) → answer q t.value (with_met p s u) ≡ (with_met p s u, a)) → cast_unsigned w32 a ≡ word
+  asks_back : (word : ℕ) (q : Question) (a : ℤ) → ((s : List Observation) (u : List (ℕ × ℕ)) → answer q t.value (with_met p s u) ≡ (with_met p s u, a)) → number_word a ≡ word
       → Leaves image (state_of e) t runs w h (state_of (record e { runtime = record e.runtime { machine = record e.runtime.machine { registers = put_low e.runtime.machine.registers 0 word } } })) []
-      (turned image (λ f s. Asks q (λ a. (answered f a, s))) (state_of e) t h.mark w)
+      (turned image (λ f s. Asks q (λ a. (answered_word f (number_word a), s))) (state_of e) t h.mark w)
   asks_back word q a same z =
       let m = λ (x : ℕ). record e.runtime.machine { registers = put_low e.runtime.machine.registers 0 x } in
-      subst (λ x. Leaves image (state_of e) t runs w h (state_of (record e { runtime = record e.runtime { machine = m x } })) [] (turned image (λ f s. Asks q (λ a. (answered f a, s))) (state_of e) t h.mark w)) z
-      (asks_leaves image (state_of e) t runs w h (slice_set rs 0 (cast_unsigned w32 a)) arena p [] q (λ a. (answered f a, w.shared)) a (λ k. refl) refl refl
-      (same w.board.seen w.board.unplugged ∙ ap (λ b. (b, a)) (nothing_more p w.board.seen w.board.unplugged)) (ap (λ s. (answered f a, s)) (shared_is image (state_of e) t runs w h)))
+      subst (λ x. Leaves image (state_of e) t runs w h (state_of (record e { runtime = record e.runtime { machine = m x } })) [] (turned image (λ f s. Asks q (λ a. (answered_word f (number_word a), s))) (state_of e) t h.mark w)) z
+      (asks_leaves image (state_of e) t runs w h (slice_set rs 0 (number_word a)) arena p [] q (λ a. (answered_word f (number_word a), w.shared)) a (λ k. refl) refl refl
+      (same w.board.seen w.board.unplugged ∙ ap (λ b. (b, a)) (nothing_more p w.board.seen w.board.unplugged)) (ap (λ s. (answered_word f (number_word a), s)) (shared_is image (state_of e) t runs w h)))
 
   -- it reckons something into R0
   pub goes_back : (word : ℕ) (a : ℤ) → cast_unsigned w32 a ≡ word
@@ -129,23 +134,23 @@ module _ (e : Engine) where
       → Leaves image (state_of e) t runs w h (state_of (record e { runtime = runtime })) [] v
   answered_by runtime word is image t runs w h v x = subst (λ r. Leaves image (state_of e) t runs w h (state_of (record e { runtime = r })) [] v) (sym is) x
 
-  pub serve_time : (runtime : State) → runtime ≡ record e.runtime { machine = record e.runtime.machine { registers = put_low e.runtime.machine.registers 0 e.clock } }
+  pub serve_time : (runtime : State) → e.clock < 2 ^ 32 → runtime ≡ record e.runtime { machine = record e.runtime.machine { registers = put_low e.runtime.machine.registers 0 e.clock } }
       → (at : ℕ) → IsServed (λ image. service image at 7) (Goes Nothing) e (record e { runtime = runtime })
-  serve_time runtime is at = λ image t runs w h. answered_by runtime e.clock is image t runs w h _ (asks_back e image t runs w h e.clock Time (pos e.clock) (λ s u. refl) refl)
+  serve_time runtime l is at = λ image t runs w h. answered_by runtime e.clock is image t runs w h _ (asks_back e image t runs w h e.clock Time (pos e.clock) (λ s u. refl) (omega arith))
 
-  pub serve_value : (runtime : State) (word : ℕ) (value : ℤ) → IfSome e.runtime.running (λ t. value ≡ t.value) → word ≡ cast_unsigned w32 value
+  pub serve_value : (runtime : State) (word : ℕ) (value : ℤ) → SFits w32 value → IfSome e.runtime.running (λ t. value ≡ t.value) → word ≡ cast_unsigned w32 value
       → runtime ≡ record e.runtime { machine = record e.runtime.machine { registers = put_low e.runtime.machine.registers 0 word } }
       → (at : ℕ) → IsServed (λ image. service image at 8) (Goes Nothing) e (record e { runtime = runtime })
-  serve_value runtime word value v z is at = λ image t runs w h.
+  serve_value runtime word value fits v z is at = λ image t runs w h.
       let same : value ≡ t.value = subst (λ o. IfSome o (λ t. value ≡ t.value)) runs v in
-      answered_by runtime word is image t runs w h _ (asks_back e image t runs w h word Value t.value (λ s u. refl) (sym (z ∙ ap (cast_unsigned w32) same)))
+      answered_by runtime word is image t runs w h _ (asks_back e image t runs w h word Value t.value (λ s u. refl) (ap number_word (sym same) ∙ (number_of value fits ∙ sym z)))
 
-  pub serve_pressed : (runtime : State) (word : ℕ) (n a : ℤ) → n ≡ argument g 0 → ((b : Board) → b.clock ≡ e.clock → b.a_since ≡ e.buttons.a_since → b.b_since ≡ e.buttons.b_since → b.queue ≡ e.bus.queue → pressed n b ≡ a) → cast_unsigned w32 a ≡ word
+  pub serve_pressed : (runtime : State) (word : ℕ) (n a : ℤ) → SFits w32 a → n ≡ argument g 0 → ((b : Board) → b.clock ≡ e.clock → b.a_since ≡ e.buttons.a_since → b.b_since ≡ e.buttons.b_since → b.queue ≡ e.bus.queue → pressed n b ≡ a) → cast_unsigned w32 a ≡ word
       → runtime ≡ record e.runtime { machine = record e.runtime.machine { registers = put_low e.runtime.machine.registers 0 word } }
       → (at : ℕ) → IsServed (λ image. service image at 9) (Goes Nothing) e (record e { runtime = runtime })
-  serve_pressed runtime word n a same down z is at = λ image t runs w h.
+  serve_pressed runtime word n a fits same down z is at = λ image t runs w h.
       answered_by runtime word is image t runs w h _ (asks_back e image t runs w h word (Pressed (argument g 0)) a
-      (λ s u. ap (λ x. (with_met (state_of e).plain s u, x)) (ap (λ y. pressed y (with_met (state_of e).plain s u)) (sym same) ∙ down (with_met (state_of e).plain s u) refl refl refl refl)) z)
+      (λ s u. ap (λ x. (with_met (state_of e).plain s u, x)) (ap (λ y. pressed y (with_met (state_of e).plain s u)) (sym same) ∙ down (with_met (state_of e).plain s u) refl refl refl refl)) (number_of a fits ∙ z))
 
   shows_frame : (frame : ℕ) (sight : Sight) → sight ≡ (if frame == e.display then Nothing else Frame frame) → (q : Question)
       → ((value : ℤ) (s : List Observation) (u : List (ℕ × ℕ)) → answer q value (with_met (state_of e).plain s u) ≡ (showed frame (with_met (state_of e).plain s u), pos 0))
