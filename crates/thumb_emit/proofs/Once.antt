@@ -4,7 +4,7 @@ use Rattle.std.specs.List.{AllByRecursion}
 use Rattle.std.proofs.lemmas.Bool.Decides.{nat_tests}
 use Rattle.thumb_layout.specs.declared.pieces.Piece.{Piece}
 use Rattle.thumb_layout.specs.declared.pieces.Piece.TheVariants.{Plain, Label, Go, CallTo, Number, Address}
-use Rattle.thumb_layout.specs.Soundness.{times, IsSound, HasWords}
+use Rattle.thumb_layout.specs.Soundness.{times, IsSoundPiece, IsSound, HasWords}
 use Rattle.flat_ir.specs.declared.ops.Op.{Op}
 use Rattle.flat_ir.specs.declared.ops.Function.{Function}
 use Rattle.flat_ir.specs.WellFormed.{GoesBelow, IsOpWithin, temporaries}
@@ -16,7 +16,7 @@ use Rattle.thumb_emit.specs.Ready.{IsReady, HasNumbers}
 use Rattle.thumb_emit.proofs.Lists.{all_append, all_at, times_append}
 use Rattle.thumb_emit.proofs.Labels.{gos_of, gos_append, count, times_count, IsMarked, Marks, None, One, Two, Away, op_marks, entry_marks}
 use Rattle.thumb_emit.proofs.Fine.{IsFine}
-use Rattle.thumb_emit.proofs.Sound.{function_fine}
+use Rattle.thumb_emit.proofs.Sound.{function_fine, function_pieces_sound}
 
 times_marked : (l : ℕ) (ls gs : List ℕ) (xs : List Piece) → IsMarked ls gs xs → times l xs ≡ count l ls
 times_marked l ls gs xs m = times_count l xs ∙ ap (λ (q : List ℕ). count l q) m.stand
@@ -197,9 +197,9 @@ go_places n o t [] w = tt
 go_places n o t (op ∷ ops) w = (w.0.goes, go_places n o t ops w.1)
 
 -- the pieces of a function that is ready can be laid
-pub function_sound : (p : Placed) → IsReady p → HasNumbers p.function → IsSound (function_pieces p)
-function_sound p r h = record {
-  each = λ i x e. (all_at IsFine (function_pieces p) (function_fine p r h) i x e).0;
+pub function_sound : (p : Placed) → IsReady p → IsSound (function_pieces p)
+function_sound p r = record {
+  each = λ i x e. all_at IsSoundPiece (function_pieces p) (function_pieces_sound p r) i x e;
   labels = λ i cond l e. go_at (λ q. times q (function_pieces p) ≡ 1) (function_pieces p)
       (function_once p (go_places (length p.function.ops) p.function.outgoing (temporaries p.function) p.function.ops r.formed.ops)) i cond l e;
 }

@@ -6,6 +6,7 @@ use Rattle.std.specs.List.{AllByRecursion}
 use Rattle.thumb_code.specs.declared.instructions.Instr.TheVariants.{LdrImm, LdrReg, StrReg, Pop as PopMany}
 use Rattle.thumb_layout.specs.declared.pieces.Piece.{Piece}
 use Rattle.thumb_layout.specs.declared.pieces.Piece.TheVariants.{Plain, CallTo}
+use Rattle.thumb_layout.specs.Soundness.{IsSoundPiece}
 use Rattle.flat_ir.specs.declared.ops.Op.{Op}
 use Rattle.flat_ir.specs.declared.ops.Op.TheVariants.{Const, Copy, Unary, Binary, GlobalGet, GlobalSet, FieldGet, FieldSet, ItemGet, ItemSet, Length, Pop, TextOf, MakeObject, MakeArray, Call, CallSlot, HandlerOf, Ask, Jump, Branch, Return}
 use Rattle.flat_ir.specs.declared.ops.Function.{Function}
@@ -29,6 +30,11 @@ number_fine value h = let a = Fits-of_z {w = w32} {z = value} h in a.fits
 -- two lists one after another
 joined : (xs ys : List Piece) → AreFine xs → AreFine ys → AreFine (xs ++ ys)
 joined = all_append IsFine
+
+-- fine pieces are sound
+sound_of : (xs : List Piece) → AreFine xs → AllByRecursion IsSoundPiece xs
+sound_of [] a = tt
+sound_of (x ∷ xs) a = ((a.0).0, sound_of xs a.1)
 
 -- a function within the measures, each of whose first n temporaries has one of its places
 module _ (f : Function) (place : ℕ → Place) (n : ℕ) (small : IsSmall f) (within : (t : ℕ) → t < n → IsWithin f (place t)) where
@@ -118,6 +124,15 @@ module _ (f : Function) (place : ℕ → Place) (n : ℕ) (small : IsSmall f) (w
   ops_fine places k [] w h = tt
   ops_fine places k (op ∷ ops) w h = (search rules, joined (op_pieces f place k op) (ops_pieces f place (k + 1) ops) (op_fine places k op w.0 h.0) (ops_fine places (k + 1) ops w.1 h.1))
 
+  -- whatever numbers are, pieces are sound
+  op_sound : (places k : ℕ) (op : Op) → IsOpWithin n places f.outgoing op → AllByRecursion IsSoundPiece (op_pieces f place k op)
+  op_sound places k (Const to value) w = (omega arith, sound_of (put f place 0 to ∷ []) (ends_fine to w.names.0))
+  op_sound places k op w = sound_of (op_pieces f place k op) (op_fine places k op w tt)
+
+  pub ops_sound : (places k : ℕ) (ops : List Op) → AllByRecursion (IsOpWithin n places f.outgoing) ops → AllByRecursion IsSoundPiece (ops_pieces f place k ops)
+  ops_sound places k [] w = tt
+  ops_sound places k (op ∷ ops) w = (tt, all_append IsSoundPiece (op_pieces f place k op) (ops_pieces f place (k + 1) ops) (op_sound places k op w.0) (ops_sound places (k + 1) ops w.1))
+
   moved_fine : (p : Place) (t : ℕ) → IsWithin f p → t < f.params → AreFine (move_pieces f place p t)
   moved_fine (Incoming j) t w l = tt
   moved_fine (Reg r) t w l = (from_fine f 0 (Incoming t) small (omega arith) l, (to_fine f 0 (Reg r) small (omega arith) w, tt))
@@ -141,3 +156,10 @@ function_fine p r h =
     let small : IsSmall f = record { params = s.params; locals = s.locals; operands = s.operands; outgoing = s.outgoing } in
     joined (entry_pieces f place) (ops_pieces f place 0 f.ops) (entry_fine f place (temporaries f) small w.within (omega arith))
     (ops_fine f place (temporaries f) small w.within (length f.ops) 0 f.ops s.ops h)
+
+pub function_pieces_sound : (p : Placed) → IsReady p → AllByRecursion IsSoundPiece (function_pieces p)
+function_pieces_sound p r =
+    let f = p.function in let place = place_of p.places in let s = r.formed in let w = r.sound in
+    let small : IsSmall f = record { params = s.params; locals = s.locals; operands = s.operands; outgoing = s.outgoing } in
+    all_append IsSoundPiece (entry_pieces f place) (ops_pieces f place 0 f.ops) (sound_of (entry_pieces f place) (entry_fine f place (temporaries f) small w.within (omega arith)))
+    (ops_sound f place (temporaries f) small w.within (length f.ops) 0 f.ops s.ops)

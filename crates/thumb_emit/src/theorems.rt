@@ -14,9 +14,9 @@ ghost use Rattle.thumb_emit.specs.Names.{names_of, IsCalledBy};
 ghost use Rattle.thumb_emit.specs.Ready.{IsReady, HasNumbers};
 
 /// The pieces of a well-formed function at sound places can be laid: fields are in range, no instruction hangs on where it stands, and each
-/// label that is gone to stands once; their numbers are words.
+/// label that is gone to stands once. Where the ops' numbers have 32 bits, those of the pieces are words.
 pub fn pieces_can_be_laid()
-    ensures sound { (p : Placed) → IsReady p → HasNumbers p.function → IsSound (function_pieces p) }
+    ensures sound { (p : Placed) → IsReady p → IsSound (function_pieces p) }
     ensures words { (p : Placed) → IsReady p → HasNumbers p.function → HasWords (function_pieces p) }
 {}
 
