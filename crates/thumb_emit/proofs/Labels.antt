@@ -13,6 +13,7 @@ use Rattle.register_assign.specs.declared.places.Place.TheVariants.{Reg, Slot, I
 use Rattle.thumb_emit.specs.Frame.{own, raises, lowers, kept_registers}
 use Rattle.thumb_emit.specs.Emit.{get, put, passes, loads, op_pieces, loads_field, stores_field, asks, answers, calls_slot, move_pieces, moves_pieces, entry_pieces}
 use Rattle.thumb_emit.proofs.Lists.{if_has}
+use Rattle.thumb_emit.proofs.Operators.{unary_has, binary_has}
 
 -- the labels among pieces, and those that are gone to
 abbrev pub labels_of : List Piece → List ℕ
@@ -109,31 +110,13 @@ module _ (f : Function) (place : ℕ → Place) where
   op_marks k n (Const to value) w = None (record { stand = refl; goes = refl })
   op_marks k n (Copy to from) w = None (record { stand = refl; goes = refl })
   op_marks k n (Unary to op from) w =
-      let P : List Piece → Type 0 = λ xs. Marks k n (get f place 0 from ∷ xs ++ (put f place 0 to ∷ [])) in
       let bare : IsMarked [] [] (get f place 0 from ∷ put f place 0 to ∷ []) = record { stand = refl; goes = refl } in
-      if_has P (op == 1) _ _ (None (record { stand = refl; goes = refl }))
-      (if_has P (op == 2) _ _ (None bare)
-      (if_has P (op == 3) _ _ (One (record { stand = refl; goes = refl }))
-      (if_has P (op == 4) _ _ (None (record { stand = refl; goes = refl }))
-      (if_has P (op == 5) _ _ (None (record { stand = refl; goes = refl })) (None (record { stand = refl; goes = refl }))))))
+      unary_has (λ xs. Marks k n (get f place 0 from ∷ xs ++ (put f place 0 to ∷ []))) op (3 * k + 1)
+      (λ x. None (record { stand = refl; goes = refl })) (None bare) (One (record { stand = refl; goes = refl }))
   op_marks k n (Binary to op left right) w =
-      let P : List Piece → Type 0 = λ xs. Marks k n (get f place 0 left ∷ get f place 1 right ∷ xs ++ (put f place 0 to ∷ [])) in
-      if_has P (op == 1) _ _ (None (record { stand = refl; goes = refl }))
-      (if_has P (op == 2) _ _ (None (record { stand = refl; goes = refl }))
-      (if_has P (op == 3) _ _ (None (record { stand = refl; goes = refl }))
-      (if_has P (op == 4) _ _ (One (record { stand = refl; goes = refl }))
-      (if_has P (op == 5) _ _ (One (record { stand = refl; goes = refl }))
-      (if_has P (op == 6) _ _ (One (record { stand = refl; goes = refl }))
-      (if_has P (op == 7) _ _ (One (record { stand = refl; goes = refl }))
-      (if_has P (op == 8) _ _ (One (record { stand = refl; goes = refl }))
-      (if_has P (op == 9) _ _ (One (record { stand = refl; goes = refl }))
-      (if_has P (op == 10) _ _ (None (record { stand = refl; goes = refl }))
-      (if_has P (op == 11) _ _ (None (record { stand = refl; goes = refl }))
-      (if_has P (op == 12) _ _ (None (record { stand = refl; goes = refl }))
-      (if_has P (op == 13) _ _ (None (record { stand = refl; goes = refl }))
-      (if_has P (op == 14) _ _ (None (record { stand = refl; goes = refl }))
-      (if_has P (op == 15) _ _ (None (record { stand = refl; goes = refl }))
-      (if_has P (op == 16) _ _ (None (record { stand = refl; goes = refl })) (None (record { stand = refl; goes = refl })))))))))))))))))
+      binary_has (λ xs. Marks k n (get f place 0 left ∷ get f place 1 right ∷ xs ++ (put f place 0 to ∷ []))) op (3 * k + 1)
+      (λ x. None (record { stand = refl; goes = refl })) (λ cond. One (record { stand = refl; goes = refl })) (λ x. None (record { stand = refl; goes = refl }))
+      (None (record { stand = refl; goes = refl })) (None (record { stand = refl; goes = refl }))
   op_marks k n (GlobalGet to slot) w = None (record { stand = refl; goes = refl })
   op_marks k n (GlobalSet slot from) w = None (record { stand = refl; goes = refl })
   op_marks k n (FieldGet to object field) w =

@@ -1,4 +1,5 @@
 mod Lists
+mod Operators
 mod Fine
 mod Sound
 mod Labels

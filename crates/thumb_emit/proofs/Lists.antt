@@ -1,5 +1,6 @@
 -- What holds of lists one after another.
-use Rattle.std.proofs.Common.{◌≡◌, ℕ, zero, suc, ◌+◌, Bool, true, false, if◌then◌else◌, List, [], ◌∷◌, ◌++◌, Some, slice_get, refl, ap, sym, ◌∙◌, subst, add_assoc, zero-add, arith}
+use Rattle.std.proofs.Common.{◌≡◌, ℕ, zero, suc, ◌+◌, Bool, true, false, if◌then◌else◌, List, [], ◌∷◌, ◌++◌, Some, slice_get, refl, ap, sym, ◌∙◌, subst, add_assoc, zero-add, append_assoc, arith}
+use Rattle.std.specs.Prelude.{Result, Ok, Err, OnOk}
 use Rattle.std.specs.List.{AllByRecursion}
 use Rattle.thumb_layout.specs.declared.pieces.What.{What}
 use Rattle.thumb_layout.specs.declared.pieces.What.TheVariants.{Function}
@@ -59,3 +60,17 @@ called_append (Go c m ∷ xs) ys = called_append xs ys
 called_append (CallTo f ∷ xs) ys = ap (λ (q : List What). Function f ∷ q) (called_append xs ys)
 called_append (Number r v ∷ xs) ys = called_append xs ys
 called_append (Address r w ∷ xs) ys = called_append xs ys
+
+-- three lists put behind another, one after another
+pub put_thrice : (o p q r a b d : List Piece) → p ≡ o ++ a → q ≡ p ++ b → r ≡ q ++ d → r ≡ o ++ (a ++ (b ++ d))
+put_thrice o p q r a b d e g h =
+    h ∙ (ap (λ (x : List Piece). x ++ d) (g ∙ ap (λ (x : List Piece). x ++ b) e)
+    ∙ (append_assoc (o ++ a) b d ∙ append_assoc o a (b ++ d)))
+
+pub put_four : (o p q r s a b d f : List Piece) → p ≡ o ++ a → q ≡ p ++ b → r ≡ q ++ d → s ≡ r ++ f → s ≡ o ++ (a ++ (b ++ (d ++ f)))
+put_four o p q r s a b d f e g h k =
+    k ∙ (ap (λ (x : List Piece). x ++ f) h ∙ (append_assoc q d f ∙ put_thrice o p q (q ++ (d ++ f)) a b (d ++ f) e g refl))
+
+pub on_ok : {A E : Type 0} (r : Result A E) (P Q : Type 0) → (P → Q) → OnOk r P → OnOk r Q
+on_ok (Ok x) P Q h p = h p
+on_ok (Err e) P Q h p = tt

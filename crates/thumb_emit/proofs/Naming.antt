@@ -20,6 +20,7 @@ use Rattle.thumb_emit.specs.Frame.{own, lowers, kept_registers}
 use Rattle.thumb_emit.specs.Emit.{get, put, passes, loads, op_pieces, tests_null, asks, answers, calls_slot, move_pieces, moves_pieces, entry_pieces, ops_pieces, function_pieces}
 use Rattle.thumb_emit.specs.Names.{name_of, names_of, call_of, calls_of, IsCalledBy}
 use Rattle.thumb_emit.proofs.Lists.{if_has, all_append, named_append, called_append}
+use Rattle.thumb_emit.proofs.Operators.{unary_has, binary_has}
 
 -- pieces that name nothing, and call nothing
 pub record IsMute (xs : List Piece) : Type 0 where
@@ -68,29 +69,19 @@ module _ (f : Function) (place : ℕ → Place) where
   op_names k (MakeObject to class) = record { names = refl; calls = tt }
   op_names k (HandlerOf to function) = record { names = refl; calls = tt }
   op_names k (Unary to op from) =
-      let P : List Piece → Type 0 = λ xs. IsOf (Unary to op from) (get f place 0 from ∷ xs ++ (put f place 0 to ∷ [])) in
       let r : IsOf (Unary to op from) (get f place 0 from ∷ put f place 0 to ∷ []) = record { names = refl; calls = tt } in
-      if_has P (op == 1) _ _ (record { names = refl; calls = tt }) (if_has P (op == 2) _ _ r (if_has P (op == 3) _ _ (record { names = refl; calls = tt }) (if_has P (op == 4) _ _ (record { names = refl; calls = tt }) (if_has P (op == 5) _ _ (record { names = refl; calls = tt }) (record { names = refl; calls = tt })))))
+      unary_has (λ xs. IsOf (Unary to op from) (get f place 0 from ∷ xs ++ (put f place 0 to ∷ []))) op (3 * k + 1)
+      (λ x. record { names = refl; calls = tt }) r (record { names = refl; calls = tt })
   op_names k (Binary to op left right) =
-      let P : List Piece → Type 0 = λ xs. IsOf (Binary to op left right) (get f place 0 left ∷ get f place 1 right ∷ xs ++ (put f place 0 to ∷ [])) in
-      (if_has P (op == 1) _ _ (record { names = refl; calls = tt })
-      (if_has P (op == 2) _ _ (record { names = refl; calls = tt })
-      (if_has P (op == 3) _ _ (record { names = refl; calls = tt })
-      (if_has P (op == 4) _ _ (record { names = refl; calls = tt })
-      (if_has P (op == 5) _ _ (record { names = refl; calls = tt })
-      (if_has P (op == 6) _ _ (record { names = refl; calls = tt })
-      (if_has P (op == 7) _ _ (record { names = refl; calls = tt })
-      (if_has P (op == 8) _ _ (record { names = refl; calls = tt })
-      (if_has P (op == 9) _ _ (record { names = refl; calls = tt })
-      (if_has P (op == 10) _ _ (record { names = refl; calls = tt })
-      (if_has P (op == 11) _ _ (record { names = refl; calls = tt })
-      (if_has P (op == 12) _ _ (record { names = refl; calls = tt })
-      (if_has P (op == 13) _ _ (record { names = refl; calls = tt })
-      (if_has P (op == 14) _ _ (record { names = refl; calls = tt })
-      (if_has P (op == 15) _ _ (record { names = refl; calls = tt })
-      (if_has P (op == 16) _ _ (record { names = refl; calls = (inl refl, tt) }) (record { names = refl; calls = (inl refl, tt) })))))))))))))))))
-  op_names k (FieldGet to object field) = if_has (λ xs. IsOf (FieldGet to object field) (get f place 0 object ∷ tests_null (3 * k + 1) ++ (xs ++ (put f place 0 to ∷ [])))) (nat_lt field 31) _ _ (record { names = refl; calls = tt }) (record { names = refl; calls = tt })
-  op_names k (FieldSet object field from) = if_has (λ xs. IsOf (FieldSet object field from) (get f place 0 object ∷ tests_null (3 * k + 1) ++ (get f place 1 from ∷ xs))) (nat_lt field 31) _ _ (record { names = refl; calls = tt }) (record { names = refl; calls = tt })
+      binary_has (λ xs. IsOf (Binary to op left right) (get f place 0 left ∷ get f place 1 right ∷ xs ++ (put f place 0 to ∷ []))) op (3 * k + 1)
+      (λ x. record { names = refl; calls = tt }) (λ cond. record { names = refl; calls = tt }) (λ x. record { names = refl; calls = tt })
+      (record { names = refl; calls = (inl refl, tt) }) (record { names = refl; calls = (inl refl, tt) })
+  op_names k (FieldGet to object field) =
+      if_has (λ xs. IsOf (FieldGet to object field) (get f place 0 object ∷ tests_null (3 * k + 1) ++ (xs ++ (put f place 0 to ∷ [])))) (nat_lt field 31) _ _
+      (record { names = refl; calls = tt }) (record { names = refl; calls = tt })
+  op_names k (FieldSet object field from) =
+      if_has (λ xs. IsOf (FieldSet object field from) (get f place 0 object ∷ tests_null (3 * k + 1) ++ (get f place 1 from ∷ xs))) (nat_lt field 31) _ _
+      (record { names = refl; calls = tt }) (record { names = refl; calls = tt })
   op_names k (Call to function args) =
       let a = passes_mute 0 args in let xs = passes f place 0 args in let ys : List Piece = CallTo function ∷ put f place 0 to ∷ [] in
       let e : called (xs ++ ys) ≡ FunctionOf function ∷ [] = called_append xs ys ∙ ap (λ (q : List What). q ++ called ys) a.calls in
@@ -98,11 +89,16 @@ module _ (f : Function) (place : ℕ → Place) where
         names = named_append xs ys ∙ ap (λ (q : List What). q ++ named ys) a.names;
         calls = subst (λ (q : List What). AllByRecursion (IsCalledBy (Call to function args ∷ [])) q) (sym e) (inr (0, omega arith, refl), tt);
       }
-  op_names k (CallSlot to slot args) = mute_of (CallSlot to slot args) _ (mute_append (passes f place 0 args) (calls_slot slot (3 * k + 1) ++ (put f place 0 to ∷ [])) (passes_mute 0 args) (record { names = refl; calls = refl })) refl
+  op_names k (CallSlot to slot args) =
+      mute_of (CallSlot to slot args) _
+      (mute_append (passes f place 0 args) (calls_slot slot (3 * k + 1) ++ (put f place 0 to ∷ [])) (passes_mute 0 args) (record { names = refl; calls = refl })) refl
   op_names k (Ask to service args) =
-      let h : IsMute (asks service ++ (put f place 0 to ∷ [])) = if_has (λ xs. IsMute (xs ++ (put f place 0 to ∷ []))) (answers service) _ _ (record { names = refl; calls = refl }) (record { names = refl; calls = refl }) in
+      let h : IsMute (asks service ++ (put f place 0 to ∷ [])) = if_has (λ xs. IsMute (xs ++ (put f place 0 to ∷ []))) (answers service) _ _
+      (record { names = refl; calls = refl }) (record { names = refl; calls = refl }) in
       mute_of (Ask to service args) _ (mute_append (loads f place 0 args) (asks service ++ (put f place 0 to ∷ [])) (loads_mute 0 args) h) refl
-  op_names k (Return from) = if_has (λ xs. IsOf (Return from) (get f place 0 from ∷ xs ++ (Plain (PopMany kept_registers true) ∷ []))) (nat_lt 127 (own f)) _ _ (record { names = refl; calls = tt }) (record { names = refl; calls = tt })
+  op_names k (Return from) =
+      if_has (λ xs. IsOf (Return from) (get f place 0 from ∷ xs ++ (Plain (PopMany kept_registers true) ∷ []))) (nat_lt 127 (own f)) _ _
+      (record { names = refl; calls = tt }) (record { names = refl; calls = tt })
 
   move_mute : (p : Place) (t : ℕ) → IsMute (move_pieces f place p t)
   move_mute (Incoming j) t = record { names = refl; calls = refl }
@@ -115,7 +111,8 @@ module _ (f : Function) (place : ℕ → Place) where
 
   entry_mute : IsMute (entry_pieces f place)
   entry_mute =
-      let l : IsMute (lowers (own f)) = if_mute (nat_lt 127 (own f)) _ _ (record { names = refl; calls = refl }) (record { names = refl; calls = refl }) in
+      let l : IsMute (lowers (own f)) = if_mute (nat_lt 127 (own f)) _ _
+      (record { names = refl; calls = refl }) (record { names = refl; calls = refl }) in
       let h = mute_append (lowers (own f)) (moves_pieces f place 0 f.params) l (moves_mute 0 f.params) in
       record { names = h.names; calls = h.calls }
 

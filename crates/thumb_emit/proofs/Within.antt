@@ -15,6 +15,7 @@ use Rattle.thumb_emit.specs.Frame.{own, lowers, kept_registers}
 use Rattle.thumb_emit.specs.Emit.{get, put, passes, loads, op_pieces, tests_null, asks, answers, calls_slot, move_pieces, moves_pieces, entry_pieces, ops_pieces, function_pieces}
 use Rattle.thumb_emit.specs.Bounds.{total_cost, op_cost, op_bytes, ops_bytes, entry_cost, entry_bytes}
 use Rattle.thumb_emit.proofs.Lists.{if_has, cost_append, most_append}
+use Rattle.thumb_emit.proofs.Operators.{unary_has, binary_has}
 
 module _ (f : Function) (place : ℕ → Place) where
   -- instructions
@@ -28,11 +29,10 @@ module _ (f : Function) (place : ℕ → Place) where
 
   pub op_takes : (k : ℕ) (op : Op) → total_cost (op_pieces f place k op) ≤ op_cost op
   op_takes k (Unary to op from) =
-      let P : List Piece → Type 0 = λ xs. total_cost (get f place 0 from ∷ xs ++ (put f place 0 to ∷ [])) ≤ 15 in
-      if_has P (op == 1) _ _ (omega arith) (if_has P (op == 2) _ _ (omega arith) (if_has P (op == 3) _ _ (omega arith) (if_has P (op == 4) _ _ (omega arith) (if_has P (op == 5) _ _ (omega arith) (omega arith)))))
+      unary_has (λ xs. total_cost (get f place 0 from ∷ xs ++ (put f place 0 to ∷ [])) ≤ 15) op (3 * k + 1) (λ x. omega arith) (omega arith) (omega arith)
   op_takes k (Binary to op left right) =
-      let P : List Piece → Type 0 = λ xs. total_cost (get f place 0 left ∷ get f place 1 right ∷ xs ++ (put f place 0 to ∷ [])) ≤ 17 in
-      if_has P (op == 1) _ _ (omega arith) (if_has P (op == 2) _ _ (omega arith) (if_has P (op == 3) _ _ (omega arith) (if_has P (op == 4) _ _ (omega arith) (if_has P (op == 5) _ _ (omega arith) (if_has P (op == 6) _ _ (omega arith) (if_has P (op == 7) _ _ (omega arith) (if_has P (op == 8) _ _ (omega arith) (if_has P (op == 9) _ _ (omega arith) (if_has P (op == 10) _ _ (omega arith) (if_has P (op == 11) _ _ (omega arith) (if_has P (op == 12) _ _ (omega arith) (if_has P (op == 13) _ _ (omega arith) (if_has P (op == 14) _ _ (omega arith) (if_has P (op == 15) _ _ (omega arith) (if_has P (op == 16) _ _ (omega arith) (omega arith))))))))))))))))
+      binary_has (λ xs. total_cost (get f place 0 left ∷ get f place 1 right ∷ xs ++ (put f place 0 to ∷ [])) ≤ 17) op (3 * k + 1)
+      (λ x. omega arith) (λ cond. omega arith) (λ x. omega arith) (omega arith) (omega arith)
   op_takes k (FieldGet to object field) =
       if_has (λ xs. total_cost (get f place 0 object ∷ tests_null (3 * k + 1) ++ (xs ++ (put f place 0 to ∷ []))) ≤ 17) (nat_lt field 31) _ _ (omega arith) (omega arith)
   op_takes k (FieldSet object field from) =
@@ -85,11 +85,10 @@ module _ (f : Function) (place : ℕ → Place) where
 
   pub op_fills : (k : ℕ) (op : Op) → total_most (op_pieces f place k op) ≤ op_bytes op
   op_fills k (Unary to op from) =
-      let P : List Piece → Type 0 = λ xs. total_most (get f place 0 from ∷ xs ++ (put f place 0 to ∷ [])) ≤ 18 in
-      if_has P (op == 1) _ _ (omega arith) (if_has P (op == 2) _ _ (omega arith) (if_has P (op == 3) _ _ (omega arith) (if_has P (op == 4) _ _ (omega arith) (if_has P (op == 5) _ _ (omega arith) (omega arith)))))
+      unary_has (λ xs. total_most (get f place 0 from ∷ xs ++ (put f place 0 to ∷ [])) ≤ 18) op (3 * k + 1) (λ x. omega arith) (omega arith) (omega arith)
   op_fills k (Binary to op left right) =
-      let P : List Piece → Type 0 = λ xs. total_most (get f place 0 left ∷ get f place 1 right ∷ xs ++ (put f place 0 to ∷ [])) ≤ 20 in
-      if_has P (op == 1) _ _ (omega arith) (if_has P (op == 2) _ _ (omega arith) (if_has P (op == 3) _ _ (omega arith) (if_has P (op == 4) _ _ (omega arith) (if_has P (op == 5) _ _ (omega arith) (if_has P (op == 6) _ _ (omega arith) (if_has P (op == 7) _ _ (omega arith) (if_has P (op == 8) _ _ (omega arith) (if_has P (op == 9) _ _ (omega arith) (if_has P (op == 10) _ _ (omega arith) (if_has P (op == 11) _ _ (omega arith) (if_has P (op == 12) _ _ (omega arith) (if_has P (op == 13) _ _ (omega arith) (if_has P (op == 14) _ _ (omega arith) (if_has P (op == 15) _ _ (omega arith) (if_has P (op == 16) _ _ (omega arith) (omega arith))))))))))))))))
+      binary_has (λ xs. total_most (get f place 0 left ∷ get f place 1 right ∷ xs ++ (put f place 0 to ∷ [])) ≤ 20) op (3 * k + 1)
+      (λ x. omega arith) (λ cond. omega arith) (λ x. omega arith) (omega arith) (omega arith)
   op_fills k (FieldGet to object field) =
       if_has (λ xs. total_most (get f place 0 object ∷ tests_null (3 * k + 1) ++ (xs ++ (put f place 0 to ∷ []))) ≤ 28) (nat_lt field 31) _ _ (omega arith) (omega arith)
   op_fills k (FieldSet object field from) =

@@ -1,18 +1,30 @@
 -- What emission asks of a function and its places.
-use Rattle.std.specs.Prelude.{FitsSigned}
+use Rattle.std.specs.Prelude.{ℕ, ◌+◌, ◌*◌, ◌^◌, ◌<◌, length, List, [], ◌∷◌, ◌++◌, FitsSigned}
 use Rattle.std.specs.Int.{w32}
 use Rattle.std.specs.List.{AllByRecursion}
 use Rattle.flat_ir.specs.declared.ops.Op.{Op}
 use Rattle.flat_ir.specs.declared.ops.Op.TheVariants.{Const}
 use Rattle.flat_ir.specs.declared.ops.Function.{Function}
-use Rattle.flat_ir.specs.WellFormed.{IsWellFormedFunction}
+use Rattle.flat_ir.specs.WellFormed.{IsWellFormedFunction, IsOpWithin, temporaries}
 use Rattle.register_assign.specs.declared.places.Placed.{Placed}
-use Rattle.register_assign.specs.Sound.{ArePlacesSound}
+use Rattle.register_assign.specs.Sound.{place_of, ArePlacesSound}
+use Rattle.thumb_code.specs.declared.instructions.Instr.TheVariants.{MovHigh, CmpReg}
+use Rattle.thumb_layout.specs.declared.pieces.Piece.{Piece}
+use Rattle.thumb_layout.specs.declared.pieces.Piece.TheVariants.{Plain, Number}
+use Rattle.thumb_emit.specs.Frame.{words}
+use Rattle.thumb_emit.specs.Emit.{get, put, op_pieces, ops_pieces, entry_pieces, unless, at_least_unsigned, tests_null, tests_index, finds_item}
 
 -- the function is well formed, and its places are sound
 pub record IsReady (p : Placed) : Type 0 where
   pub formed : IsWellFormedFunction p.function
   pub sound : ArePlacesSound p.function p.places
+
+-- op k is one of the function's, and every label has 32 bits
+pub record IsReadyAt (p : Placed) (k : ℕ) (op : Op) : Type 0 where
+  pub ready : IsReady p
+  pub there : k < length p.function.ops
+  pub within : IsOpWithin (temporaries p.function) (length p.function.ops) p.function.outgoing op
+  pub labels : 3 * length p.function.ops < 2 ^ 32
 
 -- each number has 32 bits, as every number of an op in memory has
 abbrev pub HasNumber : Op → Type 0
@@ -21,3 +33,28 @@ HasNumber op = Unit {0}
 
 abbrev pub HasNumbers : Function → Type 0
 HasNumbers f = AllByRecursion HasNumber f.ops
+
+-- the pieces of a placed function, by parts
+abbrev pub gets : Placed → ℕ → ℕ → Piece
+gets p = get p.function (place_of p.places)
+
+abbrev pub puts : Placed → ℕ → ℕ → Piece
+puts p = put p.function (place_of p.places)
+
+abbrev pub pieces_of : Placed → ℕ → Op → List Piece
+pieces_of p = op_pieces p.function (place_of p.places)
+
+abbrev pub rest_of : Placed → ℕ → List Op → List Piece
+rest_of p = ops_pieces p.function (place_of p.places)
+
+abbrev pub entry_of : Placed → List Piece
+entry_of p = entry_pieces p.function (place_of p.places)
+
+-- op k comes to an item: the array in r0 isn't null, the index in r1 is below its length, and the item stands at r2 + r1
+abbrev pub reaches_item : Placed → ℕ → ℕ → ℕ → List Piece
+reaches_item p k array index = gets p 0 array ∷ gets p 1 index ∷ tests_null (3 * k + 1) ++ (tests_index (3 * k + 2) ++ finds_item)
+
+-- the entry up to where the frame is written
+abbrev pub tests_depth : Placed → ℕ → List Piece
+tests_depth p label =
+    Plain (MovHigh 3 14) ∷ Plain (MovHigh 0 13) ∷ Number 1 (0x20003080 + 4 * words p.function) ∷ Plain (CmpReg 0 1) ∷ unless at_least_unsigned 102 label

@@ -1,0 +1,202 @@
+//! Pieces of calls, services, jumps and returns.
+ghost use Rattle.std.specs.Prelude.{◌≡◌, ◌+◌, ◌*◌, ◌^◌, ◌<◌, ◌≤◌, ◌++◌, length, OnOk};
+ghost use Rattle.std.specs.List.{AllByRecursion};
+ghost use Rattle.flat_ir.specs.declared.ops.Op.TheVariants as o;
+ghost use Rattle.flat_ir.specs.WellFormed.{temporaries};
+ghost use Rattle.register_assign.specs.Sound.{place_of};
+ghost use Rattle.thumb_emit.specs.Emit.{passes, loads, answers, asks, calls_slot};
+ghost use Rattle.thumb_emit.specs.Ready.{IsReady, pieces_of};
+
+use crate::frame::{get, own, put, raise};
+use crate::pieces::{ALWAYS, NE, add, load, test_null};
+use register_assign::Placed;
+use sts_base::{NoMemory, Seq};
+use thumb_code::Instr;
+use thumb_layout::{Piece, What};
+
+/// r4 to r7 in the list of PUSH and POP.
+pub(crate) const KEPT_REGISTERS: u8 = 240;
+
+/// Arguments into outgoing words.
+fn pass(out: &mut Seq<Piece>, placed: &Placed, args: &[u32]) -> Result<(), NoMemory>
+    requires ready { IsReady placed.now }
+    requires known { AllByRecursion (λ t. t < temporaries placed.now.function) args.now }
+    requires few { length args.now ≤ placed.now.function.outgoing }
+    ensures { OnOk result (out.new ≡ out.old ++ passes placed.now.function (place_of placed.now.places) 0 args.now) }
+{
+    for (at, t) in args.iter().enumerate() {
+        out.push(get(placed, 0, *t))?;
+        let imm = at as u8;
+        out.push(Piece::Plain(Instr::StrSp { rt: 0, imm }))?;
+    }
+    Ok(())
+}
+
+/// Arguments into registers, from r0 on.
+fn load_arguments(out: &mut Seq<Piece>, placed: &Placed, args: &[u32]) -> Result<(), NoMemory>
+    requires ready { IsReady placed.now }
+    requires known { AllByRecursion (λ t. t < temporaries placed.now.function) args.now }
+    requires few { length args.now ≤ 4 }
+    ensures { OnOk result (out.new ≡ out.old ++ loads placed.now.function (place_of placed.now.places) 0 args.now) }
+{
+    for (at, t) in args.iter().enumerate() {
+        out.push(get(placed, at as u8, *t))?;
+    }
+    Ok(())
+}
+
+/// Calls a function.
+pub(crate) fn call(
+    out: &mut Seq<Piece>,
+    placed: &Placed,
+    to: u32,
+    function: u32,
+    args: &Seq<u32>,
+) -> Result<(), NoMemory>
+    requires ready { IsReady placed.now }
+    requires to { to < temporaries placed.now.function }
+    requires known { AllByRecursion (λ t. t < temporaries placed.now.function) args.now }
+    requires few { length args.now ≤ placed.now.function.outgoing }
+    ensures { OnOk result (out.new ≡ out.old ++ pieces_of placed.now 0 (o.Call to function args.now)) }
+{
+    pass(out, placed, args.as_slice())?;
+    add(out, &[Piece::CallTo { function }, put(placed, 0, to)])
+}
+
+/// Calls the method in a slot of the class of the object in the first outgoing word.
+fn call_method(out: &mut Seq<Piece>, slot: u32, label: u32) -> Result<(), NoMemory>
+    requires { slot < 30 }
+    ensures { OnOk result (out.new ≡ out.old ++ calls_slot slot label) }
+{
+    out.push(Piece::Plain(Instr::LdrSp { rt: 0, imm: 0 }))?;
+    test_null(out, label)?;
+    let at = (slot + 1) as u8;
+    add(
+        out,
+        &[
+            load(1, 0, 0),
+            load(1, 1, at),
+            Piece::Plain(Instr::Blx { rm: 1 }),
+        ],
+    )
+}
+
+/// Calls a method through a slot.
+pub(crate) fn call_slot(
+    out: &mut Seq<Piece>,
+    placed: &Placed,
+    k: u32,
+    to: u32,
+    slot: u32,
+    args: &Seq<u32>,
+) -> Result<(), NoMemory>
+    requires ready { IsReady placed.now }
+    requires to { to < temporaries placed.now.function }
+    requires slot { slot < 30 }
+    requires known { AllByRecursion (λ t. t < temporaries placed.now.function) args.now }
+    requires few { length args.now ≤ placed.now.function.outgoing }
+    requires label { 3 * k + 1 < 2 ^ 32 }
+    ensures { OnOk result (out.new ≡ out.old ++ pieces_of placed.now k (o.CallSlot to slot args.now)) }
+{
+    pass(out, placed, args.as_slice())?;
+    call_method(out, slot, 3 * k + 1)?;
+    out.push(put(placed, 0, to))
+}
+
+/// A function as a value.
+pub(crate) fn handler(
+    out: &mut Seq<Piece>,
+    placed: &Placed,
+    to: u32,
+    function: u32,
+) -> Result<(), NoMemory>
+    requires ready { IsReady placed.now }
+    requires to { to < temporaries placed.now.function }
+    ensures { OnOk result (out.new ≡ out.old ++ pieces_of placed.now 0 (o.HandlerOf to function)) }
+{
+    let what = What::Function(function);
+    add(out, &[Piece::Address { rd: 0, what }, put(placed, 0, to)])
+}
+
+/// The services that answer in r0.
+fn answers(service: u8) -> bool
+    ensures { result ≡ answers service }
+{
+    service == 7 || service == 8 || service == 9 || service == 16 || service == 17
+}
+
+/// Asks for a service of the board.
+pub(crate) fn ask(
+    out: &mut Seq<Piece>,
+    placed: &Placed,
+    to: u32,
+    service: u8,
+    args: &Seq<u32>,
+) -> Result<(), NoMemory>
+    requires ready { IsReady placed.now }
+    requires to { to < temporaries placed.now.function }
+    requires known { AllByRecursion (λ t. t < temporaries placed.now.function) args.now }
+    requires few { length args.now ≤ 4 }
+    ensures { OnOk result (out.new ≡ out.old ++ pieces_of placed.now 0 (o.Ask to service args.now)) }
+{
+    load_arguments(out, placed, args.as_slice())?;
+    put_service(out, service)?;
+    out.push(put(placed, 0, to))
+}
+
+/// A service; behind one that doesn't answer r0 becomes 0.
+fn put_service(out: &mut Seq<Piece>, service: u8) -> Result<(), NoMemory>
+    ensures { OnOk result (out.new ≡ out.old ++ asks service) }
+{
+    let asked = Piece::Plain(Instr::Svc { imm: service });
+    if answers(service) {
+        return out.push(asked);
+    }
+    add(out, &[asked, Piece::Plain(Instr::MovImm { rd: 0, imm: 0 })])
+}
+
+/// Goes on at another op.
+pub(crate) fn jump(out: &mut Seq<Piece>, placed: &Placed, target: u32) -> Result<(), NoMemory>
+    requires { 3 * target < 2 ^ 32 }
+    ensures { OnOk result (out.new ≡ out.old ++ pieces_of placed.now 0 (o.Jump target)) }
+{
+    out.push(Piece::Go {
+        cond: ALWAYS,
+        label: 3 * target,
+    })
+}
+
+/// Goes on at another op where a value isn't 0.
+pub(crate) fn branch(
+    out: &mut Seq<Piece>,
+    placed: &Placed,
+    when: u32,
+    target: u32,
+) -> Result<(), NoMemory>
+    requires ready { IsReady placed.now }
+    requires when { when < temporaries placed.now.function }
+    requires label { 3 * target < 2 ^ 32 }
+    ensures { OnOk result (out.new ≡ out.old ++ pieces_of placed.now 0 (o.Branch when target)) }
+{
+    let label = 3 * target;
+    add(
+        out,
+        &[
+            get(placed, 0, when),
+            Piece::Plain(Instr::CmpImm { rd: 0, imm: 0 }),
+            Piece::Go { cond: NE, label },
+        ],
+    )
+}
+
+/// Returns to the caller.
+pub(crate) fn give(out: &mut Seq<Piece>, placed: &Placed, from: u32) -> Result<(), NoMemory>
+    requires ready { IsReady placed.now }
+    requires from { from < temporaries placed.now.function }
+    ensures { OnOk result (out.new ≡ out.old ++ pieces_of placed.now 0 (o.Return from)) }
+{
+    out.push(get(placed, 0, from))?;
+    raise(out, own(placed))?;
+    let list = KEPT_REGISTERS;
+    out.push(Piece::Plain(Instr::Pop { list, p: true }))
+}

@@ -1,0 +1,85 @@
+//! The pieces of a function.
+ghost use Rattle.std.specs.Prelude.{◌≡◌, ◌++◌, OnOk, IfOk};
+ghost use Rattle.flat_ir.specs.WellFormed.{IsWellFormedFunction};
+ghost use Rattle.register_assign.specs.Sound.{ArePlacesSound};
+ghost use Rattle.thumb_emit.specs.Emit.{function_pieces};
+ghost use Rattle.thumb_emit.specs.Ready.{IsReadyAt, pieces_of};
+
+use crate::calls::{ask, branch, call, call_slot, give, handler, jump};
+use crate::entry::enter;
+use crate::numbers::{binary, constant, copy, unary};
+use crate::things::{
+    get_field, get_global, get_item, length, make_array, make_object, pop, set_field, set_global,
+    set_item, text,
+};
+use flat_ir::Op;
+use register_assign::Placed;
+use std::alloc::Global;
+use sts_base::{NoMemory, Seq};
+use thumb_layout::Piece;
+
+/// So many ops have labels of 32 bits.
+const MOST_OPS: usize = 1_431_655_764;
+
+/// Op k.
+fn put_op(out: &mut Seq<Piece>, placed: &Placed, k: u32, op: &Op) -> Result<(), NoMemory>
+    requires { IsReadyAt placed.now k op.now }
+    ensures { OnOk result (out.new ≡ out.old ++ pieces_of placed.now k op.now) }
+{
+    match op {
+        Op::Const { to, value } => constant(out, placed, *to, *value),
+        Op::Copy { to, from } => copy(out, placed, *to, *from),
+        Op::Unary { to, op, from } => unary(out, placed, k, *to, *op, *from),
+        Op::Binary {
+            to,
+            op,
+            left,
+            right,
+        } => binary(out, placed, k, *to, *op, *left, *right),
+        Op::GlobalGet { to, slot } => get_global(out, placed, *to, *slot),
+        Op::GlobalSet { slot, from } => set_global(out, placed, *slot, *from),
+        Op::FieldGet { to, object, field } => get_field(out, placed, k, *to, *object, *field),
+        Op::FieldSet {
+            object,
+            field,
+            from,
+        } => set_field(out, placed, k, *object, *field, *from),
+        Op::ItemGet { to, array, index } => get_item(out, placed, k, *to, *array, *index),
+        Op::ItemSet { array, index, from } => set_item(out, placed, k, *array, *index, *from),
+        Op::Length { to, array } => length(out, placed, k, *to, *array),
+        Op::Pop { to, array } => pop(out, placed, k, *to, *array),
+        Op::TextOf { to, text: number } => text(out, placed, *to, *number),
+        Op::MakeObject { to, class } => make_object(out, placed, *to, *class),
+        Op::MakeArray { to, room } => make_array(out, placed, *to, *room),
+        Op::Call { to, function, args } => call(out, placed, *to, *function, args),
+        Op::CallSlot { to, slot, args } => call_slot(out, placed, k, *to, *slot, args),
+        Op::HandlerOf { to, function } => handler(out, placed, *to, *function),
+        Op::Ask { to, service, args } => ask(out, placed, *to, *service, args),
+        Op::Jump { target } => jump(out, placed, *target),
+        Op::Branch { when, target } => branch(out, placed, *when, *target),
+        Op::Return { from } => give(out, placed, *from),
+    }
+}
+
+/// The pieces of a function whose temporaries have places: its entry, and its ops in their order, each behind its label.
+///
+/// `NoMemory` is for want of memory. It also comes where there are more than 1,431,655,764 ops, which have no labels of 32 bits and whose
+/// pieces would take more than 34 gigabytes.
+pub fn emit(alloc: Global, placed: &Placed) -> Result<Seq<Piece>, NoMemory>
+    requires formed { IsWellFormedFunction placed.now.function }
+    requires sound { ArePlacesSound placed.now.function placed.now.places }
+    ensures { IfOk result (λ pieces. pieces ≡ function_pieces placed.now) }
+{
+    let ops = placed.function.ops.as_slice();
+    if ops.len() > MOST_OPS {
+        return Err(NoMemory);
+    }
+    let mut out = Seq::new(alloc);
+    enter(&mut out, placed)?;
+    for (at, op) in ops.iter().enumerate() {
+        let k = at as u32;
+        out.push(Piece::Label(3 * k))?;
+        put_op(&mut out, placed, k, op)?;
+    }
+    Ok(out)
+}

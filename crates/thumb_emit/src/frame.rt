@@ -1,0 +1,137 @@
+//! A function's frame, and the piece that brings a temporary into a low register or back.
+ghost use Rattle.std.specs.Prelude.{◌≡◌, ◌+◌, ◌<◌, ◌≤◌, ◌++◌, OnOk};
+ghost use Rattle.flat_ir.specs.WellFormed.{temporaries};
+ghost use Rattle.register_assign.specs.Sound.{IsWithin, place_of};
+ghost use Rattle.thumb_emit.specs.Frame.{own, words, from_place, to_place, raises, lowers};
+ghost use Rattle.thumb_emit.specs.Ready.{IsReady, gets, puts};
+
+use crate::pieces::add;
+use register_assign::{Place, Placed};
+use sts_base::{NoMemory, Seq};
+use thumb_code::Instr;
+use thumb_layout::Piece;
+
+/// The frame's words below the registers that it keeps.
+pub(crate) fn own(placed: &Placed) -> u32
+    requires { IsReady placed.now }
+    ensures own { result ≡ own placed.now.function }
+    ensures few { result ≤ 136 }
+{
+    let function = &placed.function;
+    function.outgoing + function.locals + function.operands
+}
+
+/// All words of the frame.
+pub(crate) fn words(placed: &Placed) -> u32
+    requires { IsReady placed.now }
+    ensures words { result ≡ words placed.now.function }
+    ensures few { result ≤ 141 }
+{
+    own(placed) + 5
+}
+
+/// A place into a low register.
+pub(crate) fn from_place(placed: &Placed, rd: u8, place: Place) -> Piece
+    requires ready { IsReady placed.now }
+    requires within { IsWithin placed.now.function place }
+    ensures { result ≡ from_place placed.now.function rd place }
+{
+    Piece::Plain(match place {
+        Place::Reg(r) => Instr::MovHigh { rd, rm: r },
+        Place::Slot(j) => Instr::LdrSp {
+            rt: rd,
+            imm: (placed.function.outgoing + j) as u8,
+        },
+        Place::Incoming(j) => Instr::LdrSp {
+            rt: rd,
+            imm: (words(placed) + j) as u8,
+        },
+    })
+}
+
+/// A low register into a place.
+pub(crate) fn to_place(placed: &Placed, rs: u8, place: Place) -> Piece
+    requires ready { IsReady placed.now }
+    requires within { IsWithin placed.now.function place }
+    ensures { result ≡ to_place placed.now.function rs place }
+{
+    Piece::Plain(match place {
+        Place::Reg(r) => Instr::MovHigh { rd: r, rm: rs },
+        Place::Slot(j) => Instr::StrSp {
+            rt: rs,
+            imm: (placed.function.outgoing + j) as u8,
+        },
+        Place::Incoming(j) => Instr::StrSp {
+            rt: rs,
+            imm: (words(placed) + j) as u8,
+        },
+    })
+}
+
+/// The place of a temporary.
+pub(crate) fn place_of(placed: &Placed, t: u32) -> Place
+    requires ready { IsReady placed.now }
+    requires known { t < temporaries placed.now.function }
+    ensures place { result ≡ place_of placed.now.places t }
+    ensures within { IsWithin placed.now.function result }
+{
+    placed.places.as_slice()[t as usize]
+}
+
+/// A temporary into a low register.
+pub(crate) fn get(placed: &Placed, rd: u8, t: u32) -> Piece
+    requires ready { IsReady placed.now }
+    requires known { t < temporaries placed.now.function }
+    ensures { result ≡ gets placed.now rd t }
+{
+    from_place(placed, rd, place_of(placed, t))
+}
+
+/// A low register into a temporary.
+pub(crate) fn put(placed: &Placed, rs: u8, t: u32) -> Piece
+    requires ready { IsReady placed.now }
+    requires known { t < temporaries placed.now.function }
+    ensures { result ≡ puts placed.now rs t }
+{
+    to_place(placed, rs, place_of(placed, t))
+}
+
+/// SP goes up by so many words.
+pub(crate) fn raise(out: &mut Seq<Piece>, words: u32) -> Result<(), NoMemory>
+    requires { words ≤ 136 }
+    ensures { OnOk result (out.new ≡ out.old ++ raises words) }
+{
+    if words > 127 {
+        let rest = (words - 127) as u8;
+        add(
+            out,
+            &[
+                Piece::Plain(Instr::AddSpImm { imm: 127 }),
+                Piece::Plain(Instr::AddSpImm { imm: rest }),
+            ],
+        )
+    } else {
+        let imm = words as u8;
+        add(out, &[Piece::Plain(Instr::AddSpImm { imm })])
+    }
+}
+
+/// SP goes down by so many words.
+pub(crate) fn lower(out: &mut Seq<Piece>, words: u32) -> Result<(), NoMemory>
+    requires { words ≤ 136 }
+    ensures { OnOk result (out.new ≡ out.old ++ lowers words) }
+{
+    if words > 127 {
+        let rest = (words - 127) as u8;
+        add(
+            out,
+            &[
+                Piece::Plain(Instr::SubSpImm { imm: 127 }),
+                Piece::Plain(Instr::SubSpImm { imm: rest }),
+            ],
+        )
+    } else {
+        let imm = words as u8;
+        add(out, &[Piece::Plain(Instr::SubSpImm { imm })])
+    }
+}

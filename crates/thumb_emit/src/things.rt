@@ -1,0 +1,348 @@
+//! Pieces of globals, objects, arrays and texts.
+ghost use Rattle.std.specs.Prelude.{◌≡◌, ◌+◌, ◌*◌, ◌^◌, ◌<◌, ◌++◌, OnOk};
+ghost use Rattle.thumb_layout.specs.declared.pieces.Piece.TheVariants as p;
+ghost use Rattle.thumb_code.specs.declared.instructions.Instr.TheVariants as i;
+ghost use Rattle.flat_ir.specs.declared.ops.Op.TheVariants as o;
+ghost use Rattle.flat_ir.specs.WellFormed.{temporaries};
+ghost use Rattle.thumb_emit.specs.Emit.{tests_null, tests_index, finds_item, loads_field, stores_field, field_offset, finds_global, pops};
+ghost use Rattle.thumb_emit.specs.Ready.{IsReady, pieces_of, reaches_item};
+
+use crate::frame::{get, put};
+use crate::pieces::{NE, add, load, store, test_index, test_null, unless};
+use register_assign::Placed;
+use sts_base::{NoMemory, Seq};
+use thumb_code::Instr;
+use thumb_layout::{Piece, What};
+
+/// The address of the first global.
+const GLOBALS: u32 = 0x2000_0000;
+
+/// A load of the word that stands behind an address by as many bytes as a register says.
+fn load_at(rt: u8, rn: u8, rm: u8) -> Piece
+    ensures { result ≡ p.Plain (i.LdrReg rt rn rm) }
+{
+    Piece::Plain(Instr::LdrReg { rt, rn, rm })
+}
+
+/// A store there.
+fn store_at(rt: u8, rn: u8, rm: u8) -> Piece
+    ensures { result ≡ p.Plain (i.StrReg rt rn rm) }
+{
+    Piece::Plain(Instr::StrReg { rt, rn, rm })
+}
+
+/// The address of a global into r1.
+fn find_global(slot: u32) -> Piece
+    requires { slot < 256 }
+    ensures { result ≡ finds_global slot }
+{
+    let value = GLOBALS + 4 * slot;
+    Piece::Number { rd: 1, value }
+}
+
+/// Reads a global.
+pub(crate) fn get_global(
+    out: &mut Seq<Piece>,
+    placed: &Placed,
+    to: u32,
+    slot: u32,
+) -> Result<(), NoMemory>
+    requires ready { IsReady placed.now }
+    requires to { to < temporaries placed.now.function }
+    requires slot { slot < 256 }
+    ensures { OnOk result (out.new ≡ out.old ++ pieces_of placed.now 0 (o.GlobalGet to slot)) }
+{
+    add(out, &[find_global(slot), load(0, 1, 0), put(placed, 0, to)])
+}
+
+/// Writes a global.
+pub(crate) fn set_global(
+    out: &mut Seq<Piece>,
+    placed: &Placed,
+    slot: u32,
+    from: u32,
+) -> Result<(), NoMemory>
+    requires ready { IsReady placed.now }
+    requires from { from < temporaries placed.now.function }
+    requires slot { slot < 256 }
+    ensures { OnOk result (out.new ≡ out.old ++ pieces_of placed.now 0 (o.GlobalSet slot from)) }
+{
+    add(
+        out,
+        &[get(placed, 0, from), find_global(slot), store(0, 1, 0)],
+    )
+}
+
+/// How far behind an object's address a field stands.
+fn field_offset(field: u32) -> u32
+    ensures { result ≡ field_offset field }
+{
+    field.saturating_add(1).saturating_mul(4)
+}
+
+/// A field of the object at r0 into r0.
+fn load_field(out: &mut Seq<Piece>, field: u32) -> Result<(), NoMemory>
+    ensures { OnOk result (out.new ≡ out.old ++ loads_field field) }
+{
+    if field < 31 {
+        return out.push(load(0, 0, (field + 1) as u8));
+    }
+    let value = field_offset(field);
+    add(out, &[Piece::Number { rd: 2, value }, load_at(0, 0, 2)])
+}
+
+/// r1 into a field of the object at r0.
+fn store_field(out: &mut Seq<Piece>, field: u32) -> Result<(), NoMemory>
+    ensures { OnOk result (out.new ≡ out.old ++ stores_field field) }
+{
+    if field < 31 {
+        return out.push(store(1, 0, (field + 1) as u8));
+    }
+    let value = field_offset(field);
+    add(out, &[Piece::Number { rd: 2, value }, store_at(1, 0, 2)])
+}
+
+/// Reads a field.
+pub(crate) fn get_field(
+    out: &mut Seq<Piece>,
+    placed: &Placed,
+    k: u32,
+    to: u32,
+    object: u32,
+    field: u32,
+) -> Result<(), NoMemory>
+    requires ready { IsReady placed.now }
+    requires to { to < temporaries placed.now.function }
+    requires object { object < temporaries placed.now.function }
+    requires label { 3 * k + 1 < 2 ^ 32 }
+    ensures { OnOk result (out.new ≡ out.old ++ pieces_of placed.now k (o.FieldGet to object field)) }
+{
+    out.push(get(placed, 0, object))?;
+    test_null(out, 3 * k + 1)?;
+    load_field(out, field)?;
+    out.push(put(placed, 0, to))
+}
+
+/// Writes a field.
+pub(crate) fn set_field(
+    out: &mut Seq<Piece>,
+    placed: &Placed,
+    k: u32,
+    object: u32,
+    field: u32,
+    from: u32,
+) -> Result<(), NoMemory>
+    requires ready { IsReady placed.now }
+    requires object { object < temporaries placed.now.function }
+    requires from { from < temporaries placed.now.function }
+    requires label { 3 * k + 1 < 2 ^ 32 }
+    ensures { OnOk result (out.new ≡ out.old ++ pieces_of placed.now k (o.FieldSet object field from)) }
+{
+    out.push(get(placed, 0, object))?;
+    test_null(out, 3 * k + 1)?;
+    out.push(get(placed, 1, from))?;
+    store_field(out, field)
+}
+
+/// The address of the items of the array at r0 into r2, and how far behind it that of the index in r1 stands into r1.
+fn find_item(out: &mut Seq<Piece>) -> Result<(), NoMemory>
+    ensures { OnOk result (out.new ≡ out.old ++ finds_item) }
+{
+    let scaled = Instr::LslImm {
+        rd: 1,
+        rm: 1,
+        imm: 2,
+    };
+    add(out, &[load(2, 0, 3), Piece::Plain(scaled)])
+}
+
+/// The array in r0 isn't null and the index in r1 is below its length; then the item's address.
+fn test_item(out: &mut Seq<Piece>, null: u32, index: u32) -> Result<(), NoMemory>
+    ensures { OnOk result (out.new ≡ out.old ++ (tests_null null ++ (tests_index index ++ finds_item))) }
+{
+    test_null(out, null)?;
+    test_index(out, index)?;
+    find_item(out)
+}
+
+/// Comes to an item, whose address is then the sum of r2 and r1.
+fn reach_item(
+    out: &mut Seq<Piece>,
+    placed: &Placed,
+    k: u32,
+    array: u32,
+    index: u32,
+) -> Result<(), NoMemory>
+    requires ready { IsReady placed.now }
+    requires array { array < temporaries placed.now.function }
+    requires index { index < temporaries placed.now.function }
+    requires label { 3 * k + 2 < 2 ^ 32 }
+    ensures { OnOk result (out.new ≡ out.old ++ reaches_item placed.now k array index) }
+{
+    add(out, &[get(placed, 0, array), get(placed, 1, index)])?;
+    test_item(out, 3 * k + 1, 3 * k + 2)
+}
+
+/// Reads an item.
+pub(crate) fn get_item(
+    out: &mut Seq<Piece>,
+    placed: &Placed,
+    k: u32,
+    to: u32,
+    array: u32,
+    index: u32,
+) -> Result<(), NoMemory>
+    requires ready { IsReady placed.now }
+    requires to { to < temporaries placed.now.function }
+    requires array { array < temporaries placed.now.function }
+    requires index { index < temporaries placed.now.function }
+    requires label { 3 * k + 2 < 2 ^ 32 }
+    ensures { OnOk result (out.new ≡ out.old ++ pieces_of placed.now k (o.ItemGet to array index)) }
+{
+    reach_item(out, placed, k, array, index)?;
+    add(out, &[load_at(0, 2, 1), put(placed, 0, to)])
+}
+
+/// Writes an item.
+pub(crate) fn set_item(
+    out: &mut Seq<Piece>,
+    placed: &Placed,
+    k: u32,
+    array: u32,
+    index: u32,
+    from: u32,
+) -> Result<(), NoMemory>
+    requires ready { IsReady placed.now }
+    requires array { array < temporaries placed.now.function }
+    requires index { index < temporaries placed.now.function }
+    requires from { from < temporaries placed.now.function }
+    requires label { 3 * k + 2 < 2 ^ 32 }
+    ensures { OnOk result (out.new ≡ out.old ++ pieces_of placed.now k (o.ItemSet array index from)) }
+{
+    reach_item(out, placed, k, array, index)?;
+    add(out, &[get(placed, 3, from), store_at(3, 2, 1)])
+}
+
+/// The length of an array.
+pub(crate) fn length(
+    out: &mut Seq<Piece>,
+    placed: &Placed,
+    k: u32,
+    to: u32,
+    array: u32,
+) -> Result<(), NoMemory>
+    requires ready { IsReady placed.now }
+    requires to { to < temporaries placed.now.function }
+    requires array { array < temporaries placed.now.function }
+    requires label { 3 * k + 1 < 2 ^ 32 }
+    ensures { OnOk result (out.new ≡ out.old ++ pieces_of placed.now k (o.Length to array)) }
+{
+    out.push(get(placed, 0, array))?;
+    test_null(out, 3 * k + 1)?;
+    out.push(load(0, 0, 1))?;
+    out.push(put(placed, 0, to))
+}
+
+/// The last item of the array at r0 into r0, and the array's length one less.
+fn take_last(out: &mut Seq<Piece>, label: u32) -> Result<(), NoMemory>
+    ensures { OnOk result (out.new ≡ out.old ++ pops label) }
+{
+    add(
+        out,
+        &[load(1, 0, 1), Piece::Plain(Instr::CmpImm { rd: 1, imm: 0 })],
+    )?;
+    unless(out, NE, 104, label)?;
+    out.push(Piece::Plain(Instr::SubImm8 { rd: 1, imm: 1 }))?;
+    out.push(store(1, 0, 1))?;
+    find_item(out)?;
+    out.push(load_at(0, 2, 1))
+}
+
+/// Takes the last item off an array.
+pub(crate) fn pop(
+    out: &mut Seq<Piece>,
+    placed: &Placed,
+    k: u32,
+    to: u32,
+    array: u32,
+) -> Result<(), NoMemory>
+    requires ready { IsReady placed.now }
+    requires to { to < temporaries placed.now.function }
+    requires array { array < temporaries placed.now.function }
+    requires label { 3 * k + 2 < 2 ^ 32 }
+    ensures { OnOk result (out.new ≡ out.old ++ pieces_of placed.now k (o.Pop to array)) }
+{
+    out.push(get(placed, 0, array))?;
+    test_null(out, 3 * k + 1)?;
+    take_last(out, 3 * k + 2)?;
+    out.push(put(placed, 0, to))
+}
+
+/// A text.
+pub(crate) fn text(
+    out: &mut Seq<Piece>,
+    placed: &Placed,
+    to: u32,
+    text: u32,
+) -> Result<(), NoMemory>
+    requires ready { IsReady placed.now }
+    requires to { to < temporaries placed.now.function }
+    ensures { OnOk result (out.new ≡ out.old ++ pieces_of placed.now 0 (o.TextOf to text)) }
+{
+    let what = What::Text(text);
+    add(out, &[Piece::Address { rd: 0, what }, put(placed, 0, to)])
+}
+
+/// A new object.
+pub(crate) fn make_object(
+    out: &mut Seq<Piece>,
+    placed: &Placed,
+    to: u32,
+    class: u32,
+) -> Result<(), NoMemory>
+    requires ready { IsReady placed.now }
+    requires to { to < temporaries placed.now.function }
+    ensures { OnOk result (out.new ≡ out.old ++ pieces_of placed.now 0 (o.MakeObject to class)) }
+{
+    let what = What::Class(class);
+    add(
+        out,
+        &[
+            Piece::Address { rd: 1, what },
+            load(0, 1, 0),
+            Piece::Plain(Instr::Svc { imm: 18 }),
+            store(1, 0, 0),
+            put(placed, 0, to),
+        ],
+    )
+}
+
+/// A new array without items.
+pub(crate) fn make_array(
+    out: &mut Seq<Piece>,
+    placed: &Placed,
+    to: u32,
+    room: u32,
+) -> Result<(), NoMemory>
+    requires ready { IsReady placed.now }
+    requires to { to < temporaries placed.now.function }
+    ensures { OnOk result (out.new ≡ out.old ++ pieces_of placed.now 0 (o.MakeArray to room)) }
+{
+    let words = room.saturating_add(4);
+    add(
+        out,
+        &[
+            Piece::Number {
+                rd: 0,
+                value: words,
+            },
+            Piece::Plain(Instr::Svc { imm: 18 }),
+            Piece::Number { rd: 1, value: room },
+            store(1, 0, 2),
+            Piece::Plain(Instr::MovHigh { rd: 1, rm: 0 }),
+            Piece::Plain(Instr::AddImm8 { rd: 1, imm: 16 }),
+            store(1, 0, 3),
+            put(placed, 0, to),
+        ],
+    )
+}
