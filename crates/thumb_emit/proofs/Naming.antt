@@ -1,5 +1,5 @@
 -- The pieces of a function name what its ops name.
-use Rattle.std.proofs.Common.{◌≡◌, ℕ, zero, suc, ◌+◌, ◌*◌, ◌==◌, inl, inr, true, nat_lt, Bool, if◌then◌else◌, List, [], ◌∷◌, ◌++◌, Contains, Some, slice_get, refl, ap, sym, ◌∙◌, subst, arith}
+use Rattle.std.proofs.Common.{◌≡◌, ℕ, zero, suc, ◌+◌, ◌*◌, inl, inr, true, nat_lt, Bool, if◌then◌else◌, List, [], ◌∷◌, ◌++◌, Contains, Some, slice_get, refl, ap, sym, ◌∙◌, subst, arith}
 use Rattle.std.specs.List.{AllByRecursion}
 use Rattle.std.proofs.lemmas.List.Elements.{Contains-append_left, Contains-append_right}
 use Rattle.std.proofs.lemmas.List.{append-nil}

@@ -2,6 +2,7 @@
 ghost use Rattle.std.specs.Prelude.{◌≡◌, ◌++◌, OnOk, IfOk};
 ghost use Rattle.flat_ir.specs.WellFormed.{IsWellFormedFunction};
 ghost use Rattle.register_assign.specs.Sound.{ArePlacesSound};
+ghost use Rattle.thumb_layout.specs.Soundness.{IsSound};
 ghost use Rattle.thumb_emit.specs.Emit.{function_pieces};
 ghost use Rattle.thumb_emit.specs.Ready.{IsReadyAt, pieces_of};
 
@@ -61,14 +62,15 @@ fn put_op(out: &mut Seq<Piece>, placed: &Placed, k: u32, op: &Op) -> Result<(), 
     }
 }
 
-/// The pieces of a function whose temporaries have places: its entry, and its ops in their order, each behind its label.
+/// The pieces of a function whose temporaries have places: its entry, and its ops in their order, each behind its label. They can be laid.
 ///
 /// `NoMemory` is for want of memory. It also comes where there are more than 1,431,655,764 ops, which have no labels of 32 bits and whose
 /// pieces would take more than 34 gigabytes.
 pub fn emit(alloc: Global, placed: &Placed) -> Result<Seq<Piece>, NoMemory>
     requires formed { IsWellFormedFunction placed.now.function }
     requires sound { ArePlacesSound placed.now.function placed.now.places }
-    ensures { IfOk result (λ pieces. pieces ≡ function_pieces placed.now) }
+    ensures pieces { IfOk result (λ pieces. pieces ≡ function_pieces placed.now) }
+    ensures sound { IfOk result (λ pieces. IsSound pieces) }
 {
     let ops = placed.function.ops.as_slice();
     if ops.len() > MOST_OPS {

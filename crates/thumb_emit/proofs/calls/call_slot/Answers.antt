@@ -1,4 +1,4 @@
-use Rattle.std.proofs.Common.{◌≡◌, ◌+◌, ◌*◌, ◌++◌, ◌∷◌, [], List, ap, ◌∙◌}
+use Rattle.std.proofs.Common.{◌+◌, ◌*◌, ◌++◌, ◌∷◌, [], List, ap, ◌∙◌}
 use Rattle.thumb_layout.specs.declared.pieces.Piece.{Piece}
 use Rattle.register_assign.specs.Sound.{place_of}
 use Rattle.thumb_emit.specs.Emit.{passes, calls_slot}

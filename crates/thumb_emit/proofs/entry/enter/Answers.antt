@@ -1,4 +1,4 @@
-use Rattle.std.proofs.Common.{◌≡◌, ◌+◌, ◌*◌, ◌++◌, ◌∷◌, [], List, length, true, ap, ◌∙◌}
+use Rattle.std.proofs.Common.{◌*◌, ◌++◌, ◌∷◌, [], List, length, true, ap, ◌∙◌}
 use Rattle.thumb_code.specs.declared.instructions.Instr.TheVariants.{MovHigh, Push}
 use Rattle.thumb_layout.specs.declared.pieces.Piece.{Piece}
 use Rattle.thumb_layout.specs.declared.pieces.Piece.TheVariants.{Plain}

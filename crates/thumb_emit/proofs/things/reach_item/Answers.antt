@@ -1,4 +1,4 @@
-use Rattle.std.proofs.Common.{◌≡◌, ◌+◌, ◌*◌, ◌++◌, ◌∷◌, [], List, ap, ◌∙◌, append_assoc}
+use Rattle.std.proofs.Common.{◌+◌, ◌*◌, ◌++◌, ◌∷◌, [], List, ap, ◌∙◌, append_assoc}
 use Rattle.thumb_layout.specs.declared.pieces.Piece.{Piece}
 use Rattle.thumb_emit.specs.Emit.{tests_null, tests_index, finds_item}
 use Rattle.thumb_emit.specs.Ready.{gets}
