@@ -1,7 +1,7 @@
 -- What a flash shows of a program: its functions, the division routine, its classes and its texts, each at an address.
 use Rattle.std.specs.Prelude.{◌≡◌, ℕ, ◌+◌, ◌-◌, ◌*◌, ◌%◌, ◌^◌, ◌<◌, ◌≤◌, true, ◌==◌, if◌then◌else◌, List, length, Contains, Some, slice_get}
 use Rattle.thumb_code.specs.RegisterFile.{is_odd}
-use Rattle.thumb_code.specs.Map.{flash_end, flash_half, flash_word}
+use Rattle.thumb_code.specs.Map.{flash_end, flash_byte, flash_half, flash_word}
 use Rattle.thumb_code.specs.Machine.{base_of, main_of, return_of}
 use Rattle.board_world.specs.Observations.{ByteList}
 use Rattle.bank_model.specs.Texts.{is_text, text_at}
@@ -63,6 +63,8 @@ pub record ShowsText (flash : List ℕ) (at : ℕ) (bytes : ByteList) : Type 0 w
 
 -- A flash shows a program whose functions have these bodies.
 pub record InFlash (C : FlatCode) (bodies : List (List Piece)) (texts : List ByteList) (flash : List ℕ) (a : Addresses) : Type 0 where
+  -- it is made of bytes
+  pub bytes : (k : ℕ) → flash_byte flash k < 256
   -- word 0: every fiber's base is the end of the usable stack; word 1: main
   pub base : base_of flash ≡ 0x20003F80
   pub main : main_of flash ≡ a.function C.main + 1
