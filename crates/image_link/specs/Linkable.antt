@@ -1,0 +1,48 @@
+-- What can be linked.
+use Rattle.std.specs.Prelude.{◌≡◌, ◌⊎◌, ℕ, ◌+◌, ◌%◌, ◌<◌, ◌≤◌, List, length, Bool, true, false, slice_index}
+use Rattle.std.specs.List.{AllByRecursion}
+use Rattle.thumb_code.specs.Map.{flash_end}
+use Rattle.flat_ir.specs.declared.ops.FlatCode.{FlatCode}
+use Rattle.flat_ir.specs.WellFormed.{IsWellFormed}
+use Rattle.thumb_layout.specs.declared.pieces.What.{What}
+use Rattle.thumb_layout.specs.declared.pieces.What.TheVariants.{Function, Text, Class}
+use Rattle.thumb_layout.specs.declared.laid.Fix.{Fix}
+use Rattle.thumb_layout.specs.declared.laid.Laid.{Laid}
+use Rattle.image_link.specs.declared.addresses.Addresses.{Addresses}
+use Rattle.image_link.specs.Image.{routine_number}
+
+-- A call is of a function or of the division routine, and what a word stands for is there, among so many functions, classes and texts.
+abbrev pub IsThere : (functions classes texts : ℕ) → Bool → What → Type 0
+IsThere functions classes texts true (Function f) = (f < functions) ⊎ (f ≡ routine_number)
+IsThere functions classes texts false (Function f) = f < functions
+IsThere functions classes texts false (Text i) = i < texts
+IsThere functions classes texts false (Class c) = c < classes
+IsThere functions classes texts call what = ⊥
+
+-- A fix stands wholly in its entry's bytes, of which there are so many, at an even place.
+pub record IsFixOf (bytes : ℕ) (f : Fix) : Type 0 where
+  pub even : f.at % 2 ≡ 0
+  pub within : f.at + 4 ≤ bytes
+
+abbrev pub AreFixesOf : Laid → Type 0
+AreFixesOf l = AllByRecursion (IsFixOf (length l.bytes)) l.fixes
+
+abbrev pub AreThere : (functions classes texts : ℕ) → Laid → Type 0
+AreThere functions classes texts l = AllByRecursion (λ f. IsThere functions classes texts f.call f.what) l.fixes
+
+-- The code is well formed, and there is laid code of each function, in order.
+pub record IsLinkable (laid : List Laid) (code : FlatCode) (texts : ℕ) : Type 0 where
+  pub formed : IsWellFormed code
+  pub entries : length laid ≡ length code.functions
+  pub fixes : AllByRecursion AreFixesOf laid
+  pub there : AllByRecursion (AreThere (length code.functions) (length code.classes) texts) laid
+
+-- An address of a part is a multiple of 4, and no part is past the end of flash.
+abbrev pub IsPlace : ℕ → Type 0
+IsPlace at = (at ≤ flash_end) × (at % 4 ≡ 0)
+
+pub record ArePlaced (a : Addresses) : Type 0 where
+  pub functions : (i : ℕ) → IsPlace (slice_index a.functions i)
+  pub routine : IsPlace a.routine
+  pub classes : (i : ℕ) → IsPlace (slice_index a.classes i)
+  pub texts : (i : ℕ) → IsPlace (slice_index a.texts i)

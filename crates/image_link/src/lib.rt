@@ -1,0 +1,15 @@
+//! Linking: from the laid code of a program's functions to the image that a board has in flash.
+//!
+//! `link` gives exactly the image that specs/Image.antt defines: three words and the instruction to which a fiber's function returns, and
+//! then the functions, the division routine, the classes' tables and the texts, each from the next multiple of 4 on.
+#![tactic(auto)]
+
+mod addresses;
+mod filling;
+mod linker;
+mod naming;
+mod refused;
+mod writing;
+
+pub use linker::link;
+pub use refused::LinkRefused;
