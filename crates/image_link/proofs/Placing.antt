@@ -1,5 +1,5 @@
 -- Where parts stand, found one after another.
-use Rattle.std.proofs.Common.{◌≡◌, ℕ, suc, ◌+◌, ◌<◌, ◌≤◌, List, [], ◌∷◌, ◌++◌, length, drop, refl, sym, ap, ◌∙◌, subst, arith, Option, Some, None, get_or, append_assoc, drop-cons, add-one}
+use Rattle.std.proofs.Common.{◌≡◌, ℕ, ◌+◌, ◌<◌, ◌≤◌, List, [], ◌∷◌, ◌++◌, length, drop, refl, sym, ap, ◌∙◌, subst, arith, Option, Some, None, get_or, append_assoc, drop-cons, add-one}
 use Rattle.thumb_code.specs.Map.{flash_end}
 use Rattle.thumb_layout.specs.Layout.{up}
 use Rattle.image_link.specs.Parts.{end_with, starts, end_behind}

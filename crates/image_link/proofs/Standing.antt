@@ -1,8 +1,9 @@
 -- Which bytes stand where in parts one behind another.
-use Rattle.std.proofs.Common.{◌≡◌, ℕ, zero, suc, ◌+◌, ◌-◌, ◌%◌, ◌<◌, ◌≤◌, List, [], ◌∷◌, ◌++◌, length, refl, sym, ap, ◌∙◌, subst, arith, Option, Some, None, get_or, slice_get, slice_index}
+use Rattle.std.proofs.Common.{◌≡◌, ℕ, zero, suc, ◌+◌, ◌-◌, ◌<◌, ◌≤◌, List, [], ◌∷◌, ◌++◌, length, refl, sym, ap, ◌∙◌, subst, arith, Option, Some, None, get_or, slice_get, slice_index}
 use Rattle.std.specs.Prelude.{replicate, map}
 use Rattle.std.specs.Option.{option_map}
-use Rattle.std.proofs.lemmas.List.{length-append, length-replicate, get_or_append_left, get_or-append-add, append_assoc, map-append}
+use Rattle.std.proofs.lemmas.List.{length-append, length-replicate, get_or_append_left, get_or-append-add}
+use Rattle.std.proofs.lemmas.Option.{slice_get-map}
 use Rattle.thumb_code.specs.Map.{flash_end}
 use Rattle.thumb_layout.specs.Layout.{up}
 use Rattle.image_link.specs.Parts.{padded, with_part, with_parts, end_with, starts, end_behind}
@@ -91,3 +92,23 @@ pub start_behind : (end : ℕ) (ns : List (Option ℕ)) (i : ℕ) → i < length
 start_behind end [] i l = absurd (omega arith)
 start_behind end (n ∷ ns) zero l = omega arith
 start_behind end (n ∷ ns) (suc i) l = let a = with_grows end n in let b = start_behind (end_with end n) ns i (omega arith) in omega arith
+
+-- the same with more parts behind
+pub part_stands_before : (bytes : List ℕ) (ps qs : List (Option (List ℕ))) (i : ℕ) (p : List ℕ) (d : ℕ) → slice_get ps i ≡ Some (Some p) → (k : ℕ) → k < length p
+    → get_or (with_parts bytes (ps ++ qs)) (slice_index (starts (length bytes) (lengths ps)) i + k) d ≡ get_or p k d
+part_stands_before bytes ps qs i p d e k l =
+    let long : slice_get (lengths ps) i ≡ Some (Some (length p)) = slice_get-map (option_map length) ps i ∙ ap (option_map (option_map length)) e in
+    let inside = part_ends (length bytes) (lengths ps) i (length p) long in
+    let whole = length_parts bytes ps in
+    ap (λ q. get_or q (slice_index (starts (length bytes) (lengths ps)) i + k) d) (with_append bytes ps qs)
+    ∙ (before_parts (with_parts bytes ps) qs (slice_index (starts (length bytes) (lengths ps)) i + k) d (omega arith) ∙ part_stands bytes ps i p d e k l)
+
+-- a part ends before the next ones begin
+pub start_order : (end : ℕ) (ns : List (Option ℕ)) (i j n : ℕ) → slice_get ns i ≡ Some (Some n) → i < j → j < length ns → slice_index (starts end ns) i + n ≤ slice_index (starts end ns) j
+start_order end [] i j n e l h = absurd (omega arith)
+start_order end (m ∷ ns) i zero n e l h = absurd (omega arith)
+start_order end (m ∷ ns) zero (suc j) n e l h =
+    let same : m ≡ Some n = cc in
+    let f : end_with end m ≡ up end + n = ap (end_with end) same in
+    let g = start_behind (end_with end m) ns j (omega arith) in omega arith
+start_order end (m ∷ ns) (suc i) (suc j) n e l h = start_order (end_with end m) ns i j n e (omega arith) (omega arith)

@@ -1,9 +1,9 @@
 -- The image as a whole: how long it is, and where its parts stand.
-use Rattle.std.proofs.Common.{◌≡◌, ℕ, zero, suc, ◌+◌, ◌*◌, ◌<◌, ◌≤◌, List, [], ◌∷◌, ◌++◌, length, refl, sym, ap, ◌∙◌, subst, arith, Option, Some, None, Bool, true, false, cond, get_or, slice_index}
-use Rattle.std.specs.Prelude.{map, slice_index_or}
+use Rattle.std.proofs.Common.{◌≡◌, ℕ, zero, suc, ◌+◌, ◌*◌, ◌<◌, ◌≤◌, List, [], ◌∷◌, ◌++◌, length, refl, sym, ap, ◌∙◌, arith, Option, Some, None, Bool, true, false, cond, slice_index}
+use Rattle.std.specs.Prelude.{slice_index_or}
 use Rattle.std.specs.Option.{option_map}
 use Rattle.std.specs.List.{AllByRecursion}
-use Rattle.std.proofs.lemmas.List.{length-append, map-append}
+use Rattle.std.proofs.lemmas.List.{map-append}
 use Rattle.std.proofs.lemmas.List.Edits.{sets}
 use Rattle.std.proofs.Math.Seq.{length-sets}
 use Rattle.thumb_code.specs.Map.{flash_end}
@@ -11,14 +11,13 @@ use Rattle.flat_ir.specs.declared.ops.FlatClass.{FlatClass}
 use Rattle.flat_ir.specs.declared.ops.FlatCode.{FlatCode}
 use Rattle.thumb_layout.specs.declared.laid.Fix.{Fix}
 use Rattle.thumb_layout.specs.declared.laid.Laid.{Laid}
-use Rattle.thumb_layout.specs.declared.pieces.What.{What}
 use Rattle.thumb_layout.specs.Layout.{up}
 use Rattle.thumb_divide.specs.Routine.{routine_bytes, routine_length}
 use Rattle.image_link.specs.declared.addresses.Addresses.{Addresses}
-use Rattle.image_link.specs.Parts.{padded, with_parts, end_with, starts, end_behind}
+use Rattle.image_link.specs.Parts.{padded, with_parts, end_with, end_behind}
 use Rattle.image_link.specs.Image.{head_length, head, is_named, code_lengths, class_lengths, text_lengths, code_end, routine_end, class_end, image_end, addresses, opened, filled, slot_words, class_table, text_bytes, code_parts, class_parts, text_parts, parts, image}
-use Rattle.image_link.specs.Linkable.{IsPlace, ArePlaced}
-use Rattle.image_link.proofs.Placing.{with_grows, behind_grows}
+use Rattle.image_link.specs.Linkable.{ArePlaced}
+use Rattle.image_link.proofs.Placing.{behind_grows}
 use Rattle.image_link.proofs.Standing.{lengths, length_parts, with_append, end_append, start_place}
 
 -- the ends, one behind another
@@ -64,7 +63,7 @@ code_long a i [] = refl
 code_long a i (l ∷ ls) =
     ap (λ n. Some n ∷ lengths (code_parts a (i + 1) ls)) (filled_long a (slice_index a.functions i) l.fixes l.bytes) ∙ ap (λ q. Some (length l.bytes) ∷ q) (code_long a (i + 1) ls)
 
-slots_long : (a : Addresses) (fs : List ℕ) → length (slot_words a fs) ≡ 4 * length fs
+pub slots_long : (a : Addresses) (fs : List ℕ) → length (slot_words a fs) ≡ 4 * length fs
 slots_long a [] = refl
 slots_long a (f ∷ fs) = let h = slots_long a fs in omega arith
 

@@ -11,6 +11,7 @@ use Rattle.thumb_layout.specs.declared.laid.Fix.{Fix}
 use Rattle.thumb_layout.specs.declared.laid.Laid.{Laid}
 use Rattle.thumb_layout.specs.Layout.{up}
 use Rattle.thumb_layout.specs.Cells.{word_bytes, spelled, offset}
+use Rattle.thumb_emit.specs.Emit.{division}
 use Rattle.thumb_divide.specs.Routine.{routine_bytes, routine_length}
 use Rattle.image_link.specs.declared.addresses.Addresses.{Addresses}
 use Rattle.image_link.specs.Parts.{starts, end_behind, with_parts}
@@ -26,18 +27,14 @@ return_at = 12
 abbrev pub head_length : ℕ
 head_length = 14
 
--- The number by which calls name the division routine.
-abbrev pub routine_number : ℕ
-routine_number = 4294967295
-
 -- Which texts are in the image: those of which the word stands in some code.
-abbrev pub is_text : ℕ → What → Bool
-is_text i (Text j) = j == i
-is_text i _ = false
+abbrev pub is_this_text : ℕ → What → Bool
+is_this_text i (Text j) = j == i
+is_this_text i _ = false
 
 abbrev pub names_text : ℕ → List Fix → Bool
 names_text i [] = false
-names_text i (f ∷ fs) = is_text i f.what || names_text i fs
+names_text i (f ∷ fs) = is_this_text i f.what || names_text i fs
 
 abbrev pub is_named : List Laid → ℕ → Bool
 is_named [] i = false
@@ -82,15 +79,14 @@ word_for a (Function f) = slice_index a.functions f + 1
 word_for a (Text i) = slice_index a.texts i
 word_for a (Class c) = slice_index a.classes c
 
--- Where a call goes.
-abbrev pub called : Addresses → What → ℕ
-called a (Function f) = if f == routine_number then a.routine else slice_index a.functions f
-called a _ = 0
+-- Where a call goes: one number names the division routine.
+abbrev pub called : Addresses → ℕ → ℕ
+called a f = if f == division then a.routine else slice_index a.functions f
 
--- The four bytes for what is open at an address.
+-- The four bytes for what is open at an address: a BL, or a word.
 abbrev pub opened : Addresses → ℕ → Bool → What → List ℕ
-opened a at true what = spelled (half (Bl (offset at (called a what))))
-opened a at false what = word_bytes (word_for a what)
+opened a at true (Function f) = spelled (half (Bl (offset at (called a f))))
+opened a at call what = word_bytes (word_for a what)
 
 -- The bytes of code that stands at an address, with what was open in it.
 abbrev pub filled : Addresses → ℕ → List Fix → List ℕ → List ℕ

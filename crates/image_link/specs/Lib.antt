@@ -1,3 +1,4 @@
 pub mod Parts
 pub mod Image
 pub mod Linkable
+pub mod Shown

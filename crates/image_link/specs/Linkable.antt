@@ -8,12 +8,12 @@ use Rattle.thumb_layout.specs.declared.pieces.What.{What}
 use Rattle.thumb_layout.specs.declared.pieces.What.TheVariants.{Function, Text, Class}
 use Rattle.thumb_layout.specs.declared.laid.Fix.{Fix}
 use Rattle.thumb_layout.specs.declared.laid.Laid.{Laid}
+use Rattle.thumb_emit.specs.Emit.{division}
 use Rattle.image_link.specs.declared.addresses.Addresses.{Addresses}
-use Rattle.image_link.specs.Image.{routine_number}
 
 -- A call is of a function or of the division routine, and what a word stands for is there, among so many functions, classes and texts.
 abbrev pub IsThere : (functions classes texts : ℕ) → Bool → What → Type 0
-IsThere functions classes texts true (Function f) = (f < functions) ⊎ (f ≡ routine_number)
+IsThere functions classes texts true (Function f) = (f < functions) ⊎ (f ≡ division)
 IsThere functions classes texts false (Function f) = f < functions
 IsThere functions classes texts false (Text i) = i < texts
 IsThere functions classes texts false (Class c) = c < classes

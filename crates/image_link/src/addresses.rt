@@ -73,7 +73,11 @@ fn place(alloc: Global, lengths: &[Option<usize>], end: &mut u32) -> Result<Seq<
 fn code_lengths(alloc: Global, laid: &[Laid]) -> Result<Vec<Option<usize>>, NoMemory>
     ensures { IfOk result (λ lengths. lengths.items ≡ code_lengths laid.now) }
 {
-    match laid.iter().map(|code| Some(code.bytes.len())).collect(alloc) {
+    match laid
+        .iter()
+        .map(|code| Some(code.bytes.len()))
+        .collect(alloc)
+    {
         Ok(lengths) => Ok(lengths),
         Err(_) => Err(NoMemory),
     }
@@ -83,14 +87,23 @@ fn code_lengths(alloc: Global, laid: &[Laid]) -> Result<Vec<Option<usize>>, NoMe
 fn class_lengths(alloc: Global, classes: &[FlatClass]) -> Result<Vec<Option<usize>>, NoMemory>
     ensures { IfOk result (λ lengths. lengths.items ≡ class_lengths classes.now) }
 {
-    match classes.iter().map(|class| Some(4 + 4 * class.slots.as_slice().len())).collect(alloc) {
+    match classes
+        .iter()
+        .map(|class| Some(4 + 4 * class.slots.as_slice().len()))
+        .collect(alloc)
+    {
         Ok(lengths) => Ok(lengths),
         Err(_) => Err(NoMemory),
     }
 }
 
 /// How many bytes the texts have that are marked, which are those that laid code names.
-fn text_lengths(alloc: Global, texts: &[Seq<u8>], marks: &[bool], laid: &[Laid]) -> Result<Vec<Option<usize>>, NoMemory>
+fn text_lengths(
+    alloc: Global,
+    texts: &[Seq<u8>],
+    marks: &[bool],
+    laid: &[Laid],
+) -> Result<Vec<Option<usize>>, NoMemory>
     requires long { length marks.now ≡ length texts.now }
     requires marks { (i : ℕ) → i < length texts.now → slice_index_or marks.now i false ≡ is_named laid.now i }
     ensures { IfOk result (λ lengths. lengths.items ≡ text_lengths laid.now 0 texts.now) }
@@ -111,7 +124,13 @@ fn text_lengths(alloc: Global, texts: &[Seq<u8>], marks: &[bool], laid: &[Laid])
 
 /// Where all parts of an image stand. It is `PastFlash` exactly where the last one ends past the end of flash.
 #[tactic(auto, unfolding(crate::specs::Image::addresses))]
-pub fn place_parts(alloc: Global, laid: &[Laid], classes: &[FlatClass], texts: &[Seq<u8>], marks: &[bool]) -> Result<Addresses, LinkRefused>
+pub fn place_parts(
+    alloc: Global,
+    laid: &[Laid],
+    classes: &[FlatClass],
+    texts: &[Seq<u8>],
+    marks: &[bool],
+) -> Result<Addresses, LinkRefused>
     requires long { length marks.now ≡ length texts.now }
     requires marks { (i : ℕ) → i < length texts.now → slice_index_or marks.now i false ≡ is_named laid.now i }
     ensures addresses { IfOk result (λ found. found ≡ addresses laid.now classes.now texts.now) }

@@ -16,7 +16,7 @@ use thumb_code::{Half, Instr, encode};
 use thumb_layout::{Fix, Laid, What};
 
 /// The number by which calls name the division routine.
-const ROUTINE: u32 = 0xFFFF_FFFF;
+const DIVISION: u32 = 0xFFFF_FFFF;
 
 /// A word's bytes, from the low one on.
 pub fn word_bytes(word: u32) -> [u8; 4]
@@ -100,13 +100,13 @@ impl Addresses {
     }
 
     /// Where a call goes.
-    fn called(&self, what: What) -> u32
-        ensures { result ≡ called self.now what }
+    fn called(&self, function: u32) -> u32
+        ensures { result ≡ called self.now function }
     {
-        match what {
-            What::Function(ROUTINE) => self.routine,
-            What::Function(function) => self.function(function as usize),
-            What::Text(_) | What::Class(_) => 0,
+        if function == DIVISION {
+            self.routine
+        } else {
+            self.function(function as usize)
         }
     }
 
@@ -117,10 +117,9 @@ impl Addresses {
         requires even { at % 2 ≡ 0 }
         ensures { result ≡ opened self.now at call what }
     {
-        if call {
-            call_bytes(at, self.called(what))
-        } else {
-            word_bytes(self.word_for(what))
+        match what {
+            What::Function(function) if call => call_bytes(at, self.called(function)),
+            _ => word_bytes(self.word_for(what)),
         }
     }
 }
@@ -138,7 +137,12 @@ fn replace(bytes: &mut [u8], at: usize, four: [u8; 4])
 }
 
 /// The bytes of code that stands at an address, with what was open in it.
-pub fn filled(alloc: Global, laid: &Laid, at: u32, addresses: &Addresses) -> Result<Vec<u8>, NoMemory>
+pub fn filled(
+    alloc: Global,
+    laid: &Laid,
+    at: u32,
+    addresses: &Addresses,
+) -> Result<Vec<u8>, NoMemory>
     requires placed { ArePlaced addresses.now }
     requires at { at % 4 ≡ 0 }
     requires low { at + length laid.now.bytes < 2 ^ 20 }

@@ -9,7 +9,9 @@ mod filling;
 mod linker;
 mod naming;
 mod refused;
+mod theorems;
 mod writing;
 
 pub use linker::link;
 pub use refused::LinkRefused;
+pub use theorems::the_image_shows_its_program;

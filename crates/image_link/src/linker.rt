@@ -23,7 +23,12 @@ use thumb_layout::Laid;
 /// the word for what it names.
 ///
 /// `PastFlash` comes exactly where this is more than 262,144 bytes.
-pub fn link(alloc: Global, laid: &Seq<Laid>, code: &FlatCode, tables: &Tables) -> Result<Vec<u8>, LinkRefused>
+pub fn link(
+    alloc: Global,
+    laid: &Seq<Laid>,
+    code: &FlatCode,
+    tables: &Tables,
+) -> Result<Vec<u8>, LinkRefused>
     requires { IsLinkable laid.now code.now (length tables.now.texts) }
     ensures linked { IfOk result (λ bytes. bytes.items ≡ image laid.now code.now tables.now.texts) }
     ensures fits { OnOk result (length (image laid.now code.now tables.now.texts) ≤ flash_end) }

@@ -1,7 +1,7 @@
 //! Which texts code names.
 ghost use Rattle.std.specs.Prelude.{◌≡◌, ◌||◌, ℕ, ◌<◌, false, length, slice_index_or, replicate, IfOk};
 ghost use Rattle.std.specs.List.{AllByRecursion};
-ghost use Rattle.image_link.specs.Image.{is_text, names_text, is_named};
+ghost use Rattle.image_link.specs.Image.{is_this_text, names_text, is_named};
 
 use std::alloc::Global;
 use sts_base::NoMemory;
@@ -9,7 +9,7 @@ use thumb_layout::{Fix, Laid, What};
 
 /// Marks the text that a fix names.
 fn mark_text(marks: &mut [bool], what: What)
-    ensures marks { (i : ℕ) → i < length marks.old → slice_index_or marks.new i false ≡ (is_text i what || slice_index_or marks.old i false) }
+    ensures marks { (i : ℕ) → i < length marks.old → slice_index_or marks.new i false ≡ (is_this_text i what || slice_index_or marks.old i false) }
 {
     if let What::Text(text) = what {
         if (text as usize) < marks.len() {

@@ -64,7 +64,12 @@ pub fn put_head(image: &mut Vec<u8>, addresses: &Addresses, main: u32) -> Result
 }
 
 /// Puts the code of functions.
-pub fn put_code(alloc: Global, image: &mut Vec<u8>, laid: &[Laid], addresses: &Addresses) -> Result<(), NoMemory>
+pub fn put_code(
+    alloc: Global,
+    image: &mut Vec<u8>,
+    laid: &[Laid],
+    addresses: &Addresses,
+) -> Result<(), NoMemory>
     requires placed { ArePlaced addresses.now }
     requires fixes { AllByRecursion AreFixesOf laid.now }
     requires short { AllByRecursion (λ l. length l.bytes ≤ flash_end) laid.now }
@@ -91,7 +96,12 @@ fn class_table(alloc: Global, class: &FlatClass, addresses: &Addresses) -> Resul
 }
 
 /// Puts the tables of classes.
-pub fn put_classes(alloc: Global, image: &mut Vec<u8>, classes: &[FlatClass], addresses: &Addresses) -> Result<(), NoMemory>
+pub fn put_classes(
+    alloc: Global,
+    image: &mut Vec<u8>,
+    classes: &[FlatClass],
+    addresses: &Addresses,
+) -> Result<(), NoMemory>
     requires { ArePlaced addresses.now }
     ensures { OnOk result (image.new.items ≡ with_parts image.old.items (class_parts addresses.now classes.now)) }
 {
@@ -111,7 +121,12 @@ fn put_text(image: &mut Vec<u8>, text: &[u8]) -> Result<(), NoMemory>
 }
 
 /// Puts the texts that are marked, which are those that laid code names.
-pub fn put_texts(image: &mut Vec<u8>, texts: &[Seq<u8>], marks: &[bool], laid: &[Laid]) -> Result<(), NoMemory>
+pub fn put_texts(
+    image: &mut Vec<u8>,
+    texts: &[Seq<u8>],
+    marks: &[bool],
+    laid: &[Laid],
+) -> Result<(), NoMemory>
     requires long { length marks.now ≡ length texts.now }
     requires marks { (i : ℕ) → i < length texts.now → slice_index_or marks.now i false ≡ is_named laid.now i }
     requires short { (i : ℕ) → i < length texts.now → is_named laid.now i ≡ true → length (slice_index_or texts.now i []) ≤ flash_end }

@@ -1,4 +1,4 @@
-use Rattle.std.proofs.Common.{None, arith}
+use Rattle.std.proofs.Common.{arith}
 use Rattle.std.proofs.lemmas.Result.{err_from_is_err_and}
 use Rattle.image_link.proofs.Placing.{placed_past, at_index}
 use Rattle.image_link.proofs.addresses.place.Goals as goal
