@@ -155,6 +155,7 @@ module _ (C : FlatCode) (bodies : List (List Piece)) (texts : List ByteList) whe
 
   pub program_shown : IsImaged C bodies texts → InFlash C bodies texts bytes (shown_at C bodies texts)
   program_shown h = record {
+    bytes = h.bytes;
     base = base_there;
     main = main_there h;
     return_odd = ap is_odd return_there;

@@ -1,6 +1,6 @@
 -- What is asked of a program so that its image shows it.
 use Rattle.std.specs.Prelude.{◌≡◌, ℕ, ◌^◌, ◌<◌, ◌≤◌, List, length, map, Some, slice_get, slice_index}
-use Rattle.thumb_code.specs.Map.{flash_end}
+use Rattle.thumb_code.specs.Map.{flash_end, flash_byte}
 use Rattle.board_world.specs.Observations.{ByteList}
 use Rattle.bank_model.specs.Texts.{text_limit}
 use Rattle.flat_ir.specs.declared.ops.FlatClass.{FlatClass}
@@ -14,12 +14,13 @@ use Rattle.image_link.specs.declared.addresses.Addresses.{Addresses}
 use Rattle.image_link.specs.Image.{addresses, image}
 
 -- There is a body of each function, and no function has the division routine's number. A class's word is a word. Each text that a body names is there, and
--- no longer than a service may read. The whole fits into flash.
+-- no longer than a service may read. The whole is made of bytes, and fits into flash.
 pub record IsImaged (C : FlatCode) (bodies : List (List Piece)) (texts : List ByteList) : Type 0 where
   pub bodies_are : length bodies ≡ length C.functions
   pub few : length C.functions ≤ division
   pub words : (c : ℕ) (class : FlatClass) → slice_get C.classes c ≡ Some class → class.words < 2 ^ 32
   pub texts_are : (i : ℕ) → IsNamed bodies i → (bytes : ByteList) × (slice_get texts i ≡ Some bytes) × (length bytes ≤ text_limit)
+  pub bytes : (k : ℕ) → flash_byte (image (map laid bodies) C texts) k < 256
   pub room : length (image (map laid bodies) C texts) ≤ flash_end
 
 -- The addresses in an image of functions with these bodies, by numbers.
