@@ -26,7 +26,7 @@ module _ (IsText IsCode : ℕ → ℕ → Type 0) (class_word : ℕ → ℕ) whe
         let l = s.lies in
         let x = l.each m (Items item room items) g in
         let a = (x.owned).within in let b = (x.owned_room).within in let u = l.within in let f = x.fits in
-        record { array = m; at = e; within = omega arith; count_is = x.length_is; few = omega arith; first_is = x.at_is; room = omega arith }
+        record { array = m; at = e; within = omega arith; count_is = x.length_is; few = omega arith; first_is = x.at_is; behind = x.behind; room = omega arith }
 
     -- an object's class
     pub sees_class : (o : Value) (w : ℕ) → Means o w → SeesClass Means class_word arena w (object_at h o)
@@ -106,7 +106,7 @@ module _ (IsText IsCode : ℕ → ℕ → Type 0) (class_word : ℕ → ℕ) whe
     pub sees_item : (a i : Value) (w x : ℕ) → Means a w → Means i x → SeesItem Means class_word arena w x (read_item h a i)
     sees_item (Object n) i w x m j = by (h.cells n) refl
       where
-        past : (item : N) (room : ℕ) (items : List Value) → (g : h.cells n ≡ Some (Items item room items)) → length items ≤ x → PastItems Means class_word arena w x 104
+        past : (item : N) (room : ℕ) (items : List Value) → (g : h.cells n ≡ Some (Items item room items)) → length items ≤ x → PastItems arena w x 104
         past item room items g l = record { count = length items; first = _; header = header_of n item room items w g m.0; past = l; code_is = refl }
 
         one : (item : N) (room : ℕ) (items : List Value) (k : ℕ) (e : Option Value) → h.cells n ≡ Some (Items item room items) → x ≡ k → entry items k ≡ e
@@ -147,7 +147,7 @@ module _ (IsText IsCode : ℕ → ℕ → Type 0) (class_word : ℕ → ℕ) whe
         put : (item : N) (room : ℕ) (items : List Value) → ℕ → HeapOf N
         put item room items k = put_items (Object n) (record { item = item; room = room; items = items }) (changed items k v) h
 
-        past : (item : N) (room : ℕ) (items : List Value) → (g : h.cells n ≡ Some (Items item room items)) → length items ≤ x → PastItems Means class_word arena w x 104
+        past : (item : N) (room : ℕ) (items : List Value) → (g : h.cells n ≡ Some (Items item room items)) → length items ≤ x → PastItems arena w x 104
         past item room items g l = record { count = length items; first = _; header = header_of n item room items w g m.0; past = l; code_is = refl }
 
         one : (item : N) (room : ℕ) (items : List Value) (k : ℕ) (e : Option Value) → h.cells n ≡ Some (Items item room items) → x ≡ k → entry items k ≡ e

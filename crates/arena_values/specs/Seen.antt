@@ -13,7 +13,7 @@ use Rattle.arena_values.specs.Lies.{Shows}
 abbrev pub IsNull : ℕ → ℕ → Type 0
 IsNull w code = (w ≡ 0) × (code ≡ null_panic)
 
--- an array's header: its length, which is below this, its room, and the address of its items, which stand behind so many words
+-- an array's header: its length, and the address of its items, which stand behind so many words and behind the header
 pub record Header (arena : List ℕ) (w count first : ℕ) : Type 0 where
   pub array : ℕ
   pub at : w ≡ behind_words array
@@ -21,7 +21,22 @@ pub record Header (arena : List ℕ) (w count first : ℕ) : Type 0 where
   pub count_is : slice_index arena (array + 1) ≡ count
   pub few : count ≤ arena_words
   pub first_is : slice_index arena (array + 3) ≡ behind_words first
+  pub behind : array + 4 ≤ first
   pub room : first + count ≤ arena_words
+
+-- an index that isn't below the length, without its sign
+pub record PastItems (arena : List ℕ) (w i code : ℕ) : Type 0 where
+  pub count : ℕ
+  pub first : ℕ
+  pub header : Header arena w count first
+  pub past : count ≤ i
+  pub code_is : code ≡ index_panic
+
+-- an empty array
+pub record NoItem (arena : List ℕ) (w code : ℕ) : Type 0 where
+  pub first : ℕ
+  pub header : Header arena w 0 first
+  pub code_is : code ≡ index_panic
 
 module _ (Is : Value → ℕ → Type 0) (class_word : ℕ → ℕ) where
   module _ {N : Type 0} (used : ℕ) (globals arena : List ℕ) where
@@ -54,14 +69,6 @@ module _ (Is : Value → ℕ → Type 0) (class_word : ℕ → ℕ) where
     SeesField w f (Breaks code) = IsNull w code
     SeesField w f Stuck = Unit {0}
 
-    -- an index that isn't below the length, without its sign
-    pub record PastItems (w i code : ℕ) : Type 0 where
-      pub count : ℕ
-      pub first : ℕ
-      pub header : Header arena w count first
-      pub past : count ≤ i
-      pub code_is : code ≡ index_panic
-
     pub record ItemSeen (w i : ℕ) (v : Value) : Type 0 where
       pub count : ℕ
       pub first : ℕ
@@ -71,7 +78,7 @@ module _ (Is : Value → ℕ → Type 0) (class_word : ℕ → ℕ) where
 
     abbrev pub SeesItem : ℕ → ℕ → Outcome Value → Type 0
     SeesItem w i (Gives v) = ItemSeen w i v
-    SeesItem w i (Breaks code) = IsNull w code ⊎ PastItems w i code
+    SeesItem w i (Breaks code) = IsNull w code ⊎ PastItems arena w i code
     SeesItem w i Stuck = Unit {0}
 
     pub record LengthSeen (w : ℕ) (v : Value) : Type 0 where
@@ -84,12 +91,6 @@ module _ (Is : Value → ℕ → Type 0) (class_word : ℕ → ℕ) where
     SeesLength w (Gives v) = LengthSeen w v
     SeesLength w (Breaks code) = IsNull w code
     SeesLength w Stuck = Unit {0}
-
-    -- an empty array
-    pub record NoItem (w code : ℕ) : Type 0 where
-      pub first : ℕ
-      pub header : Header arena w 0 first
-      pub code_is : code ≡ index_panic
 
     module _ {N : Type 0} (used : ℕ) (globals : List ℕ) where
       pub record FieldChanged (w f : ℕ) (v : Value) (h : HeapOf N) : Type 0 where
@@ -112,7 +113,7 @@ module _ (Is : Value → ℕ → Type 0) (class_word : ℕ → ℕ) where
 
       abbrev pub ChangesItem : ℕ → ℕ → Value → Outcome (HeapOf N) → Type 0
       ChangesItem w i v (Gives h) = ItemChanged w i v h
-      ChangesItem w i v (Breaks code) = IsNull w code ⊎ PastItems w i code
+      ChangesItem w i v (Breaks code) = IsNull w code ⊎ PastItems arena w i code
       ChangesItem w i v Stuck = Unit {0}
 
       -- the last item is given, and the length is one less
@@ -125,7 +126,7 @@ module _ (Is : Value → ℕ → Type 0) (class_word : ℕ → ℕ) where
 
       abbrev pub PopsItem : ℕ → Outcome (Value × HeapOf N) → Type 0
       PopsItem w (Gives x) = ItemPopped w x.0 x.1
-      PopsItem w (Breaks code) = IsNull w code ⊎ NoItem w code
+      PopsItem w (Breaks code) = IsNull w code ⊎ NoItem arena w code
       PopsItem w Stuck = Unit {0}
 
   -- The turn of the service that puts a value behind an array's items: it goes on, or takes the words to which the array moves. The arena shows the heap then.
