@@ -1,3 +1,5 @@
 mod Trees
 mod Units
+mod Named
+mod NamedPrograms
 pub mod Laws

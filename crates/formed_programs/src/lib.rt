@@ -3,4 +3,4 @@
 
 mod theorems;
 
-pub use theorems::spelled_programs_are_formed;
+pub use theorems::{spelled_programs_are_formed, typed_programs_name_texts_of_their_trees};

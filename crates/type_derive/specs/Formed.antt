@@ -1,6 +1,6 @@
--- What the grammar says of a tree beside its form: numbers of 32 bits, `++` and `--` by one, `break` and `continue` in loops, a declaration or an
--- expression first in the head of a `for`.
-use Rattle.std.specs.Prelude.{◌≡◌, Bool, true, false, List, [], ◌∷◌}
+-- What the grammar says of a tree beside its form: `++` and `--` by one, `break` and `continue` in loops, a declaration or an expression first in the
+-- head of a `for`; and numbers and texts of which something is said, as that numbers have 32 bits.
+use Rattle.std.specs.Prelude.{◌≡◌, ℕ, ◌<◌, ℤ, Bool, true, false, List, [], ◌∷◌}
 use Rattle.sts_syntax.specs.TypeRules.{is_int32, IsOne}
 use Rattle.sts_syntax.specs.Trees.{Tree, Num, Text, Truth, Null, This, Name, Unary, Binary, Both, Either, Choice, Set, Bump, Member, Item, Call, SuperCall, Make, Items, Handler, Trees, none, more, OptionalTree, absent, present, Statement, Block, Let, IfOnly, IfElse, While, DoWhile, For, ForOf, Return, Break, Continue, Plain, Empty, Statements, done, also, OptionalStatement, omitted, written, Declaration, Declare, Declarations, ended, next, Routine, Does}
 use Rattle.sts_syntax.specs.Programs.{ClassMember, Field, Method, Constructor, TopLevel, Class, Function, Main, Program}
@@ -10,86 +10,138 @@ IsOpening (Let at fixed each) = Unit {0}
 IsOpening (Plain at a) = Unit {0}
 IsOpening _ = ⊥
 
-abbrev mutual
-  pub IsFormed : Tree → Type 0
-  IsFormed (Num at n) = is_int32 n ≡ true
-  IsFormed (Text at n) = Unit {0}
-  IsFormed (Truth at b) = Unit {0}
-  IsFormed (Null at) = Unit {0}
-  IsFormed (This at) = Unit {0}
-  IsFormed (Name at x) = Unit {0}
-  IsFormed (Unary at op a) = IsFormed a
-  IsFormed (Binary at op a b) = IsFormed a × IsFormed b
-  IsFormed (Both at a b) = IsFormed a × IsFormed b
-  IsFormed (Either at a b) = IsFormed a × IsFormed b
-  IsFormed (Choice at c a b) = IsFormed c × IsFormed a × IsFormed b
-  IsFormed (Set at op x e) = IsFormed x × IsFormed e
-  IsFormed (Bump at x by late) = IsFormed x × IsOne by
-  IsFormed (Member at a m) = IsFormed a
-  IsFormed (Item at a i) = IsFormed a × IsFormed i
-  IsFormed (Call at f args) = IsFormed f × AreFormed args
-  IsFormed (SuperCall at m args) = AreFormed args
-  IsFormed (Make at x args) = AreFormed args
-  IsFormed (Items at items) = AreFormed items
-  IsFormed (Handler at body) = IsFormedBody body
+module _ (IsNumber : ℤ → Type 0) (IsText : ℕ → Type 0) where
+  abbrev mutual
+    pub TreeHas : Tree → Type 0
+    TreeHas (Num at n) = IsNumber n
+    TreeHas (Text at n) = IsText n
+    TreeHas (Truth at b) = Unit {0}
+    TreeHas (Null at) = Unit {0}
+    TreeHas (This at) = Unit {0}
+    TreeHas (Name at x) = Unit {0}
+    TreeHas (Unary at op a) = TreeHas a
+    TreeHas (Binary at op a b) = TreeHas a × TreeHas b
+    TreeHas (Both at a b) = TreeHas a × TreeHas b
+    TreeHas (Either at a b) = TreeHas a × TreeHas b
+    TreeHas (Choice at c a b) = TreeHas c × TreeHas a × TreeHas b
+    TreeHas (Set at op x e) = TreeHas x × TreeHas e
+    TreeHas (Bump at x by late) = TreeHas x × IsOne by
+    TreeHas (Member at a m) = TreeHas a
+    TreeHas (Item at a i) = TreeHas a × TreeHas i
+    TreeHas (Call at f args) = TreeHas f × TreesHave args
+    TreeHas (SuperCall at m args) = TreesHave args
+    TreeHas (Make at x args) = TreesHave args
+    TreeHas (Items at items) = TreesHave items
+    TreeHas (Handler at body) = BodyHas body
 
-  pub AreFormed : Trees → Type 0
-  AreFormed none = Unit {0}
-  AreFormed (more e rest) = IsFormed e × AreFormed rest
+    pub TreesHave : Trees → Type 0
+    TreesHave none = Unit {0}
+    TreesHave (more e rest) = TreeHas e × TreesHave rest
 
-  pub MayBeFormed : OptionalTree → Type 0
-  MayBeFormed absent = Unit {0}
-  MayBeFormed (present e) = IsFormed e
+    pub OptionHas : OptionalTree → Type 0
+    OptionHas absent = Unit {0}
+    OptionHas (present e) = TreeHas e
 
-  pub IsFormedBody : Routine → Type 0
-  IsFormedBody (Does at params gives all arrow) = AreFormedIn false all
+    pub BodyHas : Routine → Type 0
+    BodyHas (Does at params gives all arrow) = StatementsHave false all
 
-  pub IsFormedDeclaration : Declaration → Type 0
-  IsFormedDeclaration (Declare at x shape first) = MayBeFormed first
+    pub DeclarationHas : Declaration → Type 0
+    DeclarationHas (Declare at x shape first) = OptionHas first
 
-  pub AreFormedDeclarations : Declarations → Type 0
-  AreFormedDeclarations ended = Unit {0}
-  AreFormedDeclarations (next a rest) = IsFormedDeclaration a × AreFormedDeclarations rest
+    pub DeclarationsHave : Declarations → Type 0
+    DeclarationsHave ended = Unit {0}
+    DeclarationsHave (next a rest) = DeclarationHas a × DeclarationsHave rest
 
-  -- a statement, around which a loop of the same function stands or not
-  pub IsFormedIn : Bool → Statement → Type 0
-  IsFormedIn looped (Block at all) = AreFormedIn looped all
-  IsFormedIn looped (Let at fixed each) = AreFormedDeclarations each
-  IsFormedIn looped (IfOnly at test a) = IsFormed test × IsFormedIn looped a
-  IsFormedIn looped (IfElse at test a b) = IsFormed test × IsFormedIn looped a × IsFormedIn looped b
-  IsFormedIn looped (While at test a) = IsFormed test × IsFormedIn true a
-  IsFormedIn looped (DoWhile at a test) = IsFormedIn true a × IsFormed test
-  IsFormedIn looped (For at first test step a) = IsFormedFirst first × MayBeFormed test × MayBeFormed step × IsFormedIn true a
-  IsFormedIn looped (ForOf at fixed x list a) = IsFormed list × IsFormedIn true a
-  IsFormedIn looped (Return at value) = MayBeFormed value
-  IsFormedIn looped (Break at) = looped ≡ true
-  IsFormedIn looped (Continue at) = looped ≡ true
-  IsFormedIn looped (Plain at e) = IsFormed e
-  IsFormedIn looped (Empty at) = Unit {0}
+    -- a statement, around which a loop of the same function stands or not
+    pub StatementHas : Bool → Statement → Type 0
+    StatementHas looped (Block at all) = StatementsHave looped all
+    StatementHas looped (Let at fixed each) = DeclarationsHave each
+    StatementHas looped (IfOnly at test a) = TreeHas test × StatementHas looped a
+    StatementHas looped (IfElse at test a b) = TreeHas test × StatementHas looped a × StatementHas looped b
+    StatementHas looped (While at test a) = TreeHas test × StatementHas true a
+    StatementHas looped (DoWhile at a test) = StatementHas true a × TreeHas test
+    StatementHas looped (For at first test step a) = FirstHas first × OptionHas test × OptionHas step × StatementHas true a
+    StatementHas looped (ForOf at fixed x list a) = TreeHas list × StatementHas true a
+    StatementHas looped (Return at value) = OptionHas value
+    StatementHas looped (Break at) = looped ≡ true
+    StatementHas looped (Continue at) = looped ≡ true
+    StatementHas looped (Plain at e) = TreeHas e
+    StatementHas looped (Empty at) = Unit {0}
 
-  pub IsFormedFirst : OptionalStatement → Type 0
-  IsFormedFirst omitted = Unit {0}
-  IsFormedFirst (written a) = IsOpening a × IsFormedIn false a
+    pub FirstHas : OptionalStatement → Type 0
+    FirstHas omitted = Unit {0}
+    FirstHas (written a) = IsOpening a × StatementHas false a
 
-  pub AreFormedIn : Bool → Statements → Type 0
-  AreFormedIn looped done = Unit {0}
-  AreFormedIn looped (also a rest) = IsFormedIn looped a × AreFormedIn looped rest
+    pub StatementsHave : Bool → Statements → Type 0
+    StatementsHave looped done = Unit {0}
+    StatementsHave looped (also a rest) = StatementHas looped a × StatementsHave looped rest
 
--- a whole text
+  -- a whole text
+  abbrev pub MemberHas : ClassMember → Type 0
+  MemberHas (Field a) = DeclarationHas a
+  MemberHas (Method x r) = BodyHas r
+  MemberHas (Constructor r) = BodyHas r
+
+  abbrev pub MembersHave : List ClassMember → Type 0
+  MembersHave [] = Unit {0}
+  MembersHave (m ∷ rest) = MemberHas m × MembersHave rest
+
+  abbrev pub ItemHas : TopLevel → Type 0
+  ItemHas (Class at x base base_at members) = MembersHave members
+  ItemHas (Function x r) = BodyHas r
+  ItemHas (Main a) = StatementHas false a
+
+  abbrev pub ProgramHas : Program → Type 0
+  ProgramHas [] = Unit {0}
+  ProgramHas (i ∷ rest) = ItemHas i × ProgramHas rest
+
+-- numbers of 32 bits
+abbrev pub Is32 : ℤ → Type 0
+Is32 n = is_int32 n ≡ true
+
+abbrev pub Any : ℕ → Type 0
+Any text = Unit {0}
+
+-- A tree is formed: its numbers have 32 bits.
+abbrev pub IsFormed : Tree → Type 0
+IsFormed a = TreeHas Is32 Any a
+
+abbrev pub AreFormed : Trees → Type 0
+AreFormed a = TreesHave Is32 Any a
+
+abbrev pub MayBeFormed : OptionalTree → Type 0
+MayBeFormed a = OptionHas Is32 Any a
+
+abbrev pub IsFormedBody : Routine → Type 0
+IsFormedBody a = BodyHas Is32 Any a
+
+abbrev pub IsFormedDeclaration : Declaration → Type 0
+IsFormedDeclaration a = DeclarationHas Is32 Any a
+
+abbrev pub AreFormedDeclarations : Declarations → Type 0
+AreFormedDeclarations a = DeclarationsHave Is32 Any a
+
+abbrev pub IsFormedIn : Bool → Statement → Type 0
+IsFormedIn looped a = StatementHas Is32 Any looped a
+
+abbrev pub IsFormedFirst : OptionalStatement → Type 0
+IsFormedFirst a = FirstHas Is32 Any a
+
+abbrev pub AreFormedIn : Bool → Statements → Type 0
+AreFormedIn looped a = StatementsHave Is32 Any looped a
+
 abbrev pub IsFormedMember : ClassMember → Type 0
-IsFormedMember (Field a) = IsFormedDeclaration a
-IsFormedMember (Method x r) = IsFormedBody r
-IsFormedMember (Constructor r) = IsFormedBody r
+IsFormedMember a = MemberHas Is32 Any a
 
 abbrev pub AreFormedMembers : List ClassMember → Type 0
-AreFormedMembers [] = Unit {0}
-AreFormedMembers (m ∷ rest) = IsFormedMember m × AreFormedMembers rest
+AreFormedMembers a = MembersHave Is32 Any a
 
 abbrev pub IsFormedItem : TopLevel → Type 0
-IsFormedItem (Class at x base base_at members) = AreFormedMembers members
-IsFormedItem (Function x r) = IsFormedBody r
-IsFormedItem (Main a) = IsFormedIn false a
+IsFormedItem a = ItemHas Is32 Any a
 
 abbrev pub IsFormedProgram : Program → Type 0
-IsFormedProgram [] = Unit {0}
-IsFormedProgram (i ∷ rest) = IsFormedItem i × IsFormedProgram rest
+IsFormedProgram a = ProgramHas Is32 Any a
+
+-- the texts of a program are among the first n
+abbrev pub TextsBelow : ℕ → Program → Type 0
+TextsBelow n a = ProgramHas (λ z. Unit {0}) (λ x. x < n) a
