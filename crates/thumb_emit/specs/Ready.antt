@@ -3,7 +3,7 @@ use Rattle.std.specs.Prelude.{ℕ, ◌+◌, ◌*◌, ◌^◌, ◌<◌, length, L
 use Rattle.std.specs.Int.{w32}
 use Rattle.std.specs.List.{AllByRecursion}
 use Rattle.flat_ir.specs.declared.ops.Op.{Op}
-use Rattle.flat_ir.specs.declared.ops.Op.TheVariants.{Const}
+use Rattle.flat_ir.specs.declared.ops.Op.TheVariants.{Const, Call, CallSlot, HandlerOf, Ask, Jump, Branch, Return}
 use Rattle.flat_ir.specs.declared.ops.Function.{Function}
 use Rattle.flat_ir.specs.WellFormed.{IsWellFormedFunction, IsOpWithin, temporaries}
 use Rattle.register_assign.specs.declared.places.Placed.{Placed}
@@ -25,6 +25,17 @@ pub record IsReadyAt (p : Placed) (k : ℕ) (op : Op) : Type 0 where
   pub there : k < length p.function.ops
   pub within : IsOpWithin (temporaries p.function) (length p.function.ops) p.function.outgoing op
   pub labels : 3 * length p.function.ops < 2 ^ 32
+
+-- the op calls, asks, makes a value of a function, or goes elsewhere
+abbrev pub IsGoing : Op → Type 0
+IsGoing (Call to function args) = Unit {0}
+IsGoing (CallSlot to slot args) = Unit {0}
+IsGoing (HandlerOf to function) = Unit {0}
+IsGoing (Ask to service args) = Unit {0}
+IsGoing (Jump target) = Unit {0}
+IsGoing (Branch when target) = Unit {0}
+IsGoing (Return from) = Unit {0}
+IsGoing op = ⊥
 
 -- each number has 32 bits, as every number of an op in memory has
 abbrev pub HasNumber : Op → Type 0

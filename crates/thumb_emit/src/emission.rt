@@ -4,7 +4,7 @@ ghost use Rattle.flat_ir.specs.WellFormed.{IsWellFormedFunction};
 ghost use Rattle.register_assign.specs.Sound.{ArePlacesSound};
 ghost use Rattle.thumb_layout.specs.Soundness.{IsSound};
 ghost use Rattle.thumb_emit.specs.Emit.{function_pieces};
-ghost use Rattle.thumb_emit.specs.Ready.{IsReadyAt, pieces_of};
+ghost use Rattle.thumb_emit.specs.Ready.{IsReadyAt, IsGoing, pieces_of};
 
 use crate::calls::{ask, branch, call, call_slot, give, handler, jump};
 use crate::entry::enter;
@@ -20,7 +20,25 @@ use sts_base::{NoMemory, Seq};
 use thumb_layout::Piece;
 
 /// So many ops have labels of 32 bits.
-const MOST_OPS: usize = 1_431_655_764;
+const MOST_OPS: usize = 1_431_655_765;
+
+/// Op k, which calls, asks, makes a value of a function, or goes elsewhere.
+fn put_going(out: &mut Seq<Piece>, placed: &Placed, k: u32, op: &Op) -> Result<(), NoMemory>
+    requires ready { IsReadyAt placed.now k op.now }
+    requires going { IsGoing op.now }
+    ensures { OnOk result (out.new ≡ out.old ++ pieces_of placed.now k op.now) }
+{
+    match op {
+        Op::Call { to, function, args } => call(out, placed, *to, *function, args),
+        Op::CallSlot { to, slot, args } => call_slot(out, placed, k, *to, *slot, args),
+        Op::HandlerOf { to, function } => handler(out, placed, *to, *function),
+        Op::Ask { to, service, args } => ask(out, placed, *to, *service, args),
+        Op::Jump { target } => jump(out, placed, *target),
+        Op::Branch { when, target } => branch(out, placed, *when, *target),
+        Op::Return { from } => give(out, placed, *from),
+        _ => Ok(()),
+    }
+}
 
 /// Op k.
 fn put_op(out: &mut Seq<Piece>, placed: &Placed, k: u32, op: &Op) -> Result<(), NoMemory>
@@ -52,19 +70,13 @@ fn put_op(out: &mut Seq<Piece>, placed: &Placed, k: u32, op: &Op) -> Result<(), 
         Op::TextOf { to, text: number } => text(out, placed, *to, *number),
         Op::MakeObject { to, class } => make_object(out, placed, *to, *class),
         Op::MakeArray { to, room } => make_array(out, placed, *to, *room),
-        Op::Call { to, function, args } => call(out, placed, *to, *function, args),
-        Op::CallSlot { to, slot, args } => call_slot(out, placed, k, *to, *slot, args),
-        Op::HandlerOf { to, function } => handler(out, placed, *to, *function),
-        Op::Ask { to, service, args } => ask(out, placed, *to, *service, args),
-        Op::Jump { target } => jump(out, placed, *target),
-        Op::Branch { when, target } => branch(out, placed, *when, *target),
-        Op::Return { from } => give(out, placed, *from),
+        _ => put_going(out, placed, k, op),
     }
 }
 
 /// The pieces of a function whose temporaries have places: its entry, and its ops in their order, each behind its label. They can be laid.
 ///
-/// `NoMemory` is for want of memory. It also comes where there are more than 1,431,655,764 ops, which have no labels of 32 bits and whose
+/// `NoMemory` is for want of memory. It also comes where there are more than 1,431,655,765 ops, which have no labels of 32 bits and whose
 /// pieces would take more than 34 gigabytes.
 pub fn emit(alloc: Global, placed: &Placed) -> Result<Seq<Piece>, NoMemory>
     requires formed { IsWellFormedFunction placed.now.function }
