@@ -5,3 +5,6 @@ pub mod Showing
 pub mod Sections
 pub mod Flashing
 pub mod Programs
+pub mod EachByte
+pub mod Sizing
+pub mod Linking

@@ -1,5 +1,6 @@
 -- The image, as flash, shows its whole program.
-use Rattle.std.proofs.Common.{◌≡◌, ℕ, ◌+◌, ◌-◌, ◌*◌, ◌/◌, ◌%◌, ◌^◌, ◌<◌, ◌≤◌, List, length, refl, ap, ◌∙◌, arith, Some, true, get_or, slice_index, slice_get, ◌==◌}
+use Rattle.std.proofs.Common.{◌≡◌, ℕ, suc, [], ◌∷◌, ◌+◌, ◌-◌, ◌*◌, ◌/◌, ◌%◌, ◌^◌, ◌<◌, ◌≤◌, List, length, refl, ap, ◌∙◌, arith, Some, true, get_or, slice_index, slice_get, ◌==◌}
+use Rattle.std.specs.List.{AllByRecursion}
 use Rattle.std.specs.Prelude.{map, nat_le}
 use Rattle.std.proofs.lemmas.Bool.Decides.{nat_tests}
 use Rattle.std.proofs.lemmas.List.{get_or_default, get_or_append_left, get_or-append-add}
@@ -27,11 +28,17 @@ use Rattle.image_link.specs.Shown.{IsImaged, by_number, shown_at}
 use Rattle.image_link.proofs.Whole.{filled_long, slots_long, image_long, are_placed}
 use Rattle.image_link.proofs.Showing.{filled_outside, all_filled}
 use Rattle.image_link.proofs.Sections.{head_stands, code_stands, routine_stands, class_stands, text_stands, code_ends, routine_ends, class_ends, text_ends, texts_apart}
+use Rattle.image_link.proofs.EachByte.{EachByte, byte_at, laid_is, image_is}
 use Rattle.image_link.proofs.Flashing.{HasFour, word_there, word_small, laid_callable, are_fixed, laid_at, text_named, slot_there, bytes_there}
 
 -- a word, by its bytes
 word_from : (flash : List ℕ) (p n : ℕ) → n < 2 ^ 32 → flash_byte flash p ≡ n % 256 → flash_byte flash (p + 1) ≡ n / 2 ^ 8 % 256 → flash_byte flash (p + 2) ≡ n / 2 ^ 16 % 256 → flash_byte flash (p + 3) ≡ n / 2 ^ 24 % 256 → flash_word flash p ≡ n
 word_from flash p n l a b c d = omega arith
+
+-- what holds of the code of each body
+all_laid : (P : Laid → Type 0) (bodies : List (List Piece)) → ((f : ℕ) (body : List Piece) → slice_get bodies f ≡ Some body → P (laid body)) → AllByRecursion P (map laid bodies)
+all_laid P [] h = tt
+all_laid P (body ∷ bodies) h = (h 0 body refl, all_laid P bodies (λ f b e. h (suc f) b e))
 
 module _ (C : FlatCode) (bodies : List (List Piece)) (texts : List ByteList) where
   abbrev laid_bodies : List Laid
@@ -48,6 +55,13 @@ module _ (C : FlatCode) (bodies : List (List Piece)) (texts : List ByteList) whe
 
   placed : IsImaged C bodies texts → ArePlaced there
   placed h = are_placed laid_bodies C.classes texts (fits h)
+
+  -- all are bytes
+  body_bytes : IsImaged C bodies texts → (f : ℕ) (body : List Piece) → slice_get bodies f ≡ Some body → EachByte (laid body).bytes
+  body_bytes h f body e = let ends = code_ends laid_bodies C.classes texts f (laid body) (laid_at bodies f body e) in let room = fits h in laid_is body (h.sound f body e) (omega arith)
+
+  all_bytes : IsImaged C bodies texts → EachByte bytes
+  all_bytes h = image_is laid_bodies C texts (all_laid (λ l. EachByte l.bytes) bodies (body_bytes h)) h.bytes
 
   -- the words at reset
   base_there : base_of bytes ≡ base
@@ -155,7 +169,7 @@ module _ (C : FlatCode) (bodies : List (List Piece)) (texts : List ByteList) whe
 
   pub program_shown : IsImaged C bodies texts → InFlash C bodies texts bytes (shown_at C bodies texts)
   program_shown h = record {
-    bytes = h.bytes;
+    bytes = λ k. byte_at bytes (all_bytes h) k 255 (omega arith);
     base = base_there;
     main = main_there h;
     return_odd = ap is_odd return_there;

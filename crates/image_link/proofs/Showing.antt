@@ -64,7 +64,7 @@ apart_outside : (from : ℕ) (fs : List Fix) (to k : ℕ) → StandApart from fs
 apart_outside from [] to k h l = tt
 apart_outside from (f ∷ fs) to k h l = let x = h.0 in (inl (omega arith), apart_outside (f.at + 4) fs to k h.2 (omega arith))
 
-apart_within : (from : ℕ) (fs : List Fix) (to : ℕ) → StandApart from fs to → from ≤ to
+pub apart_within : (from : ℕ) (fs : List Fix) (to : ℕ) → StandApart from fs to → from ≤ to
 apart_within from [] to h = h
 apart_within from (f ∷ fs) to h = let x = h.0 in let y = apart_within (f.at + 4) fs to h.2 in omega arith
 

@@ -2,3 +2,4 @@ pub mod Parts
 pub mod Image
 pub mod Linkable
 pub mod Shown
+pub mod Sizes

@@ -2,6 +2,9 @@
 use Rattle.std.specs.Prelude.{◌≡◌, ◌⊎◌, ℕ, ◌+◌, ◌%◌, ◌<◌, ◌≤◌, List, length, Bool, true, false, slice_index}
 use Rattle.std.specs.List.{AllByRecursion}
 use Rattle.thumb_code.specs.Map.{flash_end}
+use Rattle.flat_ir.specs.declared.ops.Op.{Op}
+use Rattle.flat_ir.specs.declared.ops.Op.TheVariants.{TextOf}
+use Rattle.flat_ir.specs.declared.ops.Function as flat
 use Rattle.flat_ir.specs.declared.ops.FlatCode.{FlatCode}
 use Rattle.flat_ir.specs.WellFormed.{IsWellFormed}
 use Rattle.thumb_layout.specs.declared.pieces.What.{What}
@@ -36,6 +39,14 @@ pub record IsLinkable (laid : List Laid) (code : FlatCode) (texts : ℕ) : Type 
   pub entries : length laid ≡ length code.functions
   pub fixes : AllByRecursion AreFixesOf laid
   pub there : AllByRecursion (AreThere (length code.functions) (length code.classes) texts) laid
+
+-- Every text that a function's ops name is one of the first so many.
+abbrev pub NamesTextBelow : ℕ → Op → Type 0
+NamesTextBelow texts (TextOf to text) = text < texts
+NamesTextBelow texts op = Unit {0}
+
+abbrev pub NamesTextsBelow : ℕ → flat.Function → Type 0
+NamesTextsBelow texts f = AllByRecursion (NamesTextBelow texts) f.ops
 
 -- An address of a part is a multiple of 4, and no part is past the end of flash.
 abbrev pub IsPlace : ℕ → Type 0

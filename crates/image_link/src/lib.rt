@@ -14,4 +14,6 @@ mod writing;
 
 pub use linker::link;
 pub use refused::LinkRefused;
-pub use theorems::the_image_shows_its_program;
+pub use theorems::{
+    emitted_code_can_be_linked, programs_within_the_limits_fit, the_image_shows_its_program,
+};
