@@ -1,5 +1,7 @@
 pub mod Laws
+mod Fitting
 mod Named
+mod Owned
 mod Dead
 mod Expressions
 mod Blocks

@@ -1,6 +1,7 @@
 -- Worked rows of the definitions: what names which text, and what is live where a function begins.
-use Rattle.std.proofs.Common.{◌<◌, [], ◌∷◌, Some, false, refl, inl, inr, ⊎_elim, arith}
+use Rattle.std.proofs.Common.{ℕ, List, ◌≡◌, ◌<◌, [], ◌∷◌, Some, false, refl, inl, inr, ⊎_elim, arith}
 use Rattle.std.specs.Prelude.{pos}
+use Rattle.flat_ir.specs.declared.ops.Op.{Op}
 use Rattle.flat_ir.specs.declared.ops.Op.TheVariants.{Const, TextOf}
 use Rattle.flat_ir.specs.Liveness.{OnlyParametersAreLive, is_read}
 use Rattle.sts_syntax.specs.declared.typed.Spot.TheVariants.{Local}
@@ -8,17 +9,28 @@ use Rattle.sts_syntax.specs.Types as y
 use Rattle.sts_syntax.specs.TypedTrees as e
 use Rattle.sts_syntax.specs.TypedTrees.{TypedStatement, TypedStatements, TypedRoutine, TypedProgram}
 use Rattle.sts_lower.specs.Lowered.{lowered_routine}
-use Rattle.lowered_lives.specs.Texts.{NamesOneOf}
+use Rattle.sts_syntax.specs.TypeRules.{IsOneOf}
+use Rattle.lowered_lives.specs.Texts.{Has}
 
 -- The op of text 2 names one of 1 and 2, but not of 1 and 3; a number's op names none.
-named : NamesOneOf (1 ∷ (2 ∷ [])) (TextOf 0 2)
+abbrev Names : List ℕ → Op → Type 0
+Names texts op = Has (λ value. Unit {0}) (λ text. IsOneOf text texts) op
+
+named : Names (1 ∷ (2 ∷ [])) (TextOf 0 2)
 named = inr (inl refl)
 
-not_named : NamesOneOf (1 ∷ (3 ∷ [])) (TextOf 0 2) → ⊥
+not_named : Names (1 ∷ (3 ∷ [])) (TextOf 0 2) → ⊥
 not_named h = ⊎_elim (λ e. omega arith) (λ r. ⊎_elim (λ e. omega arith) (λ no. no) r) h
 
-none_named : NamesOneOf [] (Const 0 (pos 2))
+none_named : Names [] (Const 0 (pos 2))
 none_named = tt
+
+-- A number's op has the number, and a text's op has none.
+has_two : Has (λ value. value ≡ pos 2) (λ text. ⊥) (Const 0 (pos 2))
+has_two = refl
+
+has_no_number : Has (λ value. ⊥) (λ text. text ≡ 2) (TextOf 0 2)
+has_no_number = refl
 
 -- `{ return x; let x = 1 }`, in which a name is read in front of its declaration. It isn't well typed, and the local is live where its code begins.
 abbrev too_early : TypedRoutine
