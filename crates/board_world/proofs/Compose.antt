@@ -7,6 +7,7 @@ use Rattle.board_world.specs.Kinds.{Kind, Turn, Goes, Asks, Takes, Pauses, Waits
 use Rattle.board_world.specs.Simulation.{Ties, Onward, Going, Listening, Begins, Matches, Path, Follows, Simulation}
 use Rattle.board_world.specs.Composed.{seen, joined_seen}
 use Rattle.board_world.specs.Sound.{NoFault, PartialSimulation}
+use Rattle.board_world.proofs.Lift.{same_size}
 
 module _ {C D : Type 0} (M : Kind C D) (weight : C → D → ℕ) where
   -- a path of any number of steps
@@ -84,7 +85,7 @@ module _ {A B C S R D : Type 0} (K : Kind A S) (L : Kind B R) (M : Kind C D) (do
 
     takes_on : (q p : ℕ) (f : ℕ → A × S) (g : ℕ → B × R) (z : Turn C D) → Matches K L T used s (down s) (Takes q f) (Takes p g) → Matches L M U used t v (Takes p g) z → Matches K M tied used s u (Takes q f) z
     takes_on q p f g (Takes r i) h k =
-        (h.0 ∙ k.0, λ fits. going_on (used + q) used s t u v (f used) (g used) (i used) (h.1 fits) between (subst (λ (n : ℕ). used + n ≤ arena_limit → Going U (used + n) t v (g used) (i used)) (sym h.0) k.1 fits))
+        (h.0 ∙ k.0, λ fits. going_on (used + q) used s t u v (f used) (g used) (i used) (h.1 fits) between (subst (λ (n : ℕ). used + n ≤ arena_limit → Going U (used + n) t v (g used) (i used)) (sym (same_size used q p h.0 fits)) k.1 fits))
     takes_on q p f g _ h k = absurd k
 
     pauses_on : (n m : ℤ) (x : A × S) (y : B × R) (z : Turn C D) → Matches K L T used s (down s) (Pauses n x.0 x.1) (Pauses m y.0 y.1) → Matches L M U used t v (Pauses m y.0 y.1) z → Matches K M tied used s u (Pauses n x.0 x.1) z

@@ -1,11 +1,11 @@
 -- Flat code follows the source, word by word.
-use Rattle.std.proofs.Common.{◌≡◌, ◌≢◌, ℕ, zero, suc, ◌+◌, ◌-◌, ◌<◌, ◌≤◌, ◌⊎◌, inl, inr, ⊎_elim, List, [], ◌∷◌, length, map, Option, Some, None, Bool, true, false, refl, sym, ap, ◌∙◌, subst, arith}
+use Rattle.std.proofs.Common.{◌≡◌, ◌≢◌, ℕ, zero, suc, ◌+◌, ◌-◌, ◌<◌, ◌≤◌, ◌⊎◌, inl, inr, ⊎_elim, List, [], ◌∷◌, length, map, min, Option, Some, None, Bool, true, false, refl, sym, ap, ◌∙◌, subst, arith}
 use Rattle.std.specs.Prelude.{ℤ, pos, negsuc, ◌+ℤ◌, if◌then◌else◌, nat_lt, nat_eq, ◌==◌, int_lt}
 use Rattle.std.specs.Int.{int_wrap, w32}
 use Rattle.std.proofs.lemmas.Int.{ints, int_wrap-add_left}
 use Rattle.std.proofs.lemmas.Bool.{lt-ltb, le-ltb}
 use Rattle.std.proofs.lemmas.Bool.Decides.{eqb_tells}
-use Rattle.board_world.specs.Limits.{depth_limit}
+use Rattle.board_world.specs.Limits.{arena_limit, depth_limit}
 use Rattle.board_world.specs.Panics.{depth_panic, index_panic}
 use Rattle.board_world.specs.Observations.{ByteList}
 use Rattle.board_world.specs.Kinds.{Turn, Goes, Takes, Panics}
@@ -430,7 +430,7 @@ module _ (P : TypedProgram) (texts : List ByteList) (fine : IsFine P) (weight : 
             let heap : (at : ℕ) → forget (with_cell at (Fields c (defaults x.fields)) h) ≡ with_cell at (Fields c (zeros (length x.fields))) (forget h) =
             λ at. new_agrees h at c x ∙ ap (λ vs. with_cell at (Fields c vs) (forget h)) (zeros_are (length x.fields)) in
             subst (λ m. M used h (Takes (object_words x) (λ at. (now_with n (Object at ∷ vs) k, with_cell at (Fields c (defaults x.fields)) h))) (flat.makes (lowered P) texts (forget h) (fr j pc temps) waiting base (params + locals + length p) c m)) e
-            (sym e, λ fits. going P texts weight light (used + object_words x) h _ _ _ _ (heap used) (goes_on n (None ∷ p) (Object used ∷ vs) k (pc + 1) (with_entry (params + locals + length p) (Object used) temps) (shows_put params locals n None p (Object used) vs temps tt shows) near))
+            (ap (λ k. min k (suc arena_limit)) (sym e), λ fits. going P texts weight light (used + object_words x) h _ _ _ _ (heap used) (goes_on n (None ∷ p) (Object used ∷ vs) k (pc + 1) (with_entry (params + locals + length p) (Object used) temps) (shows_put params locals n None p (Object used) vs temps tt shows) near))
 
     -- the method in a slot of an object's class
     method_agrees : (ob : Value) (s : ℕ) → Agree (λ x y. x ≡ y) (source.method P texts h ob s) (then_gives (object_at (forget h) ob) (λ c. then_gives (there (entry (flat_classes P.classes) c.0)) (λ class. there (entry class.slots s))))
