@@ -1,20 +1,20 @@
 -- The table of bytes keeps the bounds of one node.
-use Rattle.std.proofs.Common.{◌≡◌, ℕ, zero, suc, ◌+◌, List, [], ◌∷◌, length, refl, ap, arith}
+use Rattle.std.proofs.Common.{◌≡◌, ℕ, zero, suc, ◌+◌, ◌*◌, List, [], ◌∷◌, length, refl, arith}
 use Rattle.flat_ir.specs.declared.ops.Op.{Op}
 use Rattle.sts_lower.specs.Code.{span}
 use Rattle.lowered_code.specs.Costs.{cost, Costs, EntryCosts}
-use Rattle.thumb_emit.specs.Bounds.{op_bytes, ops_bytes, entry_bytes}
-use Rattle.emitted_bytes.specs.Weighed.{bytes_of_weight, bytes_of_room}
+use Rattle.thumb_emit.specs.Bounds.{ops_bytes, entry_bytes}
+use Rattle.emitted_bytes.specs.Weighed.{bytes_of_weight, bytes_of_room, bytes_of_text, texts_named, full_bytes}
 
-pub ops_cost : (ops : List Op) → ops_bytes ops ≡ cost op_bytes ops
+pub ops_cost : (ops : List Op) → ops_bytes ops + bytes_of_text * cost texts_named ops ≡ cost full_bytes ops
 ops_cost [] = refl
-ops_cost (op ∷ ops) = ap (λ n. op_bytes op + n) (ops_cost ops)
+ops_cost (op ∷ ops) = (let h = ops_cost ops in omega (arith, h))
 
 span_long : (t n : ℕ) (rest : List ℕ) → length (span t n rest) ≡ n + length rest
 span_long t zero rest = omega arith
 span_long t (suc n) rest = omega (arith, span_long t n ((t + n) ∷ rest))
 
-pub rows_cost : Costs op_bytes bytes_of_weight bytes_of_room
+pub rows_cost : Costs full_bytes bytes_of_weight bytes_of_room
 rows_cost = record {
   number = λ to n. omega arith;
   copy = λ to from. omega arith;
@@ -50,7 +50,7 @@ rows_cost = record {
   gives_object = λ to from from'. omega arith;
 }
 
-pub entry_costs : EntryCosts op_bytes bytes_of_weight entry_bytes
+pub entry_costs : EntryCosts full_bytes bytes_of_weight entry_bytes
 entry_costs = record {
   number = λ to n from. omega arith;
   object = λ to from from'. omega arith;
