@@ -4,3 +4,4 @@ pub mod Services
 pub mod First
 pub mod Alone
 pub mod AloneRuns
+pub mod Compiled
