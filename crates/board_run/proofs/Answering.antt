@@ -25,13 +25,14 @@ use Rattle.message_bus.specs.BusState.{BusState, queued}
 use Rattle.fiber_runtime.specs.declared.turning.Turning.{Turning}
 use Rattle.fiber_runtime.specs.State.{State}
 use Rattle.board_run.specs.declared.engine.Engine.{Engine}
-use Rattle.board_run.specs.declared.engine.Sight.{Sight}
-use Rattle.board_run.specs.declared.engine.Sight.TheVariants.{Nothing, Frame, Number, Text, Pin, Radio}
+use Rattle.board_outside.specs.declared.sight.Sight.{Sight}
+use Rattle.board_outside.specs.declared.sight.Sight.TheVariants.{Nothing, Frame, Number, Text, Pin, Radio}
 use Rattle.board_run.specs.declared.engine.Served.TheVariants.{Goes}
 use Rattle.board_run.specs.Represents.{Represents}
-use Rattle.board_run.specs.Run.{Move, Seen, seen_of}
+use Rattle.board_outside.specs.Moves.{Move, Seen, seen_of}
 use Rattle.board_run.specs.Serving.{turned}
-use Rattle.board_run.specs.Served.{moves_of, IsServed}
+use Rattle.board_outside.specs.Sights.{moves_of}
+use Rattle.board_run.specs.Served.{IsServed}
 use Rattle.board_run.specs.View.{state_of}
 use Rattle.board_run.proofs.Acting.{Unplugless, Leaves, shared_is, goes_leaves, asks_leaves}
 

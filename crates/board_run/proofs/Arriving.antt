@@ -11,17 +11,12 @@ use Rattle.event_script.specs.declared.script.Act.{Act}
 use Rattle.event_script.specs.declared.script.Act.TheVariants.{Down, Up, Raise, Unplug}
 use Rattle.event_script.specs.declared.script.Entry.{Entry}
 use Rattle.board_ports.specs.Plugged.{Plugged}
-use Rattle.board_ports.specs.History.{PortMove, Unplug as Unplugs, Follows}
+use Rattle.board_ports.specs.History.{PortMove, Follows}
 use Rattle.board_run.specs.declared.engine.Engine.{Engine}
-use Rattle.board_run.specs.Run.{Move, Seen, Unplugged, seen_of, unplugged_of}
-use Rattle.board_run.specs.Ports.{port_moves, words_of}
+use Rattle.board_outside.specs.Moves.{Move, seen_of, unplugged_of}
+use Rattle.board_outside.specs.Ports.{port_moves}
 use Rattle.board_run.specs.Arriving.{unplugs_of, acted_on, Applied, Arrived}
-use Rattle.board_run.proofs.Instructs.{seen_of-append, unplugged_of-append}
-
-pub port_moves-append : (ms ns : List Move) → port_moves (ms ++ ns) ≡ port_moves ms ++ port_moves ns
-port_moves-append [] ns = refl
-port_moves-append (Seen o ∷ ms) ns = ap (λ l. words_of o ++ l) (port_moves-append ms ns) ∙ sym (append_assoc (words_of o) (port_moves ms) (port_moves ns))
-port_moves-append (Unplugged port ∷ ms) ns = ap (λ l. Unplugs port ∷ l) (port_moves-append ms ns)
+use Rattle.board_outside.proofs.Laws.{seen_of-append, unplugged_of-append, port_moves-append}
 
 unplugs_silent : (act : Act) → seen_of (unplugs_of act) ≡ []
 unplugs_silent (Down button) = refl

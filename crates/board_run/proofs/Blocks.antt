@@ -15,7 +15,7 @@ use Rattle.fiber_runtime.specs.declared.blocking.Why.TheVariants.{Pause, Wait}
 use Rattle.fiber_runtime.specs.State.{State, running_key}
 use Rattle.fiber_runtime.specs.Moves.{Blocked, Adopted}
 use Rattle.board_run.specs.declared.engine.Engine.{Engine}
-use Rattle.board_run.specs.declared.engine.Sight.TheVariants.{Nothing}
+use Rattle.board_outside.specs.declared.sight.Sight.TheVariants.{Nothing}
 use Rattle.board_run.specs.declared.engine.Served.TheVariants.{Goes}
 use Rattle.board_run.specs.Represents.{BoardState, Represents, behind}
 use Rattle.board_run.specs.Serving.{turned}
@@ -24,7 +24,7 @@ use Rattle.board_run.specs.Blocking.{blocks_for, Rests}
 use Rattle.board_run.specs.View.{state_of}
 use Rattle.board_run.proofs.Goes.{current, asks_to, blocked, forked}
 use Rattle.board_run.proofs.Acting.{Leaves}
-use Rattle.board_run.proofs.Instructs.{meets_nothing}
+use Rattle.board_outside.proofs.Laws.{meets_nothing}
 
 pub some_is : (o : Option ℕ) → IsSome o → (k : ℕ) × (o ≡ Some k)
 some_is (Some k) h = (k, refl)

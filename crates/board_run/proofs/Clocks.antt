@@ -30,14 +30,15 @@ use Rattle.board_run.specs.declared.end.Stop.TheVariants.{Quiet as StopQuiet, Sc
 use Rattle.board_run.specs.declared.engine.Engine.{Engine}
 use Rattle.board_run.specs.Shown.{of_key}
 use Rattle.board_run.specs.Represents.{BoardState, Represents}
-use Rattle.board_run.specs.Run.{Move, HasMet, Meets, Comes}
+use Rattle.board_outside.specs.Moves.{Move, HasMet, Meets}
+use Rattle.board_run.specs.Run.{Comes}
 use Rattle.board_run.specs.Idling.{IsEmpty, moves_left}
 use Rattle.board_run.specs.Arriving.{acted_on, Arrived}
 use Rattle.board_run.specs.View.{state_of, end_of, plain_of}
 use Rattle.board_run.proofs.Arrives.{arrived}
 use Rattle.board_run.proofs.Course.{idles}
 use Rattle.board_run.proofs.Goes.{IsPlain}
-use Rattle.board_run.proofs.Instructs.{met_then, meets_nothing}
+use Rattle.board_outside.proofs.Laws.{met_then, meets_nothing}
 use Rattle.board_run.proofs.Raises.{nobody_ready, jumped}
 
 act_at : (es : List Entry) → All (λ e. IsSoundAct e.act) (world_entries es) → (k : ℕ) (d : Entry) → k < length es → IsSoundAct (world_act (get_or es k d).act)

@@ -11,7 +11,8 @@ use Rattle.bank_model.specs.BoardMachine.{fibers, fiber_turn}
 use Rattle.fiber_runtime.specs.declared.turning.Turning.{Turning}
 use Rattle.bank_model.specs.Standing.{fiber_on, shared_on}
 use Rattle.board_run.specs.Represents.{BoardState, Represents, IsShown, behind}
-use Rattle.board_run.specs.Run.{Move, HasMet, Reaches, Comes}
+use Rattle.board_outside.specs.Moves.{Move, HasMet}
+use Rattle.board_run.specs.Run.{Reaches, Comes}
 use Rattle.board_run.proofs.Goes.{current, first_ready}
 
 -- one call behind another

@@ -1,6 +1,5 @@
 -- One instruction of the running fiber, from the machine's step to the run.
-use Rattle.std.proofs.Common.{◌≡◌, ℕ, zero, suc, ◌+◌, Bool, List, [], ◌∷◌, ◌++◌, length, map, Option, Some, None, is_some, refl, sym, ap, ◌∙◌, subst, arith}
-use Rattle.std.proofs.lemmas.List.{append-nil}
+use Rattle.std.proofs.Common.{◌≡◌, ℕ, Bool, List, [], ◌∷◌, ◌++◌, map, Option, Some, None, is_some, refl, sym, ap, ◌∙◌, subst}
 use Rattle.thumb_code.specs.Ram.{Ram}
 use Rattle.thumb_code.specs.Step.{Stepped, On, Served, Faulted}
 use Rattle.thumb_code.specs.Machine.{State as Machine, step}
@@ -18,7 +17,9 @@ use Rattle.fiber_runtime.specs.declared.turning.Turning.{Turning}
 use Rattle.fiber_runtime.specs.Sound.{IsStanding}
 use Rattle.board_run.specs.Shown.{acting, of_key}
 use Rattle.board_run.specs.Represents.{BoardState, Represents, behind}
-use Rattle.board_run.specs.Run.{Move, Seen, Unplugged, seen_of, unplugged_of, HasMet, Meets, Comes}
+use Rattle.board_outside.specs.Moves.{Move, HasMet, Meets}
+use Rattle.board_outside.proofs.Laws.{met_then, meets_nothing}
+use Rattle.board_run.specs.Run.{Comes}
 use Rattle.board_run.specs.Serving.{Acts, StopsAt}
 use Rattle.board_run.proofs.Again.{Alike, Same, Stop, alike}
 use Rattle.board_run.proofs.Goes.{current, IsOnward, goes, first_ready, behind_same}
@@ -27,28 +28,6 @@ use Rattle.board_run.proofs.Course.{executes}
 -- what is shown may be used to see how far a board comes
 pub by_shown : (image : List ℕ) (n : ℕ) (more : List Move) (b b' : BoardState) → ((w : World Fiber Shared) → Represents image b w → Comes image n more b b') → Comes image n more b b'
 by_shown image n more b b' f start k used met r = f (r.at []) (r.shows []) start k used met r
-
-pub seen_of-append : (ms ns : List Move) → seen_of (ms ++ ns) ≡ seen_of ms ++ seen_of ns
-seen_of-append [] ns = refl
-seen_of-append (Seen o ∷ ms) ns = ap (λ l. o ∷ l) (seen_of-append ms ns)
-seen_of-append (Unplugged port ∷ ms) ns = seen_of-append ms ns
-
-pub unplugged_of-append : (k : ℕ) (ms ns : List Move) → unplugged_of k (ms ++ ns) ≡ unplugged_of k ms ++ unplugged_of (k + length (seen_of ms)) ns
-unplugged_of-append k [] ns = (let e : k ≡ k + zero = omega arith in ap (λ j. unplugged_of j ns) e)
-unplugged_of-append k (Seen o ∷ ms) ns = unplugged_of-append (suc k) ms ns ∙ (let e : suc k + length (seen_of ms) ≡ k + suc (length (seen_of ms)) = omega arith in ap (λ j. unplugged_of (suc k) ms ++ unplugged_of j ns) e)
-unplugged_of-append k (Unplugged port ∷ ms) ns = ap (λ l. (port, k) ∷ l) (unplugged_of-append k ms ns)
-
--- moves behind those that were met
-pub met_then : (met moves : List Move) (b c : Board) → HasMet met b → Meets moves b c → HasMet (met ++ moves) c
-met_then met moves b c h m = record {
-  seen = m.seen ∙ ap (λ l. l ++ seen_of moves) h.seen ∙ sym (seen_of-append met moves);
-  unplugged =
-      let k : length b.seen ≡ zero + length (seen_of met) = (let e = ap length h.seen in omega (arith, e)) in
-      m.unplugged ∙ ap (λ l. l ++ unplugged_of (length b.seen) moves) h.unplugged ∙ ap (λ j. unplugged_of zero met ++ unplugged_of j moves) k ∙ sym (unplugged_of-append zero met moves);
-}
-
-pub meets_nothing : (b c : Board) → c.seen ≡ b.seen → c.unplugged ≡ b.unplugged → Meets [] b c
-meets_nothing b c s u = record { seen = s ∙ sym (append-nil b.seen); unplugged = u ∙ sym (append-nil b.unplugged) }
 
 module _ (image : List ℕ) (b : BoardState) (t : Turning) (runs : b.runtime.running ≡ Some t) (going : b.plain.end ≡ None) where
   -- the board behind an instruction that went on

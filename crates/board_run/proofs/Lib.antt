@@ -26,3 +26,5 @@ pub mod Arriving
 pub mod Dispatching
 pub mod Clocks
 pub mod Settling
+pub mod Executing
+pub mod Finished

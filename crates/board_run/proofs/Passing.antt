@@ -23,11 +23,11 @@ use Rattle.fiber_runtime.specs.declared.turning.Raiser.{Raiser}
 use Rattle.fiber_runtime.specs.State.{State}
 use Rattle.fiber_runtime.specs.Moves.{Ended, Woken, restarted, suspended}
 use Rattle.board_run.specs.declared.engine.Engine.{Engine}
-use Rattle.board_run.specs.declared.engine.Sight.TheVariants.{Nothing}
+use Rattle.board_outside.specs.declared.sight.Sight.TheVariants.{Nothing}
 use Rattle.board_run.specs.declared.engine.Served.TheVariants.{Goes}
 use Rattle.board_run.specs.Places.{Place, ArePlaces, place_for}
 use Rattle.board_run.specs.Represents.{Represents, IsShown, behind}
-use Rattle.board_run.specs.Run.{Meets}
+use Rattle.board_outside.specs.Moves.{Meets}
 use Rattle.board_run.specs.Serving.{StopsAt}
 use Rattle.board_run.specs.Served.{IsServed}
 use Rattle.board_run.specs.View.{state_of}
@@ -35,7 +35,7 @@ use Rattle.board_run.proofs.Goes.{current, first_ready}
 use Rattle.board_run.proofs.Ends.{IsSameBus, same_ended, ends_keyed, ends_keyless, begins_anew}
 use Rattle.board_run.proofs.Raises.{raises_now, raises_to_waiters, raises_too_deep, behind_suspended}
 use Rattle.board_run.proofs.Acting.{shared_is}
-use Rattle.board_run.proofs.Instructs.{meets_nothing}
+use Rattle.board_outside.proofs.Laws.{meets_nothing}
 use Rattle.board_run.proofs.Services.{self_onward}
 
 same_listeners : (b : BusState) → IsSameBus b b

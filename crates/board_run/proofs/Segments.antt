@@ -8,7 +8,8 @@ use Rattle.board_world.proofs.Laws.{busy_stays, run_over, run_sum}
 use Rattle.bank_model.specs.Fibers.{Fiber, Shared}
 use Rattle.bank_model.specs.BoardMachine.{fibers}
 use Rattle.board_run.specs.Represents.{BoardState, Represents}
-use Rattle.board_run.specs.Run.{Move, Reaches}
+use Rattle.board_outside.specs.Moves.{Move}
+use Rattle.board_run.specs.Run.{Reaches}
 
 -- Whatever was done so far, a next call begins from the worlds that are shown: they are its start, and its count is 0.
 pub begins_again : (image : List ℕ) (start : List ℕ → World Fiber Shared) (n : ℕ) (used : List ℕ) (met : List Move) (b : BoardState) (r : Reaches image start n used met b) → Reaches image r.at 0 [] met b

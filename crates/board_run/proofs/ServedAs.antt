@@ -12,7 +12,8 @@ use Rattle.board_run.specs.declared.engine.Engine.{Engine}
 use Rattle.board_run.specs.declared.engine.Served.{Served}
 use Rattle.board_run.specs.declared.engine.Served.TheVariants.{Goes, Stops}
 use Rattle.board_run.specs.Represents.{behind}
-use Rattle.board_run.specs.Served.{IsServed, moves_of}
+use Rattle.board_outside.specs.Sights.{moves_of}
+use Rattle.board_run.specs.Served.{IsServed}
 use Rattle.board_run.specs.View.{state_of, end_of}
 use Rattle.board_run.proofs.Goes.{current}
 use Rattle.board_run.proofs.Acting.{Leaves}

@@ -28,7 +28,7 @@ use Rattle.fiber_runtime.specs.declared.turning.Turning.{Turning}
 use Rattle.fiber_runtime.specs.State.{State}
 use Rattle.fiber_runtime.specs.Moves.{Spawned}
 use Rattle.board_run.specs.declared.engine.Engine.{Engine}
-use Rattle.board_run.specs.declared.engine.Sight.TheVariants.{Nothing}
+use Rattle.board_outside.specs.declared.sight.Sight.TheVariants.{Nothing}
 use Rattle.board_run.specs.declared.engine.Served.TheVariants.{Goes}
 use Rattle.board_run.specs.Represents.{Represents, behind}
 use Rattle.board_run.specs.Serving.{turned, StopsAt}
@@ -37,7 +37,7 @@ use Rattle.board_run.specs.View.{state_of}
 use Rattle.board_run.proofs.Goes.{current, IsOnward}
 use Rattle.board_run.proofs.Joins.{spawns, listens, length_hearings}
 use Rattle.board_run.proofs.Acting.{Leaves, shared_is, goes_leaves, takes_leaves}
-use Rattle.board_run.proofs.Instructs.{meets_nothing}
+use Rattle.board_outside.proofs.Laws.{meets_nothing}
 
 pub self_onward : (m : Machine) → IsInside m.registers.sp m.memory.base → IsOnward m m
 self_onward m i = record { keeps = record { flash = refl; base = refl; size = refl; above = refl }; inside = i }

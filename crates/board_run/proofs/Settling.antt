@@ -6,12 +6,13 @@ use Rattle.board_ports.specs.History.{Follows}
 use Rattle.board_run.specs.declared.engine.Engine.{Engine}
 use Rattle.board_run.specs.Represents.{BoardState, IsShown}
 use Rattle.board_run.specs.Run.{Comes}
-use Rattle.board_run.specs.Ports.{Idles, port_moves}
+use Rattle.board_outside.specs.Ports.{port_moves}
+use Rattle.board_run.specs.Ports.{Idles}
 use Rattle.board_run.specs.View.{state_of}
-use Rattle.board_run.proofs.Arriving.{port_moves-append}
+use Rattle.board_outside.proofs.Laws.{port_moves-append}
 use Rattle.board_run.proofs.Clocks.{still_idles}
 use Rattle.board_run.proofs.Course.{comes_then, comes_shown, stutters}
-use Rattle.board_run.proofs.Instructs.{seen_of-append}
+use Rattle.board_outside.proofs.Laws.{seen_of-append}
 
 module _ {B : Type 0} (log : B → Option (List (ℕ × ℕ))) (faults : B → ℕ) where
   then_idles : (a b c : BoardState) (p q r : Plugged B) → Idles log faults a b p q → Idles log faults b c q r → Idles log faults a c p r

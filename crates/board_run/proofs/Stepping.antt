@@ -21,12 +21,13 @@ use Rattle.board_world.specs.Activities.{World}
 use Rattle.board_run.specs.declared.end.Stop.{Stop}
 use Rattle.board_run.specs.declared.end.Stop.TheVariants.{Fault as StopFault}
 use Rattle.board_run.specs.declared.engine.Engine.{Engine}
-use Rattle.board_run.specs.declared.engine.Sight.{Sight}
+use Rattle.board_outside.specs.declared.sight.Sight.{Sight}
 use Rattle.board_run.specs.declared.engine.Served.TheVariants.{Goes, Stops}
 use Rattle.board_run.specs.Represents.{BoardState, Represents, IsShown}
 use Rattle.board_run.specs.Run.{Comes}
 use Rattle.board_run.specs.Serving.{Acts, StopsAt}
-use Rattle.board_run.specs.Served.{IsServed, moves_of}
+use Rattle.board_outside.specs.Sights.{moves_of}
+use Rattle.board_run.specs.Served.{IsServed}
 use Rattle.board_run.specs.View.{state_of, end_of}
 use Rattle.board_run.proofs.Instructs.{moved_to, moved_shows, went, faulted, served, served_stops, served_inside}
 

@@ -9,8 +9,8 @@ use Rattle.event_script.specs.declared.script.Act.TheVariants.{Down, Up, Raise, 
 use Rattle.board_ports.specs.Plugged.{Plugged}
 use Rattle.board_ports.specs.History.{PortMove, Follows}
 use Rattle.board_run.specs.declared.engine.Engine.{Engine}
-use Rattle.board_run.specs.Run.{Move, Unplugged, seen_of, unplugged_of}
-use Rattle.board_run.specs.Ports.{port_moves}
+use Rattle.board_outside.specs.Moves.{Move, Unplugged, seen_of, unplugged_of}
+use Rattle.board_outside.specs.Ports.{port_moves}
 
 -- the moves of an act
 abbrev pub unplugs_of : Act → List Move

@@ -9,3 +9,5 @@ pub mod Served
 pub mod Blocking
 pub mod Ports
 pub mod Arriving
+pub mod Advancing
+pub mod Ran

@@ -1,5 +1,5 @@
 -- Dispatch places: an event, and the listeners whose handlers haven't begun.
-use Rattle.std.specs.Prelude.{◌≡◌, ℕ, ◌-◌, List, [], ◌∷◌}
+use Rattle.std.specs.Prelude.{◌≡◌, ℕ, ◌-◌, pos, List, [], ◌∷◌}
 use Rattle.board_world.specs.declared.events.Event.{Event}
 use Rattle.message_bus.specs.ListenerState.{ListenerState}
 use Rattle.message_bus.specs.Numbers.{numbers, beginning, IsRising}
@@ -16,6 +16,10 @@ ArePlaces n [] (p ∷ []) = IsRising 0 p.left n
 ArePlaces n [] (p ∷ (q ∷ ps)) = ⊥
 ArePlaces n (r ∷ rs) [] = ⊥
 ArePlaces n (r ∷ rs) (p ∷ ps) = IsRising 0 p.left n × ArePlaces n rs ps
+
+-- the places as a run begins: one, at which no handler is left
+abbrev pub at_first : List Place
+at_first = record { event = record { source = pos 0; value = pos 0 }; left = [] } ∷ []
 
 -- the dispatch place of an event
 abbrev pub place_for : Event → List ListenerState → Place

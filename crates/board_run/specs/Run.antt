@@ -1,38 +1,11 @@
 -- A board in the course of a run.
-use Rattle.std.specs.Prelude.{◌≡◌, ℕ, suc, ◌+◌, List, [], ◌∷◌, ◌++◌, length, None}
-use Rattle.board_world.specs.Observations.{Observation}
-use Rattle.board_world.specs.Board.{Board}
+use Rattle.std.specs.Prelude.{◌≡◌, ℕ, ◌+◌, List, ◌++◌, None}
 use Rattle.board_world.specs.Activities.{World}
 use Rattle.board_world.specs.World.{idled, run}
 use Rattle.bank_model.specs.Fibers.{Fiber, Shared}
 use Rattle.bank_model.specs.BoardMachine.{fibers}
+use Rattle.board_outside.specs.Moves.{Move, HasMet}
 use Rattle.board_run.specs.Represents.{BoardState, Represents}
-
--- what the outside meets, in order
-pub data Move : Type 0 where
-  Seen : (observation : Observation) → Move
-  Unplugged : (port : ℕ) → Move
-
--- the observations, and the unplugs with the number of observations before each
-abbrev pub seen_of : List Move → List Observation
-seen_of [] = []
-seen_of (Seen o ∷ ms) = o ∷ seen_of ms
-seen_of (Unplugged port ∷ ms) = seen_of ms
-
-abbrev pub unplugged_of : ℕ → List Move → List (ℕ × ℕ)
-unplugged_of k [] = []
-unplugged_of k (Seen o ∷ ms) = unplugged_of (suc k) ms
-unplugged_of k (Unplugged port ∷ ms) = (port, k) ∷ unplugged_of k ms
-
--- These are the moves that a board of the world has met.
-pub record HasMet (moves : List Move) (b : Board) : Type 0 where
-  pub seen : b.seen ≡ seen_of moves
-  pub unplugged : b.unplugged ≡ unplugged_of 0 moves
-
--- The new board has met these moves behind those of the old one.
-pub record Meets (moves : List Move) (old new : Board) : Type 0 where
-  pub seen : new.seen ≡ old.seen ++ seen_of moves
-  pub unplugged : new.unplugged ≡ old.unplugged ++ unplugged_of (length old.seen) moves
 
 -- After n instructions from a start, whose own idle moves come first, with these free words used and whatever follows them, the board shows
 -- a world whose idle moves lead to the run's. What was met doesn't hang on the words that follow. A fault leaves the world as it was, also

@@ -1,27 +1,13 @@
 -- What came of a service that the running fiber asked for.
-use Rattle.std.specs.Prelude.{◌≡◌, ℕ, ◌+◌, ◌≤◌, List, [], ◌∷◌}
-use Rattle.board_world.specs.Observations.{Show, Serial, Pin as PinSeen, Radio as RadioSeen}
-use Rattle.board_world.specs.Transcript.{decimal_text}
+use Rattle.std.specs.Prelude.{◌≡◌, ℕ, ◌+◌, ◌≤◌, List}
 use Rattle.board_world.specs.Kinds.{Turn}
 use Rattle.bank_model.specs.Fibers.{Fiber, Shared}
-use Rattle.bank_model.specs.Texts.{text_at}
+use Rattle.board_outside.specs.Sights.{moves_of}
 use Rattle.board_run.specs.declared.engine.Engine.{Engine}
-use Rattle.board_run.specs.declared.engine.Sight.{Sight}
-use Rattle.board_run.specs.declared.engine.Sight.TheVariants.{Nothing, Frame, Number, Text, Pin, Radio}
 use Rattle.board_run.specs.declared.engine.Served.{Served}
 use Rattle.board_run.specs.declared.engine.Served.TheVariants.{Goes, Stops}
-use Rattle.board_run.specs.Run.{Move, Seen}
 use Rattle.board_run.specs.Serving.{Acts, StopsAt}
 use Rattle.board_run.specs.View.{state_of, end_of}
-
--- the moves that an instruction's sight is, with this flash, at a moment
-abbrev pub moves_of : List ℕ → ℕ → Sight → List Move
-moves_of flash now Nothing = []
-moves_of flash now (Frame frame) = Seen (Show now frame) ∷ []
-moves_of flash now (Number number) = Seen (Serial now (decimal_text number)) ∷ []
-moves_of flash now (Text at) = Seen (Serial now (text_at flash at)) ∷ []
-moves_of flash now (Pin pin level) = Seen (PinSeen now pin level) ∷ []
-moves_of flash now (Radio number) = Seen (RadioSeen now number) ∷ []
 
 -- The board does the turn of the running fiber, or the turn ends the run so and the board has done nothing.
 abbrev pub IsServed : (List ℕ → Fiber → Shared → Turn Fiber Shared) → Served → Engine → Engine → Type 0

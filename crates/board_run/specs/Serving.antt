@@ -10,7 +10,7 @@ use Rattle.bank_model.specs.BoardMachine.{fibers}
 use Rattle.fiber_runtime.specs.declared.turning.Turning.{Turning}
 use Rattle.board_run.specs.Shown.{acting}
 use Rattle.board_run.specs.Represents.{BoardState, Represents, behind}
-use Rattle.board_run.specs.Run.{Move, Meets}
+use Rattle.board_outside.specs.Moves.{Move, Meets}
 
 -- The world behind a turn of the running fiber, t, which the world has as its first activity, marked so.
 abbrev pub turned : List ℕ → (Fiber → Shared → Turn Fiber Shared) → BoardState → Turning → Bool → World Fiber Shared → World Fiber Shared

@@ -5,8 +5,9 @@ ghost use Rattle.board_run.specs.Served.{IsServed, Keeps};
 
 use crate::arguments::{answer, asked_event, number, word};
 use crate::end::Stop;
-use crate::engine::{Engine, Served, Sight};
+use crate::engine::{Engine, Served};
 use armv6m_machine::Fault;
+use board_outside::Sight;
 use board_world::{PIN_LIMIT, plot};
 
 impl Engine {
@@ -93,7 +94,7 @@ impl Engine {
         if pin < 0 || pin as u32 >= PIN_LIMIT {
             return Served::Goes(Sight::Nothing);
         }
-        Served::Goes(Sight::Pin(pin as u32, u32::from(value != 0)))
+        Served::Goes(Sight::Pin(pin as u8, u8::from(value != 0)))
     }
 
     /// Service 15: a number by radio.
@@ -105,7 +106,7 @@ impl Engine {
 }
 
 ghost use Rattle.std.specs.Prelude.{if◌then◌else◌, ◌==◌};
-ghost use Rattle.board_run.specs.declared.engine.Sight.TheVariants.{Nothing, Frame};
+ghost use Rattle.board_outside.specs.declared.sight.Sight.TheVariants.{Nothing, Frame};
 
 impl Engine {
     /// A frame is shown, and seen where it differs from the one before.

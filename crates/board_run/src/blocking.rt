@@ -11,8 +11,9 @@ ghost use Rattle.board_run.specs.Blocking.{blocks_for, Rests};
 
 use crate::arguments::{number, word};
 use crate::end::Stop;
-use crate::engine::{Engine, Served, Sight};
+use crate::engine::{Engine, Served};
 use armv6m_machine::Fault;
+use board_outside::Sight;
 use board_world::{LISTENER_PANIC, Listener, SEAT_PANIC};
 use fiber_runtime::{Runtime, Why};
 use fork_on_block::fork;

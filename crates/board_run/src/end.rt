@@ -15,6 +15,23 @@ pub enum Stop {
     Fault(Fault, u32),
 }
 
+/// How a run over a sink ended.
+#[derive(Clone, Copy, Debug, PartialEq, Eq, Drop)]
+pub enum End {
+    /// Nothing was left to come.
+    Quiet,
+    /// What was left to come lay past the script's end.
+    Script,
+    /// A panic with this code.
+    Panic(u8),
+    /// It hadn't ended after its budget of instructions.
+    Budget,
+    /// A fault of the machine, with its address.
+    Fault(Fault, u32),
+    /// The sink failed.
+    SinkFault,
+}
+
 /// What is counted of fibers.
 #[derive(Clone, Copy, Drop)]
 pub struct Counts {

@@ -12,8 +12,9 @@ ghost use Rattle.board_run.specs.View.{state_of};
 
 use crate::arguments::asked_event;
 use crate::end::Stop;
-use crate::engine::{Engine, Served, Sight};
+use crate::engine::{Engine, Served};
 use crate::place::place_for;
+use board_outside::Sight;
 use board_world::{Event, RAISER_PANIC};
 use fiber_runtime::Runtime;
 use fork_on_block::{again, leave, nest};

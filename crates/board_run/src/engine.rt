@@ -4,6 +4,7 @@ use crate::end::{Counts, Stop};
 use crate::places::Places;
 use arena_heap::Arena;
 use board_drivers::{Buttons, Display};
+use board_outside::Sight;
 use event_script::Script;
 use fiber_runtime::Runtime;
 use message_bus::Bus;
@@ -23,22 +24,6 @@ pub struct Engine {
     pub clock: u32,
     pub counts: Counts,
     pub end: Option<Stop>,
-}
-
-/// What an instruction showed to the outside.
-#[derive(Clone, Copy, Drop)]
-pub enum Sight {
-    Nothing,
-    /// Another frame.
-    Frame(u32),
-    /// The decimal text of a number, at the serial port.
-    Number(i32),
-    /// The text at an address of flash, at the serial port.
-    Text(u32),
-    /// A pin and its level.
-    Pin(u32, u32),
-    /// A number that was sent by radio.
-    Radio(i32),
 }
 
 /// What came of a service that was asked for.

@@ -3,12 +3,14 @@ ghost use Rattle.std.specs.Prelude.{◌≡◌, ◌+◌, ◌^◌, ◌<◌, ◌≤
 ghost use Rattle.board_world.specs.Limits.{end_limit};
 ghost use Rattle.board_run.specs.Represents.{IsShown};
 ghost use Rattle.board_run.specs.Run.{Comes};
-ghost use Rattle.board_run.specs.Served.{Steps, moves_of};
+ghost use Rattle.board_outside.specs.Sights.{moves_of};
+ghost use Rattle.board_run.specs.Served.{Steps};
 ghost use Rattle.board_run.specs.View.{state_of};
 
 use crate::end::Stop;
-use crate::engine::{Engine, Served, Sight};
+use crate::engine::{Engine, Served};
 use armv6m_machine::Turn;
+use board_outside::Sight;
 use fiber_runtime::Runtime;
 
 /// Puts the running fiber back to the instruction at an address.

@@ -1,6 +1,6 @@
 // The dispatch places, the innermost first.
 ghost use Rattle.std.specs.Prelude.{◌≡◌, ◌∷◌, ◌<◌, ◌≤◌, [], length, IfSome, IfNone, IfOk, OnSome, vec_len, List, ℕ};
-ghost use Rattle.board_run.specs.Places.{Place as PlaceState, Takes, IsSpent};
+ghost use Rattle.board_run.specs.Places.{Place as PlaceState, Takes, IsSpent, at_first};
 
 use crate::place::Place;
 use board_world::Event;
@@ -30,7 +30,7 @@ impl Model for Places {
 impl Places {
     /// One place, with no handlers left.
     pub fn new(alloc: Global) -> Result<Places, NoMemory>
-        ensures { IfOk result (λ p. IsSpent p) }
+        ensures { IfOk result (λ p. p ≡ at_first) }
     {
         match Vec::with_capacity(alloc, 32) {
             Ok(below) => Ok(Places {

@@ -8,10 +8,11 @@ ghost use Rattle.board_run.specs.Served.{IsServed, Keeps};
 
 use crate::arguments::{answer, number, word};
 use crate::end::Stop;
-use crate::engine::{Engine, Served, Sight};
+use crate::engine::{Engine, Served};
 use arena_heap::Pushed;
 use armv6m_machine::Fault;
 use board_drivers::glyph;
+use board_outside::Sight;
 use board_world::{ARENA_PANIC, NULL_PANIC};
 use itoa::Buffer;
 

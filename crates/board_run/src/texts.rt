@@ -9,9 +9,10 @@ ghost use Rattle.board_run.specs.Served.{IsServed, Keeps};
 
 use crate::arguments::{answer, word};
 use crate::end::Stop;
-use crate::engine::{Engine, Served, Sight};
+use crate::engine::{Engine, Served};
 use armv6m_machine::Fault;
 use board_drivers::glyph;
+use board_outside::Sight;
 use board_world::NULL_PANIC;
 use fiber_runtime::Runtime;
 

@@ -1,0 +1,5 @@
+pub mod Laws
+mod Texts
+mod Words
+mod Moving
+mod Meeting

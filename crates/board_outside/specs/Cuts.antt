@@ -1,0 +1,33 @@
+-- Where the sink stopped a run.
+use Rattle.std.specs.Prelude.{◌≡◌, ℕ, List, [], ◌∷◌, ◌++◌, Option, Some}
+use Rattle.sts_base.specs.Prefix.{IsPrefix}
+use Rattle.board_world.specs.Transcript.{line, lines}
+use Rattle.board_outside.specs.Moves.{Move, Seen, Unplugged, seen_of}
+use Rattle.board_outside.specs.Ports.{DevicesAfter}
+
+-- Where a sink told what it had taken, it has taken this whole text and a prefix of the next.
+pub record TookInto (old new : Option (List ℕ)) (whole next : List ℕ) : Type 0 where
+  pub told : (had : List ℕ) → old ≡ Some had → (part : List ℕ) × IsPrefix part next × (new ≡ Some (had ++ (whole ++ part)))
+
+-- The text that is due before these moves: the line of the observation that comes first, or what stands behind them all.
+abbrev pub text_due : List ℕ → List Move → List ℕ
+text_due behind [] = behind
+text_due behind (Seen o ∷ moves) = line o
+text_due behind (Unplugged port ∷ moves) = []
+
+-- A text is due before these moves: an observation comes first, or none is left.
+abbrev pub IsDue : List Move → Type 0
+IsDue [] = Unit {0}
+IsDue (Seen o ∷ moves) = Unit {0}
+IsDue (Unplugged port ∷ moves) = ⊥
+
+-- The sink stopped a run in one place: behind this line that was to come first, the lines of the moves before were taken whole and the text that
+-- was due in part, and the devices are as the moves before left them.
+pub record Stopped {B : Type 0} (log : B → Option (List (ℕ × ℕ))) (faults : B → ℕ) (lead : List ℕ) (moves : List Move) (behind : List ℕ)
+    (taken taken' : Option (List ℕ)) (old new : List (Option B)) : Type 0 where
+  pub done : List Move
+  pub left : List Move
+  pub split : done ++ left ≡ moves
+  pub due : IsDue left
+  pub written : TookInto taken taken' (lead ++ lines (seen_of done)) (text_due behind left)
+  pub devices : DevicesAfter log faults done old new

@@ -1,0 +1,77 @@
+-- A board that goes on over a sink and devices.
+use Rattle.std.specs.Prelude.{◌≡◌, ℕ, ◌+◌, ◌*◌, ◌<◌, ◌≤◌, ◌⊎◌, List, [], ◌∷◌, ◌++◌, length, All, Option, None, IsSome, false}
+use Rattle.board_world.specs.Limits.{end_limit}
+use Rattle.board_world.specs.Observations.{Observation}
+use Rattle.board_world.specs.Transcript.{line, lines}
+use Rattle.board_world.specs.Board.{over}
+use Rattle.board_world.specs.Activities.{World}
+use Rattle.board_world.specs.World.{idled, run}
+use Rattle.thumb_code.specs.Map.{flash_end}
+use Rattle.bank_model.specs.Fibers.{Fiber, Shared}
+use Rattle.bank_model.specs.BoardMachine.{fibers}
+use Rattle.tool_io.specs.Putting.{Took}
+use Rattle.board_ports.specs.Plugged.{Plugged}
+use Rattle.board_ports.specs.History.{PortMove, Follows}
+use Rattle.event_script.specs.Sound.{IsSound}
+use Rattle.board_outside.specs.Moves.{Move, Seen, seen_of}
+use Rattle.board_outside.specs.Ports.{port_moves}
+use Rattle.board_outside.specs.Cuts.{TookInto}
+use Rattle.board_run.specs.declared.engine.Engine.{Engine}
+use Rattle.board_run.specs.Represents.{BoardState, IsShown}
+use Rattle.board_run.specs.Run.{Reaches}
+use Rattle.board_run.specs.View.{state_of}
+
+-- The board comes so many instructions further, which meet these moves, and the run wasn't over before any of them.
+abbrev pub Executes : List ℕ → ℕ → List Move → BoardState → BoardState → Type 0
+Executes image more moves old new =
+    (start : List ℕ → World Fiber Shared) (n : ℕ) (used : List ℕ) (met : List Move) → Reaches image start n used met old
+    → (further : List ℕ) × Reaches image start (more + n) (used ++ further) (met ++ moves) new
+    × ((rest : List ℕ) (j : ℕ) → n ≤ j → j < more + n → over (run (fibers image) j (idled (fibers image) (start ((used ++ further) ++ rest)))).board ≡ false)
+
+-- The devices that were plugged in have met these moves more.
+abbrev pub PortsMeet : {B : Type 0} → (B → Option (List (ℕ × ℕ))) → (B → ℕ) → List Move → Plugged B → Plugged B → Type 0
+PortsMeet {B} log faults moves plugged plugged' =
+    (before : List PortMove) (start : List (Option B)) → Follows log faults before start plugged → Follows log faults (before ++ port_moves moves) start plugged'
+
+-- A board executed so many instructions; the sink took the lines of what they met, and the devices have met it.
+pub record Advances {B : Type 0} (log : B → Option (List (ℕ × ℕ))) (faults : B → ℕ) (count : ℕ) (old new : Engine) (plugged plugged' : Plugged B) (taken taken' : Option (List ℕ)) : Type 0 where
+  pub moves : List Move
+  pub executes : (image : List ℕ) → Executes image count moves (state_of old) (state_of new)
+  pub ports : PortsMeet log faults moves plugged plugged'
+  pub written : Took taken taken' (lines (seen_of moves))
+
+-- The sink failed in the line of what the last instruction showed, before any word of it was sent.
+pub record Fails {B : Type 0} (log : B → Option (List (ℕ × ℕ))) (faults : B → ℕ) (most : ℕ) (old : Engine) (plugged plugged' : Plugged B) (taken taken' : Option (List ℕ)) : Type 0 where
+  pub count : ℕ
+  pub within : count ≤ most
+  pub done : List Move
+  pub last : Observation
+  pub at : BoardState
+  pub executes : (image : List ℕ) → Executes image count (done ++ Seen last ∷ []) (state_of old) at
+  pub ports : PortsMeet log faults done plugged plugged'
+  pub written : TookInto taken taken' (lines (seen_of done)) (line last)
+
+-- What a board rests on between two calls, n instructions from its start: it shows some world, its script is sound, its clock is within the
+-- script, and its counts can't have come near their ends.
+pub record IsWhole (e : Engine) (n : ℕ) : Type 0 where
+  pub shown : IsShown (state_of e)
+  pub script : IsSound e.script
+  pub within : e.next ≤ length e.script.entries
+  pub early : e.clock ≤ end_limit
+  pub size : length e.runtime.machine.memory.flash ≤ flash_end
+  pub bytes : All (λ b. b < 256) e.runtime.machine.memory.flash
+  pub spawned : e.counts.spawned ≤ 1 + n
+  pub blocked : e.counts.blocked ≤ n
+  pub words : e.counts.words ≤ 1024 * n
+
+-- Somebody runs, unless the run is over.
+abbrev pub IsSettled : Engine → Type 0
+IsSettled e = e.end ≡ None → IsSome e.runtime.running
+
+-- A board executed this number of instructions: as many as it might, or the run is over.
+pub record HasExecuted {B : Type 0} (log : B → Option (List (ℕ × ℕ))) (faults : B → ℕ) (count most : ℕ) (old new : Engine) (plugged plugged' : Plugged B)
+    (taken taken' : Option (List ℕ)) (expected instructions : ℕ) : Type 0 where
+  pub advances : Advances log faults count old new plugged plugged' taken taken'
+  pub within : count ≤ most
+  pub done : (count ≡ most) ⊎ IsSome new.end
+  pub counted : instructions ≡ expected

@@ -1,9 +1,0 @@
-use Rattle.std.proofs.Common.{decimal, codes}
-use Rattle.tool_io.proofs.Laws.{puts-as}
-use Rattle.sts_whole.proofs.Texts.{three-pieces}
-use Rattle.sts_whole.proofs.lines.then_put_budget.Goals as goal
-
-pub returns : goal.returns
-returns g c = λ taken faults text p.
-    puts-as c.then_put.result _ _ (three-pieces text (codes "budget ") (decimal c.args.at) (codes "\n"))
-    (c.then_put.ensures taken faults _ (c.then_put_decimal-put.ensures taken faults _ (c.then_put-put.ensures taken faults text p)))
