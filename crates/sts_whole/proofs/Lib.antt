@@ -5,4 +5,4 @@ mod Running
 mod Runs
 mod Steps
 mod Sums
-mod Texts
+mod Boards

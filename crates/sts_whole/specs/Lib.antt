@@ -5,3 +5,4 @@ pub mod First
 pub mod Alone
 pub mod AloneRuns
 pub mod Compiled
+pub mod Runs

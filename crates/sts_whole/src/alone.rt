@@ -10,10 +10,10 @@ ghost use Rattle.sts_whole.specs.Alone.{RanAlone};
 ghost use Rattle.sts_whole.specs.AloneRuns.{end_of, told, Reaches, Advances, Closes};
 
 use crate::instruction::{Done, End, instruct};
-use crate::lines::{
+use armv6m_machine::{Fault, Machine};
+use board_outside::{
     then_put_budget, then_put_fault, then_put_panic, then_put_quiet, then_put_serial,
 };
-use armv6m_machine::{Fault, Machine};
 use itoa::Buffer;
 use std::alloc::Global;
 use sts_base::NoMemory;

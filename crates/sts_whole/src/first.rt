@@ -3,8 +3,8 @@ ghost use Rattle.std.specs.Prelude.{◌≡◌, ◌≤◌, ◌+◌, ◌++◌, ℕ
 
 use crate::form::read_sum;
 use crate::image::sum_image;
-use crate::lines::{then_put_quiet, then_put_serial};
 use armv6m_machine::{Machine, Turn};
+use board_outside::{then_put_quiet, then_put_serial};
 use itoa::Buffer;
 use std::alloc::Global;
 use sts_base::NoMemory;

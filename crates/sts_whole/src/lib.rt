@@ -2,12 +2,13 @@
 #![tactic(auto)]
 
 mod alone;
+mod board;
 mod first;
 mod form;
 mod image;
 mod instruction;
-mod lines;
 
 pub use alone::{Alone, run_alone};
+pub use board::run_image;
 pub use first::{First, first_image, first_run};
 pub use form::{Sum, read_sum};

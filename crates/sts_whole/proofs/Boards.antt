@@ -1,0 +1,41 @@
+-- What a board's run is of its image.
+use Rattle.std.proofs.Common.{◌≡◌, ℕ, List, [], ◌++◌, Option, sym, ap, ◌∙◌}
+use Rattle.board_world.specs.Observations.{End as RunEnd}
+use Rattle.board_world.specs.Board.{Board}
+use Rattle.event_script.specs.declared.script.Script.{Script as EventScript}
+use Rattle.board_run.specs.declared.board.Stats.{Stats}
+use Rattle.board_run.specs.declared.engine.Engine.{Engine}
+use Rattle.board_run.specs.declared.end.End.{End}
+use Rattle.board_run.specs.declared.end.End.TheVariants.{Quiet, Script, Panic, Budget, Fault, SinkFault}
+use Rattle.board_run.specs.Ran.{world_after, HasRun, Ran}
+use Rattle.sts_whole.specs.Runs.{counted_on, RunsTo, RunsImage}
+
+abbrev counted : Engine → ℕ → Stats
+counted e executed = record { spawned = e.counts.spawned; blocked = e.counts.blocked; words = e.counts.words; seats = e.counts.most; instructions = executed }
+
+module _ {B : Type 0} (log : B → Option (List (ℕ × ℕ))) (faults : B → ℕ) (image : List ℕ) (script : EventScript) (budget : ℕ) (e : Engine) (executed : ℕ)
+    (taken taken' : Option (List ℕ)) (fs fs' : ℕ) (places places' : List (Option B)) (stats : Stats) (is : stats ≡ counted e executed) where
+  runs_to : (end : Option RunEnd) → HasRun log faults image script budget e executed taken taken' places places' end → RunsTo log faults image script budget taken taken' places places' end stats
+  runs_to end h =
+      let free = h.used ++ [] in
+      let b = (world_after image script free executed).board in
+      let board = (h.shows []).board in
+      record {
+        free = free;
+        executed = executed;
+        moves = h.moves;
+        is_executed = h.is_executed [];
+        met = h.met [];
+        ended = h.ended [];
+        written = h.written [];
+        devices = h.devices;
+        counted = is ∙ sym (ap (λ (x : Board). counted_on x executed) board);
+      }
+
+  pub runs_image : (end : End) → Ran log faults image script budget e executed taken taken' fs fs' places places' end → RunsImage log faults image script budget taken taken' fs fs' places places' end stats
+  runs_image Quiet h = runs_to _ h
+  runs_image Script h = runs_to _ h
+  runs_image (Panic code) h = runs_to _ h
+  runs_image (Fault fault address) h = runs_to _ h
+  runs_image Budget h = runs_to _ h
+  runs_image SinkFault h = h
