@@ -28,3 +28,4 @@ pub mod Clocks
 pub mod Settling
 pub mod Executing
 pub mod Finished
+pub mod Others

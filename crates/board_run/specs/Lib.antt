@@ -11,3 +11,4 @@ pub mod Ports
 pub mod Arriving
 pub mod Advancing
 pub mod Ran
+pub mod Others

@@ -17,6 +17,7 @@ mod place;
 mod places;
 mod reckoning;
 mod serve;
+mod staying;
 mod texts;
 
 pub use board::{Board, NotMounted, Stats};
@@ -24,3 +25,4 @@ pub use end::{Counts, End, Stop};
 pub use engine::{Engine, Served};
 pub use place::Place;
 pub use places::Places;
+pub use staying::others_keep_their_banks;
