@@ -1,1 +1,3 @@
 mod Lengths
+pub mod Listed
+pub mod Values

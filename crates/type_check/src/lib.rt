@@ -1,6 +1,8 @@
 //! Whether a text is accepted, in code: the first failure of its names and types, and the typed tree of what has none.
 #![tactic(auto)]
 
+mod build_handlers;
+mod build_types;
 mod limits;
 
 pub use limits::class_fits;
