@@ -15,9 +15,12 @@ mod names;
 mod resolution;
 mod rows;
 
+pub use build::{kind_of, written_kind};
 pub use by_number::ByNumber;
 pub use collect::Declared;
 pub use entries::{ClassHead, Entry, Owner, Sort};
+pub use faults::{or_no_memory, unless};
+pub use heading_checks::check_written;
 pub use kinds::{Base, Kind};
 pub use known::{Found, Known, Local, Part, This};
 pub use lookup::{entry_number, inherited, is_dollar, member_number, sort_of};

@@ -1,5 +1,9 @@
 pub mod Going
 pub mod Locals
 pub mod Single
+pub mod Calling
+pub mod Opened
+pub mod Evaluated
+pub mod Moves
 pub mod Grows
 pub mod ReturnsGrow

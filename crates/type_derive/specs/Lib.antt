@@ -2,6 +2,8 @@ pub mod Scopes
 pub mod Typing
 pub mod Returns
 pub mod Derived
+pub mod Shown
+pub mod Moves
 pub mod Laws
 pub mod Growth
 pub mod Nodes

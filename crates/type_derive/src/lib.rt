@@ -1,13 +1,34 @@
 //! The types of expressions, and of declarations whose type isn't written.
 #![tactic(auto)]
 
+mod boards;
+mod callees;
+mod drawings;
+mod evaluation;
 mod kinds;
+mod parts;
+mod returns;
 mod roles;
 mod rules;
 mod scopes;
 mod theorems;
+mod wanted;
 
+pub use boards::{
+    BoardTakes, board_kind, board_takes, give_value, gives_value, goes_at, goes_some, is_given,
+    is_handler, serves_itself,
+};
+pub use callees::{
+    Called, board_callee, constant, gives_of, made, maker_takes, named_callee, part_callee,
+    routine, spelling, super_method, takes_at, takes_of,
+};
+pub use drawings::is_drawing;
+pub use evaluation::{part_behind, type_of};
 pub use kinds::{array, below, class_of, flat, goes, is_array, item, same, takes_null};
+pub use parts::{assigned, both, bumped, chosen, indexed, listed, operated, prefixed};
+pub use returns::{
+    Mark, after, bound, declare, declare_all, enter, is_alone, items_of, leave, returned_in_block,
+};
 pub use roles::Role;
 pub use rules::{
     all_go, all_go_to, assign, call_kind, choose, counted, element, items_type, joined, operate,
@@ -18,3 +39,4 @@ pub use scopes::{
     part_settable, serves, this_kind,
 };
 pub use theorems::{derived_types_are_one, rules_grow, types_grow};
+pub use wanted::Wanted;

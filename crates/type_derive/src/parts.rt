@@ -1,0 +1,103 @@
+// The type of a node from the types of its parts, where each may have none.
+ghost use Rattle.std.specs.Prelude.{◌≡◌, Some, None, IfOk, if◌then◌else◌};
+ghost use Rattle.sts_scope.specs.Kinds as kind;
+ghost use Rattle.sts_scope.specs.Rules as rule;
+ghost use Rattle.type_derive.specs.Typing.{◌>>=◌ as bind};
+
+use crate::kinds::array;
+use crate::rules::{assign, choose, counted, element, joined, operate, prefix};
+use sts_base::NoMemory;
+use sts_scope::{ClassHead, Kind};
+
+pub fn prefixed(op: u8, s: Option<Kind>) -> Option<Kind>
+    ensures { result ≡ bind s (λ s. rule.prefix op s) }
+{
+    match s {
+        Some(s) => prefix(op, s),
+        None => None,
+    }
+}
+
+pub fn operated(classes: &[ClassHead], op: u8, s: Option<Kind>, t: Option<Kind>) -> Option<Kind>
+    ensures { result ≡ bind s (λ s. bind t (λ t. rule.operate classes.now op s t)) }
+{
+    match (s, t) {
+        (Some(s), Some(t)) => operate(classes, op, s, t),
+        (Some(_), None) => None,
+        (None, _) => None,
+    }
+}
+
+pub fn both(s: Option<Kind>, t: Option<Kind>) -> Option<Kind>
+    ensures { result ≡ bind s (λ s. bind t (λ t. rule.joined s t)) }
+{
+    match (s, t) {
+        (Some(s), Some(t)) => joined(s, t),
+        (Some(_), None) => None,
+        (None, _) => None,
+    }
+}
+
+pub fn chosen(
+    classes: &[ClassHead],
+    q: Option<Kind>,
+    s: Option<Kind>,
+    t: Option<Kind>,
+) -> Option<Kind>
+    ensures { result ≡ bind q (λ q. bind s (λ s. bind t (λ t. rule.choose classes.now q s t))) }
+{
+    match (q, s, t) {
+        (Some(q), Some(s), Some(t)) => choose(classes, q, s, t),
+        (Some(_), Some(_), None) => None,
+        (Some(_), None, _) => None,
+        (None, _, _) => None,
+    }
+}
+
+/// An assignment to a target of a type, where it may be set.
+pub fn assigned(
+    classes: &[ClassHead],
+    op: Option<u8>,
+    t: Option<Kind>,
+    s: Option<Kind>,
+) -> Option<Kind>
+    ensures { result ≡ bind t (λ t. bind s (λ s. rule.assign classes.now op t s)) }
+{
+    match (t, s) {
+        (Some(t), Some(s)) => assign(classes, op, t, s),
+        (Some(_), None) => None,
+        (None, _) => None,
+    }
+}
+
+pub fn bumped(t: Option<Kind>) -> Option<Kind>
+    ensures { result ≡ bind t (λ t. rule.counted t) }
+{
+    match t {
+        Some(t) => counted(t),
+        None => None,
+    }
+}
+
+pub fn indexed(s: Option<Kind>, t: Option<Kind>) -> Option<Kind>
+    ensures { result ≡ bind s (λ s. bind t (λ t. rule.element s t)) }
+{
+    match (s, t) {
+        (Some(s), Some(t)) => element(s, t),
+        (Some(_), None) => None,
+        (None, _) => None,
+    }
+}
+
+/// The type of a list literal whose items go to the first one's type, if memory could hold one value of it.
+pub fn listed(t: Option<Kind>) -> Result<Option<Kind>, NoMemory>
+    ensures { IfOk result (λ u. u ≡ bind t (λ t. Some (kind.array t))) }
+{
+    match t {
+        None => Ok(None),
+        Some(t) => match array(t) {
+            Ok(u) => Ok(Some(u)),
+            Err(_) => Err(NoMemory),
+        },
+    }
+}
