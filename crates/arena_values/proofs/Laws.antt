@@ -1,8 +1,9 @@
 -- The laws that other crates cite.
 
 -- words with their sign
+pub use Rattle.arena_values.proofs.Addresses.{which}
 pub use Rattle.arena_values.proofs.Signs.{signed_low, signed_high, index_is, null_is, negative_is}
-pub use Rattle.arena_values.proofs.Numbers.{Reads, word_is, sum_reads}
+pub use Rattle.arena_values.proofs.Numbers.{Reads, word_is, sum_reads, answer_reads, fitting_word, fits_read}
 -- what the words show of each operation that changes no allocation
 pub use Rattle.arena_values.proofs.Seen.{sees_class, sees_field, changes_field, sees_item, changes_item, sees_length, pops, sees_global, changes_global}
 -- new objects and arrays, and how a run begins

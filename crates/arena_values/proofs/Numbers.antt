@@ -3,15 +3,16 @@ use Rattle.std.proofs.Common.{zero, suc, ◌≡◌, ℕ, ◌+◌, ◌*◌, ◌-�
 use Rattle.std.specs.Prelude.{ℤ, pos, negsuc, neg_ℤ, ◌+ℤ◌, ◌-ℤ◌, ◌*ℤ◌, int_rem, int_div, bit_and, bit_or, bit_xor}
 use Rattle.std.specs.Ordering.{int_eq}
 use Rattle.std.specs.Int.{cast_signed, cast_unsigned, w32, int_wrap, int_shl, int_shr, int_wrapping_div, int_bit_or, int_bit_xor, int_bit_and, int_bit_not}
-use Rattle.std.proofs.lemmas.Int.{of_z-to_z, to_z-of_z, wrapping_add-bits, wrapping_sub-bits, wrapping_mul-bits}
+use Rattle.std.proofs.lemmas.Int.{ints, int_rem_euclid_is, of_z-to_z, to_z-of_z, wrapping_add-bits, wrapping_sub-bits, wrapping_mul-bits}
 use Rattle.std.proofs.lemmas.Nat.{and_le_l, or_lt, xor_lt, and_mask, pow_pos, pow-add, div-add-mod', div_below, div-mul-add}
 use Rattle.std.proofs.Math.Nat.{mul-le-mul_left}
 use Rattle.std.specs.Int.Signed.{mag_shr, mag_rem}
-use Rattle.std.specs.Prelude.{FitsSigned}
+use Rattle.std.specs.Prelude.{FitsSigned, unsigned_abs}
 use Rattle.std.proofs.Math.Nat.{div-le_self}
 use Rattle.thumb_code.specs.RegisterFile.{word}
 use Rattle.thumb_code.specs.Arithmetic.{sign, inverted, sum_of, shifted, lsl, lsr, asr}
 use Rattle.bank_model.specs.Division.{quotient, remainder}
+use Rattle.bank_model.specs.AllServices.{number_word}
 use Rattle.sts_meaning.specs.Values.{to_int32, shift_count}
 use Rattle.sts_meaning.specs.Values as values
 use Rattle.arena_values.specs.Operators.{shifted_by}
@@ -58,7 +59,7 @@ module _ (x y : ℤ) (v w : ℕ) (a : Reads x v) (b : Reads y w) where
 reads_of : (z : ℤ) (n : ℕ) → FitsSigned w32 z → cast_unsigned w32 z ≡ n → n < 2 ^ 32 → Reads z n
 reads_of z n f e l = (sym (to_z-of_z w32 z f) ∙ ap (cast_signed w32) e, l)
 
-fits_read : (x : ℤ) (v : ℕ) → Reads x v → FitsSigned w32 x
+pub fits_read : (x : ℤ) (v : ℕ) → Reads x v → FitsSigned w32 x
 fits_read x v r = ⊎_elim (λ l. subst (FitsSigned w32) (sym (r.0 ∙ signed_low v l)) (record { sfits = l })) (λ l. subst (FitsSigned w32) (sym (r.0 ∙ signed_high v l)) (record { sfits = omega arith })) (which v (2 ^ 31))
 
 fits_cast : (n : ℕ) → n < 2 ^ 32 → FitsSigned w32 (cast_signed w32 n)
@@ -212,3 +213,27 @@ module _ (x : ℤ) (v : ℕ) (a : Reads x v) where
       let r = sum_reads x (negsuc 0) v 4294967295 a (refl, omega arith) in
       let e : sum_of v 4294967295 0 ≡ sum_of v (inverted 1) 1 = ap (λ n. n % 4294967296) (omega arith) in
       subst (Reads (to_int32 (x +ℤ negsuc 0))) e r
+
+-- an answer of the world, modulo 2^32
+far_below : (n : ℕ) → (n / 4294967296 + 1) * 4294967296 - suc n ≡ 4294967295 - n % 4294967296
+far_below n = omega arith
+
+pub answer_reads : (z : ℤ) → Reads (to_int32 z) (number_word z)
+unfolding int_wrap
+answer_reads (pos n) = (
+  ap (λ r. cast_signed w32 (unsigned_abs r)) (int_rem_euclid_is (pos n) (pos 4294967296) 4294967296 0 n (omega arith) refl (omega (arith, ints))),
+  omega arith,
+)
+answer_reads (negsuc n) =
+    let k = n / 4294967296 + 1 in
+    let m = k * 4294967296 - suc n in
+    let b = far_below n in
+    let small : m % 4294967296 ≡ 4294967295 - n % 4294967296 = omega arith in (
+      ap (λ r. cast_signed w32 (unsigned_abs r)) (int_rem_euclid_is (negsuc n) (pos 4294967296) 4294967296 k m (omega arith) refl (omega (arith, ints))) ∙ ap (cast_signed w32) small,
+      omega arith,
+    )
+
+-- the word of a number of 32 bits
+pub fitting_word : (z : ℤ) → FitsSigned w32 z → cast_unsigned w32 z ≡ number_word z
+fitting_word (pos n) f = let l : n < 2 ^ 31 = f.sfits in omega arith
+fitting_word (negsuc n) f = let l : n < 2 ^ 31 = f.sfits in omega arith
