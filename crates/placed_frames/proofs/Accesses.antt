@@ -53,7 +53,8 @@ own_at flash sp k b h l =
     })
 
 pub own_fault : (b : Bank) (a k : ℕ) → Own b a k → (store : Bool) → access_fault b.base store (word_at a) ≡ None
-own_fault b a k o true = let z = zero_is (a % 4) o.at_four in let g = o.globals in let r = o.ram in let s = o.stack in let w = o.below in rw z (rw g (rw r (rw s (rw w refl))))
+own_fault b a k o true = let z = zero_is (a % 4) o.at_four in let g = o.globals in let r = o.ram in let s = o.stack in let w = o.below in rw z
+    (rw g (rw r (rw s (rw w refl))))
 own_fault b a k o false = let z = zero_is (a % 4) o.at_four in let g = o.globals in let r = o.ram in rw z (rw g (rw r refl))
 
 pub own_load : (b : Bank) (free : List ℕ) (a k w : ℕ) → Own b a k → slice_index b.words k ≡ w → w < 2 ^ 32 → bank_load b free (word_at a) ≡ (w, (b, free))
@@ -69,15 +70,19 @@ own_store b a k w o l =
 -- a word of the arena, and one of the globals
 pub arena_fault : (base k : ℕ) → k < 2816 → (store : Bool) → access_fault base store (word_at (arena_at + 4 * k)) ≡ None
 arena_fault base k l true =
-    let z = zero_is ((arena_at + 4 * k) % 4) (omega arith) in let g = no (arena_at + 4 * k) globals_at (omega arith) in let r = yes (arena_at + 4 * k) ram_end (omega arith) in let s = yes (arena_at + 4 * k) stack_at (omega arith) in
+    let z = zero_is ((arena_at + 4 * k) % 4) (omega arith) in let g = no (arena_at + 4 * k) globals_at (omega arith) in let r = yes (arena_at + 4 * k) ram_end
+    (omega arith) in let s = yes (arena_at + 4 * k) stack_at (omega arith) in
     rw z (rw g (rw r (rw s refl)))
 arena_fault base k l false =
-    let z = zero_is ((arena_at + 4 * k) % 4) (omega arith) in let g = no (arena_at + 4 * k) globals_at (omega arith) in let r = yes (arena_at + 4 * k) ram_end (omega arith) in
+    let z = zero_is ((arena_at + 4 * k) % 4) (omega arith) in let g = no (arena_at + 4 * k) globals_at (omega arith) in let r = yes (arena_at + 4 * k) ram_end
+    (omega arith) in
     rw z (rw g (rw r refl))
 
-pub arena_load : (b : Bank) (free : List ℕ) (k w : ℕ) → k < 2816 → slice_index b.arena k ≡ w → w < 2 ^ 32 → bank_load b free (word_at (arena_at + 4 * k)) ≡ (w, (b, free))
+pub arena_load : (b : Bank) (free : List ℕ) (k w : ℕ) → k < 2816 → slice_index b.arena k ≡ w → w < 2 ^ 32 → bank_load b free
+    (word_at (arena_at + 4 * k)) ≡ (w, (b, free))
 arena_load b free k w l e h =
-    let g = no (arena_at + 4 * k) globals_at (omega arith) in let n = no (arena_at + 4 * k) arena_at (omega arith) in let s = yes (arena_at + 4 * k) stack_at (omega arith) in
+    let g = no (arena_at + 4 * k) globals_at (omega arith) in let n = no (arena_at + 4 * k) arena_at (omega arith) in let s = yes (arena_at + 4 * k) stack_at
+    (omega arith) in
     let z : (arena_at + 4 * k) % 4 ≡ 0 = omega arith in let p : (arena_at + 4 * k - arena_at) / 4 ≡ k = omega arith in
     rw g (rw n (rw s (rw p (rw z (rw e (ap (λ q. (q, (b, free))) (part_whole w h)))))))
 
@@ -89,13 +94,16 @@ arena_store b k w l h =
 
 pub globals_fault : (base k : ℕ) → k < 256 → (store : Bool) → access_fault base store (word_at (globals_at + 4 * k)) ≡ None
 globals_fault base k l true =
-    let z = zero_is ((globals_at + 4 * k) % 4) (omega arith) in let g = no (globals_at + 4 * k) globals_at (omega arith) in let r = yes (globals_at + 4 * k) ram_end (omega arith) in let s = yes (globals_at + 4 * k) stack_at (omega arith) in
+    let z = zero_is ((globals_at + 4 * k) % 4) (omega arith) in let g = no (globals_at + 4 * k) globals_at (omega arith) in let r = yes (globals_at + 4 * k)
+    ram_end (omega arith) in let s = yes (globals_at + 4 * k) stack_at (omega arith) in
     rw z (rw g (rw r (rw s refl)))
 globals_fault base k l false =
-    let z = zero_is ((globals_at + 4 * k) % 4) (omega arith) in let g = no (globals_at + 4 * k) globals_at (omega arith) in let r = yes (globals_at + 4 * k) ram_end (omega arith) in
+    let z = zero_is ((globals_at + 4 * k) % 4) (omega arith) in let g = no (globals_at + 4 * k) globals_at (omega arith) in let r = yes (globals_at + 4 * k)
+    ram_end (omega arith) in
     rw z (rw g (rw r refl))
 
-pub globals_load : (b : Bank) (free : List ℕ) (k w : ℕ) → k < 256 → slice_index b.globals k ≡ w → w < 2 ^ 32 → bank_load b free (word_at (globals_at + 4 * k)) ≡ (w, (b, free))
+pub globals_load : (b : Bank) (free : List ℕ) (k w : ℕ) → k < 256 → slice_index b.globals k ≡ w → w < 2 ^ 32 → bank_load b free
+    (word_at (globals_at + 4 * k)) ≡ (w, (b, free))
 globals_load b free k w l e h =
     let g = no (globals_at + 4 * k) globals_at (omega arith) in let n = yes (globals_at + 4 * k) arena_at (omega arith) in
     let z : (globals_at + 4 * k) % 4 ≡ 0 = omega arith in let p : (globals_at + 4 * k - globals_at) / 4 ≡ k = omega arith in
@@ -111,7 +119,8 @@ globals_store b k w l h =
 pub flash_fault : (base a : ℕ) → a < flash_end → a % 4 ≡ 0 → access_fault base false (word_at a) ≡ None
 flash_fault base a l e = let z = zero_is (a % 4) e in let g = yes a globals_at (omega arith) in let f = yes a flash_end l in rw z (rw g (rw f refl))
 
-pub flash_load : (b : Bank) (free : List ℕ) (a w : ℕ) → a < flash_end → a % 4 ≡ 0 → flash_word b.flash a ≡ w → w < 2 ^ 32 → bank_load b free (word_at a) ≡ (w, (b, free))
+pub flash_load : (b : Bank) (free : List ℕ) (a w : ℕ) → a < flash_end → a % 4 ≡ 0 → flash_word b.flash a ≡ w → w < 2 ^ 32 → bank_load b free
+    (word_at a) ≡ (w, (b, free))
 flash_load b free a w l e f h =
     let g = yes a globals_at (omega arith) in
     let i : a / 4 * 4 ≡ a = omega arith in

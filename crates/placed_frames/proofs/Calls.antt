@@ -31,7 +31,8 @@ module _ {V : Type 0} (Is : V → ℕ → Type 0) (code : List Function) (places
   abbrev Runs : Function → (ℕ → Place) → (ℕ → Type 0) → (ℕ → V) → List (Frame V) → Store → Type 0
   Runs fn place need temps fs s = Running Is code places return_to fn place need temps fs s
 
-  pub room : (fn : Function) (place : ℕ → Place) (need : ℕ → Type 0) (temps : ℕ → V) (fs : List (Frame V)) (s : Store) → Runs fn place need temps fs s → IsRoom fn s
+  pub room : (fn : Function) (place : ℕ → Place) (need : ℕ → Type 0) (temps : ℕ → V) (fs : List (Frame V)) (s : Store) → Runs fn place need temps fs s
+      → IsRoom fn s
   room fn place need temps fs s x =
       let r = frames_room Is code places return_to s.words fs (saved fn s.words 0) (words fn) x.above in
       let p = (x.frame).params in
@@ -47,15 +48,20 @@ module _ {V : Type 0} (Is : V → ℕ → Type 0) (code : List Function) (places
       subst (λ q. Frames (slice_set s.words (words fn + j) v) fs q (words fn)) (sym (saved_set fn s.words 0 (words fn + j) v (inr (omega arith))))
       (frames_stay Is code places return_to s.words (words fn + j) v fs (saved fn s.words 0) (words fn) (omega arith) x)
 
-  put_value : (fn : Function) (place : ℕ → Place) (temps : ℕ → V) (to t : ℕ) (v : V) (w : ℕ) (s : Store) → Is v w → IsWithin fn (place to) → IsWithin fn (place t) → IsRoom fn s
+  put_value : (fn : Function) (place : ℕ → Place) (temps : ℕ → V) (to t : ℕ) (v : V) (w : ℕ) (s : Store) → Is v w → IsWithin fn (place to)
+      → IsWithin fn (place t) → IsRoom fn s
       → (t ≢ to → Is (temps t) (get fn (place t) s) × (place t ≢ place to)) → (b : Bool) → nat_eq t to ≡ b
       → Is (cond b v (temps t)) (get fn (place t) (put fn (place to) w s))
-  put_value fn place temps to t v w s y i j h g true e = let z : t ≡ to = grind arith in subst (λ u. Is v (get fn (place u) (put fn (place to) w s))) (sym z) (subst (Is v) (sym (put_same fn (place to) w s i h)) y)
-  put_value fn place temps to t v w s y i j h g false e = let z : t ≢ to = grind arith in subst (Is (temps t)) (sym (put_other fn (place t) (place to) w s j i (g z).1)) (g z).0
+  put_value fn place temps to t v w s y i j h g true e = let z : t ≡ to = grind arith in subst (λ u. Is v (get fn (place u) (put fn (place to) w s))) (sym z)
+      (subst (Is v) (sym (put_same fn (place to) w s i h)) y)
+  put_value fn place temps to t v w s y i j h g false e = let z : t ≢ to = grind arith in subst (Is (temps t))
+      (sym (put_other fn (place t) (place to) w s j i (g z).1)) (g z).0
 
   -- AN OP'S RESULT is put into its place: what is live behind the op is what was live, or the result.
-  pub puts : (fn : Function) (place : ℕ → Place) (need need' : ℕ → Type 0) (temps : ℕ → V) (fs : List (Frame V)) (to : ℕ) (v : V) (w : ℕ) (s : Store) → Is v w → w < 2 ^ 32
-      → ((t : ℕ) → t < temporaries fn → IsWithin fn (place t)) → to < temporaries fn → ((t : ℕ) → t < temporaries fn → t ≢ to → need' t → need t × (place t ≢ place to))
+  pub puts : (fn : Function) (place : ℕ → Place) (need need' : ℕ → Type 0) (temps : ℕ → V) (fs : List (Frame V)) (to : ℕ) (v : V) (w : ℕ) (s : Store) → Is v w
+      → w < 2 ^ 32
+      → ((t : ℕ) → t < temporaries fn → IsWithin fn (place t)) → to < temporaries fn
+      → ((t : ℕ) → t < temporaries fn → t ≢ to → need' t → need t × (place t ≢ place to))
       → Runs fn place need temps fs s → Runs fn place need' (with_value to v temps) fs (put fn (place to) w s)
   puts fn place need need' temps fs to v w s y sw inside l g x =
       let h = room fn place need temps fs s x in
@@ -65,7 +71,8 @@ module _ {V : Type 0} (Is : V → ℕ → Type 0) (code : List Function) (places
         four = (put_room fn fn (place to) w s h).four;
         frame = record {
           temporary = λ t m n. put_value fn place temps to t v w s y i (inside t m) h (λ d. (f.temporary t m (g t m d n).0, (g t m d n).1)) (nat_eq t to) refl;
-          link = at_sum (put fn (place to) w s).words (0 + own fn + 4) (own fn + 4) (omega arith) ∙ (put_link fn (place to) w s i ∙ (at_sum s.words (own fn + 4) (0 + own fn + 4) (omega arith) ∙ f.link));
+          link = at_sum (put fn (place to) w s).words (0 + own fn + 4) (own fn + 4) (omega arith) ∙
+              (put_link fn (place to) w s i ∙ (at_sum s.words (own fn + 4) (0 + own fn + 4) (omega arith) ∙ f.link));
           params = f.params;
           small = put_small fn (place to) w s i h f.small sw;
         };
@@ -79,14 +86,17 @@ module _ {V : Type 0} (Is : V → ℕ → Type 0) (code : List Function) (places
   move_above fn (Slot j) t fs s i l x = put_above fn (Slot j) (slice_index s.words (words fn + t)) fs s i l x
   move_above fn (Incoming j) t fs s i l x = x
 
-  move_link : (fn : Function) (p : Place) (t : ℕ) (s : Store) → IsWithin fn p → slice_index (move fn p t s).words (own fn + 4) ≡ slice_index s.words (own fn + 4)
+  move_link : (fn : Function) (p : Place) (t : ℕ) (s : Store) → IsWithin fn p → slice_index (move fn p t s).words (own fn + 4) ≡ slice_index s.words
+      (own fn + 4)
   move_link fn (Reg r) t s i = refl
   move_link fn (Slot j) t s i = put_link fn (Slot j) (slice_index s.words (words fn + t)) s i
   move_link fn (Incoming j) t s i = refl
 
-  moved_above : (fn : Function) (place : ℕ → Place) (t n : ℕ) (fs : List (Frame V)) (s : Store) → ((u : ℕ) → u < fn.params → IsWithin fn (place u)) → t + n ≤ fn.params → fn.params ≤ outgoing_of code fs
+  moved_above : (fn : Function) (place : ℕ → Place) (t n : ℕ) (fs : List (Frame V)) (s : Store) → ((u : ℕ) → u < fn.params → IsWithin fn (place u))
+      → t + n ≤ fn.params → fn.params ≤ outgoing_of code fs
       → Frames s.words fs (saved fn s.words 0) (words fn)
-      → Frames (moved fn place t n s).words fs (saved fn (moved fn place t n s).words 0) (words fn) × (slice_index (moved fn place t n s).words (own fn + 4) ≡ slice_index s.words (own fn + 4))
+      → Frames (moved fn place t n s).words fs (saved fn (moved fn place t n s).words 0)
+      (words fn) × (slice_index (moved fn place t n s).words (own fn + 4) ≡ slice_index s.words (own fn + 4))
   moved_above fn place t zero fs s inside l p x = (x, refl)
   moved_above fn place t (suc n) fs s inside l p x =
       let i = inside t (omega arith) in
@@ -98,42 +108,52 @@ module _ {V : Type 0} (Is : V → ℕ → Type 0) (code : List Function) (places
   abbrev pub pushed : List ℕ → (a b c d lr : ℕ) → List ℕ → List ℕ
   pushed new a b c d lr ws = new ++ (a ∷ (b ∷ (c ∷ (d ∷ (lr ∷ ws)))))
 
-  pub pushed_at : (new : List ℕ) (a b c d lr : ℕ) (ws : List ℕ) (i j : ℕ) → j ≡ length new + i → slice_index (pushed new a b c d lr ws) j ≡ slice_index (a ∷ (b ∷ (c ∷ (d ∷ (lr ∷ ws))))) i
-  pushed_at new a b c d lr ws i j e = at_sum (pushed new a b c d lr ws) j (length new + i) e ∙ (at_sum (pushed new a b c d lr ws) (length new + i) (length new + i) refl ∙ get_or-append-add new (a ∷ (b ∷ (c ∷ (d ∷ (lr ∷ ws))))) i 0)
+  pub pushed_at : (new : List ℕ) (a b c d lr : ℕ) (ws : List ℕ) (i j : ℕ) → j ≡ length new + i → slice_index (pushed new a b c d lr ws) j ≡ slice_index
+      (a ∷ (b ∷ (c ∷ (d ∷ (lr ∷ ws))))) i
+  pushed_at new a b c d lr ws i j e = at_sum (pushed new a b c d lr ws) j (length new + i) e ∙
+      (at_sum (pushed new a b c d lr ws) (length new + i) (length new + i) refl ∙ get_or-append-add new (a ∷ (b ∷ (c ∷ (d ∷ (lr ∷ ws))))) i 0)
 
-  -- A CALL: the caller waits with its frame at 0 and r4 to r7 as they are, and its outgoing words hold the arguments. Behind the entry and the
+  -- A CALL: the frames that wait stand from word 0 on with r4 to r7 as they are, and the outgoing words of the first hold the arguments. Behind the entry and
+  -- the
   -- moves of parameters the function runs, and the caller's r4 to r7 stand in its frame.
-  pub calls : (gn : Function) (ps : List Place) (args : ℕ → V) (f : Frame V) (fs : List (Frame V)) (a b c d lr : ℕ) (new ws : List ℕ)
-      → ArePlacesSound gn ps → length new ≡ own gn → lr ≡ return_to (f ∷ fs) → gn.params ≤ outgoing_of code (f ∷ fs)
+  pub calls : (gn : Function) (ps : List Place) (args : ℕ → V) (fs : List (Frame V)) (a b c d lr : ℕ) (new ws : List ℕ)
+      → ArePlacesSound gn ps → length new ≡ own gn → lr ≡ return_to fs → gn.params ≤ outgoing_of code fs
       → ((j : ℕ) → j < gn.params → Is (args j) (slice_index ws j) × (slice_index ws j < 2 ^ 32))
-      → AreWords (a ∷ (b ∷ (c ∷ (d ∷ [])))) → Frames ws (f ∷ fs) (a ∷ (b ∷ (c ∷ (d ∷ [])))) 0
-      → Runs gn (place_of ps) (λ t. IsLiveAt gn.ops t 0) args (f ∷ fs) (moved gn (place_of ps) 0 gn.params (record { kept = a ∷ (b ∷ (c ∷ (d ∷ []))); words = pushed new a b c d lr ws }))
-  calls gn ps args f fs a b c d lr new ws sound ln el lp as' aw x =
+      → AreWords (a ∷ (b ∷ (c ∷ (d ∷ [])))) → Frames ws fs (a ∷ (b ∷ (c ∷ (d ∷ [])))) 0
+      → Runs gn (place_of ps) (λ t. IsLiveAt gn.ops t 0) args fs (moved gn (place_of ps) 0 gn.params
+      (record { kept = a ∷ (b ∷ (c ∷ (d ∷ []))); words = pushed new a b c d lr ws }))
+  calls gn ps args fs a b c d lr new ws sound ln el lp as' aw x =
       let kept = a ∷ (b ∷ (c ∷ (d ∷ []))) in
       let ws1 = pushed new a b c d lr ws in
       let s1 : Store = record { kept = kept; words = ws1 } in
       let len : length ws1 ≡ length new + (5 + length ws) = length-append new (a ∷ (b ∷ (c ∷ (d ∷ (lr ∷ ws))))) ∙ omega arith in
-      let sh : Shifted ws 0 ws1 (words gn) = λ i. pushed_at new a b c d lr ws (suc (suc (suc (suc (suc i))))) (words gn + i) (omega arith) ∙ at_sum ws i (0 + i) (omega arith) in
-      let up : Frames ws1 (f ∷ fs) kept (words gn) = frames_shift Is code places return_to ws ws1 (f ∷ fs) kept 0 (words gn) sh (omega arith) x in
-      let sv : kept ≡ saved gn ws1 0 = λ i. (sym (pushed_at new a b c d lr ws 0 (0 + own gn) (omega arith)) i) ∷ ((sym (pushed_at new a b c d lr ws 1 (0 + own gn + 1) (omega arith)) i)
-      ∷ ((sym (pushed_at new a b c d lr ws 2 (0 + own gn + 2) (omega arith)) i) ∷ ((sym (pushed_at new a b c d lr ws 3 (0 + own gn + 3) (omega arith)) i) ∷ []))) in
-      let up' : Frames ws1 (f ∷ fs) (saved gn ws1 0) (words gn) = subst (λ q. Frames ws1 (f ∷ fs) q (words gn)) sv up in
-      let rm = frames_room Is code places return_to ws (f ∷ fs) kept 0 x in
+      let sh : Shifted ws 0 ws1 (words gn) = λ i. pushed_at new a b c d lr ws (suc (suc (suc (suc (suc i))))) (words gn + i) (omega arith) ∙ at_sum ws i
+      (0 + i) (omega arith) in
+      let up : Frames ws1 fs kept (words gn) = frames_shift Is code places return_to ws ws1 fs kept 0 (words gn) sh (omega arith) x in
+      let sv : kept ≡ saved gn ws1 0 = λ i. (sym (pushed_at new a b c d lr ws 0 (0 + own gn) (omega arith))
+      i) ∷ ((sym (pushed_at new a b c d lr ws 1 (0 + own gn + 1) (omega arith)) i)
+      ∷ ((sym (pushed_at new a b c d lr ws 2 (0 + own gn + 2) (omega arith))
+      i) ∷ ((sym (pushed_at new a b c d lr ws 3 (0 + own gn + 3) (omega arith)) i) ∷ []))) in
+      let up' : Frames ws1 fs (saved gn ws1 0) (words gn) = subst (λ q. Frames ws1 fs q (words gn)) sv up in
+      let rm = frames_room Is code places return_to ws fs kept 0 x in
       let h : IsRoom gn s1 = record { four = refl; long = omega arith } in
       let m = moved_params gn ps sound 0 gn.params s1 (omega arith) h in
-      let q = moved_above gn (place_of ps) 0 gn.params (f ∷ fs) s1 (λ u l. sound.within u (omega arith)) (omega arith) lp up' in
+      let q = moved_above gn (place_of ps) 0 gn.params fs s1 (λ u l. sound.within u (omega arith)) (omega arith) lp up' in
       record {
         four = (m.2).four;
         frame = record {
-          temporary = λ t l n. let e = sound.entry t n in subst (Is (args t)) (sym (m.0 t (omega arith) e ∙ pushed_at new a b c d lr ws (suc (suc (suc (suc (suc t))))) (words gn + t) (omega arith))) (as' t e).0;
-          link = at_sum (moved gn (place_of ps) 0 gn.params s1).words (0 + own gn + 4) (own gn + 4) (omega arith) ∙ (q.1 ∙ (pushed_at new a b c d lr ws 4 (own gn + 4) (omega arith) ∙ el));
+          temporary = λ t l n. let e = sound.entry t n in subst (Is (args t)) (sym
+              (m.0 t (omega arith) e ∙ pushed_at new a b c d lr ws (suc (suc (suc (suc (suc t))))) (words gn + t) (omega arith))) (as' t e).0;
+          link = at_sum (moved gn (place_of ps) 0 gn.params s1).words (0 + own gn + 4) (own gn + 4) (omega arith) ∙
+              (q.1 ∙ (pushed_at new a b c d lr ws 4 (own gn + 4) (omega arith) ∙ el));
           params = lp;
-          small = moved_small gn (place_of ps) 0 gn.params s1 (λ u l. sound.within u (omega arith)) (omega arith) h aw (λ u l. subst (λ n. n < 2 ^ 32) (sym (pushed_at new a b c d lr ws (suc (suc (suc (suc (suc u))))) (words gn + u) (omega arith))) (as' u l).1);
+          small = moved_small gn (place_of ps) 0 gn.params s1 (λ u l. sound.within u (omega arith)) (omega arith) h aw
+              (λ u l. subst (λ n. n < 2 ^ 32) (sym (pushed_at new a b c d lr ws (suc (suc (suc (suc (suc u))))) (words gn + u) (omega arith))) (as' u l).1);
         };
         above = q.0;
       }
 
-  dropped : (n : ℕ) (ws : List ℕ) → Shifted ws n (drop n ws) 0
+  pub dropped : (n : ℕ) (ws : List ℕ) → Shifted ws n (drop n ws) 0
   dropped n ws i = at_sum (drop n ws) (0 + i) i (omega arith) ∙ get_or-drop n ws i 0
 
   -- A RETURN to words that are those behind the frame: behind ADD SP and POP the caller has its r4 to r7 and its words.
@@ -142,4 +162,5 @@ module _ {V : Type 0} (Is : V → ℕ → Type 0) (code : List Function) (places
   returns fn place need temps fs s x =
       let r = frames_room Is code places return_to s.words fs (saved fn s.words 0) (words fn) x.above in
       let e = length-drop (words fn) s.words in
-      frames_shift Is code places return_to s.words (drop (words fn) s.words) fs (saved fn s.words 0) (words fn) 0 (dropped (words fn) s.words) (omega arith) x.above
+      frames_shift Is code places return_to s.words (drop (words fn) s.words) fs (saved fn s.words 0) (words fn) 0 (dropped (words fn) s.words) (omega arith)
+      x.above

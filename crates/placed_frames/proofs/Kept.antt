@@ -12,8 +12,12 @@ four a b c d a' b' c' d' e f g h = λ i. e i ∷ (f i ∷ (g i ∷ (h i ∷ []))
 
 -- what stays in a list where one word is written, where words go away in front, and where words come in front
 pub saved_set : (f : Function) (ws : List ℕ) (k i v : ℕ) → (i < k + own f) ⊎ (k + words f ≤ i) → saved f (slice_set ws i v) k ≡ saved f ws k
-saved_set f ws k i v (inl l) = four _ _ _ _ _ _ _ _ (get_or-set_other ws i (k + own f) v 0 (omega arith)) (get_or-set_other ws i (k + own f + 1) v 0 (omega arith)) (get_or-set_other ws i (k + own f + 2) v 0 (omega arith)) (get_or-set_other ws i (k + own f + 3) v 0 (omega arith))
-saved_set f ws k i v (inr l) = four _ _ _ _ _ _ _ _ (get_or-set_other ws i (k + own f) v 0 (omega arith)) (get_or-set_other ws i (k + own f + 1) v 0 (omega arith)) (get_or-set_other ws i (k + own f + 2) v 0 (omega arith)) (get_or-set_other ws i (k + own f + 3) v 0 (omega arith))
+saved_set f ws k i v (inl l) = four _ _ _ _ _ _ _ _ (get_or-set_other ws i (k + own f) v 0 (omega arith))
+    (get_or-set_other ws i (k + own f + 1) v 0 (omega arith)) (get_or-set_other ws i (k + own f + 2) v 0 (omega arith))
+    (get_or-set_other ws i (k + own f + 3) v 0 (omega arith))
+saved_set f ws k i v (inr l) = four _ _ _ _ _ _ _ _ (get_or-set_other ws i (k + own f) v 0 (omega arith))
+    (get_or-set_other ws i (k + own f + 1) v 0 (omega arith)) (get_or-set_other ws i (k + own f + 2) v 0 (omega arith))
+    (get_or-set_other ws i (k + own f + 3) v 0 (omega arith))
 
 -- words xs, and ys with each word from j on where xs has it from k on
 abbrev pub Shifted : List ℕ → ℕ → List ℕ → ℕ → Type 0
@@ -29,8 +33,10 @@ shifted_on : (xs ys : List ℕ) (j k n : ℕ) → Shifted xs j ys k → Shifted 
 shifted_on xs ys j k n h i = at_sum ys (k + n + i) (k + (n + i)) (omega arith) ∙ (h (n + i) ∙ at_sum xs (j + (n + i)) (j + n + i) (omega arith))
 
 shifted_saved : (f : Function) (xs ys : List ℕ) (j k : ℕ) → Shifted xs j ys k → saved f xs j ≡ saved f ys k
-shifted_saved f xs ys j k h = four _ _ _ _ _ _ _ _ (sym (shifted_at xs ys j k (own f) (j + own f) (k + own f) h refl refl)) (sym (shifted_at xs ys j k (own f + 1) (j + own f + 1) (k + own f + 1) h (omega arith) (omega arith)))
-    (sym (shifted_at xs ys j k (own f + 2) (j + own f + 2) (k + own f + 2) h (omega arith) (omega arith))) (sym (shifted_at xs ys j k (own f + 3) (j + own f + 3) (k + own f + 3) h (omega arith) (omega arith)))
+shifted_saved f xs ys j k h = four _ _ _ _ _ _ _ _ (sym (shifted_at xs ys j k (own f) (j + own f) (k + own f) h refl refl))
+    (sym (shifted_at xs ys j k (own f + 1) (j + own f + 1) (k + own f + 1) h (omega arith) (omega arith)))
+    (sym (shifted_at xs ys j k (own f + 2) (j + own f + 2) (k + own f + 2) h (omega arith) (omega arith)))
+    (sym (shifted_at xs ys j k (own f + 3) (j + own f + 3) (k + own f + 3) h (omega arith) (omega arith)))
 
 shifted_value : (f : Function) (kept xs ys : List ℕ) (j k : ℕ) (p : Place) → Shifted xs j ys k → value f kept ys k p ≡ value f kept xs j p
 shifted_value f kept xs ys j k (Reg r) h = refl
@@ -39,7 +45,8 @@ shifted_value f kept xs ys j k (Incoming i) h = shifted_at xs ys j k (words f + 
 
 module _ {V : Type 0} (Is : V → ℕ → Type 0) (code : List Function) (places : ℕ → ℕ → Place) (return_to : List (Frame V) → ℕ) where
   -- the frames elsewhere
-  frame_shifts : (xs ys : List ℕ) (j k : ℕ) → Shifted xs j ys k → (fn : Function) (place : ℕ → Place) (need : ℕ → Type 0) (temps : ℕ → V) (fs : List (Frame V)) (kept : List ℕ)
+  frame_shifts : (xs ys : List ℕ) (j k : ℕ) → Shifted xs j ys k → (fn : Function) (place : ℕ → Place) (need : ℕ → Type 0) (temps : ℕ → V) (fs : List (Frame V))
+      (kept : List ℕ)
       → HasFrame Is code places return_to xs fn place need temps fs kept j → HasFrame Is code places return_to ys fn place need temps fs kept k
   frame_shifts xs ys j k h fn place need temps fs kept x = record {
     temporary = λ t l n. subst (Is (temps t)) (sym (shifted_value fn kept xs ys j k (place t) h)) (x.temporary t l n);
@@ -57,7 +64,8 @@ module _ {V : Type 0} (Is : V → ℕ → Type 0) (code : List Function) (places
   shifted_saved_at None xs ys j k h = refl
   shifted_saved_at (Some f) xs ys j k h = shifted_saved f xs ys j k h
 
-  pub frames_shift : (xs ys : List ℕ) (fs : List (Frame V)) (kept : List ℕ) (j k : ℕ) → Shifted xs j ys k → (length ys + j ≡ length xs + k) → HasFrames Is code places return_to xs fs kept j → HasFrames Is code places return_to ys fs kept k
+  pub frames_shift : (xs ys : List ℕ) (fs : List (Frame V)) (kept : List ℕ) (j k : ℕ) → Shifted xs j ys k → (length ys + j ≡ length xs + k)
+      → HasFrames Is code places return_to xs fs kept j → HasFrames Is code places return_to ys fs kept k
   frames_shift xs ys [] kept j k h e x = let q = x.0 in (omega arith, x.1)
   frames_shift xs ys (f ∷ fs) kept j k h e x =
       let o = slice_get code f.function in
@@ -68,7 +76,7 @@ module _ {V : Type 0} (Is : V → ℕ → Type 0) (code : List Function) (places
       )
 
   -- a word of the running frame, or of the outgoing words above it, is none of the frames above
-  value_set : (f : Function) (kept ws : List ℕ) (k i v : ℕ) (p : Place) → i < k + f.outgoing → value f kept (slice_set ws i v) k p ≡ value f kept ws k p
+  pub value_set : (f : Function) (kept ws : List ℕ) (k i v : ℕ) (p : Place) → i < k + f.outgoing → value f kept (slice_set ws i v) k p ≡ value f kept ws k p
   value_set f kept ws k i v (Reg r) l = refl
   value_set f kept ws k i v (Slot j) l = get_or-set_other ws i (k + f.outgoing + j) v 0 (omega arith)
   value_set f kept ws k i v (Incoming j) l = get_or-set_other ws i (k + words f + j) v 0 (omega arith)
@@ -103,7 +111,8 @@ module _ {V : Type 0} (Is : V → ℕ → Type 0) (code : List Function) (places
       )
 
   -- the frames fill the bank, and the outgoing words of the first are there
-  pub frames_room : (ws : List ℕ) (fs : List (Frame V)) (kept : List ℕ) (k : ℕ) → HasFrames Is code places return_to ws fs kept k → k + outgoing_of code fs ≤ length ws
+  pub frames_room : (ws : List ℕ) (fs : List (Frame V)) (kept : List ℕ) (k : ℕ) → HasFrames Is code places return_to ws fs kept k
+      → k + outgoing_of code fs ≤ length ws
   frames_room ws [] kept k x = let q = x.0 in omega arith
   frames_room ws (f ∷ fs) kept k x =
       let o = slice_get code f.function in
@@ -111,7 +120,8 @@ module _ {V : Type 0} (Is : V → ℕ → Type 0) (code : List Function) (places
       let i = frames_room ws fs (saved_at o ws k) (k + words_at o) x.1 in
       omega arith
 
-  waiting_small : (ws : List ℕ) (o : Option Function) (f : Frame V) (fs : List (Frame V)) (kept : List ℕ) (k : ℕ) → HasWaiting Is code places return_to ws o f fs kept k → AreWords kept
+  waiting_small : (ws : List ℕ) (o : Option Function) (f : Frame V) (fs : List (Frame V)) (kept : List ℕ) (k : ℕ) → HasWaiting Is code places return_to ws o f
+      fs kept k → AreWords kept
   waiting_small ws None f fs kept k x = elim x [ ]
   waiting_small ws (Some fn) f fs kept k x = x.small
 

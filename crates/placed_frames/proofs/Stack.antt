@@ -61,7 +61,8 @@ move_down flash sp (suc n) b free h l =
     }
 
 -- SP goes up by n words: they go
-pub move_up : (flash : List ℕ) (sp n : ℕ) (b : Bank) (free : List ℕ) → At flash sp b → n ≤ length b.words → (bank_move (b, free) (sp + 4 * n) ≡ (record b { words = drop n b.words }, free)) × At flash (sp + 4 * n) (record b { words = drop n b.words })
+pub move_up : (flash : List ℕ) (sp n : ℕ) (b : Bank) (free : List ℕ) → At flash sp b → n ≤ length b.words
+    → (bank_move (b, free) (sp + 4 * n) ≡ (record b { words = drop n b.words }, free)) × At flash (sp + 4 * n) (record b { words = drop n b.words })
 move_up flash sp n b free h l =
     let e = h.sp_is in let i = h.low in let g = h.aligned in let j = h.high in
     let r = no (sp + 4 * n) (bank_sp b) (omega arith) in
@@ -73,7 +74,8 @@ in_range : (sp base : ℕ) → stack_at ≤ sp → sp ≤ base → sp_in_range b
 in_range sp base l h = let a = no sp stack_at l in let b = no base sp h in rw a (rw b refl)
 
 -- SUB SP
-pub sub_sp : (flash : List ℕ) (next k : ℕ) (s : Registers) (b : Bank) (free : List ℕ) → At flash s.sp b → 4 * k + stack_at ≤ s.sp → (d : Down flash s.sp k b free)
+pub sub_sp : (flash : List ℕ) (next k : ℕ) (s : Registers) (b : Bank) (free : List ℕ) → At flash s.sp b → 4 * k + stack_at ≤ s.sp
+    → (d : Down flash s.sp k b free)
     → Bm (b, free) s.sp (effect next s (SubSpImm k)) ≡ Done (record s { sp = s.sp - 4 * k; pc = next }) (record b { words = d.new ++ b.words }, d.free')
 sub_sp flash next k s b free h l d =
     let e = h.sp_is in let i = h.low in let g = h.high in
@@ -114,43 +116,56 @@ at_length flash sp b ws e h = record { sp_is = rw e h.sp_is; flash_is = h.flash_
 own_here : (flash : List ℕ) (sp at k : ℕ) (b : Bank) → At flash sp b → at ≡ sp + k * 4 → k < length b.words → Own b (word at) k
 own_here flash sp at k b h e l = rw e (own_at flash sp k b h l)
 
-store_faults : (flash : List ℕ) (sp at k : ℕ) (b : Bank) (free : List ℕ) → At flash sp b → at ≡ sp + k * 4 → (vs : List ℕ) → k + length vs ≤ length b.words → first_fault bank_memory (b, free) true (map (λ p. p.0) (words_to at vs)) ≡ None
+store_faults : (flash : List ℕ) (sp at k : ℕ) (b : Bank) (free : List ℕ) → At flash sp b → at ≡ sp + k * 4 → (vs : List ℕ) → k + length vs ≤ length b.words
+    → first_fault bank_memory (b, free) true (map (λ p. p.0) (words_to at vs)) ≡ None
 store_faults flash sp at k b free h e [] l = refl
-store_faults flash sp at k b free h e (v ∷ vs) l = let f = own_fault b (word at) k (own_here flash sp at k b h e (omega arith)) true in rw f (store_faults flash sp (at + 4) (k + 1) b free h (omega arith) vs (omega arith))
+store_faults flash sp at k b free h e (v ∷ vs) l = let f = own_fault b (word at) k (own_here flash sp at k b h e (omega arith)) true in rw f
+    (store_faults flash sp (at + 4) (k + 1) b free h (omega arith) vs (omega arith))
 
-stores_all : (flash : List ℕ) (sp at k : ℕ) (b : Bank) (free : List ℕ) → At flash sp b → at ≡ sp + k * 4 → (vs : List ℕ) → AllWords vs → k + length vs ≤ length b.words → store_all bank_memory (b, free) (words_to at vs) ≡ (record b { words = put_from b.words k vs }, free)
+stores_all : (flash : List ℕ) (sp at k : ℕ) (b : Bank) (free : List ℕ) → At flash sp b → at ≡ sp + k * 4 → (vs : List ℕ) → AllWords vs
+    → k + length vs ≤ length b.words → store_all bank_memory (b, free) (words_to at vs) ≡ (record b { words = put_from b.words k vs }, free)
 stores_all flash sp at k b free h e [] w l = refl
 stores_all flash sp at k b free h e (v ∷ vs) w l =
     let f = own_store b (word at) k v (own_here flash sp at k b h e (omega arith)) w.0 in
     let g = length-set b.words k v in
-    ap (λ q. store_all bank_memory (q, free) (words_to (at + 4) vs)) f ∙ stores_all flash sp (at + 4) (k + 1) (record b { words = slice_set b.words k v }) free (at_length flash sp b (slice_set b.words k v) g h) (omega arith) vs w.1 (omega arith)
+    ap (λ q. store_all bank_memory (q, free) (words_to (at + 4) vs)) f ∙ stores_all flash sp (at + 4) (k + 1) (record b { words = slice_set b.words k v }) free
+    (at_length flash sp b (slice_set b.words k v) g h) (omega arith) vs w.1 (omega arith)
 
-load_faults : (flash : List ℕ) (sp at k : ℕ) (b : Bank) (free : List ℕ) → At flash sp b → at ≡ sp + k * 4 → (n : ℕ) → k + n ≤ length b.words → first_fault bank_memory (b, free) false (words_from at n) ≡ None
+load_faults : (flash : List ℕ) (sp at k : ℕ) (b : Bank) (free : List ℕ) → At flash sp b → at ≡ sp + k * 4 → (n : ℕ) → k + n ≤ length b.words
+    → first_fault bank_memory (b, free) false (words_from at n) ≡ None
 load_faults flash sp at k b free h e zero l = refl
-load_faults flash sp at k b free h e (suc n) l = let f = own_fault b (word at) k (own_here flash sp at k b h e (omega arith)) false in rw f (load_faults flash sp (at + 4) (k + 1) b free h (omega arith) n (omega arith))
+load_faults flash sp at k b free h e (suc n) l = let f = own_fault b (word at) k (own_here flash sp at k b h e (omega arith)) false in rw f
+    (load_faults flash sp (at + 4) (k + 1) b free h (omega arith) n (omega arith))
 
-loads_all : (flash : List ℕ) (sp at k : ℕ) (b : Bank) (free : List ℕ) → At flash sp b → at ≡ sp + k * 4 → (n : ℕ) → AllWords (get_from b.words k n) → k + n ≤ length b.words → load_all bank_memory (b, free) (words_from at n) ≡ (get_from b.words k n, (b, free))
+loads_all : (flash : List ℕ) (sp at k : ℕ) (b : Bank) (free : List ℕ) → At flash sp b → at ≡ sp + k * 4 → (n : ℕ) → AllWords (get_from b.words k n)
+    → k + n ≤ length b.words → load_all bank_memory (b, free) (words_from at n) ≡ (get_from b.words k n, (b, free))
 loads_all flash sp at k b free h e zero w l = refl
 loads_all flash sp at k b free h e (suc n) w l =
     let f = own_load b free (word at) k (slice_index b.words k) (own_here flash sp at k b h e (omega arith)) refl w.0 in
     let g = loads_all flash sp (at + 4) (k + 1) b free h (omega arith) n w.1 (omega arith) in
     rw f (rw g refl)
 
-five : (new ws : List ℕ) (v0 v1 v2 v3 v4 : ℕ) → length new ≡ 5 → put_from (new ++ ws) 0 (v0 ∷ (v1 ∷ (v2 ∷ (v3 ∷ (v4 ∷ []))))) ≡ v0 ∷ (v1 ∷ (v2 ∷ (v3 ∷ (v4 ∷ ws))))
+five : (new ws : List ℕ) (v0 v1 v2 v3 v4 : ℕ) → length new ≡ 5 → put_from (new ++ ws) 0
+    (v0 ∷ (v1 ∷ (v2 ∷ (v3 ∷ (v4 ∷ []))))) ≡ v0 ∷ (v1 ∷ (v2 ∷ (v3 ∷ (v4 ∷ ws))))
 five (a ∷ (b ∷ (c ∷ (d ∷ (e ∷ []))))) ws v0 v1 v2 v3 v4 l = refl
 five _ ws v0 v1 v2 v3 v4 l = grind arith
 
-executes : (t t1 t2 t3 : Bank × List ℕ) (sp sp' : ℕ) (ss : List (Access × ℕ)) (q : Registers) → sp_in_range t.0.base sp' ≡ true → bank_move t (min sp sp') ≡ t1 → first_fault bank_memory t1 true (map (λ p. p.0) ss) ≡ None → store_all bank_memory t1 ss ≡ t2 → bank_move t2 sp' ≡ t3
+executes : (t t1 t2 t3 : Bank × List ℕ) (sp sp' : ℕ) (ss : List (Access × ℕ)) (q : Registers) → sp_in_range t.0.base sp' ≡ true → bank_move t (min sp sp') ≡ t1
+    → first_fault bank_memory t1 true (map (λ p. p.0) ss) ≡ None → store_all bank_memory t1 ss ≡ t2 → bank_move t2 sp' ≡ t3
     → Bm t sp (record { sp = sp'; loads = []; stores = ss; after = λ ws. Goes q }) ≡ Done (record q { sp = sp' }) t3
 executes t t1 t2 t3 sp sp' ss q a b c d e = rw a (rw b (rw c (rw d (rw e refl))))
 
-executes_loads : (t t1 t2 t3 : Bank × List ℕ) (sp sp' : ℕ) (as' : List Access) (after : List ℕ → Outcome) (ws : List ℕ) (q : Registers) → sp_in_range t.0.base sp' ≡ true → bank_move t (min sp sp') ≡ t1 → first_fault bank_memory t1 false as' ≡ None → load_all bank_memory t1 as' ≡ (ws, t2) → after ws ≡ Goes q → bank_move t2 sp' ≡ t3
+executes_loads : (t t1 t2 t3 : Bank × List ℕ) (sp sp' : ℕ) (as' : List Access) (after : List ℕ → Outcome) (ws : List ℕ) (q : Registers)
+    → sp_in_range t.0.base sp' ≡ true → bank_move t (min sp sp') ≡ t1 → first_fault bank_memory t1 false as' ≡ None → load_all bank_memory t1 as' ≡ (ws, t2)
+    → after ws ≡ Goes q → bank_move t2 sp' ≡ t3
     → Bm t sp (record { sp = sp'; loads = as'; stores = []; after = after }) ≡ Done (record q { sp = sp' }) t3
 executes_loads t t1 t2 t3 sp sp' as' after ws q a b c d g e = rw a (rw b (rw c (rw d (rw g (rw e refl)))))
 
 -- PUSH {r4-r7, lr}: exactly these words stand in front
-pub push_five : (flash : List ℕ) (next : ℕ) (s : Registers) (b : Bank) (free : List ℕ) → At flash s.sp b → 20 + stack_at ≤ s.sp → AllWords (low s 4 ∷ (low s 5 ∷ (low s 6 ∷ (low s 7 ∷ (s.lr ∷ [])))))
-    → (free' : List ℕ) × (Bm (b, free) s.sp (effect next s (Push 240 true)) ≡ Done (record s { sp = s.sp - 20; pc = next }) (record b { words = low s 4 ∷ (low s 5 ∷ (low s 6 ∷ (low s 7 ∷ (s.lr ∷ b.words)))) }, free'))
+pub push_five : (flash : List ℕ) (next : ℕ) (s : Registers) (b : Bank) (free : List ℕ) → At flash s.sp b → 20 + stack_at ≤ s.sp
+    → AllWords (low s 4 ∷ (low s 5 ∷ (low s 6 ∷ (low s 7 ∷ (s.lr ∷ [])))))
+    → (free' : List ℕ) × (Bm (b, free) s.sp (effect next s (Push 240 true)) ≡ Done (record s { sp = s.sp - 20; pc = next })
+    (record b { words = low s 4 ∷ (low s 5 ∷ (low s 6 ∷ (low s 7 ∷ (s.lr ∷ b.words)))) }, free'))
     × At flash (s.sp - 20) (record b { words = low s 4 ∷ (low s 5 ∷ (low s 6 ∷ (low s 7 ∷ (s.lr ∷ b.words)))) })
 unfolding listed listed_from
 push_five flash next s b free h l aw =
@@ -172,26 +187,37 @@ push_five flash next s b free h l aw =
     let o = at_length flash t nb pushed k d.at in
     let v = sp_stays flash t (record b { words = pushed }) d.free' o in (
       d.free',
-      rw w (executes (b, free) (nb, d.free') (record b { words = pushed }, d.free') (record b { words = pushed }, d.free') s.sp t (words_to t vs) (record s { sp = t; pc = next })
+      rw w (executes (b, free) (nb, d.free') (record b { words = pushed }, d.free') (record b { words = pushed }, d.free') s.sp t (words_to t vs)
+          (record s { sp = t; pc = next })
           (in_range t b.base (omega arith) (omega arith)) (ap (bank_move (b, free)) m ∙ d.moves) u (x ∙ ap (λ q. (record b { words = q }, d.free')) p) v),
       o,
     )
 
 -- POP {r4-r7, pc}: exactly these registers
-pub pop_five : (flash : List ℕ) (next a : ℕ) (s : Registers) (b : Bank) (free : List ℕ) → At flash s.sp b → 5 ≤ length b.words → AllWords (get_from b.words 0 5) → slice_index b.words 4 ≡ a + 1 → a % 2 ≡ 0
-    → (Bm (b, free) s.sp (effect next s (Pop 240 true)) ≡ Done (record s { r = slice_set (slice_set (slice_set (slice_set s.r 4 (slice_index b.words 0)) 5 (slice_index b.words 1)) 6 (slice_index b.words 2)) 7 (slice_index b.words 3); sp = s.sp + 20; pc = a }) (record b { words = drop 5 b.words }, free))
+pub pop_five : (flash : List ℕ) (next a : ℕ) (s : Registers) (b : Bank) (free : List ℕ) → At flash s.sp b → 5 ≤ length b.words
+    → AllWords (get_from b.words 0 5) → slice_index b.words 4 ≡ a + 1 → a % 2 ≡ 0
+    → (Bm (b, free) s.sp (effect next s (Pop 240 true)) ≡ Done (record s {
+      r = slice_set
+          (slice_set (slice_set (slice_set s.r 4 (slice_index b.words 0)) 5 (slice_index b.words 1)) 6 (slice_index b.words 2)) 7 (slice_index b.words 3);
+      sp = s.sp + 20;
+      pc = a;
+    }) (record b { words = drop 5 b.words }, free))
     × At flash (s.sp + 20) (record b { words = drop 5 b.words })
 unfolding listed listed_from
 pop_five flash next a s b free h l aw g odd =
     let e = h.sp_is in let i = h.low in let j = h.high in
     let d = move_up flash s.sp 5 b free h l in
-    let r' = slice_set (slice_set (slice_set (slice_set s.r 4 (slice_index b.words 0)) 5 (slice_index b.words 1)) 6 (slice_index b.words 2)) 7 (slice_index b.words 3) in
+    let r' = slice_set (slice_set (slice_set (slice_set s.r 4 (slice_index b.words 0)) 5 (slice_index b.words 1)) 6 (slice_index b.words 2)) 7
+    (slice_index b.words 3) in
     let w : word (s.sp + 20) ≡ s.sp + 20 = omega arith in
     let m : min s.sp (s.sp + 20) ≡ s.sp = omega arith in
     let o : ((a + 1) % 2 == 1) ≡ true = grind arith in
     let z : a + 1 - 1 ≡ a = omega arith in (
-      rw w (executes_loads (b, free) (b, free) (b, free) (record b { words = drop 5 b.words }, free) s.sp (s.sp + 20) (words_from s.sp 5) (λ ws. jumps (record s { r = filled s.r (4 ∷ (5 ∷ (6 ∷ (7 ∷ [])))) ws; sp = s.sp + 20; pc = next }) (slice_index ws 4)) (get_from b.words 0 5) (record s { r = r'; sp = s.sp + 20; pc = a })
-          (in_range (s.sp + 20) b.base (omega arith) (omega arith)) (ap (bank_move (b, free)) m ∙ sp_stays flash s.sp b free h) (load_faults flash s.sp s.sp 0 b free h (omega arith) 5 (omega arith)) (loads_all flash s.sp s.sp 0 b free h (omega arith) 5 aw (omega arith))
+      rw w (executes_loads (b, free) (b, free) (b, free) (record b { words = drop 5 b.words }, free) s.sp (s.sp + 20) (words_from s.sp 5)
+          (λ ws. jumps (record s { r = filled s.r (4 ∷ (5 ∷ (6 ∷ (7 ∷ [])))) ws; sp = s.sp + 20; pc = next }) (slice_index ws 4)) (get_from b.words 0 5)
+          (record s { r = r'; sp = s.sp + 20; pc = a })
+          (in_range (s.sp + 20) b.base (omega arith) (omega arith)) (ap (bank_move (b, free)) m ∙ sp_stays flash s.sp b free h)
+          (load_faults flash s.sp s.sp 0 b free h (omega arith) 5 (omega arith)) (loads_all flash s.sp s.sp 0 b free h (omega arith) 5 aw (omega arith))
           (rw g (rw o (rw z refl))) d.0),
       d.1,
     )

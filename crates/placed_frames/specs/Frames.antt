@@ -67,7 +67,8 @@ module _ {V : Type 0} (Is : V → ℕ → Type 0) (code : List Function) (places
       HasWaiting (slice_get code f.function) f fs kept k × HasFrames fs (saved_at (slice_get code f.function) ws k) (k + words_at (slice_get code f.function))
 
 -- the running function and the frames above it
-pub record Running {V : Type 0} (Is : V → ℕ → Type 0) (code : List Function) (places : ℕ → ℕ → Place) (return_to : List (Frame V) → ℕ) (fn : Function) (place : ℕ → Place) (need : ℕ → Type 0) (temps : ℕ → V) (fs : List (Frame V)) (s : Store) : Type 0 where
+pub record Running {V : Type 0} (Is : V → ℕ → Type 0) (code : List Function) (places : ℕ → ℕ → Place) (return_to : List (Frame V) → ℕ) (fn : Function)
+    (place : ℕ → Place) (need : ℕ → Type 0) (temps : ℕ → V) (fs : List (Frame V)) (s : Store) : Type 0 where
   pub four : length s.kept ≡ 4
   pub frame : HasFrame Is code places return_to s.words fn place need temps fs s.kept 0
   pub above : HasFrames Is code places return_to s.words fs (saved fn s.words 0) (words fn)

@@ -1,0 +1,161 @@
+-- Jumps and branches.
+use Rattle.std.proofs.Common.{suc, ◌≡◌, ℕ, ◌+◌, ◌*◌, ◌<◌, List, [], ◌∷◌, length, Bool, true, false, not, cond, Some, refl, sym, ap, ◌∙◌, subst, arith, slice_get, slice_index, ◌==◌, get_or-set_same}
+use Rattle.std.specs.Prelude.{pos}
+use Rattle.std.specs.Ordering.{int_eq}
+use Rattle.std.proofs.lemmas.List.{length-set}
+use Rattle.thumb_code.specs.declared.instructions.Instr.TheVariants.{CmpImm}
+use Rattle.thumb_code.specs.Arithmetic.{sum_flags, inverted}
+use Rattle.thumb_code.specs.Step.{fetched}
+use Rattle.board_world.specs.Observations.{ByteList}
+use Rattle.board_world.specs.Kinds.{Goes}
+use Rattle.board_world.specs.Sound.{NoFault}
+use Rattle.bank_model.specs.Fibers.{Fiber, Shared}
+use Rattle.thumb_layout.specs.declared.pieces.Piece.TheVariants.{Plain, Label, Go}
+use Rattle.thumb_layout.specs.Pieces.{always}
+use Rattle.flat_ir.specs.declared.ops.Op.{Op}
+use Rattle.flat_ir.specs.declared.ops.Op.TheVariants.{Jump, Branch}
+use Rattle.flat_ir.specs.declared.ops.FlatCode.{FlatCode}
+use Rattle.flat_ir.specs.WellFormed.{temporaries}
+use Rattle.flat_ir.specs.Liveness.{IsLiveAt}
+use Rattle.register_assign.specs.declared.places.Placed.{Placed}
+use Rattle.register_assign.specs.Sound.{place_of}
+use Rattle.sts_meaning.specs.Values.{Value, Whole, Object, Text, Code, decided}
+use Rattle.sts_meaning.specs.Frames.{after}
+use Rattle.flat_meaning.specs.Operators.{FlatHeap}
+use Rattle.flat_meaning.specs.Frames.{FlatFrame, FlatActivity, Stands}
+use Rattle.thumb_emit.specs.Emit.{function_pieces, unequal}
+use Rattle.thumb_emit.specs.Frame.{from_place}
+use Rattle.thumb_emit.specs.Bounds.{op_instructions}
+use Rattle.thumb_emit.specs.InFlash.{Addresses}
+use Rattle.arena_values.proofs.Laws.{words_unequal, decided_is}
+use Rattle.placed_frames.specs.View.{View, with_low, Quiet}
+use Rattle.emit_simulation.specs.Laid.{OfInstr, Comes}
+use Rattle.emit_simulation.specs.Starts.{start}
+use Rattle.emit_simulation.specs.Ties.{IsAt, IsShared, IsImage, IsText, IsCode, spots}
+use Rattle.emit_simulation.specs.Context.{view_in, bank_in}
+use Rattle.emit_simulation.specs.Makes.{MakesOp}
+use Rattle.emit_simulation.proofs.Flowing.{branches, passes_by, then}
+use Rattle.emit_simulation.proofs.Placed.{store_low}
+use Rattle.emit_simulation.proofs.Starts.{op_stands, first_of, stand_as}
+use Rattle.emit_simulation.proofs.Meanings.{are_words, within_list}
+use Rattle.emit_simulation.proofs.Turns.{Owed}
+use Rattle.emit_simulation.proofs.Ops.{here, word, word_means, word_small, reads_word, flow_from, goes_to, runs_same, shared_same, elim_none}
+
+module _ (C : FlatCode) (placed : List Placed) (flash : List ℕ) (a : Addresses) (texts : List ByteList) (image : IsImage C placed flash a texts) where
+  -- the label of a place
+  label_of : (p : Placed) (k : ℕ) → k < length p.function.ops → slice_get (function_pieces p) (start p.function (place_of p.places) k) ≡ Some (Label (3 * k))
+  label_of p k l =
+      let o = within_list p.function.ops k l in
+      ap (slice_get (function_pieces p)) (omega arith) ∙ op_stands p k o.0 o.1 0 (omega arith)
+
+  -- JUMP
+  pub jump_makes : (target : ℕ) → MakesOp C placed flash a texts (Jump target)
+  jump_makes target p f callers base c used h t e x sh nf =
+      let op = Jump target in
+      let place = place_of p.places in
+      let k = here C placed flash a texts image p f callers base c used h t op e x sh in
+      let fw = k.within_function in
+      let s1 = start p.function place f.place + 1 in
+      let pl = spots C placed flash a f.function p in
+      let g : slice_get (function_pieces p) s1 ≡ Some (Go always (3 * target)) = ap (slice_get (function_pieces p)) (omega arith) ∙ k.stands 0 (omega arith) in
+      let y = branches (fetched flash c.base) flash pl (function_pieces p) fw.laid s1 (start p.function place target) always (3 * target) (view_in c t)
+      c.registers (bank_in flash c t) t.free g (label_of p target ((k.op_within).goes).0) refl fw.at refl in
+      goes_to C placed flash a texts image p f callers base c used h t op e x sh 1 3 (start p.function place target) target (view_in c t) f.temps h
+      (omega arith) y refl
+      (runs_same C placed flash a texts image p f callers base c used h t op e x sh target target (view_in c t) refl (0, omega arith, refl)
+      (λ m q. elim_none m q) refl)
+      x.registers (shared_same C placed flash a texts image p f callers base c used h t op e x sh (view_in c t) refl refl)
+
+  module _ (p : Placed) (f : FlatFrame) (callers : List FlatFrame) (base : ℕ) (c : Fiber) (used : ℕ) (h : FlatHeap) (t : Shared) (when target : ℕ)
+      (e : slice_get p.function.ops f.place ≡ Some (Branch when target))
+      (x : IsAt C placed flash a p (λ u. IsLiveAt p.function.ops u f.place) f callers base (start p.function (place_of p.places) f.place) c)
+      (sh : IsShared C placed flash a used h t) where
+    abbrev op : Op
+    op = Branch when target
+
+    abbrev goes_on_at : Bool → FlatActivity
+    goes_on_at b = Stands (record { function = f.function; place = cond b target (f.place + 1); temps = f.temps }) callers base
+
+    abbrev w : ℕ
+    w = word C placed flash a texts image p f callers base c used h t op e x sh when
+
+    -- the comparison
+    abbrev u1 : View
+    u1 = with_low 0 w (view_in c t)
+
+    abbrev u2 : View
+    u2 = record u1 { flags = sum_flags w (inverted 0) 1 }
+
+    compared : Comes (fetched flash c.base) (spots C placed flash a f.function p) 2 4 (start p.function (place_of p.places) f.place + 1)
+        (start p.function (place_of p.places) f.place + 1 + 2) (view_in c t) u2 c.registers (bank_in flash c t) t.free
+    compared =
+        let place = place_of p.places in
+        let k = here C placed flash a texts image p f callers base c used h t op e x sh in
+        let lf : when < temporaries p.function = ((k.op_within).names).0 in
+        let s1 = start p.function place f.place + 1 in
+        let r0 : slice_index u1.low 0 ≡ w = get_or-set_same c.registers.r 0 w 0 (let rg = x.registers in omega arith) in
+        let xs = from_place p.function 0 (place when) ∷ (Plain (CmpImm 0 0) ∷ []) in
+        let st = stand_as (function_pieces p) s1 (s1 + 0) xs (omega arith) (first_of (function_pieces p) s1 xs (Go unequal (3 * target) ∷ []) k.stands) in
+        let z : s1 + 0 ≡ s1 = omega arith in
+        subst (λ n. Comes (fetched flash c.base) (spots C placed flash a f.function p) 2 4 n (n + 2) (view_in c t) u2 c.registers (bank_in flash c t) t.free) z
+        (flow_from C placed flash a texts image p f callers base c used h t op e x sh 0 xs (view_in c t) u2 c.registers st refl refl (
+          u1,
+          reads_word C placed flash a texts image p f callers base c used h t op e x sh when 0 (view_in c t) lf (0, omega arith, refl) (omega arith) refl,
+          (u2, OfInstr (CmpImm 0 0) u1 u2 refl (Quiet (CmpImm 0 0) u1 u1.low (sum_flags w (inverted 0) 1) (λ next pc s. rw r0 refl)), refl),
+        ))
+
+    by_flag : (b : Bool) → b ≡ not (w == 0) → Owed C placed flash a texts (op_instructions op) used h t (Goes (goes_on_at b) h) c t
+    by_flag true z =
+        let place = place_of p.places in
+        let k = here C placed flash a texts image p f callers base c used h t op e x sh in
+        let fw = k.within_function in
+        let lf : when < temporaries p.function = ((k.op_within).names).0 in
+        let s1 = start p.function place f.place + 1 in
+        let pl = spots C placed flash a f.function p in
+        let y = compared in
+        let g : slice_get (function_pieces p) (s1 + 2) ≡ Some (Go unequal (3 * target)) = k.stands 2 (omega arith) in
+        let lw = word_small C placed flash a texts image p f callers base c used h t op e x sh when lf (0, omega arith, refl) in
+        let d = branches (fetched flash c.base) flash pl (function_pieces p) fw.laid (s1 + 2) (start p.function place target) unequal (3 * target) u2
+        (record c.registers { lr = y.link }) (bank_in flash c t) t.free g (label_of p target ((k.op_within).goes).0)
+        (words_unequal w 0 lw (omega arith) ∙ sym z) fw.at y.long in
+        let q = then (fetched flash c.base) flash pl (function_pieces p) fw.laid 2 4 1 3 s1 (s1 + 2) (start p.function place target) (view_in c t) u2 u2
+        c.registers (bank_in flash c t) t.free y d in
+        goes_to C placed flash a texts image p f callers base c used h t op e x sh 3 7 (start p.function place target) target u2 f.temps h (omega arith) q refl
+        (runs_same C placed flash a texts image p f callers base c used h t op e x sh target target u2 refl (0, omega arith, refl) (λ m q. elim_none m q)
+        (store_low 0 w (view_in c t) (omega arith)))
+        (length-set c.registers.r 0 w ∙ x.registers) (shared_same C placed flash a texts image p f callers base c used h t op e x sh u2 refl refl)
+    by_flag false z =
+        let place = place_of p.places in
+        let k = here C placed flash a texts image p f callers base c used h t op e x sh in
+        let fw = k.within_function in
+        let lf : when < temporaries p.function = ((k.op_within).names).0 in
+        let s1 = start p.function place f.place + 1 in
+        let pl = spots C placed flash a f.function p in
+        let y = compared in
+        let g : slice_get (function_pieces p) (s1 + 2) ≡ Some (Go unequal (3 * target)) = k.stands 2 (omega arith) in
+        let lw = word_small C placed flash a texts image p f callers base c used h t op e x sh when lf (0, omega arith, refl) in
+        let d = passes_by (fetched flash c.base) flash pl (function_pieces p) fw.laid (s1 + 2) unequal (3 * target) u2 (record c.registers { lr = y.link })
+        (bank_in flash c t) t.free g refl (words_unequal w 0 lw (omega arith) ∙ sym z) fw.at y.long in
+        let q = then (fetched flash c.base) flash pl (function_pieces p) fw.laid 2 4 1 3 s1 (s1 + 2) (s1 + 2 + 1) (view_in c t) u2 u2 c.registers
+        (bank_in flash c t) t.free y d in
+        let nx = k.next in
+        goes_to C placed flash a texts image p f callers base c used h t op e x sh 3 7 (s1 + 2 + 1) (f.place + 1) u2 f.temps h (omega arith) q (omega arith)
+        (runs_same C placed flash a texts image p f callers base c used h t op e x sh (suc f.place) (f.place + 1) u2 (omega arith) (1, omega arith, refl)
+        (λ m q. elim_none m q) (store_low 0 w (view_in c t) (omega arith)))
+        (length-set c.registers.r 0 w ∙ x.registers) (shared_same C placed flash a texts image p f callers base c used h t op e x sh u2 refl refl)
+
+    by_value : (v : Value) → f.temps when ≡ v → NoFault (after (decided v) (λ b. Goes (goes_on_at b) h)) → Owed C placed flash a texts (op_instructions op)
+        used h t (after (decided v) (λ b. Goes (goes_on_at b) h)) c t
+    by_value (Whole n) q nf =
+        let k = here C placed flash a texts image p f callers base c used h t op e x sh in
+        let lf : when < temporaries p.function = ((k.op_within).names).0 in
+        let m = word_means C placed flash a texts image p f callers base c used h t op e x sh when lf (0, omega arith, refl) in
+        by_flag (not (int_eq n (pos 0))) (decided_is (IsText C placed flash a) (IsCode C placed flash a) (are_words C placed flash a texts image) 0
+        (f.temps when) w (not (int_eq n (pos 0))) m (ap decided q))
+    by_value (Object n) q nf = absurd nf
+    by_value (Text n) q nf = absurd nf
+    by_value (Code n) q nf = absurd nf
+
+  -- BRANCH
+  pub branch_makes : (when target : ℕ) → MakesOp C placed flash a texts (Branch when target)
+  branch_makes when target p f callers base c used h t e x sh nf = by_value p f callers base c used h t when target e x sh (f.temps when) refl nf

@@ -1,0 +1,98 @@
+-- Ops that make a value of nothing or of one other: numbers, copies, texts, functions; and globals.
+use Rattle.std.proofs.Common.{ℕ, ◌+◌, ◌<◌, ◌^◌, List, [], ◌∷◌, refl, sym, ◌∙◌, arith, slice_set, get_or-set_same}
+use Rattle.std.specs.Prelude.{ℤ, FitsSigned}
+use Rattle.std.specs.Int.{cast_unsigned, w32}
+use Rattle.std.proofs.Math.Facts.{Fits-of_z}
+use Rattle.std.proofs.lemmas.Int.{to_z-of_z}
+use Rattle.std.proofs.lemmas.List.{length-set}
+use Rattle.board_world.specs.Observations.{ByteList}
+use Rattle.thumb_layout.specs.declared.pieces.What.TheVariants.{Function as FunctionOf, Text as TextAt}
+use Rattle.thumb_layout.specs.declared.pieces.Piece.TheVariants.{Number, Address}
+use Rattle.flat_ir.specs.declared.ops.Op.TheVariants.{Const, Copy, TextOf, HandlerOf}
+use Rattle.flat_ir.specs.declared.ops.FlatCode.{FlatCode}
+use Rattle.flat_ir.specs.WellFormed.{temporaries}
+use Rattle.register_assign.specs.declared.places.Placed.{Placed}
+use Rattle.register_assign.specs.Sound.{place_of}
+use Rattle.sts_meaning.specs.Values.{Whole, Text, Code}
+use Rattle.thumb_emit.specs.Emit.{function_pieces}
+use Rattle.thumb_emit.specs.Frame.{from_place}
+use Rattle.thumb_emit.specs.Ready.{HasNumber}
+use Rattle.thumb_emit.specs.InFlash.{Addresses}
+use Rattle.thumb_emit.proofs.Laws.{text_named}
+use Rattle.placed_frames.specs.View.{View, with_low}
+use Rattle.emit_simulation.specs.Laid.{loaded_flags, OfNumber, OfAddress}
+use Rattle.emit_simulation.specs.Ties.{IsImage, bodies}
+use Rattle.emit_simulation.specs.Context.{view_in}
+use Rattle.emit_simulation.specs.Makes.{MakesOp}
+use Rattle.emit_simulation.proofs.Placed.{store_low}
+use Rattle.emit_simulation.proofs.Context.{all_at, mapped_at}
+use Rattle.emit_simulation.proofs.Ops.{here, word, word_means, reads_word, straight_gives}
+
+-- a number's word
+number_word : (value : ℤ) → FitsSigned w32 value → cast_unsigned w32 value < 2 ^ 32
+number_word value h = let a = Fits-of_z {w = w32} {z = value} h in a.fits
+
+module _ (C : FlatCode) (placed : List Placed) (flash : List ℕ) (a : Addresses) (texts : List ByteList) (image : IsImage C placed flash a texts) where
+  -- A NUMBER
+  pub const_makes : (to : ℕ) (value : ℤ) → MakesOp C placed flash a texts (Const to value)
+  const_makes to value p f callers base c used h t e x sh nf =
+      let k = here C placed flash a texts image p f callers base c used h t (Const to value) e x sh in
+      let fits = all_at HasNumber p.function.ops (image.ready f.function p x.there).1 f.place (Const to value) e in
+      let v = view_in c t in
+      let w = cast_unsigned w32 value in
+      let lw = number_word value fits in
+      let rg = x.registers in
+      let u : View = record v { low = slice_set v.low 0 w; flags = loaded_flags v.flags w } in
+      straight_gives C placed flash a texts image p f callers base c used h t (Const to value) e x sh to (Whole value) w u (Number 0 w ∷ []) refl
+      (u, OfNumber 0 w v, refl) refl (0, omega arith, refl) ((k.op_within).names).0
+      (store_low 0 w v (omega arith)) (length-set v.low 0 w ∙ rg) (get_or-set_same v.low 0 w 0 (omega arith)) (sym (to_z-of_z w32 value fits), lw) refl refl
+
+  -- A COPY
+  pub copy_makes : (to from : ℕ) → MakesOp C placed flash a texts (Copy to from)
+  copy_makes to from p f callers base c used h t e x sh nf =
+      let k = here C placed flash a texts image p f callers base c used h t (Copy to from) e x sh in
+      let v = view_in c t in
+      let lf : from < temporaries p.function = (((k.op_within).names).1).0 in
+      let w = word C placed flash a texts image p f callers base c used h t (Copy to from) e x sh from in
+      let rg = x.registers in
+      straight_gives C placed flash a texts image p f callers base c used h t (Copy to from) e x sh to (f.temps from) w (with_low 0 w v)
+      (from_place p.function 0 (place_of p.places from) ∷ []) refl (
+        with_low 0 w v,
+        reads_word C placed flash a texts image p f callers base c used h t (Copy to from) e x sh from 0 v lf (0, omega arith, refl)
+            (omega arith) refl,
+        refl,
+      ) refl (0, omega arith, refl) ((k.op_within).names).0
+      (store_low 0 w v (omega arith)) (length-set v.low 0 w ∙ rg) (get_or-set_same v.low 0 w 0 (omega arith))
+      (word_means C placed flash a texts image p f callers base c used h t (Copy to from) e x sh from lf (0, omega arith, refl)) refl refl
+
+  -- A TEXT
+  pub text_makes : (to text : ℕ) → MakesOp C placed flash a texts (TextOf to text)
+  text_makes to text p f callers base c used h t e x sh nf =
+      let k = here C placed flash a texts image p f callers base c used h t (TextOf to text) e x sh in
+      let v = view_in c t in
+      let w = a.text text in
+      let rg = x.registers in
+      straight_gives C placed flash a texts image p f callers base c used h t (TextOf to text) e x sh to (Text text) w (with_low 0 w v)
+      (Address 0 (TextAt text) ∷ []) refl
+      (with_low 0 w v, OfAddress 0 (TextAt text) v, refl) refl (0, omega arith, refl) ((k.op_within).names).0
+      (store_low 0 w v (omega arith)) (length-set v.low 0 w ∙ rg) (get_or-set_same v.low 0 w 0 (omega arith)) (
+        record {
+          function = f.function;
+          body = function_pieces p;
+          there = mapped_at function_pieces placed (bodies C placed flash a) f.function p refl x.there;
+          among = text_named p f.place to text e;
+        },
+        refl,
+      ) refl refl
+
+  -- A FUNCTION
+  pub handler_makes : (to g : ℕ) → MakesOp C placed flash a texts (HandlerOf to g)
+  handler_makes to g p f callers base c used h t e x sh nf =
+      let k = here C placed flash a texts image p f callers base c used h t (HandlerOf to g) e x sh in
+      let v = view_in c t in
+      let w = a.function g + 1 in
+      let rg = x.registers in
+      straight_gives C placed flash a texts image p f callers base c used h t (HandlerOf to g) e x sh to (Code g) w (with_low 0 w v)
+      (Address 0 (FunctionOf g) ∷ []) refl
+      (with_low 0 w v, OfAddress 0 (FunctionOf g) v, refl) refl (0, omega arith, refl) ((k.op_within).names).0
+      (store_low 0 w v (omega arith)) (length-set v.low 0 w ∙ rg) (get_or-set_same v.low 0 w 0 (omega arith)) (k.parts, refl) refl refl
