@@ -1,3 +1,5 @@
 mod Lengths
 pub mod Listed
 pub mod Values
+pub mod Numbered
+pub mod Chains

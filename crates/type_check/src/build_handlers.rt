@@ -118,3 +118,11 @@ pub fn routine_handlers(body: &Body, from: u32) -> Result<u32, NoMemory>
 {
     statements_handlers(body.stmts.as_slice(), from)
 }
+
+/// The functions in a declaration.
+#[tactic(auto, using(sts_syntax::proofs::Laws::declaration_parts))]
+pub fn declared_handlers(a: &Binding, from: u32) -> Result<u32, NoMemory>
+    ensures { IfOk result (λ n. n ≡ from + h.declared_handlers (declaration a.now)) }
+{
+    optional_handlers(&a.first, from)
+}

@@ -2,6 +2,8 @@
 #![tactic(auto)]
 
 mod build_handlers;
+mod build_names;
+mod build_numbers;
 mod build_types;
 mod limits;
 
