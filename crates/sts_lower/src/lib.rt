@@ -6,7 +6,6 @@ mod assign;
 mod calls;
 mod expressions;
 mod frame;
-mod holds;
 mod lowering;
 mod ops;
 mod repeats;

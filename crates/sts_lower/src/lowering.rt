@@ -9,13 +9,12 @@ ghost use Rattle.sts_lower.specs.Lowered as l;
 ghost use Rattle.sts_lower.specs.Fitting.{IsLowerableRoutine, HasFewFields};
 
 use crate::frame::Frame;
-use crate::holds::statements_words;
 use crate::repeats::note_functions;
 use crate::routines::ops_of;
 use flat_ir::{FlatClass, FlatCode, Function, Op};
 use std::alloc::Global;
 use sts_base::{NoMemory, Seq};
-use sts_syntax::{Typed, TypedBody, TypedClass};
+use sts_syntax::{Typed, TypedBody, TypedClass, outgoing_words, pending_words};
 
 /// Whether a function is some class's constructor.
 fn is_maker(classes: &Seq<TypedClass>, f: u32) -> bool
@@ -45,7 +44,8 @@ fn lower_routine(
 {
     let params = body.params.len() as u32;
     let locals = body.locals.len() as u32;
-    let words = statements_words(body.stmts.as_slice());
+    let operands = pending_words(body) as u32;
+    let outgoing = outgoing_words(body) as u32;
     let frame = Frame {
         classes,
         repeated,
@@ -58,8 +58,8 @@ fn lower_routine(
     Ok(Function {
         params,
         locals,
-        operands: words.pending.max(1) as u32,
-        outgoing: words.outgoing as u32,
+        operands,
+        outgoing,
         ops,
     })
 }

@@ -180,6 +180,22 @@ fn statements_weight(all: &[TypedStmt]) -> u64
     sum
 }
 
+/// The greatest number of values that are pending at once in a function that weighs less than 2^40; 1 where it has no expression.
+pub fn pending_words(body: &TypedBody) -> u64
+    requires { w.weight (typed_routine body.now) < 2 ^ 40 }
+    ensures { result ≡ m.pending_words (typed_routine body.now) }
+{
+    statements_words(body.stmts.as_slice()).pending.max(1)
+}
+
+/// The greatest number of arguments that a call in a function leaves, for a function that weighs less than 2^40.
+pub fn outgoing_words(body: &TypedBody) -> u64
+    requires { w.weight (typed_routine body.now) < 2 ^ 40 }
+    ensures { result ≡ m.outgoing_words (typed_routine body.now) }
+{
+    statements_words(body.stmts.as_slice()).outgoing
+}
+
 /// The words of a function's frame, for a function with fewer than 2^32 nodes.
 #[tactic(auto, using(crate::proofs::FrameBounds::lighter, crate::proofs::FrameBounds::pending_le, crate::proofs::FrameBounds::outgoing_words_le, crate::proofs::FrameBounds::locals_are))]
 pub fn frame_words(body: &TypedBody) -> u64

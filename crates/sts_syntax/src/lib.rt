@@ -20,7 +20,7 @@ mod units;
 pub use board_calls::BoardCall;
 pub use board_rows::{BoardAction, BoardParameter, ServicePlace, board_call, board_constant};
 pub use board_table::board_calls_are_named;
-pub use frames::{frame_words, weight};
+pub use frames::{frame_words, outgoing_words, pending_words, weight};
 pub use library_laws::library_is_light;
 pub use shapes::Shape;
 pub use trees::{Binding, Body, Expr, Form, Node, Param, Stmt};
