@@ -6,3 +6,6 @@ mod Runs
 mod Steps
 mod Sums
 mod Boards
+mod Light
+mod Implementing
+mod Room

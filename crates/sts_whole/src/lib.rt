@@ -3,6 +3,7 @@
 
 mod alone;
 mod board;
+mod compiled;
 mod first;
 mod form;
 mod image;
@@ -10,5 +11,6 @@ mod instruction;
 
 pub use alone::{Alone, run_alone};
 pub use board::run_image;
+pub use compiled::compiled_images_implement_their_programs;
 pub use first::{First, first_image, first_run};
 pub use form::{Sum, read_sum};

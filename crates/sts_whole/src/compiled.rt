@@ -1,0 +1,22 @@
+//! Images that are compiled from programs do what the programs do.
+ghost use Rattle.std.specs.Prelude.{ℕ, List};
+ghost use Rattle.board_world.specs.Observations.{ByteList};
+ghost use Rattle.sts_syntax.specs.TypedTrees.{TypedProgram};
+ghost use Rattle.sts_implements.specs.Images.{ImageImplements};
+ghost use Rattle.sts_whole.specs.Compiled.{IsBuildable, IsCompiled};
+
+use emit_simulation::images_do_what_flat_code_does;
+use image_link::the_image_shows_its_program;
+use lower_simulation::lowered_code_does_what_the_source_does;
+use lowered_code::code_is_well_formed;
+
+/// The image that is compiled from a program implements it: the bank machine over the image does what the program's source does, whatever the free words are, on each script
+/// and whatever arrives between two instructions, in at most 512 instructions for one counted step, and without a fault.
+pub fn compiled_images_implement_their_programs()
+    ensures { (P : TypedProgram) (texts : List ByteList) (image : List ℕ) → IsBuildable P texts → IsCompiled P texts image → ImageImplements P texts image }
+{
+    code_is_well_formed();
+    lowered_code_does_what_the_source_does();
+    the_image_shows_its_program();
+    images_do_what_flat_code_does();
+}
