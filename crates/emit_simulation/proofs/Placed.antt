@@ -7,15 +7,13 @@ use Rattle.flat_ir.specs.declared.ops.Function.{Function}
 use Rattle.register_assign.specs.declared.places.Place.{Place}
 use Rattle.register_assign.specs.declared.places.Place.TheVariants.{Reg, Slot, Incoming}
 use Rattle.register_assign.specs.Sound.{IsWithin}
+use Rattle.placed_frames.proofs.Kept.{four}
 use Rattle.placed_frames.specs.Places.{words, put, get, IsRoom}
 use Rattle.thumb_layout.specs.declared.pieces.Piece.TheVariants.{Plain}
 use Rattle.thumb_layout.specs.Pieces.{Places}
 use Rattle.thumb_emit.specs.Frame.{from_place, to_place}
 use Rattle.emit_simulation.specs.Laid.{Flows, OfInstr}
 use Rattle.emit_simulation.specs.Laid.{store_of}
-
-pub four : (a b c d a' b' c' d' : ℕ) → a ≡ a' → b ≡ b' → c ≡ c' → d ≡ d' → (a ∷ (b ∷ (c ∷ (d ∷ [])))) ≡ (a' ∷ (b' ∷ (c' ∷ (d' ∷ []))))
-four a b c d a' b' c' d' e f g h = λ i. e i ∷ (f i ∷ (g i ∷ (h i ∷ [])))
 
 -- a scratch register is none of r4 to r7
 pub store_low : (k w : ℕ) (v : View) → k < 4 → store_of (with_low k w v) ≡ store_of v

@@ -27,14 +27,13 @@ use Rattle.placed_frames.specs.Places.{own, words}
 use Rattle.placed_frames.specs.Frames.{HasFrames, saved}
 use Rattle.placed_frames.proofs.Plain.{at_view}
 use Rattle.placed_frames.proofs.Stack.{pop_five}
-use Rattle.placed_frames.proofs.Kept.{Shifted, frames_shift, frames_small}
+use Rattle.placed_frames.proofs.Kept.{four, Shifted, frames_shift, frames_small}
 use Rattle.placed_frames.proofs.Calls.{room}
 use Rattle.emit_simulation.specs.Laid.{over, store_of}
 use Rattle.emit_simulation.specs.Starts.{start}
 use Rattle.emit_simulation.specs.Ties.{IsAt, IsShared, IsImage, Means, spots, place_in, return_to, frames_of}
 use Rattle.emit_simulation.specs.Context.{view_in, bank_in}
 use Rattle.emit_simulation.proofs.Flowing.{flows_one, each_goes}
-use Rattle.emit_simulation.proofs.Placed.{four}
 use Rattle.emit_simulation.proofs.Starts.{first_of, rest_of, later}
 use Rattle.emit_simulation.proofs.Ops.{here, word, reads_word}
 use Rattle.emit_simulation.proofs.Lowering.{raised_by}

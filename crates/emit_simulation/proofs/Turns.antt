@@ -1,5 +1,5 @@
 -- From silent instructions to a turn.
-use Rattle.std.proofs.Common.{zero, suc, ◌≡◌, ℕ, ◌+◌, ◌%◌, ◌<◌, ◌≤◌, List, Some, refl, sym, ap, ◌∙◌, subst, arith, min, slice_get}
+use Rattle.std.proofs.Common.{zero, suc, ◌≡◌, ℕ, ◌+◌, ◌%◌, ◌<◌, ◌≤◌, List, Some, refl, sym, ap, ◌∙◌, subst, arith, slice_get}
 use Rattle.thumb_code.specs.declared.instructions.Instr.TheVariants.{Svc}
 use Rattle.thumb_code.specs.declared.register_file.Registers.{Registers}
 use Rattle.thumb_code.specs.Effect.{ends, Asks as AsksFor}
@@ -29,7 +29,7 @@ use Rattle.sts_implements.specs.Passes.{trailing_instructions}
 use Rattle.thumb_emit.specs.InFlash.{Addresses}
 use Rattle.placed_frames.specs.View.{View, registers_of, bank_of, At}
 use Rattle.placed_frames.proofs.Accesses.{sp_has, sp_stays}
-use Rattle.placed_frames.proofs.Plain.{Bm}
+use Rattle.placed_frames.proofs.Plain.{least, Bm}
 use Rattle.emit_simulation.specs.Laid.{Fm, over, Laid, Comes}
 use Rattle.emit_simulation.specs.Ties.{IsTied, IsShared, ties}
 use Rattle.emit_simulation.specs.Context.{view_in, bank_in, fiber_seen, shared_seen}
@@ -48,9 +48,6 @@ path_last {C = C} {D = D} L zero b t c u k p = record { at = b; memory = t; way 
 path_last {C = C} {D = D} L (suc n) b t c u k p =
     let l = path_last L n p.0 p.1 c u p.2 p.5 in
     record { at = l.at; memory = l.memory; way = (p.0, p.1, n, p.3, omega arith, l.way); step = l.step }
-
-least : (sp : ℕ) → min sp sp ≡ sp
-least sp = omega arith
 
 -- SVC
 pub asks_does : (flash : List ℕ) (b : Bank) (free : List ℕ) (q : Registers) (n : ℕ) → At flash q.sp b → Bm (b, free) q.sp (ends q.sp (AsksFor n q)) ≡ Asked n q

@@ -7,7 +7,7 @@ use Rattle.register_assign.specs.declared.places.Place.TheVariants.{Reg, Slot, I
 use Rattle.placed_frames.specs.Places.{own, words, value}
 use Rattle.placed_frames.specs.Frames.{Frame, saved, saved_at, words_at, outgoing_at, Waits, outgoing_of, HasFrame, HasWaiting, HasFrames, AreWords}
 
-four : (a b c d a' b' c' d' : ℕ) → a ≡ a' → b ≡ b' → c ≡ c' → d ≡ d' → (a ∷ (b ∷ (c ∷ (d ∷ [])))) ≡ (a' ∷ (b' ∷ (c' ∷ (d' ∷ []))))
+pub four : (a b c d a' b' c' d' : ℕ) → a ≡ a' → b ≡ b' → c ≡ c' → d ≡ d' → (a ∷ (b ∷ (c ∷ (d ∷ [])))) ≡ (a' ∷ (b' ∷ (c' ∷ (d' ∷ []))))
 four a b c d a' b' c' d' e f g h = λ i. e i ∷ (f i ∷ (g i ∷ (h i ∷ [])))
 
 -- what stays in a list where one word is written, where words go away in front, and where words come in front

@@ -4,4 +4,3 @@ pub mod Stack
 pub mod Puts
 pub mod Kept
 pub mod Calls
-pub mod Grows

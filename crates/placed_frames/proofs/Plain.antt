@@ -14,7 +14,7 @@ use Rattle.placed_frames.proofs.Accesses.{word_at, own_at, own_fault, own_load, 
 abbrev pub Bm : Bank × List ℕ → ℕ → Effect → Executed (Bank × List ℕ)
 Bm t sp e = execute_moving bank_memory bank_move t sp e
 
-least : (sp : ℕ) → min sp sp ≡ sp
+pub least : (sp : ℕ) → min sp sp ≡ sp
 least sp = omega arith
 
 pub quiet_does : (flash : List ℕ) (b : Bank) (free : List ℕ) (q : Registers) → At flash q.sp b → Bm (b, free) q.sp (ends q.sp (Goes q)) ≡ Done q (b, free)

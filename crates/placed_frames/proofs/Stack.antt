@@ -221,12 +221,3 @@ pop_five flash next a s b free h l aw g odd =
           (rw g (rw o (rw z refl))) d.0),
       d.1,
     )
-
--- both do the same whatever PC is
-pub push_ignores : (n a : ℕ) (s : Registers) → effect n (record s { pc = a }) (Push 240 true) ≡ effect n s (Push 240 true)
-unfolding listed listed_from
-push_ignores n a s = refl
-
-pub pop_ignores : (n a : ℕ) (s : Registers) → effect n (record s { pc = a }) (Pop 240 true) ≡ effect n s (Pop 240 true)
-unfolding listed listed_from
-pop_ignores n a s = refl
