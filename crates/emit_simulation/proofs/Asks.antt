@@ -1,5 +1,5 @@
 -- What an op asks of a service is what the machine asks: the push, and all services together.
-use Rattle.std.proofs.Common.{zero, suc, ◌≡◌, ◌≢◌, ℕ, ◌+◌, ◌≤◌, ◌⊎◌, inl, inr, ⊎_elim, List, [], ◌∷◌, map, Some, Bool, true, false, nat_le, ◌==◌, refl, sym, subst, arith, slice_get, slice_index}
+use Rattle.std.proofs.Common.{zero, suc, ◌≡◌, ◌≢◌, ℕ, ◌+◌, ◌⊎◌, inl, inr, ⊎_elim, List, [], ◌∷◌, map, Some, Bool, true, false, nat_le, ◌==◌, refl, sym, subst, arith, slice_get, slice_index}
 use Rattle.board_world.specs.declared.requests.Request.{Request}
 use Rattle.board_world.specs.Limits.{arena_limit}
 use Rattle.board_world.specs.Observations.{ByteList}
@@ -37,6 +37,7 @@ use Rattle.emit_simulation.proofs.Turns.{Owed, going}
 use Rattle.emit_simulation.proofs.Loading.{loaded}
 use Rattle.emit_simulation.proofs.Services.{v, asking_fiber, asking_shared, its_shows, Serves, settled_over, asks_turn}
 use Rattle.emit_simulation.proofs.Asking.{serve_1, serve_2, serve_3, serve_4, serve_5, serve_6, serve_7, serve_8, serve_9, serve_10, serve_11, serve_12, serve_13, serve_14, serve_15, serve_16, serve_17, serve_22, serve_23}
+use Rattle.emit_simulation.proofs.Serving.{within, past}
 
 tested : (n k : ℕ) → (n ≡ k) ⊎ (n ≢ k)
 tested n k = by (n == k) refl
@@ -47,12 +48,6 @@ tested n k = by (n == k) refl
 
 isnt : (n k : ℕ) → n ≢ k → (n == k) ≡ false
 isnt n k d = grind arith
-
-within : (n m : ℕ) → nat_le n m ≡ true → n ≤ m
-within n m e = grind arith
-
-past : (n m : ℕ) → nat_le n m ≡ false → n ≤ m → ⊥
-past n m e l = grind arith
 
 -- no other service is asked for
 nothing_asked : (service : ℕ) → service ≢ 1 → service ≢ 2 → service ≢ 3 → service ≢ 4 → service ≢ 5 → service ≢ 6 → service ≢ 7 → service ≢ 8 → service ≢ 9

@@ -35,15 +35,10 @@ use Rattle.emit_simulation.specs.Ties.{AtOp, IsShared, IsImage, Means, spots, pl
 use Rattle.emit_simulation.specs.Context.{bank_in}
 use Rattle.emit_simulation.proofs.Starts.{entry_stands, first_start}
 use Rattle.emit_simulation.proofs.Context.{laid_at, function_at}
-use Rattle.emit_simulation.proofs.Meanings.{small}
+use Rattle.emit_simulation.proofs.Meanings.{small, entry_is}
 use Rattle.emit_simulation.proofs.Turns.{Owed, asking, makes_panic, makes_reach}
 use Rattle.emit_simulation.proofs.Ops.{wider}
 use Rattle.emit_simulation.proofs.Entry.{at_head, overflows, enters, tested, refused}
-
-pub entry_is : {X : Type 0} (xs : List X) (k : ℕ) → entry xs k ≡ slice_get xs k
-entry_is [] k = refl
-entry_is (x ∷ xs) zero = refl
-entry_is (x ∷ xs) (suc k) = entry_is xs k
 
 words_same : (o : Option Function) → words_of o ≡ words_at o
 words_same None = refl

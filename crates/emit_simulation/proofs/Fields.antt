@@ -1,5 +1,5 @@
 -- Fields of objects, and globals.
-use Rattle.std.proofs.Common.{◌≡◌, ℕ, ◌+◌, ◌*◌, ◌<◌, ◌^◌, List, [], ◌∷◌, ◌++◌, length, Bool, true, false, if◌then◌else◌, nat_lt, Some, None, refl, ap, ◌∙◌, arith, slice_get, slice_set, slice_index, get_or-set_same, get_or-set_other}
+use Rattle.std.proofs.Common.{◌≡◌, ℕ, ◌+◌, ◌*◌, ◌<◌, ◌^◌, List, [], ◌∷◌, ◌++◌, length, Bool, true, false, if◌then◌else◌, nat_lt, Some, refl, ap, ◌∙◌, arith, slice_get, slice_set, slice_index, get_or-set_same, get_or-set_other}
 use Rattle.std.proofs.lemmas.List.{length-set}
 use Rattle.thumb_code.specs.declared.instructions.Instr.TheVariants.{LdrImm, StrImm, LdrReg, StrReg}
 use Rattle.board_world.specs.Observations.{ByteList}
@@ -36,13 +36,10 @@ use Rattle.emit_simulation.specs.Ties.{IsAt, IsShared, IsImage, Means, IsText, I
 use Rattle.emit_simulation.specs.Context.{view_in}
 use Rattle.emit_simulation.specs.Makes.{MakesOp}
 use Rattle.emit_simulation.proofs.Placed.{store_low}
-use Rattle.emit_simulation.proofs.Meanings.{small}
+use Rattle.emit_simulation.proofs.Meanings.{small, none_some}
 use Rattle.emit_simulation.proofs.Ops.{here, word, word_means, word_small, reads_word}
 use Rattle.emit_simulation.proofs.Turns.{Owed}
 use Rattle.emit_simulation.proofs.Walk.{Got, one, object_there, object_null, its_meaning, finished, stored, tested}
-
-none_some : (m : ℕ) → None ≡ Some m → ⊥
-none_some m e = cc
 
 module _ (C : FlatCode) (placed : List Placed) (flash : List ℕ) (a : Addresses) (texts : List ByteList) (image : IsImage C placed flash a texts) where
   abbrev Word : Value → ℕ → Type 0

@@ -1,5 +1,5 @@
 -- Items of arrays, and lengths.
-use Rattle.std.proofs.Common.{◌≡◌, ℕ, ◌+◌, ◌*◌, ◌<◌, inl, inr, List, Some, None, refl, ap, ◌∙◌, arith, slice_get, slice_set, slice_index, get_or-set_same, get_or-set_other}
+use Rattle.std.proofs.Common.{◌≡◌, ℕ, ◌+◌, ◌*◌, ◌<◌, inl, inr, List, Some, refl, ap, ◌∙◌, arith, slice_get, slice_set, slice_index, get_or-set_same, get_or-set_other}
 use Rattle.std.proofs.lemmas.List.{length-set}
 use Rattle.thumb_code.specs.declared.instructions.Instr.TheVariants.{LdrImm, LdrReg, StrReg}
 use Rattle.board_world.specs.Observations.{ByteList}
@@ -34,14 +34,11 @@ use Rattle.emit_simulation.specs.Ties.{IsAt, IsShared, IsImage, Means, IsText, I
 use Rattle.emit_simulation.specs.Context.{view_in}
 use Rattle.emit_simulation.specs.Makes.{MakesOp}
 use Rattle.emit_simulation.proofs.Placed.{store_low}
-use Rattle.emit_simulation.proofs.Meanings.{small}
+use Rattle.emit_simulation.proofs.Meanings.{small, none_some}
 use Rattle.emit_simulation.proofs.Ops.{here, word, word_means, word_small, reads_word}
 use Rattle.emit_simulation.proofs.Turns.{Owed}
 use Rattle.emit_simulation.proofs.Walk.{one, object_there, object_null, finished, stored, tested}
 use Rattle.emit_simulation.proofs.Finding.{array_null, index_past, seen_item, got_item, found_item}
-
-none_some : (m : ℕ) → None ≡ Some m → ⊥
-none_some m e = cc
 
 module _ (C : FlatCode) (placed : List Placed) (flash : List ℕ) (a : Addresses) (texts : List ByteList) (image : IsImage C placed flash a texts) where
   abbrev Word : Value → ℕ → Type 0

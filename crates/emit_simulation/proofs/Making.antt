@@ -49,11 +49,7 @@ use Rattle.emit_simulation.proofs.Turns.{Owed}
 use Rattle.emit_simulation.proofs.Walk.{begun, one, asked, first, behind_svc}
 use Rattle.emit_simulation.proofs.Behind.{put_behind}
 use Rattle.emit_simulation.proofs.Serving.{Behind, takes, takes_words}
-
-pub entry_is : {X : Type 0} (xs : List X) (k : ℕ) → entry xs k ≡ slice_get xs k
-entry_is [] k = refl
-entry_is (x ∷ xs) zero = refl
-entry_is (x ∷ xs) (suc k) = entry_is xs k
+use Rattle.emit_simulation.proofs.Meanings.{entry_is}
 
 zeros_length : (n : ℕ) → length (zeros n) ≡ n
 zeros_length zero = refl

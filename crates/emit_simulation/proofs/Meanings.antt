@@ -1,11 +1,12 @@
 -- The words of an image's values.
-use Rattle.std.proofs.Common.{zero, suc, ◌%◌, ◌≡◌, ℕ, ◌+◌, ◌<◌, ◌^◌, List, [], ◌∷◌, length, map, Bool, true, false, ◌&&◌, nat_lt, nat_le, ◌==◌, Some, refl, sym, ap, ◌∙◌, arith, slice_get}
+use Rattle.std.proofs.Common.{zero, suc, ◌%◌, ◌≡◌, ℕ, ◌+◌, ◌<◌, ◌^◌, List, [], ◌∷◌, length, map, Bool, true, false, ◌&&◌, nat_lt, nat_le, ◌==◌, None, Some, refl, sym, ap, ◌∙◌, arith, slice_get}
 use Rattle.std.proofs.lemmas.List.{length-map}
 use Rattle.thumb_code.specs.Map.{flash_end, in_flash, flash_word}
 use Rattle.board_world.specs.Observations.{ByteList}
 use Rattle.bank_model.specs.Texts.{is_text, text_limit}
 use Rattle.flat_ir.specs.declared.ops.FlatCode.{FlatCode}
 use Rattle.register_assign.specs.declared.places.Placed.{Placed}
+use Rattle.sts_syntax.specs.TypeRules.{entry}
 use Rattle.sts_meaning.specs.Values.{Value}
 use Rattle.arena_values.specs.Words.{AreWords}
 use Rattle.arena_values.proofs.Laws.{is_small}
@@ -31,6 +32,14 @@ pub within_list : {X : Type 0} (xs : List X) (k : ℕ) → k < length xs → (x 
 within_list [] k l = absurd (omega arith)
 within_list (x ∷ xs) zero l = (x, refl)
 within_list (x ∷ xs) (suc k) l = within_list xs k (omega arith)
+
+pub entry_is : {X : Type 0} (xs : List X) (k : ℕ) → entry xs k ≡ slice_get xs k
+entry_is [] k = refl
+entry_is (x ∷ xs) zero = refl
+entry_is (x ∷ xs) (suc k) = entry_is xs k
+
+pub none_some : (m : ℕ) → None ≡ Some m → ⊥
+none_some m e = cc
 
 module _ (C : FlatCode) (placed : List Placed) (flash : List ℕ) (a : Addresses) (texts : List ByteList) (image : IsImage C placed flash a texts) where
   -- each function has its place in flash

@@ -58,10 +58,9 @@ use Rattle.emit_simulation.proofs.Paths.{path}
 use Rattle.emit_simulation.proofs.Starts.{op_stands, later}
 use Rattle.emit_simulation.proofs.Straight.{runs_on, puts_last}
 use Rattle.emit_simulation.proofs.Context.{at_op, laid_at, function_at, base_fits}
-use Rattle.emit_simulation.proofs.Meanings.{small, placed_inside}
+use Rattle.emit_simulation.proofs.Meanings.{small, placed_inside, entry_is}
 use Rattle.emit_simulation.proofs.Turns.{Owed, asks_does, makes_reach, onward, tied_now}
 use Rattle.emit_simulation.proofs.Ops.{here, pc_behind, word, word_means}
-use Rattle.emit_simulation.proofs.Calls.{entry_is}
 use Rattle.emit_simulation.proofs.Passing.{passes_length}
 use Rattle.emit_simulation.proofs.Returning.{Returned, returns}
 

@@ -46,8 +46,8 @@ use Rattle.emit_simulation.proofs.Behind.{put_behind}
 use Rattle.emit_simulation.proofs.Serving.{serves}
 use Rattle.emit_simulation.proofs.Lagging.{lags}
 use Rattle.emit_simulation.proofs.Loading.{Loaded, loaded, behind_front}
-use Rattle.emit_simulation.proofs.Making.{entry_is}
 use Rattle.emit_simulation.proofs.Calls.{frames_fill}
+use Rattle.emit_simulation.proofs.Meanings.{entry_is}
 
 behind_at : (xs ys : List Piece) (n : ℕ) (y : Piece) → slice_get ys n ≡ Some y → slice_get (xs ++ ys) (length xs + n) ≡ Some y
 behind_at [] ys n y e = ap (slice_get ys) (omega arith) ∙ e

@@ -21,13 +21,13 @@ use Rattle.emit_simulation.specs.Laid.{Fm}
 use Rattle.emit_simulation.specs.Ties.{IsTied, IsShared, ties}
 use Rattle.emit_simulation.proofs.Turns.{Owed, Asking, going}
 
-within : (n m : ℕ) → nat_le n m ≡ true → n ≤ m
+pub within : (n m : ℕ) → nat_le n m ≡ true → n ≤ m
 within n m e = grind arith
 
 as_many : (used n k : ℕ) → AsMany n k → used + k ≤ arena_limit → used + n ≤ arena_limit
 as_many used n k e l = omega arith
 
-past : (n m : ℕ) → nat_le n m ≡ false → n ≤ m → ⊥
+pub past : (n m : ℕ) → nat_le n m ≡ false → n ≤ m → ⊥
 past n m e l = grind arith
 
 -- the service that takes words

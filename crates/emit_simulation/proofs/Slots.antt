@@ -49,11 +49,11 @@ use Rattle.emit_simulation.proofs.Flowing.{flows, each_goes}
 use Rattle.emit_simulation.proofs.Starts.{first_of}
 use Rattle.emit_simulation.proofs.Placed.{store_low}
 use Rattle.emit_simulation.proofs.Context.{all_at}
-use Rattle.emit_simulation.proofs.Meanings.{placed_inside, function_inside}
+use Rattle.emit_simulation.proofs.Meanings.{placed_inside, function_inside, entry_is}
 use Rattle.emit_simulation.proofs.Turns.{Owed}
 use Rattle.emit_simulation.proofs.Ops.{here, word, word_means, word_small, wider}
 use Rattle.emit_simulation.proofs.Walk.{Got, one, not_null, is_null, tested, stands}
-use Rattle.emit_simulation.proofs.Calls.{calls_turn, entry_is}
+use Rattle.emit_simulation.proofs.Calls.{calls_turn}
 use Rattle.emit_simulation.proofs.Passing.{passes_length, passes_cost, contained, Passes, Passed, passed, passes_none}
 use Rattle.emit_simulation.proofs.Calling.{calling_by}
 use Rattle.emit_simulation.proofs.Returns.{behind_pieces}
