@@ -31,19 +31,19 @@ pub record Has {A : Type 0} (o : Option A) : Type 0 where
 pub some : {A : Type 0} (o : Option A) → Has o → IsSome o
 some {A} o h = let P : Option A → Type 0 = λ x. IsSome x in subst P (sym h.is) refl
 
-last : (a b : Option Fault) → (a then b) ≡ None → b ≡ None
+pub last : (a b : Option Fault) → (a then b) ≡ None → b ≡ None
 last None b h = h
 last (Some f) b h = cc
 
-first : (a b : Option Fault) → (a then b) ≡ None → a ≡ None
+pub first : (a b : Option Fault) → (a then b) ≡ None → a ≡ None
 first None b h = refl
 first (Some f) b h = cc
 
-own_has : {A : Type 0} (o : Option A) (code : Code) (at : ℕ) → own o code at ≡ None → Has o
+pub own_has : {A : Type 0} (o : Option A) (code : Code) (at : ℕ) → own o code at ≡ None → Has o
 own_has (Some t) code at h = record { it = t; is = refl }
 own_has None code at h = cc
 
-unless_true : (b : Bool) (code : Code) (at : ℕ) → unless b code at ≡ None → b ≡ true
+pub unless_true : (b : Bool) (code : Code) (at : ℕ) → unless b code at ≡ None → b ≡ true
 unless_true true code at h = refl
 unless_true false code at h = cc
 

@@ -1,7 +1,11 @@
 -- Laws of failures and types.
-use Rattle.std.specs.Prelude.{◌≡◌, None, IsSome}
+use Rattle.std.specs.Prelude.{◌≡◌, List, Option, None, IsSome}
 use Rattle.sts_base.specs.declared.tables.Tables.{Tables}
 use Rattle.sts_syntax.specs.Trees.{Tree}
+use Rattle.sts_syntax.specs.Programs.{Program}
+use Rattle.sts_syntax.specs.TypedTrees.{TypedProgram}
+use Rattle.sts_syntax.specs.WellTypedPrograms.{IsWellTyped, IsProgramWithinLimits}
+use Rattle.sts_scope.specs.declared.kinds.Kind.{Kind}
 use Rattle.sts_scope.specs.declared.known.Known.{Known}
 use Rattle.sts_scope.specs.Entries.{Naming}
 use Rattle.sts_scope.specs.Places.{Place}
@@ -9,6 +13,9 @@ use Rattle.type_derive.specs.declared.roles.Role.{Role}
 use Rattle.type_derive.specs.declared.roles.Role.TheVariants.{Free, Given, Called, Served}
 use Rattle.type_derive.specs.Typing.{type_of}
 use Rattle.type_derive.specs.Nodes.{fault}
+use Rattle.type_derive.specs.Formed.{IsFormedProgram}
+use Rattle.type_derive.specs.Accepted.{AreDerived, IsAccepted}
+use Rattle.typed_laws.specs.Libraries.{IsLibrary}
 
 -- a place that reads what stands there
 abbrev pub IsRead : Role → Type 0
@@ -20,3 +27,14 @@ IsRead Served = ⊥
 -- an expression without a failure has a type, where it is read
 abbrev pub HasTypes : Type 0
 HasTypes = (tables : Tables) (names : Naming) (k : Known) (p : Place) (r : Role) (e : Tree) → IsRead r → fault tables names k p r e ≡ None → IsSome (type_of tables k p r e)
+
+-- The typed program of an accepted text is well typed and within the counted limits, where the text has a tree as the grammar gives it, behind a library of functions
+-- that have no failure.
+abbrev pub AcceptedIsWellTyped : Type 0
+AcceptedIsWellTyped = (tables : Tables) (library text : Program) (P : TypedProgram) → IsFormedProgram text
+    → ((kinds : List (Option Kind)) → AreDerived tables library text kinds → IsLibrary tables library text kinds)
+    → IsAccepted tables library text P → IsWellTyped P × IsProgramWithinLimits P tables.texts
+
+-- each library and text have derived types
+abbrev pub DerivedTypesExist : Type 0
+DerivedTypesExist = (tables : Tables) (library text : Program) → (kinds : List (Option Kind)) × AreDerived tables library text kinds

@@ -1,7 +1,18 @@
 //! Laws of failures and types.
-ghost use Rattle.typed_laws.specs.Laws.{HasTypes};
+ghost use Rattle.typed_laws.specs.Laws.{AcceptedIsWellTyped, DerivedTypesExist, HasTypes};
 
 /// An expression without a failure has a type, where it is read.
 pub fn no_failure_has_a_type()
     ensures { HasTypes }
+{}
+
+/// The typed program of an accepted text is well typed and within the counted limits, where the text has a tree as the grammar gives it, behind a library of
+/// functions that have no failure.
+pub fn accepted_texts_are_well_typed()
+    ensures { AcceptedIsWellTyped }
+{}
+
+/// Each library and text have derived types: the least table of types that meets the rules of all declarations.
+pub fn derived_types_exist()
+    ensures { DerivedTypesExist }
 {}

@@ -1,0 +1,335 @@
+-- The least table of types is reached in rounds from the empty one, so it has no type but those that values have.
+use Rattle.std.proofs.Common.{◌≡◌, ℕ, zero, suc, ◌+◌, ◌<◌, ◌≤◌, refl, sym, ap, ◌∙◌, subst, Bool, Option, Some, None, List, [], ◌∷◌, ◌++◌, length, arith, inl, inr, ltb-true, ltb-false}
+use Rattle.std.specs.Prelude.{slice_get, nat_lt, ◌⊎◌}
+use Rattle.sts_base.specs.declared.tables.Tables.{Tables}
+use Rattle.sts_syntax.specs.Annotations.{Annotation}
+use Rattle.sts_syntax.specs.Trees.{Parameter, Tree, OptionalTree, absent, present, Statement, Block, Let, IfOnly, IfElse, While, DoWhile, For, ForOf, Return, Break, Continue, Plain, Empty, Statements, done, also, OptionalStatement, omitted, written, Declaration, Declare, Declarations, ended, next, Routine, Does}
+use Rattle.sts_syntax.specs.Programs.{ClassMember, Field, Method, Constructor, TopLevel, Class, Function, Main, Program}
+use Rattle.sts_scope.specs.declared.kinds.Kind.{Kind}
+use Rattle.sts_scope.specs.declared.known.Known.{Known}
+use Rattle.sts_scope.specs.declared.known.This.{This as Self}
+use Rattle.sts_scope.specs.declared.known.This.TheVariants as this
+use Rattle.sts_scope.specs.Kinds.{nothing, is_array, item}
+use Rattle.sts_scope.specs.Entries.{Naming, classes_in}
+use Rattle.sts_scope.specs.Places.{Place, with, inner, local, outside}
+use Rattle.sts_scope.specs.Rules.{local_kind, kind_at}
+use Rattle.sts_scope.specs.Scopes.{all_names}
+use Rattle.type_derive.specs.declared.roles.Role.TheVariants.{Free}
+use Rattle.type_derive.specs.Typing.{type_of}
+use Rattle.type_derive.specs.Returns.{is_alone, or_else, parameter_locals, within, bound, all_declared, after, after_first, items_of, looped, returned, all_returned, answered}
+use Rattle.type_derive.specs.Derived.{Source, Stated, Initial, Returns, declared_source, routine_source, global_sources, main_sources, member_sources, item_sources, sources_from, follows, at, Less, Within, Solves, IsLeast}
+use Rattle.type_derive.specs.Accepted.{known, all_sources, derivation, AreDerived}
+use Rattle.type_derive.proofs.ReturnsGrow.{rule_grows}
+use Rattle.typed_laws.specs.Stands.{IsProper}
+use Rattle.typed_laws.proofs.Names.{some_is, either_some, proper, AreProper}
+use Rattle.typed_laws.proofs.Sites.{kind_split, by_cases}
+use Rattle.typed_laws.proofs.Routines.{kind_proper, written_proper}
+
+-- a table of so many, from a place on
+abbrev table : ℕ → ℕ → (ℕ → Option Kind) → List (Option Kind)
+table zero j f = []
+table (suc n) j f = f j ∷ table n (suc j) f
+
+table_length : (n j : ℕ) (f : ℕ → Option Kind) → length (table n j f) ≡ n
+table_length zero j f = refl
+table_length (suc n) j f = ap suc (table_length n (suc j) f)
+
+table_at : (n j : ℕ) (f : ℕ → Option Kind) (i : ℕ) → i < n → at (table n j f) i ≡ f (j + i)
+table_at zero j f i h = absurd (omega arith)
+table_at (suc n) j f zero h = ap f (let z : j ≡ j + zero = omega arith in z)
+table_at (suc n) j f (suc i) h = table_at n (suc j) f i (omega arith) ∙ ap f (let z : suc j + i ≡ j + suc i = omega arith in z)
+
+at_past : (xs : List (Option Kind)) (i : ℕ) → length xs ≤ i → at xs i ≡ None
+at_past [] i h = refl
+at_past (x ∷ xs) zero h = absurd (omega arith)
+at_past (x ∷ xs) (suc i) h = at_past xs i (omega arith)
+
+-- how many have a type
+abbrev one_if : Option Kind → ℕ
+one_if None = 0
+one_if (Some u) = 1
+
+abbrev many : List (Option Kind) → ℕ
+many [] = 0
+many (x ∷ xs) = one_if x + many xs
+
+many_le : (xs : List (Option Kind)) → many xs ≤ length xs
+many_le [] = omega arith
+many_le (None ∷ xs) = omega (arith, many_le xs)
+many_le (Some u ∷ xs) = omega (arith, many_le xs)
+
+rest_within : (x y : Option Kind) (xs ys : List (Option Kind)) → Within (x ∷ xs) (y ∷ ys) → Within xs ys
+rest_within x y xs ys h = λ d. h (suc d)
+
+-- a table that has more is the same, or has more
+grown : (xs ys : List (Option Kind)) → length xs ≡ length ys → Within xs ys → (xs ≡ ys) ⊎ (many xs < many ys)
+grown [] [] l h = inl refl
+grown [] (y ∷ ys) l h = absurd (omega arith)
+grown (x ∷ xs) [] l h = absurd (omega arith)
+grown (None ∷ xs) (None ∷ ys) l h = elim (grown xs ys (omega arith) (rest_within None None xs ys h)) [ inl q ↦ inl (ap (λ (zs : List (Option Kind)). None ∷ zs) q) | inr q ↦ inr (omega (arith, q)) ]
+grown (None ∷ xs) (Some u ∷ ys) l h = elim (grown xs ys (omega arith) (rest_within None (Some u) xs ys h)) [
+  | inl q ↦ inr (let z : many xs ≡ many ys = ap many q in omega (arith, z))
+  | inr q ↦ inr (omega (arith, q))
+]
+grown (Some u ∷ xs) (None ∷ ys) l h = let z : None ≡ Some u = h 0 in cc
+grown (Some u ∷ xs) (Some v ∷ ys) l h =
+    let z : Some v ≡ Some u = h 0 in
+    elim (grown xs ys (omega arith) (rest_within (Some u) (Some v) xs ys h)) [
+      | inl q ↦ inl (ap (λ (o : Option Kind). o ∷ xs) (sym z) ∙ ap (λ (zs : List (Option Kind)). Some v ∷ zs) q)
+      | inr q ↦ inr (omega (arith, q))
+    ]
+
+-- Rules that give no less where more is known.
+module _ (n : ℕ) (f : List (Option Kind) → ℕ → Option Kind) (grows : (xs ys : List (Option Kind)) → Within xs ys → (d : ℕ) → Less (f xs d) (f ys d)) where
+  abbrev rounds : ℕ → List (Option Kind)
+  rounds zero = table n 0 (λ d. None)
+  rounds (suc i) = table n 0 (f (rounds i))
+
+  rounds_length : (i : ℕ) → length (rounds i) ≡ n
+  rounds_length zero = table_length n 0 (λ d. None)
+  rounds_length (suc i) = table_length n 0 (f (rounds i))
+
+  none_at : (m j d : ℕ) → at (table m j (λ i. None)) d ≡ None
+  none_at zero j d = refl
+  none_at (suc m) j zero = refl
+  none_at (suc m) j (suc d) = none_at m (suc j) d
+
+  first_at : (d : ℕ) → at (rounds 0) d ≡ None
+  first_at d = none_at n 0 d
+
+  round_at : (i d : ℕ) → d < n → at (rounds (suc i)) d ≡ f (rounds i) d
+  round_at i d h = table_at n 0 (f (rounds i)) d h ∙ ap (λ (j : ℕ). f (rounds i) j) (let z : 0 + d ≡ d = omega arith in z)
+
+  within_cases : (xs ys : List (Option Kind)) → length xs ≡ n → ((d : ℕ) → d < n → Less (at xs d) (at ys d)) → Within xs ys
+  within_cases xs ys l h d = by_cases (Less (at xs d) (at ys d)) (nat_lt d n) (λ q. h d (ltb-true d n q)) (λ q. subst (λ (o : Option Kind). Less o (at ys d)) (sym (at_past xs d (let z : n ≤ d = ltb-false d n q in omega (arith, l)))) tt)
+
+  rounds_grow : (i : ℕ) → Within (rounds i) (rounds (suc i))
+  rounds_grow zero = within_cases (rounds 0) (rounds 1) (rounds_length 0) (λ d h. subst (λ (o : Option Kind). Less o (at (rounds 1) d)) (sym (first_at d)) tt)
+  rounds_grow (suc i) = within_cases (rounds (suc i)) (rounds (suc (suc i))) (rounds_length (suc i))
+      (λ d h. subst (λ (o : Option Kind). Less o (at (rounds (suc (suc i))) d)) (sym (round_at i d h)) (subst (λ (o : Option Kind). Less (f (rounds i) d) o) (sym (round_at (suc i) d h)) (grows (rounds i) (rounds (suc i)) (rounds_grow i) d)))
+
+  settled : (fuel i : ℕ) → n ≤ many (rounds i) + fuel → (j : ℕ) × (rounds j ≡ rounds (suc j))
+  settled zero i h = elim (grown (rounds i) (rounds (suc i)) (rounds_length i ∙ sym (rounds_length (suc i))) (rounds_grow i)) [
+    | inl q ↦ (i, q)
+    | inr q ↦ (let z : many (rounds (suc i)) ≤ n = omega (arith, many_le (rounds (suc i)), rounds_length (suc i)) in absurd (omega (arith, q)))
+  ]
+  settled (suc fuel) i h = elim (grown (rounds i) (rounds (suc i)) (rounds_length i ∙ sym (rounds_length (suc i))) (rounds_grow i)) [
+    | inl q ↦ (i, q)
+    | inr q ↦ settled fuel (suc i) (omega (arith, q))
+  ]
+
+  -- the table in which the rounds settle meets the rules
+  settled_solves : (j : ℕ) → rounds j ≡ rounds (suc j) → Solves f (rounds j)
+  settled_solves j q d h = ap (λ (xs : List (Option Kind)). at xs d) q ∙ round_at j d (omega (arith, h, rounds_length j))
+
+  rounds_below : (kinds : List (Option Kind)) → Solves f kinds → length kinds ≡ n → (i : ℕ) → Within (rounds i) kinds
+  rounds_below kinds s l zero = within_cases (rounds 0) kinds (rounds_length 0) (λ d h. subst (λ (o : Option Kind). Less o (at kinds d)) (sym (first_at d)) tt)
+  rounds_below kinds s l (suc i) = within_cases (rounds (suc i)) kinds (rounds_length (suc i))
+      (λ d h. subst (λ (o : Option Kind). Less o (at kinds d)) (sym (round_at i d h)) (subst (λ (o : Option Kind). Less (f (rounds i) d) o) (sym (s d (omega (arith, h, l)))) (grows (rounds i) kinds (rounds_below kinds s l i) d)))
+
+  -- a property that rules keep holds of the least table
+  module _ (Q : Kind → Type 0) (keeps : (xs : List (Option Kind)) → ((d : ℕ) (u : Kind) → at xs d ≡ Some u → Q u) → (d : ℕ) (u : Kind) → f xs d ≡ Some u → Q u) where
+    rounds_have : (i d : ℕ) (u : Kind) → at (rounds i) d ≡ Some u → Q u
+    rounds_have zero d u h = let z : None ≡ Some u = sym (first_at d) ∙ h in cc
+    rounds_have (suc i) d u h = by_cases (Q u) (nat_lt d n) (λ q. keeps (rounds i) (rounds_have i) d u (sym (round_at i d (ltb-true d n q)) ∙ h))
+        (λ q. let z : n ≤ d = ltb-false d n q in let y : None ≡ Some u = sym (at_past (rounds (suc i)) d (omega (arith, rounds_length (suc i)))) ∙ h in cc)
+
+    pub least_has : (kinds : List (Option Kind)) → length kinds ≡ n → IsLeast f kinds → (d : ℕ) (u : Kind) → at kinds d ≡ Some u → Q u
+    least_has kinds l least d u h =
+        let (j, q) = settled n 0 (omega arith) in
+        let below : Within kinds (rounds j) = least.least (rounds j) (rounds_length j ∙ sym l) (settled_solves j q) in
+        let same : at (rounds j) d ≡ Some u = subst (λ (o : Option Kind). Less o (at (rounds j) d)) h (below d) in
+        rounds_have j d u same
+
+-- types of initialisers and returned values
+module _ (tables : Tables) (names : Naming) (k : Known) (kinds_proper : (d : ℕ) (u : Kind) → kind_at k d ≡ Some u → IsProper u) where
+  abbrev Proper : Place → Type 0
+  Proper p = AreProper tables k kinds_proper p
+
+  free_proper : (p : Place) → Proper p → (a : Tree) (u : Kind) → type_of tables k p Free a ≡ Some u → IsProper u
+  free_proper p a e u h = proper tables k kinds_proper p a e u h
+
+  bound_proper : (p : Place) → Proper p → (shape : Option Annotation) (first' : OptionalTree) (u : Kind) → bound tables names k p shape first' ≡ Some u → IsProper u
+  bound_proper p a (Some c) first' u h = kind_proper names c u h
+  bound_proper p a None absent u h = cc
+  bound_proper p a None (present e) u h = either_some IsProper (is_alone e) None (type_of tables k p Free e) u (λ v q. cc) (λ v q. free_proper p a e v q) h
+
+  with_proper : (p : Place) → Proper p → (x : ℕ) (kind : Option Kind) (fixed : Bool) → ((u : Kind) → kind ≡ Some u → IsProper u) → Proper (with p x kind fixed)
+  with_proper p a x kind fixed new = λ i u h. elim (kind_split p.locals (local x kind fixed) i u h) [ inl q ↦ a i u q.1 | inr q ↦ new u q.1 ]
+
+  declared_proper : (p : Place) → Proper p → (fixed : Bool) (each : Declarations) → Proper (all_declared tables names k p fixed each)
+  declared_proper p a fixed ended = a
+  declared_proper p a fixed (next (Declare i x shape first') rest) =
+      declared_proper (with p x (bound tables names k p shape first') fixed) (with_proper p a x (bound tables names k p shape first') fixed (λ u h. bound_proper p a shape first' u h)) fixed rest
+
+  after_proper : (p : Place) → Proper p → (s : Statement) → Proper (after tables names k p s)
+  after_proper p a (Let i fixed each) = declared_proper p a fixed each
+  after_proper p a (Block i all) = a
+  after_proper p a (IfOnly i test b) = a
+  after_proper p a (IfElse i test b c) = a
+  after_proper p a (While i test b) = a
+  after_proper p a (DoWhile i b test) = a
+  after_proper p a (For i one test step b) = a
+  after_proper p a (ForOf i fixed x list b) = a
+  after_proper p a (Return i value) = a
+  after_proper p a (Break i) = a
+  after_proper p a (Continue i) = a
+  after_proper p a (Plain i e) = a
+  after_proper p a (Empty i) = a
+
+  first_proper : (p : Place) → Proper p → (s : OptionalStatement) → Proper (after_first tables names k p s)
+  first_proper p a omitted = a
+  first_proper p a (written s) = after_proper p a s
+
+  items_proper : (o : Option Kind) → ((u : Kind) → o ≡ Some u → IsProper u) → (u : Kind) → items_of tables names k o ≡ Some u → IsProper u
+  items_proper None h u q = cc
+  items_proper (Some v) h u q = either_some IsProper (is_array v) (Some (item v)) None u (λ w r. let z : IsProper v = h v refl in subst IsProper (some_is (item v) w r) z) (λ w r. cc) q
+
+  looped_proper : (p : Place) → Proper p → (fixed : Bool) (x : ℕ) (list : Tree) → Proper (looped tables names k p fixed x list)
+  looped_proper p a fixed x list =
+      with_proper (inner p) a x (items_of tables names k (type_of tables k p Free list)) fixed (λ u h. items_proper (type_of tables k p Free list) (λ v q. free_proper p a list v q) u h)
+
+  else_proper : (a b : Option (Option Kind)) (u : Kind) → ((v : Kind) → a ≡ Some (Some v) → IsProper v) → ((v : Kind) → b ≡ Some (Some v) → IsProper v) → or_else a b ≡ Some (Some u) → IsProper u
+  else_proper None b u f g h = g u h
+  else_proper (Some x) b u f g h = f u h
+
+  mutual
+    returned_proper : (p : Place) → Proper p → (s : Statement) (u : Kind) → returned tables names k p s ≡ Some (Some u) → IsProper u
+    returned_proper p a (Return i (present e)) u h = free_proper p a e u (some_is (type_of tables k p Free e) (Some u) h)
+    returned_proper p a (Return i absent) u h = cc
+    returned_proper p a (Block i all) u h = all_proper (inner p) a all u h
+    returned_proper p a (IfOnly i test b) u h = returned_proper (inner p) a b u h
+    returned_proper p a (IfElse i test b c) u h = else_proper (returned tables names k (inner p) b) (returned tables names k (inner p) c) u (λ v q. returned_proper (inner p) a b v q) (λ v q. returned_proper (inner p) a c v q) h
+    returned_proper p a (While i test b) u h = returned_proper (inner p) a b u h
+    returned_proper p a (DoWhile i b test) u h = returned_proper (inner p) a b u h
+    returned_proper p a (For i one test step b) u h = returned_proper (inner (after_first tables names k (inner p) one)) (first_proper (inner p) a one) b u h
+    returned_proper p a (ForOf i fixed x list b) u h = returned_proper (inner (looped tables names k p fixed x list)) (looped_proper p a fixed x list) b u h
+    returned_proper p a (Let i fixed each) u h = cc
+    returned_proper p a (Break i) u h = cc
+    returned_proper p a (Continue i) u h = cc
+    returned_proper p a (Plain i e) u h = cc
+    returned_proper p a (Empty i) u h = cc
+
+    all_proper : (p : Place) → Proper p → (all : Statements) (u : Kind) → all_returned tables names k p all ≡ Some (Some u) → IsProper u
+    all_proper p a done u h = cc
+    all_proper p a (also s rest) u h =
+        else_proper (returned tables names k p s) (all_returned tables names k (after tables names k p s) rest) u (λ v q. returned_proper p a s v q) (λ v q. all_proper (after tables names k p s) (after_proper p a s) rest v q) h
+
+  params_proper : (params : List Parameter) (i : ℕ) (u : Kind) → local_kind (parameter_locals names params) i ≡ Some u → IsProper u
+  params_proper [] i u h = cc
+  params_proper (p ∷ rest) zero u h = written_proper names p.shape u h
+  params_proper (p ∷ rest) (suc i) u h = params_proper rest i u h
+
+  answered_proper : (o : Option (Option Kind)) (u : Kind) → ((v : Kind) → o ≡ Some (Some v) → IsProper v) → answered tables names k o ≡ Some u → IsProper u
+  answered_proper None u f h = subst IsProper (some_is nothing u h) refl
+  answered_proper (Some o) u f h = f u (ap (λ (x : Option Kind). Some x) h)
+
+  follows_proper : (library : Bool) (source : Source) → ((kind : Option Kind) (u : Kind) → source ≡ Stated kind → kind ≡ Some u → IsProper u) → (u : Kind) → follows names tables k library source ≡ Some u → IsProper u
+  follows_proper library (Stated kind) f u h = f kind u refl h
+  follows_proper library (Initial self first') f u h = bound_proper (outside self library None) (λ i v q. cc) None first' u h
+  follows_proper library (Returns self params all) f u h =
+      answered_proper (all_returned tables names k (within (parameter_locals names params) self None library) all) u
+      (λ v q. all_proper (within (parameter_locals names params) self None library) (λ i w r. params_proper params i w r) all v q) h
+
+-- types that are written for declarations are ones that values have
+abbrev SourceOk : Source → Type 0
+SourceOk (Stated kind) = (u : Kind) → kind ≡ Some u → IsProper u
+SourceOk (Initial self first') = Unit {0}
+SourceOk (Returns self params all) = Unit {0}
+
+abbrev SourcesOk : List Source → Type 0
+SourcesOk [] = Unit {0}
+SourcesOk (s ∷ rest) = SourceOk s × SourcesOk rest
+
+sources_both : (xs ys : List Source) → SourcesOk xs → SourcesOk ys → SourcesOk (xs ++ ys)
+sources_both [] ys g h = h
+sources_both (x ∷ xs) ys g h = (g.0, sources_both xs ys g.1 h)
+
+sources_get : (xs : List Source) (d : ℕ) (s : Source) → SourcesOk xs → slice_get xs d ≡ Some s → SourceOk s
+sources_get [] d s h q = cc
+sources_get (x ∷ xs) zero s h q = subst SourceOk (let z : x ≡ s = cc in z) h.0
+sources_get (x ∷ xs) (suc d) s h q = sources_get xs d s h.1 q
+
+module _ (names : Naming) where
+  declared_ok : (self : Self) (a : Declaration) → SourceOk (declared_source names self a)
+  declared_ok self (Declare i x (Some a) first') = λ u h. kind_proper names a u h
+  declared_ok self (Declare i x None first') = tt
+
+  routine_ok : (self : Self) (r : Routine) → SourceOk (routine_source names self r)
+  routine_ok self (Does i params (Some a) all arrow) = λ u h. kind_proper names a u h
+  routine_ok self (Does i params None all arrow) = tt
+
+  globals_ok : (each : Declarations) → SourcesOk (global_sources names each)
+  globals_ok ended = tt
+  globals_ok (next a rest) = (declared_ok this.Nowhere a, globals_ok rest)
+
+  main_ok : (a : Statement) → SourcesOk (main_sources names a)
+  main_ok (Let i fixed each) = globals_ok each
+  main_ok (Block i all) = tt
+  main_ok (IfOnly i test a) = tt
+  main_ok (IfElse i test a b) = tt
+  main_ok (While i test a) = tt
+  main_ok (DoWhile i a test) = tt
+  main_ok (For i one test step a) = tt
+  main_ok (ForOf i fixed x list a) = tt
+  main_ok (Return i value) = tt
+  main_ok (Break i) = tt
+  main_ok (Continue i) = tt
+  main_ok (Plain i a) = tt
+  main_ok (Empty i) = tt
+
+  members_ok : (c : ℕ) (members : List ClassMember) → SourcesOk (member_sources names c members)
+  members_ok c [] = tt
+  members_ok c (Field a ∷ rest) = (declared_ok (this.Object c) a, members_ok c rest)
+  members_ok c (Method x r ∷ rest) = (routine_ok (this.Object c) r, members_ok c rest)
+  members_ok c (Constructor r ∷ rest) = members_ok c rest
+
+  item_ok : (c : ℕ) (i : TopLevel) → SourcesOk (item_sources names c i)
+  item_ok c (Class at x base base_at members) = ((λ u h. cc), members_ok c members)
+  item_ok c (Function x r) = (routine_ok this.Nowhere r, tt)
+  item_ok c (Main a) = main_ok a
+
+  sources_ok : (c : ℕ) (text : Program) → SourcesOk (sources_from names c text)
+  sources_ok c [] = tt
+  sources_ok c (i ∷ rest) = sources_both (item_sources names c i) (sources_from names (c + classes_in i) rest) (item_ok c i) (sources_ok (c + classes_in i) rest)
+
+stated_is : (s : Source) (kind : Option Kind) (u : Kind) → SourceOk s → s ≡ Stated kind → kind ≡ Some u → IsProper u
+stated_is s kind u ok q h = let z : SourceOk (Stated kind) = subst SourceOk q ok in z u h
+
+kind_is_at : (ks : List (Option Kind)) (d : ℕ) → at ks d ≡ elim (slice_get ks d) [ None ↦ None | Some kind ↦ kind ]
+kind_is_at [] d = refl
+kind_is_at (x ∷ ks) zero = refl
+kind_is_at (x ∷ ks) (suc d) = kind_is_at ks d
+
+module _ (tables : Tables) (library text : Program) where
+  rules_keep : (xs : List (Option Kind)) → ((d : ℕ) (u : Kind) → at xs d ≡ Some u → IsProper u) → (d : ℕ) (u : Kind) → derivation tables library text xs d ≡ Some u → IsProper u
+  rules_keep xs a d u h =
+      let names : Naming = all_names library text in
+      let k : Known = known library text xs in
+      let kinds_so : (e : ℕ) (v : Kind) → kind_at k e ≡ Some v → IsProper v = λ e v q. a e v (kind_is_at xs e ∙ q) in
+      let F : Option Source → Option Kind = λ x. elim x [ None ↦ None | Some s ↦ follows names tables k (nat_lt d k.library) s ] in
+      let go : (x : Option Source) → slice_get (all_sources library text) d ≡ x → F x ≡ Some u → IsProper u = λ x. elim x as (λ y. slice_get (all_sources library text) d ≡ y → F y ≡ Some u → IsProper u) [
+        | None ↦ (λ q r. cc)
+        | Some s ↦ (λ q r. follows_proper tables names k kinds_so (nat_lt d k.library) s
+            (λ kind v same is. stated_is s kind v (sources_get (all_sources library text) d s (sources_ok names 0 (library ++ text)) q) same is) u r)
+      ] in
+      go (slice_get (all_sources library text) d) refl h
+
+  -- no derived type is that of `[]` alone
+  pub kinds_proper : (kinds : List (Option Kind)) → AreDerived tables library text kinds → (d : ℕ) (u : Kind) → kind_at (known library text kinds) d ≡ Some u → IsProper u
+  kinds_proper kinds derived d u h =
+      least_has (length kinds) (derivation tables library text) (λ xs ys w e. rule_grows tables (all_names library text) (known library text []) (all_sources library text) xs ys w e) IsProper rules_keep kinds refl derived.least d u (kind_is_at kinds d ∙ h)
+
+  pub types_exist : (kinds : List (Option Kind)) × AreDerived tables library text kinds
+  types_exist =
+      let n : ℕ = length (known library text []).entries in
+      let f : List (Option Kind) → ℕ → Option Kind = derivation tables library text in
+      let grows : (xs ys : List (Option Kind)) → Within xs ys → (d : ℕ) → Less (f xs d) (f ys d) = λ xs ys w e. rule_grows tables (all_names library text) (known library text []) (all_sources library text) xs ys w e in
+      let (j, q) = settled n f grows n 0 (omega arith) in
+      let kinds : List (Option Kind) = rounds n f grows j in (
+        kinds,
+        record {
+          each = rounds_length n f grows j;
+          least = record { solves = settled_solves n f grows j q; least = λ others l s. rounds_below n f grows others s (l ∙ rounds_length n f grows j) j };
+        },
+      )

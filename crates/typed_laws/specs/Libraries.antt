@@ -1,0 +1,49 @@
+-- What a library is to be like: functions alone, without a failure, of which some are the board's.
+use Rattle.std.specs.Prelude.{◌≡◌, ℕ, suc, true, Option, Some, None, List, [], ◌∷◌, ◌++◌}
+use Rattle.sts_base.specs.declared.tables.Tables.{Tables}
+use Rattle.sts_syntax.specs.BoardTable as board
+use Rattle.sts_syntax.specs.BoardTable.{row_of}
+use Rattle.sts_syntax.specs.declared.board_calls.BoardCall.{BoardCall}
+use Rattle.sts_syntax.specs.TypedTrees.{TypedRoutine}
+use Rattle.sts_syntax.specs.TypeRules.{entry}
+use Rattle.sts_syntax.specs.Trees.{Does}
+use Rattle.sts_syntax.specs.Programs.{Class, Function, Main, Program}
+use Rattle.sts_scope.specs.declared.kinds.Kind.{Kind}
+use Rattle.sts_scope.specs.declared.known.Known.{Known}
+use Rattle.sts_scope.specs.declared.known.This.TheVariants as this
+use Rattle.sts_scope.specs.Faults.{Fault, ◌then◌}
+use Rattle.sts_scope.specs.Entries.{Naming}
+use Rattle.sts_scope.specs.Rules.{kind_at}
+use Rattle.sts_scope.specs.Scopes.{all_names}
+use Rattle.type_derive.specs.Returns.{parameter_locals, within}
+use Rattle.type_derive.specs.Nodes.{statements_fault}
+use Rattle.type_derive.specs.Numbers.{numbering}
+use Rattle.type_derive.specs.Formed.{IsFormedProgram}
+use Rattle.type_derive.specs.Programs.{library_made}
+use Rattle.type_derive.specs.Accepted.{known}
+use Rattle.typed_laws.specs.Stands.{taken}
+
+abbrev pub OnlyFunctions : Program → Type 0
+OnlyFunctions [] = Unit {0}
+OnlyFunctions (Function x r ∷ rest) = OnlyFunctions rest
+OnlyFunctions (Class at x base base_at members ∷ rest) = ⊥
+OnlyFunctions (Main a ∷ rest) = ⊥
+
+-- the first failure of the library's functions, which know their own names alone; the first one is the d-th declaration
+module _ (tables : Tables) (names : Naming) (k : Known) where
+  abbrev pub library_fault : ℕ → Program → Option Fault
+  library_fault d [] = None
+  library_fault d (Function x (Does at params gives all arrow) ∷ rest) =
+      statements_fault tables names k (within (parameter_locals names params) this.Nowhere (kind_at k d) true) all then library_fault (suc d) rest
+  library_fault d (Class at x base base_at members ∷ rest) = library_fault d rest
+  library_fault d (Main a ∷ rest) = library_fault d rest
+
+-- a library before a text, with these types of declarations
+pub record IsLibrary (tables : Tables) (library text : Program) (kinds : List (Option Kind)) : Type 0 where
+  pub functions : OnlyFunctions library
+  pub formed : IsFormedProgram library
+  pub faultless : library_fault tables (all_names library text) (known library text kinds) 0 library ≡ None
+  -- each row of the board's table that is a function of the library is one of it that takes and gives the same
+  pub rows : (call : BoardCall) (f : ℕ) → (row_of call).action ≡ board.Library f
+      → (r : TypedRoutine) × (entry (library_made tables (all_names library text) (known library text kinds) (numbering (library ++ text)) 0 0 library) f ≡ Some r)
+      × (r.params ≡ taken (row_of call).takes) × (r.gives ≡ (row_of call).gives)
