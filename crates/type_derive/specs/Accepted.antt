@@ -72,3 +72,7 @@ IsAccepted tables library text p =
 abbrev pub IsRefused : Tables → Program → Program → Fault → Type 0
 IsRefused tables library text f =
     (kinds : List (Option Kind)) × AreDerived tables library text kinds × (refusal tables library text kinds ≡ Some f)
+
+-- each library and text have derived types
+abbrev pub DerivedTypesExist : Type 0
+DerivedTypesExist = (tables : Tables) (library text : Program) → (kinds : List (Option Kind)) × AreDerived tables library text kinds

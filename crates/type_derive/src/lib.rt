@@ -38,5 +38,5 @@ pub use scopes::{
     Scope, is_twice, kind_at, last_named, name_fixed, name_found, name_kind, part_kind, part_of,
     part_settable, serves, this_kind,
 };
-pub use theorems::{derived_types_are_one, rules_grow, types_grow};
+pub use theorems::{derived_types_are_one, derived_types_exist, rules_grow, types_grow};
 pub use wanted::Wanted;

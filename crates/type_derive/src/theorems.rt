@@ -1,4 +1,5 @@
 //! Laws of derived types.
+ghost use Rattle.type_derive.specs.Accepted.{DerivedTypesExist};
 ghost use Rattle.type_derive.specs.Laws.{GrowsWithTypes, IsOne, RulesGrow};
 
 /// Two least tables of types for the same declarations are one.
@@ -14,4 +15,9 @@ pub fn types_grow()
 /// The rule of a declaration gives no less from a table of types that has more.
 pub fn rules_grow()
     ensures { RulesGrow }
+{}
+
+/// Each library and text have derived types: the least table that meets the rules of all declarations.
+pub fn derived_types_exist()
+    ensures { DerivedTypesExist }
 {}

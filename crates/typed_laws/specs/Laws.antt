@@ -34,7 +34,3 @@ abbrev pub AcceptedIsWellTyped : Type 0
 AcceptedIsWellTyped = (tables : Tables) (library text : Program) (P : TypedProgram) → IsFormedProgram text
     → ((kinds : List (Option Kind)) → AreDerived tables library text kinds → IsLibrary tables library text kinds)
     → IsAccepted tables library text P → IsWellTyped P × IsProgramWithinLimits P tables.texts
-
--- each library and text have derived types
-abbrev pub DerivedTypesExist : Type 0
-DerivedTypesExist = (tables : Tables) (library text : Program) → (kinds : List (Option Kind)) × AreDerived tables library text kinds

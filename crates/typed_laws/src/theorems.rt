@@ -1,5 +1,5 @@
 //! Laws of failures and types.
-ghost use Rattle.typed_laws.specs.Laws.{AcceptedIsWellTyped, DerivedTypesExist, HasTypes};
+ghost use Rattle.typed_laws.specs.Laws.{AcceptedIsWellTyped, HasTypes};
 
 /// An expression without a failure has a type, where it is read.
 pub fn no_failure_has_a_type()
@@ -10,9 +10,4 @@ pub fn no_failure_has_a_type()
 /// functions that have no failure.
 pub fn accepted_texts_are_well_typed()
     ensures { AcceptedIsWellTyped }
-{}
-
-/// Each library and text have derived types: the least table of types that meets the rules of all declarations.
-pub fn derived_types_exist()
-    ensures { DerivedTypesExist }
 {}
