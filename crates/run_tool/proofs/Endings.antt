@@ -1,6 +1,20 @@
 -- Endings that are handed on.
 use Rattle.std.proofs.Common.{◌≡◌, ◌≤◌, ◌+◌, ℕ, List, [], inl, inr, refl, subst, arith}
-use Rattle.std.specs.Prelude.{Option, Some, Err}
+use Rattle.std.proofs.Common.{◌++◌, ap, ◌∙◌}
+use Rattle.std.proofs.lemmas.List.{append-nil}
+use Rattle.std.specs.Prelude.{Option, Some, None, Result, Ok, Err, IfOk, IfErr}
+use Rattle.serde_json.specs.Data.{Data}
+use Rattle.event_script.specs.declared.script.ScriptCode.{ScriptCode}
+use Rattle.event_script.specs.declared.script.ScriptCode.TheVariants.{NotJson, NotScript, OutOfOrder, PastEnd, TooMany}
+use Rattle.event_script.specs.declared.script.ScriptRefused.{ScriptRefused}
+use Rattle.event_script.specs.declared.script.ScriptRefused.TheVariants.{Script as OfScript}
+use Rattle.event_script.specs.Json.{IsTree}
+use Rattle.event_script.specs.Verdict.{Tells}
+use Rattle.tool_io.specs.Putting.{Puts}
+use Rattle.tool_io.specs.declared.sink.PutFailed.{PutFailed}
+use Rattle.board_world.specs.Transcript.{lines}
+use Rattle.board_outside.specs.Moves.{seen_of}
+use Rattle.run_tool.specs.declared.ending.Status.{Status}
 use Rattle.std.specs.declared.vec.Vec.{Vec}
 use Rattle.std.specs.declared.alloc.Global.{Global}
 use Rattle.sts_base.specs.declared.refused.Code.TheVariants.{NotThisForm}
@@ -14,33 +28,38 @@ use Rattle.run_tool.specs.declared.ending.Ending.TheVariants.{Gave, Cut, NoMemor
 use Rattle.run_tool.specs.declared.fetched.Fetched.{Fetched}
 use Rattle.run_tool.specs.declared.fetched.Fetched.TheVariants.{Text, Absent, Long, Failed}
 use Rattle.run_tool.specs.Fetches.{MayFetch}
-use Rattle.run_tool.specs.Answers.{Answer, says, Ends, GivesOneOf}
+use Rattle.run_tool.specs.Answers.{Answer, says, runs, status_of, output_of, Leaves, IsCut, Ends, Concludes, Says, GivesOneOf}
 use Rattle.run_tool.specs.Refusals.{Refuses}
 use Rattle.run_tool.specs.Run.{RunsText}
 use Rattle.sts_base.specs.Int32.{to_int32}
 use Rattle.sts_whole.specs.First.{number_transcript}
 use Rattle.run_tool.specs.declared.ending.Status.TheVariants.{Done}
 use Rattle.sts_words.specs.Orders.{Asked}
-use Rattle.run_tool.specs.Orders.{AnswersFetched, AnswersFile, AnswersText, AnswersNamed, MayAnswer, file_of, none_to_texts}
+use Rattle.run_tool.specs.Files.{AnswersFetched, AnswersFile, none_to_texts}
+use Rattle.run_tool.specs.Orders.{MayAnswer, lead_of}
+use Rattle.run_tool.specs.Scripts.{AnswersScript, OverScript, RefusesScript, IsScriptOf, none_to_scripts}
+use Rattle.event_script.specs.declared.script.Script.{Script}
+use Rattle.board_outside.specs.Cuts.{TookInto, Stopped}
+use Rattle.tool_io.specs.Putting.{TookPart}
 
 -- an ending where more answers may be given
-pub ends-more : (may more : Answer → Type 0) (a b : Option (List ℕ)) (ending : Ending) → ((answer : Answer) → may answer → more answer)
-    → Ends may a b ending → Ends more a b ending
-ends-more may more a b (Gave status) f s = (s.0, f (says status s.0) s.1, s.2)
-ends-more may more a b Cut f s = (s.0, s.1, f (says s.0 s.1) s.2, s.3)
-ends-more may more a b NoMemory f s = s
+pub says-more : (may more : Answer → Type 0) (a b : Option (List ℕ)) (ending : Ending) → ((answer : Answer) → may answer → more answer)
+    → Says may a b ending → Says more a b ending
+says-more may more a b (Gave status) f s = (s.0, f (says status s.0) s.1, s.2)
+says-more may more a b Cut f s = (s.0, s.1, f (says s.0 s.1) s.2, s.3)
+says-more may more a b NoMemory f s = s
 
 -- the same of a call
 pub gives-more : {S : Type 0} {taken : S → Option (List ℕ)} {faults : S → ℕ} {old new : S} (may more : Answer → Type 0) (ending : Ending)
     → ((answer : Answer) → may answer → more answer) → GivesOneOf taken faults old new may ending → GivesOneOf taken faults old new more ending
 gives-more {S} {taken} {faults} {old} {new} may more ending f s =
-    record { ends = ends-more may more (taken old) (taken new) ending f s.ends; later = s.later; cut = s.cut }
+    record { ends = says-more may more (taken old) (taken new) ending f s.ends; later = s.later; cut = s.cut }
 
 -- the same behind puts that took nothing
-pub ends-after : (may : Answer → Type 0) (a b c : Option (List ℕ)) (ending : Ending) → Took a b [] → Ends may b c ending → Ends may a c ending
-ends-after may a b c (Gave status) t s = (s.0, s.1, took-then [] s.0 t s.2)
-ends-after may a b c Cut t s = (s.0, s.1, s.2, part-then [] s.1 t s.3)
-ends-after may a b c NoMemory t s = took-then [] [] t s
+pub says-after : (may : Answer → Type 0) (a b c : Option (List ℕ)) (ending : Ending) → Took a b [] → Says may b c ending → Says may a c ending
+says-after may a b c (Gave status) t s = (s.0, s.1, took-then [] s.0 t s.2)
+says-after may a b c Cut t s = (s.0, s.1, s.2, part-then [] s.1 t s.3)
+says-after may a b c NoMemory t s = took-then [] [] t s
 
 -- what is known where a run says that the text isn't of the form
 pub not-of-form : (text : List ℕ) (a b : Option (List ℕ)) (m n : ℕ) (why : First) → why ≡ NotOfForm → Runs text a b m n (Err why) → IsNoSum text × Took a b []
@@ -51,7 +70,7 @@ pub gives-after : {S : Type 0} {taken : S → Option (List ℕ)} {faults : S →
     → Took (taken old) (taken between) [] → faults old ≤ faults between → GivesOneOf taken faults between new may ending → GivesOneOf taken faults old new may ending
 gives-after {S} {taken} {faults} {old} {between} {new} may ending t later s =
     record {
-      ends = ends-after may (taken old) (taken between) (taken new) ending t s.ends;
+      ends = says-after may (taken old) (taken between) (taken new) ending t s.ends;
       later = omega (arith, later, s.later);
       cut = λ e. let rose = s.cut e in omega (arith, later, rose);
     }
@@ -91,10 +110,131 @@ sum-cut {S} {taken} {faults} {old} {new} text why e r later =
     let ran : Runs text (taken old) (taken new) (faults old) (faults new) (Err SinkFailed) = subst (λ x. Runs text (taken old) (taken new) (faults old) (faults new) (Err x)) e r in
     record { ends = (Done, number_transcript (to_int32 (ran.0 + ran.1)), inl (ran.0, ran.1, ran.2, refl), ran.3.0); later = later; cut = λ cut. ran.3.1 }
 
+-- the same over devices
+module _ {B : Type 0} (log : B → Option (List (ℕ × ℕ))) (failed : B → ℕ) (places places' : List (Option B)) (lead : List ℕ) where
+  ends-more : (may more : Answer → Type 0) (a b : Option (List ℕ)) (ending : Ending) → ((answer : Answer) → may answer → more answer)
+      → Ends log failed lead may a b places places' ending → Ends log failed lead more a b places places' ending
+  ends-more may more a b (Gave status) f s = (s.0, f s.0 s.1, s.2, s.3, s.4)
+  ends-more may more a b Cut f s = (s.0, f s.0 s.1, s.2)
+  ends-more may more a b NoMemory f s = s
+
+  pub concludes-more : {S : Type 0} {taken : S → Option (List ℕ)} {faults : S → ℕ} {old new : S} (may more : Answer → Type 0) (ending : Ending) → ((answer : Answer) → may answer → more answer)
+      → Concludes taken faults old new log failed places places' lead may ending → Concludes taken faults old new log failed places places' lead more ending
+  concludes-more {S} {taken} {faults} {old} {new} may more ending f s = record { ends = ends-more may more (taken old) (taken new) ending f s.ends; later = s.later; cut = s.cut }
+
+  cut-after : (a b c : Option (List ℕ)) (answer : Answer) → Took a b [] → IsCut log failed lead answer b c places places' → IsCut log failed lead answer a c places places'
+  cut-after a b c (says status output) t x = (part-then [] (lead ++ output) t x.0, x.1)
+  cut-after a b c (runs status moves behind) t (inl x) = inl (part-then [] lead t x.0, x.1)
+  cut-after a b c (runs status moves behind) t (inr x) = inr (record {
+    done = x.done;
+    left = x.left;
+    split = x.split;
+    due = x.due;
+    written = record { told = λ had e. (let r = x.written.told (had ++ []) (t.told had e) in (r.0, r.1, r.2 ∙ ap Some (ap (λ l. l ++ ((lead ++ lines (seen_of x.done)) ++ r.0)) (append-nil had)))) };
+    devices = x.devices;
+  })
+
+  ends-after : (may : Answer → Type 0) (a b c : Option (List ℕ)) (ending : Ending) → Took a b [] → Ends log failed lead may b c places places' ending → Ends log failed lead may a c places places' ending
+  ends-after may a b c (Gave status) t s = (s.0, s.1, s.2, took-then [] (lead ++ output_of s.0) t s.3, s.4)
+  ends-after may a b c Cut t s = (s.0, s.1, cut-after a b c s.0 t s.2)
+  ends-after may a b c NoMemory t (inl x, p) = (inl (took-then [] [] t x), p)
+  ends-after may a b c NoMemory t (inr x, p) = (inr (took-then [] lead t x), p)
+
+  pub concludes-after : {S : Type 0} {taken : S → Option (List ℕ)} {faults : S → ℕ} {old between new : S} (may : Answer → Type 0) (ending : Ending) → Took (taken old) (taken between) [] → faults old ≤ faults between
+      → Concludes taken faults between new log failed places places' lead may ending → Concludes taken faults old new log failed places places' lead may ending
+  concludes-after {S} {taken} {faults} {old} {between} {new} may ending t later s = record {
+    ends = ends-after may (taken old) (taken between) (taken new) ending t s.ends;
+    later = omega (arith, later, s.later);
+    cut = λ e. let rose = s.cut e in omega (arith, later, rose);
+  }
+
+module _ {B : Type 0} (log : B → Option (List (ℕ × ℕ))) (failed : B → ℕ) (places places' : List (Option B)) (same : places' ≡ places) where
+  ends-said : (may : Answer → Type 0) (a b : Option (List ℕ)) (ending : Ending) → Says may a b ending → Ends log failed [] may a b places places' ending
+  ends-said may a b (Gave status) s = (says status s.0, s.1, refl, s.2, same)
+  ends-said may a b Cut s = (says s.0 s.1, s.2, (s.3, same))
+  ends-said may a b NoMemory s = (inl s, same)
+
+  -- an output that was given, over devices
+  pub says-concludes : {S : Type 0} {taken : S → Option (List ℕ)} {faults : S → ℕ} {old new : S} (may : Answer → Type 0) (ending : Ending) → GivesOneOf taken faults old new may ending
+      → Concludes taken faults old new log failed places places' [] may ending
+  says-concludes {S} {taken} {faults} {old} {new} may ending s = record { ends = ends-said may (taken old) (taken new) ending s.ends; later = s.later; cut = s.cut }
+
+  ends-led : (lead output : List ℕ) (status : Status) (a b : Option (List ℕ)) (ending : Ending) → Says (λ answer. answer ≡ says status (lead ++ output)) a b ending
+      → Ends log failed lead (λ answer. answer ≡ says status output) a b places places' ending
+  ends-led lead output status a b (Gave given) s = (says status output, refl, ap status_of s.1, subst (λ l. Took a b l) (ap output_of s.1) s.2, same)
+  ends-led lead output status a b Cut s = (says status output, refl, (subst (λ l. TookPart a b l) (ap output_of s.2) s.3, same))
+  ends-led lead output status a b NoMemory s = (inl s, same)
+
+  -- the same behind the line that the command begins with
+  pub led-concludes : {S : Type 0} {taken : S → Option (List ℕ)} {faults : S → ℕ} {old new : S} (lead output : List ℕ) (status : Status) (ending : Ending)
+      → GivesOneOf taken faults old new (λ answer. answer ≡ says status (lead ++ output)) ending → Concludes taken faults old new log failed places places' lead (λ answer. answer ≡ says status output) ending
+  led-concludes {S} {taken} {faults} {old} {new} lead output status ending s = record { ends = ends-led lead output status (taken old) (taken new) ending s.ends; later = s.later; cut = s.cut }
+
+-- a text that was fetched is answered over devices, and nothing was written before
+pub text-concludes : {S B : Type 0} {taken : S → Option (List ℕ)} {faults : S → ℕ} {old between new : S} (log : B → Option (List (ℕ × ℕ))) (failed : B → ℕ) (places places' : List (Option B))
+    (answers : List ℕ → Answer → Type 0) (told : Option (Option (List ℕ))) (rose : Type 0) (bytes : Vec ℕ Global) (text : List ℕ) (ending : Ending) → taken between ≡ taken old → faults old ≤ faults between
+    → text ≡ bytes.items → MayFetch told rose (Text bytes) → Concludes taken faults between new log failed places places' [] (answers text) ending
+    → Concludes taken faults old new log failed places places' [] (AnswersFile answers told rose) ending
+text-concludes {S} {B} {taken} {faults} {old} {between} {new} log failed places places' answers told rose bytes text ending same later f m s =
+    concludes-after log failed places places' [] (AnswersFile answers told rose) ending (subst (λ x. Took x (taken between) []) same (took-nothing (taken between))) later
+    (concludes-more log failed places places' [] (answers text) (AnswersFile answers told rose) ending (λ answer h. (Text bytes, m, subst (λ t. answers t answer) f h)) s)
+
+-- where no script was read, the answer is one of each command
+no-script-text : (answers : Script → Answer → Type 0) (text : List ℕ) (answer : Answer) → AnswersScript none_to_scripts text answer → AnswersScript answers text answer
+no-script-text answers text answer (inl h) = absurd h.2
+no-script-text answers text answer (inr h) = inr h
+
+no-script-fetched : (answers : Script → Answer → Type 0) (fetched : Fetched) (answer : Answer) → AnswersFetched (AnswersScript none_to_scripts) fetched answer → AnswersFetched (AnswersScript answers) fetched answer
+no-script-fetched answers (Text bytes) answer h = no-script-text answers bytes.items answer h
+no-script-fetched answers Absent answer h = h
+no-script-fetched answers Long answer h = h
+no-script-fetched answers Failed answer h = h
+
+pub no-script : (told : List ℕ → Option (Option (List ℕ))) (rose : Type 0) (name : Option (List ℕ)) (answers : Script → Answer → Type 0) (answer : Answer) → OverScript told rose name none_to_scripts answer
+    → OverScript told rose name answers answer
+no-script told rose None answers answer h = absurd h
+no-script told rose (Some name) answers answer h = (h.0, h.1, no-script-fetched answers h.0 answer h.2)
+
+-- the answers over the script that is named
+pub over-script : (told : List ℕ → Option (Option (List ℕ))) (rose : Type 0) (name : Option (List ℕ)) (answers : Script → Answer → Type 0) (script : Script) (answer : Answer) → IsScriptOf told rose name script
+    → answers script answer → OverScript told rose name answers answer
+over-script told rose None answers script answer s h = subst (λ x. answers x answer) s h
+over-script told rose (Some name) answers script answer s h = (Text s.0, s.1, inl (script, s.2, h))
+
 -- an order that was read is the one that the words give
-pub order-gives : {S : Type 0} {taken : S → Option (List ℕ)} {faults : S → ℕ} {old new : S} (told : List ℕ → Option (Option (List ℕ))) (rose : Type 0) (order : Option Asked) (asked : Asked)
-    (ending : Ending) → Some asked ≡ order → GivesOneOf taken faults old new (AnswersNamed told rose (file_of asked) (AnswersText asked)) ending
-    → GivesOneOf taken faults old new (MayAnswer told rose order) ending
-order-gives told rose order asked ending e s =
-    gives-more (AnswersNamed told rose (file_of asked) (AnswersText asked)) (MayAnswer told rose order) ending
-    (λ answer h. subst (λ o. MayAnswer told rose o answer) e h) s
+pub order-concludes : {S B : Type 0} {taken : S → Option (List ℕ)} {faults : S → ℕ} {old new : S} (log : B → Option (List (ℕ × ℕ))) (failed : B → ℕ) (places places' : List (Option B))
+    (told : List ℕ → Option (Option (List ℕ))) (rose : Type 0) (order : Option Asked) (asked : Asked) (ending : Ending) → Some asked ≡ order
+    → Concludes taken faults old new log failed places places' (lead_of (Some asked)) (MayAnswer told rose (Some asked)) ending
+    → Concludes taken faults old new log failed places places' (lead_of order) (MayAnswer told rose order) ending
+order-concludes {S} {B} {taken} {faults} {old} {new} log failed places places' told rose order asked ending e s =
+    subst (λ o. Concludes taken faults old new log failed places places' (lead_of o) (MayAnswer told rose o) ending) e s
+
+-- a fact of what was read, or of how the call ended
+pub if-ok : {T E : Type 0} {P Q : T → Type 0} (r : Result T E) → ((x : T) → P x → Q x) → IfOk r P → IfOk r Q
+if-ok (Ok x) f p = f x p
+if-ok (Err x) f p = tt
+
+pub if-err : {T E : Type 0} {P Q : E → Type 0} (r : Result T E) → ((x : E) → P x → Q x) → IfErr r P → IfErr r Q
+if-err (Ok x) f p = tt
+if-err (Err x) f p = f x p
+
+-- why a script is refused
+pub refuses-script : (text : List ℕ) (r : Result Script ScriptRefused) (code : ScriptCode) → r ≡ Err (OfScript code)
+    → (r ≡ Err (OfScript NotJson) → (tree : Data) → ¬ (IsTree text tree)) → (r ≡ Err (OfScript NotScript) → Tells text (Err NotScript)) → (r ≡ Err (OfScript OutOfOrder) → Tells text (Err OutOfOrder))
+    → (r ≡ Err (OfScript PastEnd) → Tells text (Err PastEnd)) → (r ≡ Err (OfScript TooMany) → Tells text (Err TooMany)) → RefusesScript text code
+refuses-script text r NotJson e a b c d f = a e
+refuses-script text r NotScript e a b c d f = b e
+refuses-script text r OutOfOrder e a b c d f = c e
+refuses-script text r PastEnd e a b c d f = d e
+refuses-script text r TooMany e a b c d f = f e
+
+-- how a call ends whose output was put so
+abbrev pub ending_by : Status → Result (Unit {0}) PutFailed → Ending
+ending_by status (Ok x) = Gave status
+ending_by status (Err x) = Cut
+
+-- puts of the whole output of one answer
+pub puts-give : {S : Type 0} {taken : S → Option (List ℕ)} {faults : S → ℕ} {old new : S} (status : Status) (output : List ℕ) (put : Result (Unit {0}) PutFailed)
+    → Puts (taken old) (taken new) (faults old) (faults new) output put → GivesOneOf taken faults old new (λ answer. answer ≡ says status output) (ending_by status put)
+puts-give status output (Ok x) p = record { ends = (output, refl, p.took); later = p.later; cut = λ e. absurd (cc) }
+puts-give status output (Err x) p = record { ends = (status, output, refl, p.part); later = p.later; cut = λ e. p.failed }

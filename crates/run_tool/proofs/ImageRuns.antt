@@ -1,7 +1,7 @@
 -- Images that were read and run.
-use Rattle.std.proofs.Common.{◌≡◌, ℕ, ◌<◌, ◌≤◌, List, [], ◌∷◌, ◌++◌, length, refl, ap, subst, ◌∙◌, arith, inl, inr, append_assoc, codes, decimal}
+use Rattle.std.proofs.Common.{◌≡◌, ℕ, ◌<◌, ◌≤◌, List, [], ◌∷◌, ◌++◌, length, refl, sym, ap, subst, ◌∙◌, arith, inl, inr, append_assoc, codes, decimal}
 use Rattle.std.proofs.lemmas.List.{length-map}
-use Rattle.std.specs.Prelude.{Option, Ok, unwrap_or}
+use Rattle.std.specs.Prelude.{Option, Some, None, unwrap_or}
 use Rattle.std.specs.List.{AllByRecursion, range_with_len}
 use Rattle.std.proofs.lemmas.List.FromFn.{length-range_with_len}
 use Rattle.hex_image.specs.declared.refused.HexCode.{HexCode}
@@ -12,15 +12,26 @@ use Rattle.hex_image.specs.Codes.{number_of}
 use Rattle.hex_image.specs.declared.flash.Base.TheVariants.{Zero}
 use Rattle.hex_image.specs.Image.{Cell, given, byte_at, extent}
 use Rattle.hex_image.specs.Spells.{flash_bytes, Spells, Breaks}
-use Rattle.sts_whole.specs.declared.alone.Alone.{Alone}
-use Rattle.sts_whole.specs.declared.alone.Alone.TheVariants.{SinkFault}
-use Rattle.sts_whole.specs.Alone.{RanAlone}
+use Rattle.sts_base.specs.Faults.{Rose}
+use Rattle.tool_io.specs.Putting.{Took}
+use Rattle.board_world.specs.Observations.{End as RunEnd, Quietly, By_script}
+use Rattle.board_world.specs.Transcript.{lines, closing_line}
+use Rattle.board_world.specs.Board.{Board}
+use Rattle.event_script.specs.declared.script.Script.{Script as ReadScript}
+use Rattle.board_run.specs.declared.board.Stats.{Stats}
+use Rattle.board_run.specs.declared.end.End.{End}
+use Rattle.board_run.specs.declared.end.End.TheVariants.{Quiet, Script, Panic, Budget, Fault, SinkFault}
+use Rattle.board_run.specs.Ran.{world_after, IsCut as IsRunCut}
+use Rattle.sts_whole.specs.Runs.{RunsTo, RunsImage}
 use Rattle.run_tool.specs.declared.ending.Status.TheVariants as status
-use Rattle.run_tool.specs.declared.ending.Ending.{Ending}
-use Rattle.run_tool.specs.declared.ending.Ending.TheVariants.{Cut}
-use Rattle.run_tool.specs.Answers.{says, GivesOneOf}
-use Rattle.run_tool.specs.RunHex.{image_refused_line, run_status, RunsImage, RunsHex}
-use Rattle.run_tool.proofs.Endings.{gives-more}
+use Rattle.run_tool.specs.declared.ending.Ending.TheVariants.{Gave, Cut}
+use Rattle.run_tool.specs.declared.fetched.Fetched.{Fetched}
+use Rattle.run_tool.specs.declared.fetched.Fetched.TheVariants.{Text, Absent, Long, Failed}
+use Rattle.run_tool.specs.Fetches.{MayFetch}
+use Rattle.run_tool.specs.Answers.{Answer, says, runs, Concludes}
+use Rattle.run_tool.specs.Scripts.{OverScript, script_refused_line}
+use Rattle.run_tool.specs.Runs.{run_status, ending_of, RunsBoard}
+use Rattle.run_tool.specs.RunHex.{image_refused_line, RunsHex}
 
 extent-fits : (cells : List Cell) → AllByRecursion (λ cell. cell.at < flash_bytes) cells → extent cells ≤ flash_bytes
 extent-fits [] h = omega arith
@@ -40,23 +51,72 @@ three a b c = append_assoc a b c
 pub image-refusal-pieces : (printed code : ℕ) → printed ≡ code → [] ++ codes "image refused " ++ decimal printed ++ codes "\n" ≡ image_refused_line code
 image-refusal-pieces printed code e = three (codes "image refused ") (decimal printed) (codes "\n") ∙ ap image_refused_line e
 
--- a run that the sink cut short
-pub image-cut : {S : Type 0} {taken : S → Option (List ℕ)} {faults : S → ℕ} {old new : S} (image : List ℕ) (budget : ℕ) (how : Alone) → how ≡ SinkFault
-    → RanAlone image budget (taken old) (taken new) (faults old) (faults new) (Ok how) → faults old ≤ faults new → GivesOneOf taken faults old new (RunsImage budget image) Cut
-image-cut {S} {taken} {faults} {old} {new} image budget how e r later =
-    let ran : RanAlone image budget (taken old) (taken new) (faults old) (faults new) (Ok SinkFault) =
-    subst (λ x. RanAlone image budget (taken old) (taken new) (faults old) (faults new) (Ok x)) e r in
-    record { ends = (run_status ran.0.1, ran.0.0, (ran.0.0, ran.0.1, ran.0.2, refl), ran.0.3); later = later; cut = λ cut. ran.1 }
+module _ {S B : Type 0} (taken : S → Option (List ℕ)) (faults : S → ℕ) (old new : S) (log : B → Option (List (ℕ × ℕ))) (failed : B → ℕ) (places places' : List (Option B))
+    (image : List ℕ) (script : ReadScript) (budget : ℕ) (later : faults old ≤ faults new) where
+  -- a run that came to its end, or to that of its budget
+  pub run-gives : (end : Option RunEnd) (stats : Stats) → RunsTo log failed image script budget (taken old) (taken new) places places' end stats
+      → Concludes taken faults old new log failed places places' [] (RunsBoard image script budget) (Gave (run_status end))
+  run-gives end stats r =
+      let b : Board = (world_after image script r.free r.executed).board in
+      let closing = closing_line b.clock b.end in
+      record {
+        ends = (
+          runs (run_status b.end) r.moves closing,
+          record { free = r.free; executed = r.executed; moves = r.moves; is_executed = r.is_executed; met = r.met; is = refl },
+          ap run_status (sym r.ended),
+          subst (λ os. Took (taken old) (taken new) (lines os ++ closing)) r.met.seen r.written,
+          r.devices,
+        );
+        later = later;
+        cut = λ e. absurd (cc);
+      }
 
--- an image that was read is run
-pub spelled-gives : {S : Type 0} {taken : S → Option (List ℕ)} {faults : S → ℕ} {old new : S} (text image : List ℕ) (budget : ℕ) (ending : Ending) → Spells text image
-    → GivesOneOf taken faults old new (RunsImage budget image) ending → GivesOneOf taken faults old new (RunsHex budget text) ending
-spelled-gives text image budget ending s r = gives-more (RunsImage budget image) (RunsHex budget text) ending (λ answer h. inl (image, s, h)) r
+  -- a run that the sink stopped
+  pub run-cut : IsRunCut log failed image script budget (taken old) (taken new) places places' × Rose (faults old) (faults new)
+      → Concludes taken faults old new log failed places places' [] (RunsBoard image script budget) Cut
+  run-cut r =
+      let b : Board = (world_after image script r.0.free r.0.executed).board in
+      record {
+        ends = (
+          runs (run_status b.end) r.0.moves (closing_line b.clock b.end),
+          record { free = r.0.free; executed = r.0.executed; moves = r.0.moves; is_executed = r.0.is_executed; met = r.0.met; is = refl },
+          inr r.0.stopped,
+        );
+        later = later;
+        cut = λ e. r.1;
+      }
+
+  -- what a call that ran an image answered
+  pub run-ends : (end : End) (stats : Stats) → RunsImage log failed image script budget (taken old) (taken new) (faults old) (faults new) places places' end stats
+      → Concludes taken faults old new log failed places places' [] (RunsBoard image script budget) (ending_of end)
+  run-ends Quiet stats r = run-gives (Some Quietly) stats r
+  run-ends Script stats r = run-gives (Some By_script) stats r
+  run-ends (Panic code) stats r = run-gives _ stats r
+  run-ends (Fault fault address) stats r = run-gives _ stats r
+  run-ends Budget stats r = run-gives None stats r
+  run-ends SinkFault stats r = run-cut r
+
+-- where a folder tells the same and failed no less
+pub fetch-onwards : (told told' : Option (Option (List ℕ))) (rose rose' : Type 0) (fetched : Fetched) → told ≡ told' → (rose → rose') → MayFetch told rose fetched → MayFetch told' rose' fetched
+fetch-onwards told told' rose rose' (Text bytes) e f m = subst (λ t. MayFetch t rose' (Text bytes)) e m
+fetch-onwards told told' rose rose' Absent e f m = subst (λ t. MayFetch t rose' Absent) e m
+fetch-onwards told told' rose rose' Long e f m = subst (λ t. MayFetch t rose' Long) e m
+fetch-onwards told told' rose rose' Failed e f m = f m
+
+pub script-onwards : (told told' : List ℕ → Option (Option (List ℕ))) (rose rose' : Type 0) (name : Option (List ℕ)) (answers : ReadScript → Answer → Type 0) (answer : Answer)
+    → ((file : List ℕ) → told file ≡ told' file) → (rose → rose') → OverScript told rose name answers answer → OverScript told' rose' name answers answer
+script-onwards told told' rose rose' None answers answer e f h = h
+script-onwards told told' rose rose' (Some name) answers answer e f h = (h.0, fetch-onwards (told name) (told' name) rose rose' h.0 (e name) f h.1, h.2)
+
+pub hex-onwards : (told told' : List ℕ → Option (Option (List ℕ))) (rose rose' : Type 0) (script : Option (List ℕ)) (budget : ℕ) (text : List ℕ) (answer : Answer)
+    → ((file : List ℕ) → told file ≡ told' file) → (rose → rose') → RunsHex told rose script budget text answer → RunsHex told' rose' script budget text answer
+hex-onwards told told' rose rose' script budget text answer e f (inl h) = inl (h.0, h.1, script-onwards told told' rose rose' script (λ read. RunsBoard h.0 read budget) answer e f h.2)
+hex-onwards told told' rose rose' script budget text answer e f (inr h) = inr h
 
 -- a text that spells no image is refused
-pub broken-gives : {S : Type 0} {taken : S → Option (List ℕ)} {faults : S → ℕ} {old new : S} (text : List ℕ) (budget : ℕ) (ending : Ending) (code : HexCode) (why : HexRefused) → why ≡ Image code
-    → HasCause why (Breaks text) → GivesOneOf taken faults old new (λ answer. answer ≡ says status.ImageRefused (image_refused_line (number_of code))) ending
-    → GivesOneOf taken faults old new (RunsHex budget text) ending
-broken-gives text budget ending code why e cause r =
-    let broken : Breaks text code = subst (λ x. HasCause x (Breaks text)) e cause in
-    gives-more (λ answer. answer ≡ says status.ImageRefused (image_refused_line (number_of code))) (RunsHex budget text) ending (λ answer h. inr (code, broken, h)) r
+pub broken-answer : (told : List ℕ → Option (Option (List ℕ))) (rose : Type 0) (script : Option (List ℕ)) (text : List ℕ) (budget : ℕ) (code : HexCode) (why : HexRefused) → why ≡ Image code
+    → HasCause why (Breaks text) → (answer : Answer) → answer ≡ says status.ImageRefused (image_refused_line (number_of code)) → RunsHex told rose script budget text answer
+broken-answer told rose script text budget code why e cause answer h = inr (code, subst (λ x. HasCause x (Breaks text)) e cause, h)
+
+pub script-refusal-pieces : (printed code : ℕ) → printed ≡ code → [] ++ codes "script refused " ++ decimal printed ++ codes "\n" ≡ script_refused_line code
+script-refusal-pieces printed code e = three (codes "script refused ") (decimal printed) (codes "\n") ∙ ap script_refused_line e

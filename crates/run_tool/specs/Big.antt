@@ -20,6 +20,10 @@ big_text n =
     ++ (codes "control.inBackground(worker)\ncontrol.inBackground(worker)\ncontrol.inBackground(worker)\n"
     ++ codes "control.inBackground(worker)\ncontrol.inBackground(worker)\n")))))
 
--- What `big` writes until its program can be built: its line, and that the program is refused by code 16 where it begins.
-abbrev pub big_refused_lines : ℕ → List ℕ
-big_refused_lines size = codes "big " ++ (decimal size ++ codes "\nrefused 16 1 1\n")
+-- `big N`
+abbrev pub big_line : ℕ → List ℕ
+big_line size = codes "big " ++ (decimal size ++ codes "\n")
+
+-- What `big` answers until its program can be built: it is refused by code 16 where it begins.
+abbrev pub big_refused_line : List ℕ
+big_refused_line = codes "refused 16 1 1\n"

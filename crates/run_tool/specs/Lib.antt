@@ -1,9 +1,12 @@
 pub mod Big
 pub mod Fetches
 pub mod Answers
+pub mod Files
 pub mod Refusals
 pub mod Check
 pub mod Run
+pub mod Scripts
+pub mod Runs
 pub mod RunHex
 pub mod NotBuilt
 pub mod Orders

@@ -88,20 +88,21 @@ pub fn big_text(alloc: Global, size: u32) -> Result<Vec<u8>, NoMemory>
     written(alloc, size).map_err(|_| NoMemory)
 }
 
-/// Puts the command's line, and that the program is refused where it begins.
-fn put_big_refused<K: Sink>(out: &mut K, size: u32) -> Result<(), PutFailed>
-    ensures { PutsTo K.taken K.faults out.old out.new (spec.big_refused_lines size) result }
+/// Puts the command's line.
+fn put_big_line<K: Sink>(out: &mut K, size: u32) -> Result<(), PutFailed>
+    ensures { PutsTo K.taken K.faults out.old out.new (spec.big_line size) result }
 {
     let put = then_put(Ok(()), out, b"big ");
     let put = then_put_decimal(put, out, size);
-    then_put(put, out, b"\nrefused 16 1 1\n")
+    then_put(put, out, b"\n")
 }
 
-/// The command `big`, whose program can't be built yet.
+/// The command `big`: its line, and that its program, which can't be built yet, is refused where it begins.
 pub fn big<K: Sink>(size: u32, out: &mut K) -> Ending
-    ensures { GivesOneOf K.taken K.faults out.old out.new (λ answer. answer ≡ says status.Refused (spec.big_refused_lines size)) result }
+    ensures { GivesOneOf K.taken K.faults out.old out.new (λ answer. answer ≡ says status.Refused (spec.big_line size ++ spec.big_refused_line)) result }
 {
-    match put_big_refused(out, size) {
+    let put = put_big_line(out, size);
+    match then_put(put, out, b"refused 16 1 1\n") {
         Ok(()) => Ending::Gave(Status::Refused),
         Err(PutFailed) => Ending::Cut,
     }

@@ -3,7 +3,7 @@ ghost use Rattle.std.specs.Prelude.{◌≡◌, ◌≤◌, ◌<◌, length, List,
 ghost use Rattle.run_tool.specs.Answers.{GivesOneOf};
 ghost use Rattle.sts_grammar.specs.Texts.{HasTokens};
 ghost use Rattle.run_tool.specs.Check.{ChecksText, Reads};
-ghost use Rattle.run_tool.specs.Orders.{OverFile};
+ghost use Rattle.run_tool.specs.Files.{OverFile};
 
 use crate::ending::{Ending, Status};
 use crate::fetched::text_of;

@@ -14,6 +14,8 @@ pub enum Status {
     OutOfBudget,
     /// The program is refused.
     Refused,
+    /// The file stands for no script.
+    ScriptRefused,
     /// The file spells no image.
     ImageRefused,
     /// The run ended by a fault.
@@ -49,6 +51,7 @@ impl Ending {
             Ending::Gave(Status::Panicked) => 3,
             Ending::Gave(Status::OutOfBudget) => 4,
             Ending::Gave(Status::Refused) => 10,
+            Ending::Gave(Status::ScriptRefused) => 11,
             Ending::Gave(Status::ImageRefused) => 12,
             Ending::Gave(Status::Faulted) => 13,
             Ending::Gave(Status::FolderFailed) => 20,

@@ -1,8 +1,8 @@
 // The file that a command names.
-ghost use Rattle.std.specs.Prelude.{◌≡◌, ◌≤◌, IfOk, IfErr, OnOk};
+ghost use Rattle.std.specs.Prelude.{◌≡◌, ◌≤◌, List, ℕ, IfOk, IfErr, OnOk};
 ghost use Rattle.run_tool.specs.Fetches.{MayFetchFrom};
 ghost use Rattle.run_tool.specs.Answers.{GivesOneOf};
-ghost use Rattle.run_tool.specs.Orders.{OverFile, none_to_texts};
+ghost use Rattle.run_tool.specs.Files.{OverFile, none_to_texts};
 
 use crate::ending::{Ending, Status};
 use crate::said::say;
@@ -25,6 +25,7 @@ pub enum Fetched {
 /// Fetches the file of that name.
 fn fetch<F: Folder>(alloc: Global, name: &str, folder: &mut F) -> Result<Fetched, NoMemory>
     ensures fetched { IfOk result (λ fetched. MayFetchFrom F.holds F.faults folder.old folder.new name.now fetched) }
+    ensures stays { (file : List ℕ) → F.holds folder.new file ≡ F.holds folder.old file }
     ensures later { F.faults folder.old ≤ F.faults folder.new }
 {
     match folder.fetch(alloc, name, LIMIT) {
@@ -46,6 +47,7 @@ pub fn text_of<F: Folder, K: Sink>(
     ensures text { IfOk result (λ text. MayFetchFrom F.holds F.faults folder.old folder.new name.now (Fetched.Text text)) }
     ensures unwritten { OnOk result (K.taken out.new ≡ K.taken out.old) }
     ensures none { IfErr result (GivesOneOf K.taken K.faults out.old out.new (OverFile F.holds F.faults folder.old folder.new name.now none_to_texts)) }
+    ensures stays { (file : List ℕ) → F.holds folder.new file ≡ F.holds folder.old file }
     ensures folder_later { F.faults folder.old ≤ F.faults folder.new }
     ensures later { K.faults out.old ≤ K.faults out.new }
 {

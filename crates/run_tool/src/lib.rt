@@ -11,6 +11,7 @@ mod not_built;
 mod run;
 mod run_hex;
 mod said;
+mod script;
 
 pub use big::big_text;
 pub use commands::sts_main;

@@ -2,7 +2,7 @@
 ghost use Rattle.std.specs.Prelude.{◌≡◌, ◌≤◌};
 ghost use Rattle.run_tool.specs.Answers.{GivesOneOf};
 ghost use Rattle.run_tool.specs.Run.{RunsText};
-ghost use Rattle.run_tool.specs.Orders.{OverFile};
+ghost use Rattle.run_tool.specs.Files.{OverFile};
 
 use crate::ending::{Ending, Status};
 use crate::fetched::text_of;

@@ -1,21 +1,30 @@
 // The command `run-hex`.
-ghost use Rattle.std.specs.Prelude.{◌≡◌, ◌≤◌, List, ℕ};
+ghost use Rattle.std.specs.Prelude.{◌≡◌, ◌≤◌, [], List, ℕ, vec_len};
+ghost use Rattle.std.specs.Option.{option_map};
+ghost use Rattle.sts_base.specs.Faults.{Rose};
 ghost use Rattle.tool_io.specs.Putting.{PutsTo};
 ghost use Rattle.hex_image.specs.Codes.{number_of};
 ghost use Rattle.hex_image.specs.Spells.{flash_bytes};
-ghost use Rattle.run_tool.specs.declared.ending.Status.TheVariants as status;
+ghost use Rattle.event_script.specs.Sound.{IsSound};
 ghost use Rattle.sts_words.specs.Orders.{IsBudget};
-ghost use Rattle.run_tool.specs.Answers.{GivesOneOf, says};
-ghost use Rattle.run_tool.specs.RunHex.{RunsImage, RunsHex, image_refused_line};
-ghost use Rattle.run_tool.specs.Orders.{OverFile};
-ghost use Rattle.std.specs.Prelude.{vec_len};
+ghost use Rattle.sts_words.specs.Views.{spoken};
+ghost use Rattle.run_tool.specs.declared.ending.Status.TheVariants as status;
+ghost use Rattle.run_tool.specs.Answers.{Concludes, GivesOneOf, says};
+ghost use Rattle.run_tool.specs.Files.{OverFile};
+ghost use Rattle.run_tool.specs.Scripts.{OverScript};
+ghost use Rattle.run_tool.specs.Runs.{RunsBoard, ending_of};
+ghost use Rattle.run_tool.specs.RunHex.{RunsHex, image_refused_line};
 
 use crate::ending::{Ending, Status};
 use crate::fetched::text_of;
+use crate::script::script_of;
+use board_ports::Device;
+use board_run::End;
+use event_script::Script;
 use hex_image::{HexCode, HexRefused, read_hex};
 use std::alloc::Global;
 use sts_base::NoMemory;
-use sts_whole::{Alone, run_alone};
+use sts_whole::run_image;
 use tool_io::{Folder, PutFailed, Sink, then_put, then_put_decimal};
 
 /// Puts the line of a refusal of an image: the code's number.
@@ -37,29 +46,79 @@ fn say_image_refused<K: Sink>(out: &mut K, code: HexCode) -> Ending
     }
 }
 
-/// Runs an image within a budget.
-fn run_image<K: Sink>(alloc: Global, image: Vec<u8>, budget: u32, out: &mut K) -> Ending
-    requires size { vec_len image ≤ flash_bytes }
-    requires budget { IsBudget budget }
-    ensures { GivesOneOf K.taken K.faults out.old out.new (RunsImage budget image.items) result }
+/// How a call ends whose run ended so.
+fn ending_of(end: End) -> Ending
+    ensures { result ≡ ending_of end }
 {
-    match run_alone(alloc, image, budget, out) {
-        Ok(Alone::Quiet) => Ending::Gave(Status::Done),
-        Ok(Alone::Panic(_)) => Ending::Gave(Status::Panicked),
-        Ok(Alone::Budget) => Ending::Gave(Status::OutOfBudget),
-        Ok(Alone::Fault(_, _)) => Ending::Gave(Status::Faulted),
-        Ok(Alone::SinkFault) => Ending::Cut,
+    match end {
+        End::Quiet => Ending::Gave(Status::Done),
+        End::Script => Ending::Gave(Status::Done),
+        End::Panic(_) => Ending::Gave(Status::Panicked),
+        End::Budget => Ending::Gave(Status::OutOfBudget),
+        End::Fault(_, _) => Ending::Gave(Status::Faulted),
+        End::SinkFault => Ending::Cut,
+    }
+}
+
+/// Runs an image on a script within a budget.
+fn run_board<K: Sink, D: Device>(
+    alloc: Global,
+    image: Vec<u8>,
+    script: Script,
+    budget: u32,
+    out: &mut K,
+    places: &mut Vec<Option<D>>,
+) -> Ending
+    requires size { vec_len image ≤ flash_bytes }
+    requires script { IsSound script }
+    requires budget { IsBudget budget }
+    ensures { Concludes K.taken K.faults out.old out.new D.log D.faults places.old.items places.new.items [] (RunsBoard image.items script budget) result }
+{
+    match run_image(alloc, image, script, places, budget, out) {
+        Ok((end, _)) => ending_of(end),
         Err(NoMemory) => Ending::NoMemory,
     }
 }
 
-/// Reads an image from its text and runs it within a budget.
-fn run_hex_text<K: Sink>(alloc: Global, text: &[u8], budget: u32, out: &mut K) -> Ending
-    requires { IsBudget budget }
-    ensures { GivesOneOf K.taken K.faults out.old out.new (RunsHex budget text.now) result }
+/// Runs an image on the script that is named, within a budget.
+fn run_named<F: Folder, K: Sink, D: Device>(
+    alloc: Global,
+    image: Vec<u8>,
+    script: Option<&str>,
+    budget: u32,
+    folder: &mut F,
+    out: &mut K,
+    places: &mut Vec<Option<D>>,
+) -> Ending
+    requires size { vec_len image ≤ flash_bytes }
+    requires budget { IsBudget budget }
+    ensures answer { Concludes K.taken K.faults out.old out.new D.log D.faults places.old.items places.new.items []
+        (OverScript (F.holds folder.old) (Rose (F.faults folder.old) (F.faults folder.new)) (option_map spoken script.entry) (λ read. RunsBoard image.items read budget)) result }
+    ensures folder_later { F.faults folder.old ≤ F.faults folder.new }
+{
+    match script_of(alloc, script, folder, out) {
+        Ok(script) => run_board(alloc, image, script, budget, out, places),
+        Err(ending) => ending,
+    }
+}
+
+/// Reads an image from its text and runs it on the script that is named, within a budget.
+fn run_hex_text<F: Folder, K: Sink, D: Device>(
+    alloc: Global,
+    text: &[u8],
+    script: Option<&str>,
+    budget: u32,
+    folder: &mut F,
+    out: &mut K,
+    places: &mut Vec<Option<D>>,
+) -> Ending
+    requires budget { IsBudget budget }
+    ensures answer { Concludes K.taken K.faults out.old out.new D.log D.faults places.old.items places.new.items []
+        (RunsHex (F.holds folder.old) (Rose (F.faults folder.old) (F.faults folder.new)) (option_map spoken script.entry) budget text.now) result }
+    ensures folder_later { F.faults folder.old ≤ F.faults folder.new }
 {
     match read_hex(alloc, text) {
-        Ok(image) => run_image(alloc, image, budget, out),
+        Ok(image) => run_named(alloc, image, script, budget, folder, out, places),
         Err(why) => match why {
             HexRefused::Image(code) => say_image_refused(out, code),
             HexRefused::NoMemory => Ending::NoMemory,
@@ -68,19 +127,23 @@ fn run_hex_text<K: Sink>(alloc: Global, text: &[u8], budget: u32, out: &mut K) -
 }
 
 /// The command `run-hex`.
-pub fn run_hex<F: Folder, K: Sink>(
+pub fn run_hex<F: Folder, K: Sink, D: Device>(
     alloc: Global,
     name: &str,
+    script: Option<&str>,
     budget: u32,
     folder: &mut F,
     out: &mut K,
+    places: &mut Vec<Option<D>>,
 ) -> Ending
-    requires { IsBudget budget }
-    ensures answer { GivesOneOf K.taken K.faults out.old out.new (OverFile F.holds F.faults folder.old folder.new name.now (RunsHex budget)) result }
+    requires budget { IsBudget budget }
+    ensures answer { Concludes K.taken K.faults out.old out.new D.log D.faults places.old.items places.new.items []
+        (OverFile F.holds F.faults folder.old folder.new name.now
+        (RunsHex (F.holds folder.old) (Rose (F.faults folder.old) (F.faults folder.new)) (option_map spoken script.entry) budget)) result }
     ensures folder_later { F.faults folder.old ≤ F.faults folder.new }
 {
     match text_of(alloc, name, folder, out) {
-        Ok(text) => run_hex_text(alloc, &text, budget, out),
+        Ok(text) => run_hex_text(alloc, &text, script, budget, folder, out, places),
         Err(ending) => ending,
     }
 }

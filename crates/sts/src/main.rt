@@ -1,7 +1,8 @@
-//! The command `sts`: the top call over the files of the operating system and standard output.
+//! The command `sts`: the top call over the files of the operating system and standard output, with the raw bytes of the serial port to standard
+//! error.
 #![tactic(auto)]
 
-use board_ports::Device;
+use board_ports::{Device, EchoDevice};
 use run_tool::sts_main;
 use std::alloc::Global;
 use std::env;
@@ -27,7 +28,13 @@ fn main(rt: HostRuntime) -> ExitCode {
         return ExitCode::from(NO_MEMORY);
     };
     let mut out = StdSink::new(rt.stdout());
+    let Ok(echo) = Box::new(alloc, EchoDevice::new(rt.stderr())) else {
+        return ExitCode::from(NO_MEMORY);
+    };
     let mut folder = DiskFolder::new(rt);
     let mut plugs: Vec<Option<Box<dyn Device>>> = Vec::new(alloc);
+    if plugs.push(None).is_err() || plugs.push(Some(echo)).is_err() {
+        return ExitCode::from(NO_MEMORY);
+    }
     ExitCode::from(sts_main(alloc, words.as_slice(), &mut folder, &mut out, &mut plugs))
 }

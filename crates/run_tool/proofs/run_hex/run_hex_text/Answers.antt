@@ -1,16 +1,37 @@
-use Rattle.std.proofs.Common.{◌≤◌, length, arith}
+use Rattle.std.proofs.Common.{◌≡◌, ◌≤◌, length, arith, refl, [], inl}
+use Rattle.std.specs.Option.{option_map}
+use Rattle.sts_base.specs.Faults.{Rose}
+use Rattle.sts_words.specs.Views.{spoken}
 use Rattle.hex_image.specs.Spells.{flash_bytes}
-use Rattle.run_tool.proofs.ImageRuns.{image-fits, spelled-gives, broken-gives}
+use Rattle.hex_image.specs.Codes.{number_of}
+use Rattle.run_tool.specs.declared.ending.Status.TheVariants.{ImageRefused}
+use Rattle.run_tool.specs.Answers.{says}
+use Rattle.run_tool.specs.Runs.{RunsBoard}
+use Rattle.run_tool.specs.Scripts.{OverScript}
+use Rattle.run_tool.specs.RunHex.{RunsHex, image_refused_line}
+use Rattle.run_tool.proofs.Endings.{gives-more, concludes-more, says-concludes}
+use Rattle.run_tool.proofs.ImageRuns.{image-fits, broken-answer}
 use Rattle.run_tool.proofs.run_hex.run_hex_text.Goals as goal
 
-pub run_image-requires-clause-size : goal.run_image-requires-clause-size
-run_image-requires-clause-size g c =
+pub run_named-requires-clause-size : goal.run_named-requires-clause-size
+run_named-requires-clause-size g c =
     let fits : length c.in-Ok.image.items ≤ flash_bytes = image-fits c.args.text.now c.in-Ok.image.items c.in-Ok.ensures.image in
     omega (arith, fits, c.in-Ok.image.ok)
 
-pub returns-in-Ok : goal.returns-in-Ok
-returns-in-Ok g c = spelled-gives c.args.text.now c.in-Ok.image.items c.args.budget c.run_image.result c.in-Ok.ensures.image c.run_image.ensures
+pub returns-in-Ok-clause-answer : goal.returns-in-Ok-clause-answer
+returns-in-Ok-clause-answer g c =
+    let told = g.F.Folder.holds c.args.folder.now in
+    let rose = Rose (g.F.Folder.faults c.args.folder.now) (g.F.Folder.faults c.run_named.new.folder) in
+    let name = option_map spoken c.args.script in
+    concludes-more g.D.Device.log g.D.Device.faults c.args.places.now.items c.run_named.new.places.items []
+    (OverScript told rose name (λ read. RunsBoard c.in-Ok.image.items read c.args.budget)) (RunsHex told rose name c.args.budget c.args.text.now) c.run_named.result
+    (λ answer h. inl (c.in-Ok.image.items, c.in-Ok.ensures.image, h)) c.run_named.ensures.answer
 
-pub returns-in-Image : goal.returns-in-Image
-returns-in-Image g c =
-    broken-gives c.args.text.now c.args.budget c.say_image_refused.result c.in-Image.code c.in-Err.why c.in-Image.is c.in-Err.ensures.code c.say_image_refused.ensures
+pub returns-in-Image-clause-answer : goal.returns-in-Image-clause-answer
+returns-in-Image-clause-answer g c =
+    let told = g.F.Folder.holds c.args.folder.now in
+    let rose = Rose (g.F.Folder.faults c.args.folder.now) (g.F.Folder.faults c.args.folder.now) in
+    let name = option_map spoken c.args.script in
+    says-concludes g.D.Device.log g.D.Device.faults c.args.places.now.items c.args.places.now.items refl (RunsHex told rose name c.args.budget c.args.text.now) c.say_image_refused.result
+    (gives-more (λ answer. answer ≡ says ImageRefused (image_refused_line (number_of c.in-Image.code))) (RunsHex told rose name c.args.budget c.args.text.now) c.say_image_refused.result
+    (broken-answer told rose name c.args.text.now c.args.budget c.in-Image.code c.in-Err.why c.in-Image.is c.in-Err.ensures.code) c.say_image_refused.ensures)

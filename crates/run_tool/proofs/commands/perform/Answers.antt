@@ -1,0 +1,26 @@
+use Rattle.std.proofs.Common.{◌≡◌, subst, sym, refl, ap, ◌∙◌, Some, None, map}
+use Rattle.std.specs.Option.{option_map}
+use Rattle.std.specs.declared.option.Option.{Option}
+use Rattle.std.specs.String.{string_bytes}
+use Rattle.sts_base.specs.Faults.{Rose}
+use Rattle.sts_words.specs.Orders.{Asked, order_view}
+use Rattle.sts_words.specs.Words.{order_of}
+use Rattle.run_tool.specs.Answers.{Concludes}
+use Rattle.run_tool.specs.Orders.{MayAnswer, lead_of}
+use Rattle.run_tool.proofs.Endings.{says-concludes, order-concludes}
+use Rattle.run_tool.proofs.commands.perform.Goals as goal
+
+pub returns-in-Ok-None-clause-answer : goal.returns-in-Ok-None-clause-answer
+returns-in-Ok-None-clause-answer g c =
+    let told = g.F.Folder.holds c.args.folder.now in
+    let rose = Rose (g.F.Folder.faults c.args.folder.now) (g.F.Folder.faults c.args.folder.now) in
+    let none : order_of (map string_bytes c.args.words.now) ≡ None = sym c.in-Ok-None.ensures.order ∙ ap (option_map order_view) c.in-Ok-None.field-0-is in
+    subst (λ (o : Option Asked). Concludes g.K.Sink.taken g.K.Sink.faults c.args.out.now c.say.new.out g.D.Device.log g.D.Device.faults c.args.places.now.items c.args.places.now.items (lead_of o) (MayAnswer told rose o) c.say.result)
+    (sym none)
+    (says-concludes g.D.Device.log g.D.Device.faults c.args.places.now.items c.args.places.now.items refl (MayAnswer told rose None) c.say.result c.say.ensures)
+
+pub returns-in-Ok-Some-clause-answer : goal.returns-in-Ok-Some-clause-answer
+returns-in-Ok-Some-clause-answer g c =
+    order-concludes g.D.Device.log g.D.Device.faults c.args.places.now.items c.perform_order.new.places.items (g.F.Folder.holds c.args.folder.now)
+    (Rose (g.F.Folder.faults c.args.folder.now) (g.F.Folder.faults c.perform_order.new.folder)) (order_of (map string_bytes c.args.words.now)) (order_view c.in-Ok-Some.order) c.perform_order.result
+    (ap (option_map order_view) (sym c.in-Ok-Some.field-0-is) ∙ c.in-Ok-Some.ensures.order) c.perform_order.ensures.answer
