@@ -21,7 +21,8 @@ const WRONG_SUM: &str = ":0400000001020304F3\n:00000001FF\n";
 const SEVEN: &str =
     ":10000000803F00200D000000150000000248034959\n:1000100014DF0CDF00DF000007000000010000001B\n:00000001FF\n";
 
-fn words_of(alloc: Global, words: &[&str]) -> io::Result<Vec<String>> {
+/// These words.
+pub fn words_of(alloc: Global, words: &[&str]) -> io::Result<Vec<String>> {
     let mut given = Vec::new(alloc);
     for word in words {
         given.push(String::from_str(alloc, word)?)?;
@@ -41,7 +42,8 @@ fn call<F: Folder, K: Sink>(
     Ok(sts_main(alloc, words.as_slice(), folder, out, &mut plugs))
 }
 
-fn folder(alloc: Global, failing: u64, text: &str) -> Result<MemoryFolder, NoMemory> {
+/// A folder with that text as its one file, whose fetch of that number is to fail.
+pub fn folder(alloc: Global, failing: u64, text: &str) -> Result<MemoryFolder, NoMemory> {
     let mut fetches = Seq::new(alloc);
     fetches.push(failing)?;
     let mut folder = MemoryFolder::new(alloc, fetches)?;
@@ -49,7 +51,8 @@ fn folder(alloc: Global, failing: u64, text: &str) -> Result<MemoryFolder, NoMem
     Ok(folder)
 }
 
-fn sink(alloc: Global, failing: u64, room: usize) -> Result<MemorySink, NoMemory> {
+/// A sink with that much room, whose put of that number is to fail.
+pub fn sink(alloc: Global, failing: u64, room: usize) -> Result<MemorySink, NoMemory> {
     let mut puts = Seq::new(alloc);
     puts.push(failing)?;
     let mut sink = MemorySink::new(alloc, puts)?;

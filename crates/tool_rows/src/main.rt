@@ -4,6 +4,7 @@
 
 mod bigs;
 mod commands;
+mod devices;
 mod folders;
 mod images;
 mod sinks;
@@ -19,5 +20,6 @@ fn main(rt: HostRuntime) -> io::Result<()> {
     streams::show(alloc, out)?;
     images::show(alloc, out)?;
     commands::show(alloc, out)?;
+    devices::show(alloc, out)?;
     bigs::show(alloc, out)
 }

@@ -1,0 +1,89 @@
+//! Runs over devices, which are unplugged, fail, or are left where the sink fails.
+
+use crate::commands::{folder, sink, words_of};
+use crate::folders::wanting;
+use board_ports::{Device, MemoryDevice};
+use run_tool::sts_main;
+use std::alloc::Global;
+use std::io;
+use std::io::Write;
+use sts_base::{NoMemory, Seq};
+
+/// The text of an image that pauses for 5 ms, writes 7, and shows the frame 7.
+const PAUSES: &str = ":18000000803F00200D00000015000000052002DF07200CDF0BDF00DF06\n:00000001FF\n";
+
+const QUIET: &str = "{\"end\":9,\"events\":[]}";
+
+/// The put and the display's write that are to fail, and the script.
+type Row = (u64, u64, &'static str);
+
+/// A device with room for four words, whose write of that number is to fail.
+fn device(alloc: Global, failing: u64) -> Result<MemoryDevice, NoMemory> {
+    let mut writes = Seq::new(alloc);
+    writes.push(failing)?;
+    MemoryDevice::new(alloc, 4, writes)
+}
+
+/// Writes what a device tells of its words, each behind its moment.
+fn show_place<W: Write>(out: &mut W, place: &Option<Box<dyn Device>>) -> io::Result<()> {
+    match place {
+        None => out.write_all(b" none"),
+        Some(device) => {
+            out.write_all(b" log")?;
+            for at in 0..4usize {
+                if let Some((now, word)) = device.logged(at) {
+                    write!(out, " {now}:{word}")?;
+                }
+            }
+            Ok(())
+        }
+    }
+}
+
+/// Runs the image over a display and a device at the serial port, and writes the status, what was taken, between bars, and both devices.
+fn show_row<W: Write>(alloc: Global, out: &mut W, row: &Row) -> io::Result<()> {
+    let (put, write, script) = *row;
+    let mut folder = folder(alloc, 0, PAUSES).map_err(wanting)?;
+    folder.add(alloc, "s", script.as_bytes()).map_err(wanting)?;
+    let mut sink = sink(alloc, put, 1000).map_err(wanting)?;
+    let display = device(alloc, write).map_err(wanting)?;
+    let serial = device(alloc, 0).map_err(wanting)?;
+    let mut plugs: Vec<Option<Box<dyn Device>>> = Vec::new(alloc);
+    plugs.push(Some(Box::new(alloc, display)?))?;
+    plugs.push(Some(Box::new(alloc, serial)?))?;
+    let words = words_of(alloc, &["run-hex", "f", "s"])?;
+    let status = sts_main(alloc, words.as_slice(), &mut folder, &mut sink, &mut plugs);
+    write!(out, "{status} |")?;
+    out.write_all(sink.taken())?;
+    out.write_all(b"|")?;
+    for place in &plugs {
+        show_place(out, place)?;
+    }
+    out.write_all(b"\n")
+}
+
+const ROWS: [Row; 7] = [
+    (0, 0, QUIET),
+    (
+        0,
+        0,
+        "{\"end\":9,\"events\":[{\"at\":3,\"do\":\"unplug\",\"port\":1}]}",
+    ),
+    (
+        0,
+        0,
+        "{\"end\":9,\"events\":[{\"at\":6,\"do\":\"unplug\",\"port\":0}]}",
+    ),
+    (0, 1, QUIET),
+    (1, 0, QUIET),
+    (6, 0, QUIET),
+    (0, 0, "{\"end\":9}"),
+];
+
+/// Each row in turn.
+pub fn show<W: Write>(alloc: Global, out: &mut W) -> io::Result<()> {
+    for row in &ROWS {
+        show_row(alloc, out, row)?;
+    }
+    Ok(())
+}
