@@ -16,3 +16,4 @@ pub mod Programs
 pub mod Limits
 pub mod Accepted
 pub mod Formed
+pub mod Libraries

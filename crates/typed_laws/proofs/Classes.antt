@@ -29,7 +29,8 @@ use Rattle.type_derive.specs.Typing.{method_of}
 use Rattle.type_derive.specs.Passes.{same_kinds, same_result, agrees}
 use Rattle.type_derive.specs.Numbers.{Numbering, is_method, is_listed, own_names, names_from, field_names, slot_names, place_among, global_number, routine_number, maker_number}
 use Rattle.type_derive.specs.Programs.{class_result, member_kind, member_routine, class_entry, class_entries, global_types}
-use Rattle.typed_laws.specs.Stands.{IsProper, EachProper, Stands, taken}
+use Rattle.typed_laws.specs.Stands.{IsProper, EachProper, Stands}
+use Rattle.type_derive.specs.Libraries.{taken}
 use Rattle.typed_laws.proofs.OneNode.{both_true, same_types}
 use Rattle.typed_laws.proofs.Names.{some_is}
 use Rattle.typed_laws.proofs.Searching.{entry_get, get_within, get_left, get_map, map_get, at_place, get_listed}

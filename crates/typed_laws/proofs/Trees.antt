@@ -48,7 +48,8 @@ use Rattle.type_derive.specs.Making.{Making, pure, ◌>=>◌, a_local}
 use Rattle.type_derive.specs.Numbers.{Numbering, field_names, slot_names, place_among, routine_number}
 use Rattle.type_derive.specs.Built.{Site, in_block, amiss, spots_from, in_handler_site, behind_statement, first_site, made_first, made_optional, made_value, made_locals, made_local, made_statement, made_opening, made_statements, made_tree, made_given, made_items, made_asked, made_call, noted, type_in, part_in, class_in, member_read, part_target, part_takes, routine_of, routine_takes, class_found, call_takes, spot_of, board_target, plain_handler, drawing, argument_made}
 use Rattle.type_derive.specs.Formed.{IsFormed, AreFormed, MayBeFormed, AreFormedDeclarations, IsFormedIn, IsFormedFirst, AreFormedIn}
-use Rattle.typed_laws.specs.Stands.{is_proper_base, IsProper, EachProper, Stands, taken}
+use Rattle.typed_laws.specs.Stands.{is_proper_base, IsProper, EachProper, Stands}
+use Rattle.type_derive.specs.Libraries.{taken}
 use Rattle.typed_laws.proofs.OneNode.{both_true, either_true, not_true, if_some, if_cases, same_is, same_types, works, prefixes, joins, chooses, counts, elements, array_type, arrayed, class_type}
 use Rattle.typed_laws.proofs.Typed.{typed, last, first, unless_true, own_has}
 use Rattle.typed_laws.proofs.Makings.{IsInner, Inners, Gives, gives_pure, gives_bind, gives_as, kept_all, good_pure, good_bind, good_bind_at, good_free, good_local, good_as}

@@ -35,7 +35,7 @@ use Rattle.type_derive.specs.Programs.{function_made, class_made, main_made, ite
 use Rattle.type_derive.specs.Limits.{limits_fault}
 use Rattle.type_derive.specs.Accepted.{known, all_sources, AreDerived, main_routine, typed, type_refusal, refusal}
 use Rattle.typed_laws.specs.Stands.{IsProper}
-use Rattle.typed_laws.specs.Libraries.{OnlyFunctions, library_fault, IsLibrary}
+use Rattle.type_derive.specs.Libraries.{OnlyFunctions, library_fault, IsLibrary}
 use Rattle.typed_laws.proofs.Typed.{last, first}
 use Rattle.typed_laws.proofs.Makings.{Placed, placed_left, placed_right, kept_all}
 use Rattle.typed_laws.proofs.Suffixes.{Suffix, suffix_all, suffix_step, suffix_at}

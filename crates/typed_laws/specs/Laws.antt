@@ -15,7 +15,7 @@ use Rattle.type_derive.specs.Typing.{type_of}
 use Rattle.type_derive.specs.Nodes.{fault}
 use Rattle.type_derive.specs.Formed.{IsFormedProgram}
 use Rattle.type_derive.specs.Accepted.{AreDerived, IsAccepted}
-use Rattle.typed_laws.specs.Libraries.{IsLibrary}
+use Rattle.type_derive.specs.Libraries.{IsLibrary}
 
 -- a place that reads what stands there
 abbrev pub IsRead : Role → Type 0

@@ -4,7 +4,7 @@ use Rattle.sts_base.specs.declared.tables.Tables.{Tables}
 use Rattle.sts_syntax.specs.Types as t
 use Rattle.sts_syntax.specs.Types.{ValueType}
 use Rattle.sts_syntax.specs.BoardTable as board
-use Rattle.sts_syntax.specs.BoardTable.{BoardParameter, row_of}
+use Rattle.sts_syntax.specs.BoardTable.{row_of}
 use Rattle.sts_syntax.specs.declared.board_calls.BoardCall.{BoardCall}
 use Rattle.sts_syntax.specs.TypedTrees.{TypedRoutine, ClassEntry, TypedProgram}
 use Rattle.sts_syntax.specs.TypeRules.{entry, HasClass, HasRoutine, HasField, IsMember, HasMethod}
@@ -19,6 +19,7 @@ use Rattle.sts_scope.specs.Kinds.{value_type, value_types}
 use Rattle.sts_scope.specs.Lookup.{base_of, sort_of}
 use Rattle.sts_scope.specs.Rules.{class_part, kind_at, takes_at, maker_takes_of}
 use Rattle.type_derive.specs.Typing.{super_method}
+use Rattle.type_derive.specs.Libraries.{taken}
 use Rattle.type_derive.specs.Numbers.{Numbering, global_number, field_names, slot_names, place_among, routine_number}
 
 -- a type that values have: `[]` alone has none
@@ -37,13 +38,6 @@ IsProper u = is_proper_base u.base ≡ true
 abbrev pub EachProper : List Kind → Type 0
 EachProper [] = Unit {0}
 EachProper (u ∷ us) = IsProper u × EachProper us
-
--- what the library's function of a row takes: a drawing is a number
-abbrev pub taken : List BoardParameter → List ValueType
-taken [] = []
-taken (board.Of u ∷ ps) = u ∷ taken ps
-taken (board.Handler ∷ ps) = t.Nothing ∷ taken ps
-taken (board.Drawing ∷ ps) = t.Number ∷ taken ps
 
 pub record Stands (tables : Tables) (k : Known) (numbers : Numbering) (P : TypedProgram) : Type 0 where
   pub bases : (c b : ℕ) → base_of k.classes c ≡ Some b → (class : ClassEntry) × HasClass P c class × (class.base ≡ Some b)

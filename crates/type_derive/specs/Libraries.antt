@@ -2,7 +2,9 @@
 use Rattle.std.specs.Prelude.{◌≡◌, ℕ, suc, true, Option, Some, None, List, [], ◌∷◌, ◌++◌}
 use Rattle.sts_base.specs.declared.tables.Tables.{Tables}
 use Rattle.sts_syntax.specs.BoardTable as board
-use Rattle.sts_syntax.specs.BoardTable.{row_of}
+use Rattle.sts_syntax.specs.BoardTable.{BoardParameter, row_of}
+use Rattle.sts_syntax.specs.Types as t
+use Rattle.sts_syntax.specs.Types.{ValueType}
 use Rattle.sts_syntax.specs.declared.board_calls.BoardCall.{BoardCall}
 use Rattle.sts_syntax.specs.TypedTrees.{TypedRoutine}
 use Rattle.sts_syntax.specs.TypeRules.{entry}
@@ -21,7 +23,13 @@ use Rattle.type_derive.specs.Numbers.{numbering}
 use Rattle.type_derive.specs.Formed.{IsFormedProgram}
 use Rattle.type_derive.specs.Programs.{library_made}
 use Rattle.type_derive.specs.Accepted.{known}
-use Rattle.typed_laws.specs.Stands.{taken}
+
+-- what the library's function of a row takes: a drawing is a number
+abbrev pub taken : List BoardParameter → List ValueType
+taken [] = []
+taken (board.Of u ∷ ps) = u ∷ taken ps
+taken (board.Handler ∷ ps) = t.Nothing ∷ taken ps
+taken (board.Drawing ∷ ps) = t.Number ∷ taken ps
 
 abbrev pub OnlyFunctions : Program → Type 0
 OnlyFunctions [] = Unit {0}
