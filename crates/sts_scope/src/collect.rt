@@ -9,7 +9,7 @@ ghost use Rattle.sts_scope.specs.Known.{IsDeclared};
 
 use crate::build::{add_declared, add_entry, add_routine, number_classes, parameter_kinds};
 use crate::by_number::ByNumber;
-use crate::{ClassHead, Entry, Kind, Known, Owner, Sort};
+use crate::{ClassHead, Entry, Kind, Known, Owner, Sort, Table};
 use std::alloc::Global;
 use sts_base::{NoMemory, Seq};
 use sts_syntax::{Binding, Body, Form, Item, Member, Stmt, Unit};
@@ -233,7 +233,7 @@ pub fn declarations_of(alloc: Global, library: &Unit, text: &Unit) -> Result<Dec
     let mut known = Known {
         entries: Seq::new(alloc),
         classes: Seq::new(alloc),
-        kinds: Seq::new(alloc),
+        kinds: Table::new(alloc),
         library: 0,
     };
     add_items(alloc, &classes, &mut known, library.items.as_slice())?;

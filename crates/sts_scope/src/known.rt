@@ -1,5 +1,5 @@
 // What is known of a program, and what a name stands for.
-use crate::{ClassHead, Entry, Kind};
+use crate::{ClassHead, Entry, Kind, Table};
 use sts_base::Seq;
 
 /// All declarations of a library and a text, the library's first.
@@ -10,7 +10,7 @@ pub struct Known {
     /// the classes, in text order
     pub classes: Seq<ClassHead>,
     /// The type of each declaration: a global's and a field's own, a function's and method's result. None for a class, and where none is known.
-    pub kinds: Seq<Option<Kind>>,
+    pub kinds: Table<Option<Kind>>,
     /// how many declarations are the library's
     pub library: usize,
 }

@@ -5,6 +5,9 @@ pub mod Calling
 pub mod Opened
 pub mod Evaluated
 pub mod Moves
+pub mod Gathered
+pub mod Ruled
+pub mod Least
 pub mod Grows
 pub mod ReturnsGrow
 pub mod Rounds

@@ -4,6 +4,8 @@ pub mod Returns
 pub mod Derived
 pub mod Shown
 pub mod Moves
+pub mod Origins
+pub mod Underway
 pub mod Laws
 pub mod Growth
 pub mod Nodes
@@ -17,3 +19,4 @@ pub mod Limits
 pub mod Accepted
 pub mod Formed
 pub mod Libraries
+pub mod Solved

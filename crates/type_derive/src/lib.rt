@@ -6,11 +6,13 @@ mod callees;
 mod drawings;
 mod evaluation;
 mod kinds;
+mod origins;
 mod parts;
 mod returns;
 mod roles;
 mod rules;
 mod scopes;
+mod solving;
 mod theorems;
 mod wanted;
 
@@ -38,5 +40,6 @@ pub use scopes::{
     Scope, is_twice, kind_at, last_named, name_fixed, name_found, name_kind, part_kind, part_of,
     part_settable, serves, this_kind,
 };
+pub use solving::solve;
 pub use theorems::{derived_types_are_one, derived_types_exist, rules_grow, types_grow};
 pub use wanted::Wanted;

@@ -1,0 +1,14 @@
+use Rattle.std.proofs.Common.{◌≡◌, subst}
+use Rattle.std.specs.Prelude.{IfOk}
+use Rattle.sts_scope.specs.Values.{value_at}
+use Rattle.type_derive.proofs.Ruled.{rule_none, rule_some}
+use Rattle.type_derive.proofs.solving.derive.Goals as goal
+
+pub returns-then-d-origins : goal.returns-then-d-origins
+returns-then-d-origins c =
+    subst (λ o. IfOk c.follow.result (λ kind. kind ≡ o))
+    (rule_some c.args.tables.now (value_at c.args.classes.now.values.items) c.args.known.now c.args.origins.now c.args.d c.index-origins-d.result c.if-d-origins.true c.index-origins-d.is)
+    c.follow.ensures
+
+pub returns-else-d-origins : goal.returns-else-d-origins
+returns-else-d-origins c = rule_none c.args.tables.now (value_at c.args.classes.now.values.items) c.args.known.now c.args.origins.now c.args.d c.if-d-origins.false
