@@ -3,7 +3,7 @@
 
 mod reading;
 
-use anyhow::anyhow;
+use anyhow::{anyhow, bail};
 use flat_ir::{Function, Op};
 use reading::placed;
 use register_assign::{Place, Placed, check_places};
@@ -11,21 +11,35 @@ use std::alloc::Global;
 use std::io::{self, BufRead, BufReader, BufWriter, Write};
 use sts_base::{NoMemory, Seq};
 use thumb_emit::emit;
-use thumb_layout::lay;
+use thumb_layout::{Laid, lay};
 
-/// Writes the code of a function in hexadecimal digits, what is open in it being 0.
-fn write_code<W: Write>(alloc: Global, placed: &Placed, out: &mut W) -> anyhow::Result<()> {
-    let sound = check_places(alloc, placed).map_err(|_| anyhow!("no memory"))?;
-    if !sound || !placed.function.is_well_formed() {
-        writeln!(out, "not ready")?;
-        return Ok(());
+/// The code of a function; none where it isn't well formed or its places aren't sound.
+fn code_of(alloc: Global, placed: &Placed) -> Result<Option<Laid>, NoMemory> {
+    if !check_places(alloc, placed)? || !placed.function.is_well_formed() {
+        return Ok(None);
     }
-    let pieces = emit(alloc, placed).map_err(|_| anyhow!("no memory"))?;
-    let code = lay(alloc, &pieces).map_err(|_| anyhow!("not laid"))?;
-    for byte in code.bytes.as_slice() {
+    let pieces = emit(alloc, placed)?;
+    match lay(alloc, &pieces) {
+        Ok(code) => Ok(Some(code)),
+        Err(_) => Err(NoMemory),
+    }
+}
+
+/// Writes bytes in hexadecimal digits.
+fn write_bytes<W: Write>(bytes: &[u8], out: &mut W) -> io::Result<()> {
+    for byte in bytes {
         write!(out, "{byte:02x}")?;
     }
-    writeln!(out, "")?;
+    writeln!(out, "")
+}
+
+/// Writes the code of a function, what is open in it being 0.
+fn write_code<W: Write>(alloc: Global, placed: &Placed, out: &mut W) -> anyhow::Result<()> {
+    match code_of(alloc, placed) {
+        Ok(Some(code)) => write_bytes(code.bytes.as_slice(), out)?,
+        Ok(None) => writeln!(out, "not ready")?,
+        Err(_) => bail!("no memory"),
+    }
     Ok(())
 }
 
@@ -50,16 +64,19 @@ fn copies(alloc: Global, n: u32) -> Result<Placed, NoMemory> {
     })
 }
 
-/// Writes how many pieces a function of so many copies is emitted to.
-fn write_number<W: Write>(alloc: Global, n: u32, out: &mut W) -> anyhow::Result<()> {
-    let placed = copies(alloc, n).map_err(|_| anyhow!("no memory"))?;
-    let sound = check_places(alloc, &placed).map_err(|_| anyhow!("no memory"))?;
-    if !sound || !placed.function.is_well_formed() {
-        writeln!(out, "not ready")?;
-        return Ok(());
+/// How many pieces a function of so many copies is emitted to.
+fn count(alloc: Global, n: u32) -> Result<usize, NoMemory> {
+    let placed = copies(alloc, n)?;
+    if !check_places(alloc, &placed)? || !placed.function.is_well_formed() {
+        return Ok(0);
     }
-    let pieces = emit(alloc, &placed).map_err(|_| anyhow!("no memory"))?;
-    writeln!(out, "{} pieces", pieces.len())?;
+    let pieces = emit(alloc, &placed)?;
+    Ok(pieces.len())
+}
+
+fn write_number<W: Write>(alloc: Global, n: u32, out: &mut W) -> anyhow::Result<()> {
+    let number = count(alloc, n).map_err(|_| anyhow!("no memory"))?;
+    writeln!(out, "{number} pieces")?;
     Ok(())
 }
 

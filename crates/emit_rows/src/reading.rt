@@ -167,19 +167,27 @@ fn ops(alloc: Global, text: &str) -> anyhow::Result<Seq<Op>> {
     Ok(all)
 }
 
+/// A function by its four numbers and its ops.
+fn function(alloc: Global, head: &str, code: &str) -> anyhow::Result<Function> {
+    let n = numbers(alloc, head)?;
+    let (params, locals) = (number(&n, 0)?, number(&n, 1)?);
+    let (operands, outgoing) = (number(&n, 2)?, number(&n, 3)?);
+    Ok(Function {
+        params,
+        locals,
+        operands,
+        outgoing,
+        ops: ops(alloc, code)?,
+    })
+}
+
 /// The function of a line with its places.
 pub(crate) fn placed(alloc: Global, line: &str) -> anyhow::Result<Placed> {
     let (head, rest) = line.split_once(':').ok_or(anyhow!("no places"))?;
     let (where_they_stand, code) = rest.split_once(':').ok_or(anyhow!("no ops"))?;
-    let n = numbers(alloc, head)?;
+    let places = places(alloc, where_they_stand)?;
     Ok(Placed {
-        function: Function {
-            params: number(&n, 0)?,
-            locals: number(&n, 1)?,
-            operands: number(&n, 2)?,
-            outgoing: number(&n, 3)?,
-            ops: ops(alloc, code)?,
-        },
-        places: places(alloc, where_they_stand)?,
+        function: function(alloc, head, code)?,
+        places,
     })
 }
