@@ -1,5 +1,3 @@
-mod Endings
-mod FiberTurns
 mod Literals
 mod Running
 mod Runs
