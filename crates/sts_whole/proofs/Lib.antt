@@ -7,3 +7,4 @@ mod Boards
 mod Light
 mod Implementing
 mod Room
+mod Layable

@@ -170,7 +170,7 @@ body_texts : (p : Placed) → texts_among (named (function_pieces p)) ≡ cost t
 body_texts p = ap (λ (ws : List What). texts_among ws) (function_named p) ∙ texts_cost p.function.ops
 
 -- the weights of the functions of flat code: of those of the program, and of those that `forever` starts
-abbrev weights_of : List TypedRoutine → List ℕ → List ℕ
+abbrev pub weights_of : List TypedRoutine → List ℕ → List ℕ
 weights_of [] [] = []
 weights_of [] (f ∷ fs) = repeating_weight ∷ weights_of [] fs
 weights_of (r ∷ rs) fs = weight r ∷ weights_of rs fs
@@ -190,7 +190,7 @@ used_same : (from : ℕ) (texts : List ByteList) (used : List ℕ) → used_byte
 used_same from [] used = refl
 used_same from (t ∷ ts) used = ap (λ m. (if is_among used from then length t else 0) + m) (used_same (suc from) ts used)
 
-by_recursion : {X : Type 0} (Q : X → Type 0) (xs : List X) → All Q xs → AllByRecursion Q xs
+pub by_recursion : {X : Type 0} (Q : X → Type 0) (xs : List X) → All Q xs → AllByRecursion Q xs
 by_recursion Q [] all = tt
 by_recursion Q (x ∷ xs) all = (All-head Q x xs all, by_recursion Q xs (All-tail Q x xs all))
 

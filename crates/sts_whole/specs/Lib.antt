@@ -3,4 +3,5 @@ pub mod Image
 pub mod Services
 pub mod First
 pub mod Compiled
+pub mod Building
 pub mod Runs

@@ -2,12 +2,14 @@
 #![tactic(auto)]
 
 mod board;
+mod building;
 mod compiled;
 mod first;
 mod form;
 mod image;
 
 pub use board::run_image;
+pub use building::build;
 pub use compiled::compiled_images_implement_their_programs;
 pub use first::{First, first_image, first_run};
 pub use form::{Sum, read_sum};

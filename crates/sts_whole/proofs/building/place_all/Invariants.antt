@@ -1,0 +1,12 @@
+use Rattle.std.proofs.Common.{◌≡◌, ◌++◌, drop}
+use Rattle.std.specs.List.{AllByRecursion}
+use Rattle.sts_whole.specs.Building.{IsPlaceable, HasSoundPlaces}
+use Rattle.sts_whole.specs.Compiled.{functions_of}
+use Rattle.sts_whole.proofs.building.place_all.Given as goal
+
+abbrev pub invariant-loop-function : goal.invariant-loop-function
+invariant-loop-function l = record {
+  all : functions_of l.all.items ++ drop l.function-index l.functions ≡ l.functions;
+  sound : AllByRecursion HasSoundPlaces l.all.items;
+  placeable : AllByRecursion IsPlaceable (drop l.function-index l.functions);
+}
