@@ -3,3 +3,5 @@ pub mod Listed
 pub mod Values
 pub mod Numbered
 pub mod Chains
+pub mod Noting
+mod Behind

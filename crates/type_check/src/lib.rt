@@ -6,5 +6,8 @@ mod build_names;
 mod build_numbers;
 mod build_types;
 mod limits;
+mod statement_counts;
+mod text_bytes;
+mod uses;
 
-pub use limits::class_fits;
+pub use limits::program_fits;
