@@ -90,6 +90,7 @@ fn fresh_engine(alloc: Global, image: Vec<u8>, script: Script) -> Result<Engine,
 }
 
 /// Puts the line of what was seen at a moment, and then sends its words to the devices.
+#[inline(always)]
 fn tell<K: Sink, D: Device>(
     engine: &mut Engine,
     sight: Sight,
@@ -106,7 +107,10 @@ fn tell<K: Sink, D: Device>(
     ensures seen { OnErr result (IsSeen engine.old.runtime.machine.memory.flash now sight) }
     ensures same { engine.new ≡ engine.old }
 {
-    show(sight, now, engine.runtime.machine(), out, plugs)
+    match sight {
+        Sight::Nothing => Ok(()),
+        seen => show(seen, now, engine.runtime.machine(), out, plugs),
+    }
 }
 
 impl<D: Device> Board<D> {

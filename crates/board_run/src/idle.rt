@@ -120,7 +120,25 @@ impl Engine {
     }
 
     /// Goes on until a fiber runs or the run is over.
+    #[inline(always)]
     pub fn settle<D: Device>(&mut self, plugs: &mut Plugs<D>)
+        requires shown { IsShown (state_of self.old) }
+        requires script { IsSound self.old.script }
+        requires within { self.old.next ≤ length self.old.script.entries }
+        ensures idles { Idles D.log D.faults (state_of self.old) (state_of self.new) plugs.old plugs.new }
+        ensures settled { self.new.end ≡ None → IsSome self.new.runtime.running }
+        ensures script { self.new.script ≡ self.old.script }
+        ensures within { self.new.next ≤ length self.old.script.entries }
+        ensures counts { self.new.counts ≡ self.old.counts }
+        ensures early { self.old.clock ≤ end_limit → self.new.clock ≤ end_limit }
+    {
+        if !self.runtime.is_running() {
+            self.go_on(plugs);
+        }
+    }
+
+    /// Goes on, idle move by idle move, until a fiber runs or the run is over.
+    fn go_on<D: Device>(&mut self, plugs: &mut Plugs<D>)
         requires shown { IsShown (state_of self.old) }
         requires script { IsSound self.old.script }
         requires within { self.old.next ≤ length self.old.script.entries }

@@ -1,7 +1,7 @@
 use Rattle.board_run.specs.Idling.{moves_left}
 use Rattle.board_run.specs.View.{state_of}
 use Rattle.board_run.proofs.Settling.{Settling}
-use Rattle.board_run.proofs.engine.Engine.settle.Given as goal
+use Rattle.board_run.proofs.engine.Engine.go_on.Given as goal
 
 abbrev pub invariant-loop-self : goal.invariant-loop-self
 invariant-loop-self g l = Settling g.D.Device.log g.D.Device.faults l.initial.self l.self l.initial.plugs l.plugs
