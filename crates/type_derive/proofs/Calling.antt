@@ -1,6 +1,6 @@
 -- What is called: the nearest written constructor, methods of bases, and calls of the board.
-use Rattle.std.proofs.Common.{◌≡◌, ℕ, suc, Some, None, Option, List, [], refl, sym, ap, ◌∙◌}
-use Rattle.std.specs.Prelude.{Bool, slice_get}
+use Rattle.std.proofs.Common.{◌≡◌, ℕ, suc, Some, None, List, [], sym, ap, ◌∙◌}
+use Rattle.std.specs.Prelude.{slice_get}
 use Rattle.sts_base.specs.declared.tables.Tables.{Tables}
 use Rattle.std.specs.declared.alloc.Global.{Global}
 use Rattle.std.specs.declared.boxed.Box.{Box}
@@ -11,12 +11,11 @@ use Rattle.sts_syntax.specs.Trees.{Tree, Name, Member}
 use Rattle.sts_syntax.specs.Views.{tree, node_tree}
 use Rattle.sts_scope.specs.declared.entries.ClassHead.{ClassHead}
 use Rattle.sts_scope.specs.declared.known.Known.{Known}
-use Rattle.sts_scope.specs.declared.known.This.{This}
 use Rattle.sts_scope.specs.declared.known.This.TheVariants as this
 use Rattle.sts_scope.specs.Places.{Place}
 use Rattle.sts_scope.specs.Lookup.{inherited}
 use Rattle.sts_scope.specs.Rules.{maker_from}
-use Rattle.type_derive.specs.Typing.{◌>>=◌, spelling, space, own_call, board_callee, method_of, super_method}
+use Rattle.type_derive.specs.Typing.{◌>>=◌, spelling, space, board_callee, method_of, super_method}
 
 pub name_is : (e : Expr) (x : ℕ) → e.node ≡ n.Name x → tree e ≡ Name e.at x
 name_is e x is = ap (node_tree e.at) is

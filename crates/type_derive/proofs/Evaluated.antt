@@ -22,8 +22,8 @@ use Rattle.type_derive.specs.declared.boards.BoardTakes as rust_row
 use Rattle.type_derive.specs.declared.callees.Called.{Called}
 use Rattle.type_derive.specs.declared.roles.Role.{Role}
 use Rattle.type_derive.specs.declared.roles.Role.TheVariants.{Free, Given}
-use Rattle.type_derive.specs.Shown.{shown, all_shown, goes_some, goes_first, typed_go, typed_go_to, fits_board, fits_some, BoardRow, row_called, row_shown, board_given}
-use Rattle.type_derive.specs.Typing.{◌>>=◌, type_of, types_of, called, constant_of, settable, are_given, part_callee, board_callee, callee_of, board_kind}
+use Rattle.type_derive.specs.Shown.{shown, all_shown, goes_some, goes_first, typed_go, typed_go_to, fits_some, BoardRow, row_called, row_shown, board_given}
+use Rattle.type_derive.specs.Typing.{◌>>=◌, type_of, types_of, called, constant_of, settable, are_given, board_callee, callee_of, board_kind}
 use Rattle.std.proofs.Math.Seq.{drop-nil}
 use Rattle.std.proofs.Math.Dec.{leb-zero, leb-suc-zero, leb-suc-suc}
 use Rattle.sts_scope.proofs.Lists.{drop_at, drop_end}

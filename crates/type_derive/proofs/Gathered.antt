@@ -4,7 +4,7 @@ use Rattle.std.specs.Prelude.{false, slice_get}
 use Rattle.std.proofs.lemmas.Option.{slice_get_past}
 use Rattle.sts_syntax.specs.declared.trees.Binding.{Binding}
 use Rattle.sts_syntax.specs.declared.trees.Param.{Param}
-use Rattle.sts_syntax.specs.Programs.{TopLevel, Program}
+use Rattle.sts_syntax.specs.Programs.{Program}
 use Rattle.sts_syntax.specs.Views.{declaration, declarations, parameters, optional_annotation}
 use Rattle.sts_scope.specs.declared.kinds.Kind.{Kind}
 use Rattle.sts_scope.specs.declared.known.Local.{Local}

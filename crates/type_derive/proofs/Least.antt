@@ -1,10 +1,10 @@
 -- On the way to the least table: whatever declaration is set whose rule gives a type, it stays on the way; where nothing new is said, it has arrived.
-use Rattle.std.proofs.Common.{◌≡◌, ◌+◌, ◌<◌, ◌≢◌, ℕ, zero, suc, Option, Some, None, List, [], ◌∷◌, length, get_or, set, refl, ap, sym, ◌∙◌, subst, arith, get_or-set_same, get_or-set_other, length-set, ◌⊎◌, inl, inr}
+use Rattle.std.proofs.Common.{◌≡◌, ◌+◌, ◌<◌, ◌≢◌, ℕ, zero, suc, Option, Some, None, List, [], ◌∷◌, length, set, refl, ap, sym, ◌∙◌, subst, arith, get_or-set_same, get_or-set_other, length-set, ◌⊎◌, inl, inr}
 use Rattle.std.specs.Prelude.{Bool, true, false, ◌||◌, T}
 use Rattle.std.proofs.Math.Dec.{eqb}
 use Rattle.std.proofs.Math.Facts.{eqb_yes, yes_eqb}
 use Rattle.sts_scope.specs.declared.kinds.Kind.{Kind}
-use Rattle.type_derive.specs.Derived.{Less, Within, Solves, IsLeast, at}
+use Rattle.type_derive.specs.Derived.{Less, Within, IsLeast, at}
 use Rattle.type_derive.specs.Underway.{IsMonotone, IsUnderway, IsStill, Moves, holes}
 
 less_none : (x y : Option Kind) → x ≡ None → Less x y

@@ -1,6 +1,6 @@
 -- Nodes and statements that hold lists, made of their parts.
-use Rattle.std.proofs.Common.{◌≡◌, ℕ, suc, ◌<◌, ◌≤◌, List, [], ◌∷◌, length, refl, sym, ap, ◌∙◌, arith, Option}
-use Rattle.std.specs.Prelude.{Bool, true, false, not}
+use Rattle.std.proofs.Common.{◌≡◌, ℕ, ◌≤◌, List, [], ◌∷◌, length, refl, ap, ◌∙◌, arith, Option}
+use Rattle.std.specs.Prelude.{Bool, false, not}
 use Rattle.std.specs.declared.alloc.Global.{Global}
 use Rattle.std.specs.declared.boxed.Box.{Box}
 use Rattle.sts_syntax.specs.declared.trees.Expr.{Expr}

@@ -1,6 +1,6 @@
 -- Rules of declarations at what is known, and that they don't ask for the types that it has already.
-use Rattle.std.proofs.Common.{◌≡◌, ℕ, zero, suc, ◌<◌, ◌≤◌, List, [], ◌∷◌, ◌++◌, length, get_or, refl, sym, ap, ◌∙◌, arith, Option, Some, None}
-use Rattle.std.specs.Prelude.{Bool, nat_lt, slice_get}
+use Rattle.std.proofs.Common.{◌≡◌, ℕ, zero, suc, ◌<◌, ◌≤◌, List, [], ◌∷◌, length, get_or, refl, sym, ap, ◌∙◌, Option, Some, None}
+use Rattle.std.specs.Prelude.{nat_lt, slice_get}
 use Rattle.sts_base.specs.declared.tables.Tables.{Tables}
 use Rattle.sts_scope.specs.declared.kinds.Kind.{Kind}
 use Rattle.sts_scope.specs.declared.known.Known.{Known}

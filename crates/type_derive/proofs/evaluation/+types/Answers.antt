@@ -1,15 +1,15 @@
 use Rattle.std.proofs.Common.{◌≡◌, ◌<◌, ◌≤◌, length, drop, refl, sym, ap, ◌∙◌, subst, arith}
 use Rattle.std.specs.Prelude.{Some, None, IfOk, if◌then◌else◌}
 use Rattle.std.specs.Option.{option_map}
-use Rattle.sts_syntax.specs.Trees.{Call, SuperCall, Make, Items}
+use Rattle.sts_syntax.specs.Trees.{SuperCall, Items}
 use Rattle.sts_syntax.specs.Views.{tree, trees, node_tree}
 use Rattle.sts_scope.specs.Kinds.{array}
 use Rattle.sts_scope.specs.Places.{name_found}
-use Rattle.sts_scope.specs.Rules.{prefix, operate, joined, choose, assign, element, part_of, part_kind, name_kind, takes_at, kind_at}
+use Rattle.sts_scope.specs.Rules.{prefix, operate, joined, choose, assign, element, part_of, takes_at, kind_at}
 use Rattle.type_derive.specs.declared.roles.Role.TheVariants.{Free, Given}
 use Rattle.type_derive.specs.Scopes.{place}
-use Rattle.type_derive.specs.Shown.{all_shown, goes_first, goes_some, row_shown, row_called, board_given}
-use Rattle.type_derive.specs.Typing.{◌>>=◌, constant_of, board_callee, type_of, types_of, callee_of, settable, called, named_callee, part_callee, are_given, board_kind, callee, super_method, made}
+use Rattle.type_derive.specs.Shown.{goes_first, goes_some, row_shown, row_called, board_given}
+use Rattle.type_derive.specs.Typing.{◌>>=◌, constant_of, board_callee, type_of, types_of, callee_of, settable, called, named_callee, part_callee, callee, super_method, made}
 use Rattle.type_derive.proofs.Calling.{name_is, member_is}
 use Rattle.type_derive.proofs.Opened.{call_is, super_call_is, make_is, items_is}
 use Rattle.type_derive.proofs.Evaluated.{moved, two, bind_some, bind_itself, none_if, set_type, target_member, go_kept, go_ends, all_kept, list_none, list_ends, board_kept, board_ends, call_board, call_other}

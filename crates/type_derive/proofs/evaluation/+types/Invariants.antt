@@ -1,4 +1,4 @@
-use Rattle.std.proofs.Common.{◌≡◌, ◌≤◌, drop, map}
+use Rattle.std.proofs.Common.{◌≡◌, drop, map}
 use Rattle.std.specs.Prelude.{◌&&◌}
 use Rattle.sts_syntax.specs.BoardViews.{board_parameter}
 use Rattle.sts_syntax.specs.Views.{trees}

@@ -1,5 +1,4 @@
-use Rattle.std.proofs.Common.{◌≡◌, sym, ap, ◌∙◌}
-use Rattle.std.specs.Prelude.{Some, None}
+use Rattle.std.proofs.Common.{sym, ap, ◌∙◌}
 use Rattle.type_derive.specs.Typing.{◌>>=◌, part_callee}
 use Rattle.type_derive.proofs.evaluation.part_called.Goals as goal
 

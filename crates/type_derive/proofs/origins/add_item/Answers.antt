@@ -1,4 +1,4 @@
-use Rattle.std.proofs.Common.{◌≡◌, ◌++◌, ◌∷◌, [], sym, ap, ◌∙◌, append_assoc, None}
+use Rattle.std.proofs.Common.{◌++◌, ◌∷◌, [], sym, ap, ◌∙◌, append_assoc, None}
 use Rattle.sts_syntax.specs.Programs.{top_level, class_members}
 use Rattle.sts_scope.specs.Values.{value_at}
 use Rattle.type_derive.specs.declared.origins.Origin.TheVariants as o

@@ -1,4 +1,4 @@
-use Rattle.std.proofs.Common.{◌≡◌, ◌+◌, ◌++◌, length, sym, ap, ◌∙◌}
+use Rattle.std.proofs.Common.{◌+◌, ◌++◌, length, sym, ap, ◌∙◌}
 use Rattle.sts_syntax.specs.Programs.{program, top_levels}
 use Rattle.sts_scope.specs.Values.{value_at}
 use Rattle.sts_scope.specs.Entries.{class_names}

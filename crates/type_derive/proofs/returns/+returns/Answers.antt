@@ -1,5 +1,5 @@
 use Rattle.std.proofs.Common.{◌≡◌, ◌+◌, ◌<◌, length, drop, sym, ap, ◌∙◌, subst, arith}
-use Rattle.std.specs.Prelude.{IfOk, None}
+use Rattle.std.specs.Prelude.{IfOk}
 use Rattle.sts_syntax.specs.Views.{tree, declarations, statement, statements, form_statement}
 use Rattle.sts_syntax.proofs.Laws.{let_statement}
 use Rattle.sts_scope.specs.Values.{value_at}

@@ -1,7 +1,7 @@
-use Rattle.std.proofs.Common.{◌≡◌, sym, ◌∙◌, subst, None}
+use Rattle.std.proofs.Common.{sym, ◌∙◌, subst}
 use Rattle.std.specs.Prelude.{true}
 use Rattle.sts_scope.specs.Values.{value_at}
-use Rattle.type_derive.specs.Derived.{rule, at}
+use Rattle.type_derive.specs.Derived.{rule}
 use Rattle.type_derive.specs.Origins.{sources}
 use Rattle.type_derive.specs.Underway.{Moves}
 use Rattle.type_derive.proofs.Evaluated.{none_if}

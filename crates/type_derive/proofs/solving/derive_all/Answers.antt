@@ -1,9 +1,9 @@
-use Rattle.std.proofs.Common.{◌≡◌, ◌++◌, ◌∷◌, length, sym, ap, ◌∙◌, subst}
+use Rattle.std.proofs.Common.{sym, ◌∙◌, subst}
 use Rattle.sts_scope.specs.declared.known.Known.{Known}
 use Rattle.sts_scope.specs.Values.{value_at}
 use Rattle.type_derive.specs.Derived.{rule, IsLeast}
 use Rattle.type_derive.specs.Origins.{sources}
-use Rattle.type_derive.specs.Underway.{IsUnderway, Keeps}
+use Rattle.type_derive.specs.Underway.{IsUnderway}
 use Rattle.type_derive.proofs.Least.{begins}
 use Rattle.type_derive.proofs.Ruled.{same_rule, keeps}
 use Rattle.type_derive.proofs.solving.derive_all.Goals as goal

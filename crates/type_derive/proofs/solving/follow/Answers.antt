@@ -1,5 +1,5 @@
-use Rattle.std.proofs.Common.{◌≡◌, sym, ap, ◌∙◌, None}
-use Rattle.sts_syntax.specs.Views.{statements, parameters}
+use Rattle.std.proofs.Common.{sym, ap, ◌∙◌}
+use Rattle.sts_syntax.specs.Views.{statements}
 use Rattle.sts_scope.specs.Values.{value_at}
 use Rattle.type_derive.specs.Derived.{follows}
 use Rattle.type_derive.specs.Origins.{source}

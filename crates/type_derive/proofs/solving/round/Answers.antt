@@ -1,10 +1,10 @@
-use Rattle.std.proofs.Common.{◌≡◌, ◌+◌, ◌<◌, length, refl, sym, ap, ◌∙◌, subst, arith, None}
-use Rattle.std.specs.Prelude.{false, OnOk}
+use Rattle.std.proofs.Common.{◌≡◌, sym, ◌∙◌, subst, None}
+use Rattle.std.specs.Prelude.{false}
 use Rattle.sts_scope.specs.Values.{value_at}
-use Rattle.type_derive.specs.Derived.{rule, at, IsLeast}
+use Rattle.type_derive.specs.Derived.{rule, at}
 use Rattle.type_derive.specs.Origins.{sources}
-use Rattle.type_derive.specs.Underway.{IsUnderway, IsStill, Moves, Keeps, holes}
-use Rattle.type_derive.proofs.Least.{begins, ends, moves_on, still_on}
+use Rattle.type_derive.specs.Underway.{IsUnderway, Moves}
+use Rattle.type_derive.proofs.Least.{moves_on, still_on}
 use Rattle.type_derive.proofs.Ruled.{same_rule, keeps}
 use Rattle.type_derive.proofs.solving.round.Goals as goal
 

@@ -1,4 +1,4 @@
-use Rattle.std.proofs.Common.{◌≡◌, ◌≤◌, ℕ, length, None}
+use Rattle.std.proofs.Common.{◌≡◌}
 use Rattle.std.specs.Prelude.{false}
 use Rattle.sts_scope.specs.Values.{value_at}
 use Rattle.type_derive.specs.Derived as derived

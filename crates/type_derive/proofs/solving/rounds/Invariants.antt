@@ -1,5 +1,4 @@
-use Rattle.std.proofs.Common.{◌≡◌, ◌≤◌, ℕ, length, None}
-use Rattle.std.specs.Prelude.{false}
+use Rattle.std.proofs.Common.{◌≡◌, length}
 use Rattle.sts_scope.specs.Values.{value_at}
 use Rattle.type_derive.specs.Derived as derived
 use Rattle.type_derive.specs.Origins.{sources}

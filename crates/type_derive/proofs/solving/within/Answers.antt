@@ -1,4 +1,4 @@
-use Rattle.std.proofs.Common.{◌≡◌, ◌<◌, ◌≤◌, ◌++◌, [], length, drop, sym, ap, ◌∙◌, arith, append-nil}
+use Rattle.std.proofs.Common.{◌<◌, ◌≤◌, ◌++◌, length, sym, ap, ◌∙◌, arith, append-nil}
 use Rattle.std.specs.Prelude.{false, None}
 use Rattle.sts_syntax.specs.Views.{parameters}
 use Rattle.sts_scope.specs.Values.{value_at}
