@@ -1,5 +1,5 @@
-mod Tokens
-mod Renumbered
-mod Spelling
+pub mod Tokens
+pub mod Renumbered
+pub mod Spelling
 mod Refusals
 mod Resolving

@@ -1,0 +1,4 @@
+mod Faultless
+mod Prelude
+mod Rows
+mod Whole

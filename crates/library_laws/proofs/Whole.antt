@@ -1,0 +1,33 @@
+-- The four parts together, and that the tokens of the library's text are those that were computed.
+use Rattle.std.proofs.Common.{◌≡◌, ℕ, List, ◌++◌, Option, refl, sym, ◌∙◌, subst}
+use Rattle.sts_base.specs.Distinct.{IsDistinct}
+use Rattle.sts_lexer.specs.Tokens.{IsTokenization}
+use Rattle.sts_lexer.specs.declared.token.Token.{Token}
+use Rattle.sts_syntax.specs.Programs.{Program}
+use Rattle.sts_scope.specs.declared.kinds.Kind.{Kind}
+use Rattle.type_derive.specs.Accepted.{AreDerived}
+use Rattle.type_derive.specs.Libraries.{IsLibrary}
+use Rattle.sts_prelude.specs.Library as l
+use Rattle.sts_prelude.specs.declared.text.TheConstants.{LIBRARY}
+use Rattle.sts_prelude.proofs.Tokens.{own, own_tokens}
+use Rattle.sts_prelude.proofs.Renumbered.{moved}
+use Rattle.sts_prelude.proofs.Spelling.{tokens_by, own_tokens_are}
+use Rattle.library_laws.specs.Laws.{first}
+use Rattle.library_laws.proofs.Prelude.{L, formed, faultless}
+use Rattle.library_laws.proofs.Rows.{rows}
+
+unmoved : tokens_by (moved own.names own.names) (moved own.texts own.texts) ≡ own_tokens
+unmoved = refl
+
+computed : (names texts : List (List ℕ)) (text : Program) (kinds : List (Option Kind)) → AreDerived (record { names = own.names ++ names; texts = own.texts ++ texts }) L text kinds
+    → IsLibrary (record { names = own.names ++ names; texts = own.texts ++ texts }) L text kinds
+computed names texts text kinds derived = record { functions = tt; formed = formed; faultless = faultless names texts text kinds derived; rows = rows names texts text kinds derived }
+
+pub prelude_so : (tokens : List Token) (names texts : List (List ℕ)) (text : Program) (kinds : List (Option Kind)) → IsDistinct first.names → IsDistinct first.texts
+    → IsTokenization first LIBRARY.now tokens → AreDerived (record { names = first.names ++ names; texts = first.texts ++ texts }) (l.library tokens) text kinds
+    → IsLibrary (record { names = first.names ++ names; texts = first.texts ++ texts }) (l.library tokens) text kinds
+prelude_so tokens names texts text kinds n x read derived =
+    let is : tokens ≡ own_tokens = own_tokens_are own tokens n x read ∙ unmoved in
+    subst (λ (ts : List Token). IsLibrary (record { names = first.names ++ names; texts = first.texts ++ texts }) (l.library ts) text kinds) (sym is)
+    (computed names texts text kinds
+    (subst (λ (ts : List Token). AreDerived (record { names = first.names ++ names; texts = first.texts ++ texts }) (l.library ts) text kinds) is derived))

@@ -1,0 +1,28 @@
+-- The library of the prelude is as the law of accepted texts asks.
+use Rattle.std.specs.Prelude.{ℕ, Option, List, [], ◌∷◌, ◌++◌, codes}
+use Rattle.sts_base.specs.declared.tables.Tables.{Tables}
+use Rattle.sts_base.specs.Distinct.{IsDistinct}
+use Rattle.sts_lexer.specs.Tokens.{IsTokenization}
+use Rattle.sts_lexer.specs.declared.token.Token.{Token}
+use Rattle.sts_syntax.specs.Programs.{Program}
+use Rattle.sts_scope.specs.declared.kinds.Kind.{Kind}
+use Rattle.type_derive.specs.Accepted.{AreDerived}
+use Rattle.type_derive.specs.Libraries.{IsLibrary}
+use Rattle.sts_prelude.specs.Library.{library}
+use Rattle.sts_prelude.specs.declared.text.TheConstants.{LIBRARY}
+
+-- the names of the library's text in the order in which they first appear, and its one text
+abbrev pub first : Tables
+first = record {
+  names = codes "function" ∷ codes "$showLeds" ∷ codes "f" ∷ codes "number" ∷ codes "void" ∷ codes "$show" ∷ codes "basic" ∷ codes "pause"
+      ∷ codes "$showNumber" ∷ codes "n" ∷ codes "let" ∷ codes "i" ∷ codes "g" ∷ codes "$numberGlyph" ∷ codes "while" ∷ codes "$showString"
+      ∷ codes "s" ∷ codes "string" ∷ codes "$textGlyph" ∷ codes "$writeLine" ∷ codes "serial" ∷ codes "writeString" ∷ codes "$abs" ∷ codes "return"
+      ∷ codes "$min" ∷ codes "a" ∷ codes "b" ∷ codes "$max" ∷ [];
+  texts = (13 ∷ 10 ∷ []) ∷ [];
+}
+
+-- The library's functions stand before any text: where its names and its text are the first of the tables, it is a library as the law of accepted texts asks.
+abbrev pub PreludeIsLibrary : Type 0
+PreludeIsLibrary = (tokens : List Token) (names texts : List (List ℕ)) (text : Program) (kinds : List (Option Kind)) → IsDistinct first.names → IsDistinct first.texts
+    → IsTokenization first LIBRARY.now tokens → AreDerived (record { names = first.names ++ names; texts = first.texts ++ texts }) (library tokens) text kinds
+    → IsLibrary (record { names = first.names ++ names; texts = first.texts ++ texts }) (library tokens) text kinds
