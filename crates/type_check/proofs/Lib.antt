@@ -5,3 +5,8 @@ pub mod Numbered
 pub mod Chains
 pub mod Noting
 mod Behind
+pub mod Calls
+pub mod Found
+pub mod Steps
+pub mod Parts
+pub mod Taking

@@ -1,2 +1,5 @@
 pub mod Building
 pub mod Uses
+pub mod Contexts
+pub mod Seen
+pub mod Bounds

@@ -1,0 +1,135 @@
+-- Going through statements and declared names.
+use Rattle.std.proofs.Common.{◌≡◌, ℕ, ◌+◌, ◌<◌, Bool, true, false, not, Option, Some, None, List, length, get_or, drop, refl, sym, ap, ◌∙◌, subst, Result}
+use Rattle.std.specs.Prelude.{if◌then◌else◌}
+use Rattle.sts_base.specs.declared.refused.Refused.{Refused}
+use Rattle.sts_base.specs.declared.refused.Code.TheVariants.{Mismatch, UnknownName, NeedsType}
+use Rattle.std.specs.declared.alloc.Global.{Global}
+use Rattle.std.specs.declared.boxed.Box.{Box}
+use Rattle.sts_syntax.specs.declared.trees.Expr.{Expr}
+use Rattle.sts_syntax.specs.declared.trees.Form.TheVariants as f
+use Rattle.sts_syntax.specs.declared.trees.Stmt.{Stmt}
+use Rattle.sts_syntax.specs.declared.trees.Binding.{Binding}
+use Rattle.sts_syntax.specs.Annotations.{Annotation}
+use Rattle.sts_syntax.specs.Trees.{Tree, OptionalTree, absent, present, Statement, For, ForOf, Return, OptionalStatement, omitted, written, Declaration, Declare}
+use Rattle.sts_syntax.specs.Views.{tree, statement, statements, declaration, declarations, form_statement, optional_expression}
+use Rattle.sts_scope.specs.declared.kinds.Kind.{Kind}
+use Rattle.sts_scope.specs.Faults.{Fault, ◌then◌, own, unless, Finds}
+use Rattle.sts_scope.specs.Places.{Place, with, inner}
+use Rattle.sts_scope.specs.Globals.{is_dollar}
+use Rattle.type_derive.specs.declared.roles.Role.{Role}
+use Rattle.type_derive.specs.declared.roles.Role.TheVariants.{Free}
+use Rattle.type_derive.specs.Typing.{type_of}
+use Rattle.sts_scope.proofs.Lists.{drop_at}
+use Rattle.type_derive.specs.Moves.{Extends}
+use Rattle.type_derive.specs.Returns as derive
+use Rattle.type_derive.specs.Returns.{is_alone}
+use Rattle.type_derive.specs.Nodes as node
+use Rattle.type_derive.proofs.Moves.{stays, further, extends_to, after_extends}
+use Rattle.type_check.specs.declared.context.Context.{Context}
+use Rattle.type_check.specs.Bounds as bounds
+use Rattle.type_check.specs.Seen.{is_test, initial_kind}
+use Rattle.type_check.specs.Contexts.{naming, fault, after_first, statement_fault, statements_fault, declaration_fault, declarations_fault, declared, all_declared, after}
+
+module _ (c : Context) where
+  pub statements_step : (p : Place) (all : List Stmt) (i : ℕ) (s : Stmt) → i < length all → s ≡ get_or all i s →
+      statements_fault c p (statements (drop i all)) ≡ (statement_fault c p (statement s) then statements_fault c (after c p (statement s)) (statements (drop (i + 1) all)))
+  statements_step p all i s lt is = ap (λ xs. statements_fault c p (statements xs)) (drop_at all i s lt is)
+
+  pub statements_kept : (p q : Place) (all : List Stmt) (i : ℕ) (s : Stmt) (found : Option Fault) → i < length all → s ≡ get_or all i s → statement_fault c p (statement s) ≡ None →
+      q ≡ after c p (statement s) → statements_fault c p (statements (drop i all)) ≡ found → statements_fault c q (statements (drop (i + 1) all)) ≡ found
+  statements_kept p q all i s found lt is f h rest =
+      ap (λ r. statements_fault c r (statements (drop (i + 1) all))) h
+      ∙ ap (λ o. o then statements_fault c (after c p (statement s)) (statements (drop (i + 1) all))) (sym f) ∙ sym (statements_step p all i s lt is) ∙ rest
+
+  pub extends_after : (p q r : Place) (s : Statement) → Extends p q → r ≡ after c q s → Extends p r
+  extends_after p q r s x h = further p q r x (extends_to q (after c q s) r (after_extends c.tables.now (naming c) c.known.now q s) h)
+
+  pub declarations_step : (p : Place) (fixed : Bool) (each : List Binding) (i : ℕ) (b : Binding) → i < length each → b ≡ get_or each i b →
+      declarations_fault c p fixed (declarations (drop i each)) ≡ (declaration_fault c p (declaration b) then declarations_fault c (declared c p fixed (declaration b)) fixed (declarations (drop (i + 1) each)))
+  declarations_step p fixed each i b lt is = ap (λ xs. declarations_fault c p fixed (declarations xs)) (drop_at each i b lt is)
+
+  pub declarations_kept : (p q : Place) (fixed : Bool) (each : List Binding) (i : ℕ) (b : Binding) (found : Option Fault) → i < length each → b ≡ get_or each i b →
+      declaration_fault c p (declaration b) ≡ None → q ≡ declared c p fixed (declaration b) → declarations_fault c p fixed (declarations (drop i each)) ≡ found →
+      declarations_fault c q fixed (declarations (drop (i + 1) each)) ≡ found
+  declarations_kept p q fixed each i b found lt is f h rest =
+      ap (λ r. declarations_fault c r fixed (declarations (drop (i + 1) each))) h
+      ∙ ap (λ o. o then declarations_fault c (declared c p fixed (declaration b)) fixed (declarations (drop (i + 1) each))) (sym f) ∙ sym (declarations_step p fixed each i b lt is) ∙ rest
+
+  pub declared_kept : (p q r : Place) (fixed : Bool) (each : List Binding) (i : ℕ) (b : Binding) → i < length each → b ≡ get_or each i b →
+      q ≡ declared c p fixed (declaration b) → all_declared c p fixed (declarations (drop i each)) ≡ r → all_declared c q fixed (declarations (drop (i + 1) each)) ≡ r
+  declared_kept p q r fixed each i b lt is h rest =
+      ap (λ x. all_declared c x fixed (declarations (drop (i + 1) each))) h ∙ sym (ap (λ xs. all_declared c p fixed (declarations xs)) (drop_at each i b lt is)) ∙ rest
+
+  -- a test that may be left out
+  pub test_is : (p : Place) (e : OptionalTree) (at : ℕ) → node.test_fault c.tables.now (naming c) c.known.now p e at ≡ unless (is_test c.tables.now c.known.now p e) Mismatch at
+  test_is p absent at = refl
+  test_is p (present e) at = refl
+
+  pub items_is : (o : Option Kind) → derive.items_of c.tables.now (naming c) c.known.now o ≡ bounds.items_of o
+  items_is None = refl
+  items_is (Some t) = refl
+
+  pub list_is : (o : Option Kind) → node.is_list c.tables.now (naming c) c.known.now o ≡ bounds.is_list o
+  list_is None = refl
+  list_is (Some t) = refl
+
+  -- what a declared name is given
+  pub bound_is : (p : Place) (shape : Option Annotation) (e : OptionalTree) →
+      derive.bound c.tables.now (naming c) c.known.now p shape e ≡ bounds.bound_kind (naming c) shape (initial_kind c.tables.now (naming c) c.known.now p shape e)
+  bound_is p (Some a) e = refl
+  bound_is p None absent = refl
+  bound_is p None (present e) = refl
+
+  pub own_bound_is : (p : Place) (shape : Option Annotation) (e : OptionalTree) (at : ℕ) →
+      node.own_bound c.tables.now (naming c) c.known.now p shape e at
+      ≡ bounds.bound_fault (naming c) c.known.now shape (bounds.is_present e) (initial_kind c.tables.now (naming c) c.known.now p shape e) at
+  own_bound_is p None e at = ap (λ o. own o NeedsType at) (bound_is p None e)
+  own_bound_is p (Some a) absent at = refl
+  own_bound_is p (Some a) (present e) at = refl
+
+  -- a loop through an array
+  pub for_of_step : (p q : Place) (at x : ℕ) (fixed : Bool) (list : Tree) (a : Statement) (o : Option Kind) → fault c p Free list ≡ None → o ≡ type_of c.tables.now c.known.now p Free list →
+      q ≡ with (inner p) x (bounds.items_of o) fixed →
+      statement_fault c p (ForOf at fixed x list a) ≡ (statement_fault c (inner q) a then unless (not (is_dollar c.tables.now.names x)) UnknownName at then unless (bounds.is_list o) Mismatch at)
+  for_of_step p q at x fixed list a o hf ho hq =
+      let t = c.tables.now in
+      let k = c.known.now in
+      let n = naming c in
+      let dollar = unless (not (is_dollar t.names x)) UnknownName at in
+      let u = type_of t k p Free list in
+      ap (λ y. y then statement_fault c (inner (derive.looped t n k p fixed x list)) a then dollar then unless (node.is_list t n k u) Mismatch at) hf
+      ∙ ap (λ y. statement_fault c (inner (with (inner p) x y fixed)) a then dollar then unless (node.is_list t n k u) Mismatch at) (items_is u ∙ ap bounds.items_of (sym ho))
+      ∙ ap (λ y. statement_fault c (inner y) a then dollar then unless (node.is_list t n k u) Mismatch at) (sym hq)
+      ∙ ap (λ y. statement_fault c (inner q) a then dollar then unless y Mismatch at) (list_is u ∙ ap bounds.is_list (sym ho))
+
+  pub returned_step : (p : Place) (at : ℕ) (e : Tree) (r : Role) → r ≡ node.kind_role p.gives →
+      statement_fault c p (Return at (present e)) ≡ (fault c p r e then unless (node.fits c.known.now (type_of c.tables.now c.known.now p r e) p.gives) Mismatch at)
+  returned_step p at e r h = ap (λ y. fault c p y e then unless (node.fits c.known.now (type_of c.tables.now c.known.now p y e) p.gives) Mismatch at) (sym h)
+
+  pub returned_found : (p : Place) (at : ℕ) (e : Tree) (r : Role) (o : Option Kind) (b : Bool) (result : Result Unit Refused) → r ≡ node.kind_role p.gives → fault c p r e ≡ None →
+      o ≡ type_of c.tables.now c.known.now p r e → b ≡ node.fits c.known.now o p.gives → Finds result (unless b Mismatch at) → Finds result (statement_fault c p (Return at (present e)))
+  returned_found p at e r o b result h hf ho hb found =
+      subst (Finds result) (sym (returned_step p at e r h ∙ ap (λ y. y then unless (node.fits c.known.now (type_of c.tables.now c.known.now p r e) p.gives) Mismatch at) hf
+      ∙ ap (λ y. unless (node.fits c.known.now y p.gives) Mismatch at) (sym ho) ∙ ap (λ y. unless y Mismatch at) (sym hb))) found
+
+  pub first_extends : (p q r : Place) (first : OptionalStatement) → q ≡ p → r ≡ after_first c q first → Extends q r
+  first_extends p q r omitted e h = extends_to q q r (stays q) h
+  first_extends p q r (written a) e h = extends_to q (after c q a) r (after_extends c.tables.now (naming c) c.known.now q a) h
+
+for_tree : (at : ℕ) (first : Option (Box Stmt Global)) (test step : Option Expr) (a : Box Stmt Global) →
+    form_statement at (f.For first test step a) ≡ For at (bounds.optional_boxed first) (optional_expression test) (optional_expression step) (statement a.value)
+for_tree at None None None a = refl
+for_tree at None None (Some e) a = refl
+for_tree at None (Some t) None a = refl
+for_tree at None (Some t) (Some e) a = refl
+for_tree at (Some s) None None a = refl
+for_tree at (Some s) None (Some e) a = refl
+for_tree at (Some s) (Some t) None a = refl
+for_tree at (Some s) (Some t) (Some e) a = refl
+
+pub for_is : (s : Stmt) (first : Option (Box Stmt Global)) (test step : Option Expr) (a : Box Stmt Global) → s.form ≡ f.For first test step a →
+    statement s ≡ For s.at (bounds.optional_boxed first) (optional_expression test) (optional_expression step) (statement a.value)
+for_is s first test step a is = ap (form_statement s.at) is ∙ for_tree s.at first test step a
+
+pub return_is : (s : Stmt) (value : Option Expr) (e : Expr) → s.form ≡ f.Return value → value ≡ Some e → statement s ≡ Return s.at (present (tree e))
+return_is s value e is h = ap (form_statement s.at) (is ∙ ap f.Return h)

@@ -1,0 +1,136 @@
+// What declared names, tests and results are given.
+ghost use Rattle.std.specs.Prelude.{◌≡◌, IfOk, is_some};
+ghost use Rattle.sts_syntax.specs.Views.{parameters, optional_annotation};
+ghost use Rattle.sts_base.specs.declared.refused.Code.TheVariants as code;
+ghost use Rattle.sts_scope.specs.Faults as failure;
+ghost use Rattle.sts_scope.specs.Faults.{Finds};
+ghost use Rattle.sts_scope.specs.Rules as rule;
+ghost use Rattle.sts_scope.specs.Values.{value_at};
+ghost use Rattle.type_derive.specs.Nodes as node;
+ghost use Rattle.type_derive.specs.Scopes.{place};
+ghost use Rattle.type_check.specs.Bounds as bounds;
+ghost use Rattle.type_check.specs.Contexts.{naming};
+
+use crate::context::Context;
+use sts_base::{Code, Refused};
+use sts_scope::{
+    Base, ByNumber, Kind, Known, check_written, is_dollar, kind_of, or_no_memory, unless,
+};
+use sts_syntax::{Param, Shape};
+use type_derive::{Role, Scope, flat, goes, is_array, is_twice, same};
+
+/// The types that are written at the parameters of a function expression.
+pub fn check_parameter_types(classes: &ByNumber, params: &[Param]) -> Result<(), Refused>
+    ensures { Finds result (node.parameter_types_fault (value_at classes.now.values.items) (parameters params.now)) }
+{
+    for i in 0..params.len() {
+        check_written(classes, &params[i].shape)?;
+    }
+    Ok(())
+}
+
+/// Whether it is the type of truth values.
+pub fn is_boolean(kind: Option<Kind>) -> bool
+    ensures { result ≡ rule.is_boolean kind }
+{
+    match kind {
+        None => false,
+        Some(t) => same(t, flat(Base::Boolean)),
+    }
+}
+
+/// Whether it is what a function gives that gives nothing.
+pub fn is_nothing(kind: Option<Kind>) -> bool
+    ensures { result ≡ rule.is_nothing kind }
+{
+    match kind {
+        None => false,
+        Some(t) => same(t, flat(Base::Nothing)),
+    }
+}
+
+/// Whether it is an array's type.
+pub fn is_list(kind: Option<Kind>) -> bool
+    ensures { result ≡ bounds.is_list kind }
+{
+    match kind {
+        None => false,
+        Some(t) => is_array(t),
+    }
+}
+
+/// A result that is known gives a type to what is returned.
+pub fn kind_role(kind: Option<Kind>) -> Role
+    ensures { result ≡ node.kind_role kind }
+{
+    match kind {
+        None => Role::Free,
+        Some(_) => Role::Given,
+    }
+}
+
+/// A type that is written gives one to an initialiser.
+pub fn shape_role(shape: &Option<Shape>) -> Role
+    ensures { result ≡ node.shape_role (optional_annotation shape.now) }
+{
+    match shape {
+        None => Role::Free,
+        Some(_) => Role::Given,
+    }
+}
+
+/// Whether a value goes where a type is given, both of which are known.
+pub fn fits(known: &Known, s: Option<Kind>, t: Option<Kind>) -> bool
+    ensures { result ≡ node.fits known.now s t }
+{
+    match (s, t) {
+        (Some(s), Some(t)) => goes(known.classes.as_slice(), s, t),
+        (Some(_), None) => false,
+        (None, _) => false,
+    }
+}
+
+/// A name that is declared in a block begins with no `$` and is no second one.
+pub fn check_local(context: &Context, scope: &Scope, x: u32, at: u32) -> Result<(), Refused>
+    ensures { Finds result (node.own_local context.now.tables.now (naming context.now) context.now.known.now (place scope.now) x at) }
+{
+    unless(!is_dollar(context.tables, x), Code::UnknownName, at)?;
+    unless(!is_twice(scope, x), Code::TwiceNamed, at)
+}
+
+/// The type of a name without a written one.
+fn derived(first: Option<Kind>, at: u32) -> Result<Option<Kind>, Refused>
+    ensures found { Finds result (failure.own first code.NeedsType at) }
+    ensures kind { IfOk result (λ kind. kind ≡ first) }
+{
+    match first {
+        Some(_) => Ok(first),
+        None => Err(Refused::Program {
+            code: Code::NeedsType,
+            at,
+        }),
+    }
+}
+
+/// The type of a declared name, by that of its initialiser.
+pub fn bound(
+    context: &Context,
+    shape: &Option<Shape>,
+    there: bool,
+    first: Option<Kind>,
+    at: u32,
+) -> Result<Option<Kind>, Refused>
+    ensures found { Finds result (bounds.bound_fault (naming context.now) context.now.known.now (optional_annotation shape.now) there first at) }
+    ensures kind { IfOk result (λ kind. kind ≡ bounds.bound_kind (naming context.now) (optional_annotation shape.now) first) }
+{
+    match shape {
+        None => derived(first, at),
+        Some(shape) => {
+            let kind = or_no_memory(kind_of(context.classes, shape))?;
+            if there {
+                unless(fits(context.known, first, kind), Code::Mismatch, at)?;
+            }
+            Ok(kind)
+        }
+    }
+}

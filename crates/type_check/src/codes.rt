@@ -1,0 +1,80 @@
+// Why a node has no type although its parts have.
+ghost use Rattle.std.specs.Prelude.{◌≡◌};
+ghost use Rattle.sts_scope.specs.Codes as code;
+
+use sts_base::Code;
+use sts_scope::{Found, Kind, Part, This};
+
+/// Why a name can't be read.
+pub fn why_name(found: Found) -> Code
+    ensures { result ≡ code.why_name found }
+{
+    match found {
+        Found::Unknown => Code::UnknownName,
+        Found::Class(_) => Code::UnknownName,
+        Found::Captured => Code::Captures,
+        Found::Local(_) => Code::NeedsType,
+        Found::Global(_) => Code::NeedsType,
+        Found::Function(_) => Code::BadHandler,
+    }
+}
+
+/// Why `this` can't be read.
+pub fn why_this(this: This) -> Code
+    ensures { result ≡ code.why_this this }
+{
+    match this {
+        This::Nowhere => Code::UnknownName,
+        This::Hidden(_) => Code::Captures,
+        This::Object(_) => Code::Mismatch,
+    }
+}
+
+/// Why a member can't be read.
+pub fn why_part(part: Part) -> Code
+    ensures { result ≡ code.why_part part }
+{
+    match part {
+        Part::Missing => Code::UnknownName,
+        Part::Field(_) => Code::NeedsType,
+        Part::Method(_) => Code::BadHandler,
+        Part::Push(_) => Code::BadHandler,
+        Part::Pop(_) => Code::BadHandler,
+        Part::Length => Code::Mismatch,
+    }
+}
+
+/// Why a call of what gives this has no type.
+pub fn why_call(gives: Option<Kind>) -> Code
+    ensures { result ≡ code.why_call gives }
+{
+    match gives {
+        None => Code::NeedsType,
+        Some(_) => Code::Mismatch,
+    }
+}
+
+/// Why `new` of a name makes nothing.
+pub fn why_make(found: Found) -> Code
+    ensures { result ≡ code.why_make found }
+{
+    match found {
+        Found::Captured => Code::Captures,
+        Found::Unknown => Code::UnknownName,
+        Found::Class(_) => Code::Mismatch,
+        Found::Local(_) => Code::UnknownName,
+        Found::Global(_) => Code::UnknownName,
+        Found::Function(_) => Code::UnknownName,
+    }
+}
+
+/// Why there is no method of a base.
+pub fn why_super(this: This) -> Code
+    ensures { result ≡ code.why_super this }
+{
+    match this {
+        This::Nowhere => Code::UnknownName,
+        This::Object(_) => Code::UnknownName,
+        This::Hidden(_) => Code::Captures,
+    }
+}

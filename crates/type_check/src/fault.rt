@@ -1,0 +1,574 @@
+// The first failure of an expression, else its type: each of its parts is gone through once, in text order, before itself.
+ghost use Rattle.std.specs.Prelude.{◌≡◌, ◌≤◌, ◌++◌, ◌∷◌, [], Some, None, length, drop, map, IfOk, IfErr, OnOk, if◌then◌else◌};
+ghost use Rattle.sts_base.specs.declared.refused.Code.TheVariants as code;
+ghost use Rattle.sts_syntax.specs.BoardViews.{board_parameter};
+ghost use Rattle.sts_syntax.specs.Trees as t;
+ghost use Rattle.sts_syntax.specs.Views.{tree, trees, routine, optional_expression, optional_annotation, statement, statements, declaration, declarations, optional_written};
+ghost use Rattle.sts_scope.specs.Faults.{Finds, ◌then◌};
+ghost use Rattle.sts_scope.specs.Places as name;
+ghost use Rattle.type_derive.specs.Scopes.{place};
+ghost use Rattle.type_derive.specs.Typing as typing;
+ghost use Rattle.sts_scope.specs.Kinds as kind;
+ghost use Rattle.type_check.specs.Bounds.{optional_boxed};
+ghost use Rattle.type_check.specs.Contexts as c;
+ghost use Rattle.type_check.specs.Contexts.{naming};
+ghost use Rattle.type_derive.specs.Moves.{Extends};
+ghost use Rattle.type_check.specs.Seen.{is_test, initial_kind};
+
+use crate::bounds::{
+    bound, check_local, check_parameter_types, fits, is_boolean, is_list, is_nothing, kind_role,
+    shape_role,
+};
+use crate::codes::why_this;
+use crate::context::Context;
+use crate::nodes::{
+    board_call_seen, bump_kind, call_seen, callee, is_called, is_served, items_seen, make_seen,
+    member_seen, name_seen, set_kind, settable, super_call_seen,
+};
+use crate::places::{enter_loop, handler_scope};
+use crate::results::handler_result;
+use crate::seen::{Seen, always, own, plain};
+use sts_base::{Code, Refused, Seq};
+use sts_scope::{Base, Kind, check_written, is_dollar, or_no_memory, unless};
+use sts_syntax::{Binding, BoardCall, BoardParameter, Body, Expr, Form, Node, Shape, Stmt};
+use type_derive::{
+    Role, Scope, board_callee, both, chosen, constant, declare, enter, flat, indexed, is_alone,
+    is_given, leave, operated, prefixed, this_kind,
+};
+
+/// An expression: its first failure, else its type and what stands behind its dot.
+#[cycle(walk)]
+pub fn expression(
+    context: &Context,
+    room: usize,
+    scope: &Scope,
+    role: Role,
+    e: &Expr,
+) -> Result<Seen, Refused>
+    ensures found { Finds result (c.fault context.now (place scope.now) role (tree e.now)) }
+    ensures seen { IfOk result (λ s. s ≡ c.seen_of context.now (place scope.now) role (tree e.now)) }
+{
+    if room == 0 {
+        return Err(Refused::NoMemory);
+    }
+    let room = room - 1;
+    let at = e.at;
+    let known = context.known;
+    match &e.node {
+        Node::Num(_) => Ok(always(Base::Number)),
+        Node::Text(_) => Ok(always(Base::Text)),
+        Node::Truth(_) => Ok(always(Base::Boolean)),
+        Node::Null => Ok(always(Base::Null)),
+        Node::This => own(this_kind(scope.this), why_this(scope.this), at),
+        Node::Name(x) => name_seen(context, scope, role, *x, at),
+        Node::Unary(op, a) => {
+            let s = expression(context, room, scope, Role::Free, a)?;
+            own(prefixed(*op, s.kind), Code::Mismatch, at)
+        }
+        Node::Binary(op, a, b) => {
+            let s = expression(context, room, scope, Role::Free, a)?;
+            let u = expression(context, room, scope, Role::Free, b)?;
+            own(
+                operated(known.classes.as_slice(), *op, s.kind, u.kind),
+                Code::Mismatch,
+                at,
+            )
+        }
+        Node::Both(a, b) => {
+            let s = expression(context, room, scope, Role::Free, a)?;
+            let u = expression(context, room, scope, Role::Free, b)?;
+            own(both(s.kind, u.kind), Code::Mismatch, at)
+        }
+        Node::Either(a, b) => {
+            let s = expression(context, room, scope, Role::Free, a)?;
+            let u = expression(context, room, scope, Role::Free, b)?;
+            own(both(s.kind, u.kind), Code::Mismatch, at)
+        }
+        Node::Choice(q, a, b) => {
+            let v = expression(context, room, scope, Role::Free, q)?;
+            let s = expression(context, room, scope, Role::Free, a)?;
+            let u = expression(context, room, scope, Role::Free, b)?;
+            own(
+                chosen(known.classes.as_slice(), v.kind, s.kind, u.kind),
+                Code::Mismatch,
+                at,
+            )
+        }
+        Node::Set(op, x, a) => {
+            let u = expression(context, room, scope, Role::Free, x)?;
+            let s = expression(context, room, scope, Role::Given, a)?;
+            let can = settable(context, scope, x, u.part);
+            own(
+                set_kind(known.classes.as_slice(), *op, can, u.kind, s.kind),
+                Code::Mismatch,
+                at,
+            )
+        }
+        Node::Bump {
+            target,
+            by: _,
+            after: _,
+        } => {
+            let u = expression(context, room, scope, Role::Free, target)?;
+            let can = settable(context, scope, target, u.part);
+            own(bump_kind(can, u.kind), Code::Mismatch, at)
+        }
+        Node::Member(a, m) => {
+            if constant(context.tables, known, scope, a, *m).is_some() {
+                return Ok(always(Base::Number));
+            }
+            if board_callee(context.tables, known, scope, e).is_some() {
+                unless(is_called(role), Code::BadHandler, at)?;
+                return Ok(plain(None));
+            }
+            let s = expression(context, room, scope, Role::Free, a)?;
+            member_seen(context, role, s.kind, *m, at)
+        }
+        Node::Item(a, i) => {
+            let s = expression(context, room, scope, Role::Free, a)?;
+            let u = expression(context, room, scope, Role::Free, i)?;
+            own(indexed(s.kind, u.kind), Code::Mismatch, at)
+        }
+        Node::Items(all) => items(context, room, scope, role, all.as_slice(), at),
+        Node::Call(f, args) => call(context, room, scope, role, f, args.as_slice(), at),
+        Node::SuperCall(m, args) => super_call(context, room, scope, role, *m, args.as_slice(), at),
+        Node::Make(x, args) => make(context, room, scope, role, *x, args.as_slice(), at),
+        Node::Handler(body) => {
+            handler(context, room, scope, body)?;
+            unless(is_served(role), Code::BadHandler, at)?;
+            Ok(plain(None))
+        }
+    }
+}
+
+/// What the place of an argument does with it.
+fn role_at(takes: &[BoardParameter], i: usize) -> Role
+    ensures { result ≡ typing.role_of (map board_parameter (drop i takes.now)) }
+{
+    match takes.get(i) {
+        None => Role::Given,
+        Some(to) => match to {
+            BoardParameter::Handler => Role::Served,
+            BoardParameter::Number => Role::Given,
+            BoardParameter::Text => Role::Given,
+            BoardParameter::Drawing => Role::Given,
+        },
+    }
+}
+
+/// What a call takes that may be one of the board.
+fn taken(board: Option<BoardCall>) -> &'static [BoardParameter]
+    ensures { map board_parameter result.now ≡ c.taken board }
+{
+    match board {
+        None => &[],
+        Some(call) => call.takes(),
+    }
+}
+
+/// Adds the type of an argument.
+fn add(kinds: &mut Seq<Option<Kind>>, kind: Option<Kind>) -> Result<(), Refused>
+    ensures ok { OnOk result (kinds.new ≡ kinds.old ++ kind ∷ []) }
+    ensures err { IfErr result (λ e. e ≡ Refused.NoMemory) }
+{
+    or_no_memory(kinds.push(kind))
+}
+
+/// Arguments from one on: their first failure, else their types.
+#[cycle(walk)]
+pub fn kinds_of(
+    context: &Context,
+    room: usize,
+    scope: &Scope,
+    board: Option<BoardCall>,
+    from: usize,
+    all: &[Expr],
+) -> Result<Seq<Option<Kind>>, Refused>
+    requires within { from ≤ length all.now }
+    ensures found { Finds result (c.faults context.now (place scope.now) (drop from (c.taken board)) (trees (drop from all.now))) }
+    ensures kinds { IfOk result (λ os. os ≡ c.kinds_of context.now (place scope.now) (drop from (c.taken board)) (trees (drop from all.now))) }
+{
+    let takes = taken(board);
+    let mut kinds = Seq::new(context.alloc);
+    for i in from..all.len() {
+        let s = expression(context, room, scope, role_at(takes, i), &all[i])?;
+        add(&mut kinds, s.kind)?;
+    }
+    Ok(kinds)
+}
+
+/// The type of `[]`, where its place gives it one.
+fn empty_kind(role: Role) -> Option<Kind>
+    ensures { result ≡ if typing.is_given role then Some kind.empty else None }
+{
+    if is_given(role) {
+        Some(flat(Base::Empty))
+    } else {
+        None
+    }
+}
+
+/// A list literal.
+#[cycle(walk)]
+fn items(
+    context: &Context,
+    room: usize,
+    scope: &Scope,
+    role: Role,
+    all: &[Expr],
+    at: u32,
+) -> Result<Seen, Refused>
+    ensures found { Finds result (c.fault context.now (place scope.now) role (t.Items at (trees all.now))) }
+    ensures seen { IfOk result (λ s. s ≡ c.seen_of context.now (place scope.now) role (t.Items at (trees all.now))) }
+{
+    match all {
+        [] => own(empty_kind(role), Code::Mismatch, at),
+        [first, ..] => {
+            let s = expression(context, room, scope, Role::Free, first)?;
+            let kinds = kinds_of(context, room, scope, None, 1, all)?;
+            items_seen(context, s.kind, kinds.as_slice(), at)
+        }
+    }
+}
+
+/// A call.
+#[cycle(walk)]
+fn call(
+    context: &Context,
+    room: usize,
+    scope: &Scope,
+    role: Role,
+    f: &Expr,
+    args: &[Expr],
+    at: u32,
+) -> Result<Seen, Refused>
+    ensures found { Finds result (c.fault context.now (place scope.now) role (t.Call at (tree f.now) (trees args.now))) }
+    ensures seen { IfOk result (λ s. s ≡ c.seen_of context.now (place scope.now) role (t.Call at (tree f.now) (trees args.now))) }
+{
+    match board_callee(context.tables, context.known, scope, f) {
+        Some(board) => {
+            let kinds = kinds_of(context, room, scope, Some(board), 0, args)?;
+            board_call_seen(context, scope, board, kinds.as_slice(), args, at)
+        }
+        None => {
+            let s = expression(context, room, scope, Role::Called, f)?;
+            let kinds = kinds_of(context, room, scope, None, 0, args)?;
+            let called = callee(context, scope, f, s.part);
+            call_seen(context, called, kinds.as_slice(), at)
+        }
+    }
+}
+
+/// `super(..)` elsewhere than at the head of a constructor, and `super.m(..)`.
+#[cycle(walk)]
+fn super_call(
+    context: &Context,
+    room: usize,
+    scope: &Scope,
+    role: Role,
+    m: Option<u32>,
+    args: &[Expr],
+    at: u32,
+) -> Result<Seen, Refused>
+    ensures found { Finds result (c.fault context.now (place scope.now) role (t.SuperCall at m (trees args.now))) }
+    ensures seen { IfOk result (λ s. s ≡ c.seen_of context.now (place scope.now) role (t.SuperCall at m (trees args.now))) }
+{
+    let kinds = kinds_of(context, room, scope, None, 0, args)?;
+    match m {
+        None => Err(Refused::Program {
+            code: Code::Mismatch,
+            at,
+        }),
+        Some(m) => super_call_seen(context, scope, m, kinds.as_slice(), at),
+    }
+}
+
+/// `new` of a class.
+#[cycle(walk)]
+fn make(
+    context: &Context,
+    room: usize,
+    scope: &Scope,
+    role: Role,
+    x: u32,
+    args: &[Expr],
+    at: u32,
+) -> Result<Seen, Refused>
+    ensures found { Finds result (c.fault context.now (place scope.now) role (t.Make at x (trees args.now))) }
+    ensures seen { IfOk result (λ s. s ≡ c.seen_of context.now (place scope.now) role (t.Make at x (trees args.now))) }
+{
+    let kinds = kinds_of(context, room, scope, None, 0, args)?;
+    make_seen(context, scope, x, kinds.as_slice(), at)
+}
+
+/// A function expression.
+#[cycle(walk)]
+fn handler(context: &Context, room: usize, scope: &Scope, body: &Body) -> Result<(), Refused>
+    ensures { Finds result (c.handler_fault context.now (place scope.now) (routine body.now)) }
+{
+    check_parameter_types(context.classes, body.params.as_slice())?;
+    check_written(context.classes, &body.gives)?;
+    let gives = handler_result(
+        context,
+        scope,
+        body.params.as_slice(),
+        &body.gives,
+        body.stmts.as_slice(),
+    )?;
+    let mut inside = or_no_memory(handler_scope(context, scope, body.params.as_slice(), gives))?;
+    statements(context, room, &mut inside, body.stmts.as_slice())
+}
+
+/// Statements of a block.
+#[cycle(walk)]
+pub fn statements(
+    context: &Context,
+    room: usize,
+    scope: &mut Scope,
+    all: &[Stmt],
+) -> Result<(), Refused>
+    ensures found { Finds result (c.statements_fault context.now (place scope.old) (statements all.now)) }
+    ensures place { OnOk result (Extends (place scope.old) (place scope.new)) }
+{
+    for i in 0..all.len() {
+        statement(context, room, scope, &all[i])?;
+    }
+    Ok(())
+}
+
+/// A statement that has a block of its own.
+#[cycle(walk)]
+fn nested(context: &Context, room: usize, scope: &mut Scope, s: &Stmt) -> Result<(), Refused>
+    ensures found { Finds result (c.statement_fault context.now (name.inner (place scope.old)) (statement s.now)) }
+    ensures place { OnOk result (place scope.new ≡ place scope.old) }
+{
+    let mark = enter(scope);
+    statement(context, room, scope, s)?;
+    leave(scope, mark);
+    Ok(())
+}
+
+/// Statements that have a block of their own.
+#[cycle(walk)]
+fn block(context: &Context, room: usize, scope: &mut Scope, all: &[Stmt]) -> Result<(), Refused>
+    ensures found { Finds result (c.statements_fault context.now (name.inner (place scope.old)) (statements all.now)) }
+    ensures place { OnOk result (place scope.new ≡ place scope.old) }
+{
+    let mark = enter(scope);
+    statements(context, room, scope, all)?;
+    leave(scope, mark);
+    Ok(())
+}
+
+/// A statement.
+#[cycle(walk)]
+pub fn statement(context: &Context, room: usize, scope: &mut Scope, s: &Stmt) -> Result<(), Refused>
+    ensures found { Finds result (c.statement_fault context.now (place scope.old) (statement s.now)) }
+    ensures place { OnOk result (place scope.new ≡ c.after context.now (place scope.old) (statement s.now)) }
+{
+    if room == 0 {
+        return Err(Refused::NoMemory);
+    }
+    let room = room - 1;
+    let at = s.at;
+    match &s.form {
+        Form::Block(all) => block(context, room, scope, all.as_slice()),
+        Form::Let { fixed, each } => {
+            declarations_fault(context, room, scope, *fixed, each.as_slice())
+        }
+        Form::If(test, a, other) => {
+            let s = expression(context, room, scope, Role::Free, test)?;
+            nested(context, room, scope, a)?;
+            if let Some(b) = other {
+                nested(context, room, scope, b)?;
+            }
+            unless(is_boolean(s.kind), Code::Mismatch, at)
+        }
+        Form::While(test, a) => {
+            let s = expression(context, room, scope, Role::Free, test)?;
+            nested(context, room, scope, a)?;
+            unless(is_boolean(s.kind), Code::Mismatch, at)
+        }
+        Form::DoWhile(a, test) => {
+            nested(context, room, scope, a)?;
+            let s = expression(context, room, scope, Role::Free, test)?;
+            unless(is_boolean(s.kind), Code::Mismatch, at)
+        }
+        Form::For(first, test, step, a) => {
+            for_loop(context, room, scope, first, test, step, a, at)
+        }
+        Form::ForOf {
+            fixed,
+            name,
+            list,
+            body,
+        } => for_of(context, room, scope, *fixed, *name, list, body, at),
+        Form::Return(value) => match value {
+            None => unless(is_nothing(scope.gives), Code::Mismatch, at),
+            Some(e) => returned(context, room, scope, e, at),
+        },
+        Form::Break => Ok(()),
+        Form::Continue => Ok(()),
+        Form::Plain(e) => {
+            expression(context, room, scope, Role::Free, e)?;
+            Ok(())
+        }
+        Form::Empty => Ok(()),
+    }
+}
+
+/// `for (first; test; step) s`
+#[cycle(walk)]
+fn for_loop(
+    context: &Context,
+    room: usize,
+    scope: &mut Scope,
+    first: &Option<Box<Stmt>>,
+    test: &Option<Expr>,
+    step: &Option<Expr>,
+    a: &Stmt,
+    at: u32,
+) -> Result<(), Refused>
+    ensures found { Finds result (c.statement_fault context.now (place scope.old) (t.For at (optional_boxed first.now) (optional_expression test.now) (optional_expression step.now) (statement a.now))) }
+    ensures place { OnOk result (place scope.new ≡ place scope.old) }
+{
+    let mark = enter(scope);
+    first_of(context, room, scope, first)?;
+    let tests = optional(context, room, scope, test)?;
+    optional(context, room, scope, step)?;
+    nested(context, room, scope, a)?;
+    leave(scope, mark);
+    unless(tests, Code::Mismatch, at)?;
+    Ok(())
+}
+
+/// What stands first in a `for`, which may be left out.
+#[cycle(walk)]
+fn first_of(
+    context: &Context,
+    room: usize,
+    scope: &mut Scope,
+    first: &Option<Box<Stmt>>,
+) -> Result<(), Refused>
+    ensures found { Finds result (c.first_fault context.now (place scope.old) (optional_boxed first.now)) }
+    ensures place { OnOk result (place scope.new ≡ c.after_first context.now (place scope.old) (optional_boxed first.now)) }
+{
+    match first {
+        None => Ok(()),
+        Some(first) => statement(context, room, scope, first),
+    }
+}
+
+/// A test or a step, which may be left out: its first failure, else whether it is left out or a truth value.
+#[cycle(walk)]
+fn optional(
+    context: &Context,
+    room: usize,
+    scope: &Scope,
+    e: &Option<Expr>,
+) -> Result<bool, Refused>
+    ensures found { Finds result (c.optional_fault context.now (place scope.now) (optional_expression e.now)) }
+    ensures tests { IfOk result (λ b. b ≡ is_test context.now.tables.now context.now.known.now (place scope.now) (optional_expression e.now)) }
+{
+    match e {
+        None => Ok(true),
+        Some(e) => {
+            let s = expression(context, room, scope, Role::Free, e)?;
+            Ok(is_boolean(s.kind))
+        }
+    }
+}
+
+/// `for (let x of list) s`
+#[cycle(walk)]
+fn for_of(
+    context: &Context,
+    room: usize,
+    scope: &mut Scope,
+    fixed: bool,
+    x: u32,
+    list: &Expr,
+    a: &Stmt,
+    at: u32,
+) -> Result<(), Refused>
+    ensures found { Finds result (c.statement_fault context.now (place scope.old) (t.ForOf at fixed x (tree list.now) (statement a.now))) }
+    ensures place { OnOk result (place scope.new ≡ place scope.old) }
+{
+    let s = expression(context, room, scope, Role::Free, list)?;
+    let mark = enter_loop(scope, x, s.kind, fixed)?;
+    nested(context, room, scope, a)?;
+    leave(scope, mark);
+    unless(!is_dollar(context.tables, x), Code::UnknownName, at)?;
+    unless(is_list(s.kind), Code::Mismatch, at)?;
+    Ok(())
+}
+
+/// `return` with a value
+#[cycle(walk)]
+fn returned(context: &Context, room: usize, scope: &Scope, e: &Expr, at: u32) -> Result<(), Refused>
+    ensures { Finds result (c.statement_fault context.now (place scope.now) (t.Return at (t.present (tree e.now)))) }
+{
+    let s = expression(context, room, scope, kind_role(scope.gives), e)?;
+    unless(fits(context.known, s.kind, scope.gives), Code::Mismatch, at)
+}
+
+/// An initialiser: its first failure, else its type if it gives one.
+#[cycle(walk)]
+pub fn initial(
+    context: &Context,
+    room: usize,
+    scope: &Scope,
+    shape: &Option<Shape>,
+    first: &Option<Expr>,
+) -> Result<Option<Kind>, Refused>
+    ensures found { Finds result (c.initial_fault context.now (place scope.now) (optional_annotation shape.now) (optional_expression first.now)) }
+    ensures kind { IfOk result (λ kind. kind ≡ initial_kind context.now.tables.now (naming context.now) context.now.known.now (place scope.now) (optional_annotation shape.now) (optional_expression first.now)) }
+{
+    match first {
+        None => Ok(None),
+        Some(e) => {
+            if shape.is_none() && is_alone(e) {
+                return Ok(None);
+            }
+            let s = expression(context, room, scope, shape_role(shape), e)?;
+            Ok(s.kind)
+        }
+    }
+}
+
+/// A declared name in a block.
+#[cycle(walk)]
+fn declaration_fault(
+    context: &Context,
+    room: usize,
+    scope: &mut Scope,
+    fixed: bool,
+    b: &Binding,
+) -> Result<(), Refused>
+    ensures found { Finds result (c.declaration_fault context.now (place scope.old) (declaration b.now)) }
+    ensures place { OnOk result (place scope.new ≡ c.declared context.now (place scope.old) fixed (declaration b.now)) }
+{
+    check_written(context.classes, &b.shape)?;
+    let first = initial(context, room, scope, &b.shape, &b.first)?;
+    check_local(context, scope, b.name, b.at)?;
+    let kind = bound(context, &b.shape, b.first.is_some(), first, b.at)?;
+    or_no_memory(declare(scope, b.name, kind, fixed))
+}
+
+/// Declared names in a block.
+#[cycle(walk)]
+fn declarations_fault(
+    context: &Context,
+    room: usize,
+    scope: &mut Scope,
+    fixed: bool,
+    each: &[Binding],
+) -> Result<(), Refused>
+    ensures found { Finds result (c.declarations_fault context.now (place scope.old) fixed (declarations each.now)) }
+    ensures place { OnOk result (place scope.new ≡ c.all_declared context.now (place scope.old) fixed (declarations each.now)) }
+{
+    for i in 0..each.len() {
+        declaration_fault(context, room, scope, fixed, &each[i])?;
+    }
+    Ok(())
+}
