@@ -10,3 +10,4 @@ pub mod Found
 pub mod Steps
 pub mod Parts
 pub mod Taking
+pub mod Texts

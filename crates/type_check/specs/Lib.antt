@@ -3,3 +3,5 @@ pub mod Uses
 pub mod Contexts
 pub mod Seen
 pub mod Bounds
+pub mod Texts
+pub mod Heads

@@ -1,0 +1,7 @@
+use Rattle.std.proofs.Common.{sym, ap, ◌∙◌, length}
+use Rattle.sts_syntax.specs.Views.{form_statement}
+use Rattle.sts_scope.proofs.Statements.{let_count}
+use Rattle.type_check.proofs.overrides.globals_in.Goals as goal
+
+pub returns-in-Let : goal.returns-in-Let
+returns-in-Let c = c.len.ensures ∙ sym (let_count c.args.s.now c.in-Let.fixed c.in-Let.each c.in-Let.is)

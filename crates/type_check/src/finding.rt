@@ -1,0 +1,33 @@
+// The first failure of a text behind its headings.
+ghost use Rattle.sts_syntax.specs.Programs.{program};
+ghost use Rattle.sts_scope.specs.Faults.{Finds};
+ghost use Rattle.sts_scope.specs.Values.{value_at};
+ghost use Rattle.type_check.specs.Texts.{type_failure};
+
+use crate::context::Context;
+use crate::overrides::check_all_overrides;
+use crate::passes::check_nodes;
+use std::alloc::Global;
+use sts_base::{Refused, Tables};
+use sts_scope::Declared;
+use sts_syntax::Unit;
+
+/// The first failure of overriding methods, then of nodes.
+pub fn find_failure(
+    alloc: Global,
+    text: &Unit,
+    tables: &Tables,
+    declared: &Declared,
+) -> Result<(), Refused>
+    ensures { Finds result (type_failure tables.now (value_at declared.now.classes.values.items) declared.now.known declared.now.first_class (program text.now)) }
+{
+    let context = Context {
+        alloc,
+        tables,
+        classes: &declared.classes,
+        known: &declared.known,
+    };
+    let first = declared.known.library;
+    check_all_overrides(&context, declared.first_class, first, text.items.as_slice())?;
+    check_nodes(&context, declared.first_class, first, text.items.as_slice())
+}
