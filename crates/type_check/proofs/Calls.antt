@@ -67,7 +67,7 @@ items_if classes t (Some us) = refl
 
 module _ (t : Tables) (k : Known) (p : Place) where
   -- arguments fit as their types do
-  fits : (args : Trees) (takes : List Kind) → typed_go k.classes (types_of t k p args) takes ≡ fit_all k.classes (kinds_given t k p [] args) takes
+  pub fits : (args : Trees) (takes : List Kind) → typed_go k.classes (types_of t k p args) takes ≡ fit_all k.classes (kinds_given t k p [] args) takes
   fits none [] = go_none k.classes
   fits none (u ∷ us) = go_short k.classes u us
   fits (more e rest) [] = go_past k.classes (type_of t k p Given e) (types_of t k p rest)
