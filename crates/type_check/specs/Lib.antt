@@ -1,1 +1,5 @@
 pub mod Building
+pub mod Contexts
+pub mod Sites
+pub mod Steps
+pub mod Wholes
