@@ -8,3 +8,4 @@ mod Light
 mod Implementing
 mod Room
 mod Layable
+mod Accepted

@@ -5,3 +5,4 @@ pub mod First
 pub mod Compiled
 pub mod Building
 pub mod Runs
+pub mod Accepting

@@ -5,3 +5,4 @@ pub mod Numbered
 pub mod Chains
 pub mod Noting
 mod Behind
+mod Checked

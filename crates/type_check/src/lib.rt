@@ -5,9 +5,11 @@ mod build_handlers;
 mod build_names;
 mod build_numbers;
 mod build_types;
+mod checking;
 mod limits;
 mod statement_counts;
 mod text_bytes;
 mod uses;
 
+pub use checking::check;
 pub use limits::program_fits;
