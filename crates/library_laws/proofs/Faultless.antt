@@ -24,7 +24,7 @@ module _ (more rest : List (List ℕ)) (names : Naming) (k : Known) where
   abbrev pub tables : Tables
   tables = record { names = own.names ++ more; texts = own.texts ++ rest }
 
-  pub leds : (gives : Option Kind) → global_named k true 5 ≡ found.Unknown → global_named k true 6 ≡ found.Unknown → 
+  pub leds : (gives : Option Kind) → global_named k true 5 ≡ found.Unknown → global_named k true 6 ≡ found.Unknown →
       statements_fault tables names k (within (local 2 (Some number) false ∷ []) this.Nowhere gives true) (show_leds own_tokens 10) ≡ None
   unfolding X.operate X1.same X.choose X.common X.goes X.assign X.joined X.prefix X.counted
   leds gives show basic = rw (show, fault, statement_fault, statements_fault, space_of, space, own_call, board_callee, ◌>>=◌, ◌then◌, type_of, types_of, are_given, bound, own_bound) (rw (basic, fault, statement_fault, statements_fault, space_of, space, own_call, board_callee, ◌>>=◌, ◌then◌, type_of, types_of, are_given, bound, own_bound) (refl))
@@ -67,23 +67,22 @@ module _ (more rest : List (List ℕ)) (names : Naming) (k : Known) where
         ∙ subst (λ (b : Option Kind). statements_fault tables names k (with (with (within (local 16 (Some text) false ∷ []) this.Nowhere gives true) 11 (Some number) false) 12 b false) (also (glyph_loop own_tokens 101) done) ≡ None) (sym strings_kind)
         (ap (λ (x : Option Fault). x then None) strings_loop)
 
-  pub lines : (gives : Option Kind) → global_named k true 20 ≡ found.Unknown → 
+  pub lines : (gives : Option Kind) → global_named k true 20 ≡ found.Unknown →
       statements_fault tables names k (within (local 16 (Some text) false ∷ []) this.Nowhere gives true) (write_line own_tokens 144) ≡ None
   unfolding X.operate X1.same X.choose X.common X.goes X.assign X.joined X.prefix X.counted
   lines gives serial = rw (serial, fault, statement_fault, statements_fault, space_of, space, own_call, board_callee, ◌>>=◌, ◌then◌, type_of, types_of, are_given, bound, own_bound) (refl)
 
-  pub absolutes : 
+  pub absolutes :
       statements_fault tables names k (within (local 9 (Some number) false ∷ []) this.Nowhere (Some number) true) (absolute own_tokens 168) ≡ None
   unfolding X.operate X1.same X.choose X.common X.goes X.assign X.joined X.prefix X.counted
   absolutes = refl
 
-  pub least : 
+  pub least :
       statements_fault tables names k (within (local 25 (Some number) false ∷ local 26 (Some number) false ∷ []) this.Nowhere (Some number) true) (one_of_two own_tokens 193 6) ≡ None
   unfolding X.operate X1.same X.choose X.common X.goes X.assign X.joined X.prefix X.counted
   least = refl
 
-  pub greatest : 
+  pub greatest :
       statements_fault tables names k (within (local 25 (Some number) false ∷ local 26 (Some number) false ∷ []) this.Nowhere (Some number) true) (one_of_two own_tokens 216 7) ≡ None
   unfolding X.operate X1.same X.choose X.common X.goes X.assign X.joined X.prefix X.counted
   greatest = refl
-

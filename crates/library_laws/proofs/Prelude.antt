@@ -49,17 +49,76 @@ kind_is_at (x ∷ ks) zero = refl
 kind_is_at (x ∷ ks) (suc d) = kind_is_at ks d
 
 pub formed : IsFormedProgram L
-formed =
-    (((tt, (tt, tt)), ((tt, (refl, tt)), tt)), (((refl, tt), (((tt, (tt, (refl, tt))), tt), (((tt, refl), ((tt, (tt, tt)), ((tt, (refl, tt)),
-    ((tt, refl), ((tt, (tt, (tt, (tt, tt)))), tt))))), tt))), (((refl, tt), (((tt, (tt, (refl, tt))), tt), (((tt, refl), ((tt, (tt, tt)), ((tt,
-    (refl, tt)), ((tt, refl), ((tt, (tt, (tt, (tt, tt)))), tt))))), tt))), (((tt, (tt, tt)), ((tt, (tt, tt)), tt)), ((((tt, refl), (refl, tt),
-    tt), tt), ((((tt, tt), tt, tt), tt), ((((tt, tt), tt, tt), tt), tt)))))))
+formed = (
+  ((tt, (tt, tt)), ((tt, (refl, tt)), tt)),
+  (
+    (
+      (refl, tt),
+      (
+        ((tt, (tt, (refl, tt))), tt),
+        (
+          (
+            (tt, refl),
+            (
+              (tt, (tt, tt)),
+              (
+                (tt, (refl, tt)),
+                ((tt, refl), ((tt, (tt, (tt, (tt, tt)))), tt)),
+              ),
+            ),
+          ),
+          tt,
+        ),
+      ),
+    ),
+    (
+      (
+        (refl, tt),
+        (
+          ((tt, (tt, (refl, tt))), tt),
+          (
+            (
+              (tt, refl),
+              (
+                (tt, (tt, tt)),
+                (
+                  (
+                    tt,
+                    (refl, tt),
+                  ),
+                  ((tt, refl), ((tt, (tt, (tt, (tt, tt)))), tt)),
+                ),
+              ),
+            ),
+            tt,
+          ),
+        ),
+      ),
+      (
+        ((tt, (tt, tt)), ((tt, (tt, tt)), tt)),
+        (
+          (
+            (
+              (tt, refl),
+              (refl, tt),
+              tt,
+            ),
+            tt,
+          ),
+          ((((tt, tt), tt, tt), tt), ((((tt, tt), tt, tt), tt), tt)),
+        ),
+      ),
+    ),
+  ),
+)
 
 module _ (more rest : List (List ℕ)) (text : Program) (kinds : List (Option Kind)) where
   abbrev pub names : Naming
   names = all_names L text
+
   abbrev pub k : Known
   k = known L text kinds
+
   abbrev pub T : Tables
   T = record { names = own.names ++ more; texts = own.texts ++ rest }
 
@@ -87,8 +146,10 @@ module _ (more rest : List (List ℕ)) (text : Program) (kinds : List (Option Ki
 
     number_4 : kind_at k 4 ≡ Some number
     number_4 = stated 4 (Some number) (omega arith) refl
+
     number_5 : kind_at k 5 ≡ Some number
     number_5 = stated 5 (Some number) (omega arith) refl
+
     number_6 : kind_at k 6 ≡ Some number
     number_6 = stated 6 (Some number) (omega arith) refl
 

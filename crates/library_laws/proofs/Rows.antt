@@ -54,6 +54,7 @@ behind_test a h = rw h refl
 module _ (more rest : List (List ℕ)) (text : Program) (kinds : List (Option Kind)) where
   abbrev N : Numbering
   N = numbering (L ++ text)
+
   abbrev built : ℕ → Option Kind → List Parameter → Statements → Made TypedRoutine
   built n gives params all =
       routine (T more rest text kinds) (names more rest text kinds) (k more rest text kinds) N (value_types (parameter_kinds (names more rest text kinds) params))
@@ -66,6 +67,7 @@ module _ (more rest : List (List ℕ)) (text : Program) (kinds : List (Option Ki
 
   abbrev none_in : Site → Statement → ℕ → ℕ → Type 0
   none_in s a m n = (made_statement (T more rest text kinds) (names more rest text kinds) (k more rest text kinds) N s a m n).routines ≡ []
+
   abbrev none_within : Site → Statements → ℕ → ℕ → Type 0
   none_within s all m n = (made_statements (T more rest text kinds) (names more rest text kinds) (k more rest text kinds) N s all m n).routines ≡ []
 
@@ -76,10 +78,13 @@ module _ (more rest : List (List ℕ)) (text : Program) (kinds : List (Option Ki
   module _ (gives x : Option Kind) where
     numbers_of_show : (z : List Spot) (m n : ℕ) → none_in (record { place = inner (inner (with (with (within (local 9 (Some number) false ∷ []) this.Nowhere gives true) 11 (Some number) false) 12 x false)); spots = z }) (l.show own_tokens 52) m n
     numbers_of_show z m n = rw (show more rest text kinds, made_tree, made_asked, made_statement, made_statements, made_locals, made_local, made_first, ◌>=>◌, board_callee, own_call, ◌>>=◌, space_of, space) refl
+
     numbers_of_pause : (z : List Spot) (m n : ℕ) → none_in (record { place = inner (inner (with (with (within (local 9 (Some number) false ∷ []) this.Nowhere gives true) 11 (Some number) false) 12 x false)); spots = z }) (l.pause own_tokens 57) m n
     numbers_of_pause z m n = rw (basic more rest text kinds, made_tree, made_asked, made_statement, made_statements, made_locals, made_local, made_first, ◌>=>◌, board_callee, own_call, ◌>>=◌, space_of, space) refl
+
     numbers_of_count : (z : List Spot) (m n : ℕ) → none_in (record { place = inner (inner (with (with (within (local 9 (Some number) false ∷ []) this.Nowhere gives true) 11 (Some number) false) 12 x false)); spots = z }) (l.count own_tokens 64) m n
     numbers_of_count z m n = refl
+
     numbers_of_next : (z : List Spot) (m n : ℕ) → none_in (record { place = inner (inner (with (with (within (local 9 (Some number) false ∷ []) this.Nowhere gives true) 11 (Some number) false) 12 x false)); spots = z }) (l.next_glyph own_tokens 68) m n
     numbers_of_next z m n = rw (number_glyph more rest text kinds, made_tree, made_asked, made_statement, made_statements, made_locals, made_local, made_first, ◌>=>◌, board_callee, own_call, ◌>>=◌, space_of, space) refl
 
@@ -109,10 +114,13 @@ module _ (more rest : List (List ℕ)) (text : Program) (kinds : List (Option Ki
   module _ (gives x : Option Kind) where
     strings_show : (z : List Spot) (m n : ℕ) → none_in (record { place = inner (inner (with (with (within (local 16 (Some text_kind) false ∷ []) this.Nowhere gives true) 11 (Some number) false) 12 x false)); spots = z }) (l.show own_tokens 108) m n
     strings_show z m n = rw (show more rest text kinds, made_tree, made_asked, made_statement, made_statements, made_locals, made_local, made_first, ◌>=>◌, board_callee, own_call, ◌>>=◌, space_of, space) refl
+
     strings_pause : (z : List Spot) (m n : ℕ) → none_in (record { place = inner (inner (with (with (within (local 16 (Some text_kind) false ∷ []) this.Nowhere gives true) 11 (Some number) false) 12 x false)); spots = z }) (l.pause own_tokens 113) m n
     strings_pause z m n = rw (basic more rest text kinds, made_tree, made_asked, made_statement, made_statements, made_locals, made_local, made_first, ◌>=>◌, board_callee, own_call, ◌>>=◌, space_of, space) refl
+
     strings_count : (z : List Spot) (m n : ℕ) → none_in (record { place = inner (inner (with (with (within (local 16 (Some text_kind) false ∷ []) this.Nowhere gives true) 11 (Some number) false) 12 x false)); spots = z }) (l.count own_tokens 120) m n
     strings_count z m n = refl
+
     strings_next : (z : List Spot) (m n : ℕ) → none_in (record { place = inner (inner (with (with (within (local 16 (Some text_kind) false ∷ []) this.Nowhere gives true) 11 (Some number) false) 12 x false)); spots = z }) (l.next_glyph own_tokens 124) m n
     strings_next z m n = rw (text_glyph more rest text kinds, made_tree, made_asked, made_statement, made_statements, made_locals, made_local, made_first, ◌>=>◌, board_callee, own_call, ◌>>=◌, space_of, space) refl
 
