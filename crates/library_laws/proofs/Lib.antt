@@ -2,3 +2,5 @@ mod Faultless
 mod Prelude
 mod Rows
 mod Whole
+mod First
+mod Weights

@@ -52,10 +52,10 @@ behind_test : {A : Type 0} (a : List A) → a ≡ [] → (a ++ []) ++ [] ≡ []
 behind_test a h = rw h refl
 
 module _ (more rest : List (List ℕ)) (text : Program) (kinds : List (Option Kind)) where
-  abbrev N : Numbering
+  abbrev pub N : Numbering
   N = numbering (L ++ text)
 
-  abbrev built : ℕ → Option Kind → List Parameter → Statements → Made TypedRoutine
+  abbrev pub built : ℕ → Option Kind → List Parameter → Statements → Made TypedRoutine
   built n gives params all =
       routine (T more rest text kinds) (names more rest text kinds) (k more rest text kinds) N (value_types (parameter_kinds (names more rest text kinds) params))
       (class_result (T more rest text kinds) (names more rest text kinds) (k more rest text kinds) N gives)
@@ -160,10 +160,10 @@ module _ (more rest : List (List ℕ)) (text : Program) (kinds : List (Option Ki
   greatest n gives = refl
 
   module _ (derived : AreDerived (T more rest text kinds) L text kinds) where
-    abbrev made : List TypedRoutine
+    abbrev pub made : List TypedRoutine
     made = library_made (T more rest text kinds) (names more rest text kinds) (k more rest text kinds) N 0 0 L
 
-    made_is : made ≡ (built 0 (kind_at (k more rest text kinds) 0) (l.parameter own_tokens 3 a.Number ∷ []) (l.show_leds own_tokens 10)).it
+    pub made_is : made ≡ (built 0 (kind_at (k more rest text kinds) 0) (l.parameter own_tokens 3 a.Number ∷ []) (l.show_leds own_tokens 10)).it
         ∷ (built 1 (kind_at (k more rest text kinds) 1) (l.parameter own_tokens 25 a.Number ∷ []) (l.show_glyphs own_tokens 32)).it
         ∷ (built 2 (kind_at (k more rest text kinds) 2) (l.parameter own_tokens 81 a.Text ∷ []) (l.show_glyphs own_tokens 88)).it
         ∷ (built 3 (kind_at (k more rest text kinds) 3) (l.parameter own_tokens 137 a.Text ∷ []) (l.write_line own_tokens 144)).it

@@ -1,14 +1,18 @@
 -- The library of the prelude is as the law of accepted texts asks.
-use Rattle.std.specs.Prelude.{ℕ, Option, List, [], ◌∷◌, ◌++◌, codes}
+use Rattle.std.specs.Prelude.{◌≡◌, ◌≤◌, ℕ, Option, List, [], ◌∷◌, ◌++◌, take, codes}
 use Rattle.sts_base.specs.declared.tables.Tables.{Tables}
 use Rattle.sts_base.specs.Distinct.{IsDistinct}
 use Rattle.sts_lexer.specs.Tokens.{IsTokenization}
 use Rattle.sts_lexer.specs.declared.token.Token.{Token}
+use Rattle.sts_syntax.specs.BoardTable.{library_size}
 use Rattle.sts_syntax.specs.Programs.{Program}
+use Rattle.sts_syntax.specs.Weights.{routines_weight}
 use Rattle.sts_scope.specs.declared.kinds.Kind.{Kind}
-use Rattle.type_derive.specs.Accepted.{AreDerived}
+use Rattle.type_derive.specs.Accepted.{AreDerived, typed}
 use Rattle.type_derive.specs.Libraries.{IsLibrary}
+use Rattle.sts_grammar.specs.Texts.{no_entries}
 use Rattle.sts_prelude.specs.Library.{library}
+use Rattle.sts_prelude.specs.Spelled as spelled
 use Rattle.sts_prelude.specs.declared.text.TheConstants.{LIBRARY}
 
 -- the names of the library's text in the order in which they first appear, and its one text
@@ -26,3 +30,14 @@ abbrev pub PreludeIsLibrary : Type 0
 PreludeIsLibrary = (tokens : List Token) (names texts : List (List ℕ)) (text : Program) (kinds : List (Option Kind)) → IsDistinct first.names → IsDistinct first.texts
     → IsTokenization first LIBRARY.now tokens → AreDerived (record { names = first.names ++ names; texts = first.texts ++ texts }) (library tokens) text kinds
     → IsLibrary (record { names = first.names ++ names; texts = first.texts ++ texts }) (library tokens) text kinds
+
+-- Where no entry stood before the library, it leaves these tables, and its tree is the one that its tokens spell.
+abbrev pub LibraryLeavesFirst : Type 0
+LibraryLeavesFirst = (new : Tables) (program : Program) → IsDistinct new.names → IsDistinct new.texts → spelled.IsLibrary no_entries new program
+    → (new ≡ first) × (tokens : List Token) × IsTokenization first LIBRARY.now tokens × (program ≡ library tokens)
+
+-- The library's typed functions, which stand first in each program, weigh at most 600.
+abbrev pub TypedLibraryIsLight : Type 0
+TypedLibraryIsLight = (tokens : List Token) (names texts : List (List ℕ)) (text : Program) (kinds : List (Option Kind)) → IsDistinct first.names → IsDistinct first.texts
+    → IsTokenization first LIBRARY.now tokens → AreDerived (record { names = first.names ++ names; texts = first.texts ++ texts }) (library tokens) text kinds
+    → routines_weight (take library_size (typed (record { names = first.names ++ names; texts = first.texts ++ texts }) (library tokens) text kinds).functions) ≤ 600

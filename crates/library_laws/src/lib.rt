@@ -3,4 +3,4 @@
 
 mod theorems;
 
-pub use theorems::prelude_is_library;
+pub use theorems::{library_leaves_first, prelude_is_library, typed_library_is_light};
