@@ -2,7 +2,7 @@
 use Rattle.std.proofs.Common.{◌≡◌, ℕ, ◌&&◌, Bool, true, false, Option, Some, None, List, [], ◌∷◌, refl, sym, ap, ◌∙◌}
 use Rattle.std.specs.Prelude.{if◌then◌else◌}
 use Rattle.sts_base.specs.declared.tables.Tables.{Tables}
-use Rattle.sts_syntax.specs.Trees.{Tree, Trees, none, more}
+use Rattle.sts_syntax.specs.Trees.{Trees, none, more}
 use Rattle.sts_scope.specs.declared.kinds.Kind.{Kind}
 use Rattle.sts_scope.specs.declared.entries.ClassHead.{ClassHead}
 use Rattle.sts_scope.specs.declared.known.Known.{Known}
@@ -12,7 +12,7 @@ use Rattle.sts_scope.specs.Kinds.{array}
 use Rattle.sts_scope.specs.Codes.{why_call}
 use Rattle.sts_scope.specs.Places.{Place}
 use Rattle.sts_scope.specs.Rules.{goes, all_go, all_go_to, call_kind, items_type}
-use Rattle.type_derive.specs.declared.roles.Role.TheVariants.{Free, Given}
+use Rattle.type_derive.specs.declared.roles.Role.TheVariants.{Given}
 use Rattle.type_derive.specs.Nodes.{own_called}
 use Rattle.type_derive.specs.Shown.{goes_some, typed_go, typed_go_to}
 use Rattle.type_derive.specs.Typing.{◌>>=◌, Callee, type_of, types_of, called}

@@ -1,7 +1,6 @@
 -- The failure of a node, where its parts have none.
-use Rattle.std.proofs.Common.{◌≡◌, ℕ, zero, suc, ◌+◌, ◌<◌, ◌≤◌, ◌++◌, Bool, true, false, Option, Some, None, List, [], ◌∷◌, length, get_or, drop, refl, sym, ap, ◌∙◌, subst, arith, append_assoc, Result}
+use Rattle.std.proofs.Common.{◌≡◌, ℕ, zero, suc, ◌+◌, ◌<◌, ◌≤◌, ◌++◌, true, Option, Some, None, List, [], ◌∷◌, length, get_or, drop, refl, sym, ap, ◌∙◌, subst, arith, append_assoc, Result}
 use Rattle.sts_base.specs.declared.refused.Refused.{Refused}
-use Rattle.sts_base.specs.declared.refused.Refused.TheVariants.{Program, NoMemory}
 use Rattle.sts_base.specs.declared.refused.Code.TheVariants.{Mismatch, BadHandler}
 use Rattle.sts_syntax.specs.declared.trees.Expr.{Expr}
 use Rattle.std.specs.Prelude.{IfOk, is_some, if◌then◌else◌}
@@ -17,18 +16,19 @@ use Rattle.sts_scope.specs.Rules.{name_kind, part_of, part_kind as part_kind_of}
 use Rattle.type_derive.specs.Nodes.{own_member, own_called, own_board, own_make, own_super, is_called}
 use Rattle.type_check.specs.Seen.{plain, own_called_kind, called_kind, super_callee, listed_kind}
 use Rattle.type_check.proofs.Calls.{own_called_is, called_is, list_is}
-use Rattle.sts_syntax.specs.Trees.{Tree, Trees, Items, more, none, Name, Member, Call, Make, SuperCall}
+use Rattle.sts_syntax.specs.Trees.{Tree, Trees, Items, more, Name, Member, Call, Make, SuperCall}
 use Rattle.sts_syntax.specs.Views.{tree, trees}
 use Rattle.sts_scope.specs.declared.kinds.Kind.{Kind}
-use Rattle.sts_scope.specs.Faults.{Fault, ◌then◌, own, unless, Finds, RefusedWith}
+use Rattle.sts_scope.specs.Faults.{Fault, ◌then◌, own, unless, Finds}
 use Rattle.sts_scope.specs.Places.{Place}
 use Rattle.sts_scope.proofs.Lists.{drop_at, drop_end}
 use Rattle.type_derive.specs.declared.roles.Role.{Role}
-use Rattle.type_derive.specs.declared.roles.Role.TheVariants.{Free, Given, Called}
+use Rattle.type_derive.specs.declared.roles.Role.TheVariants.{Free, Called}
 use Rattle.type_derive.specs.Typing.{◌>>=◌, Callee, type_of, types_of, role_of, behind, finds, space_of, spelling, constant_of, board_callee, callee_of, called, made, super_method, are_given, board_kind}
 use Rattle.type_check.specs.declared.context.Context.{Context}
 use Rattle.type_check.specs.declared.seen.Seen.{Seen}
-use Rattle.type_check.specs.Contexts.{naming, fault, faults, kinds_of, seen_of}
+use Rattle.type_check.specs.Naming.{naming}
+use Rattle.type_check.specs.Contexts.{fault, faults, kinds_of, seen_of}
 
 module _ (c : Context) (p : Place) where
   pub part_kind : (r : Role) (s : Seen) (x y : Expr) → s ≡ seen_of c p r (tree x) → x ≡ y → s.kind ≡ type_of c.tables.now c.known.now p r (tree y)

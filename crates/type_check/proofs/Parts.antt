@@ -1,5 +1,5 @@
 -- What stands behind a dot.
-use Rattle.std.proofs.Common.{◌≡◌, Option, Some, None, sym, ap, ◌∙◌, refl}
+use Rattle.std.proofs.Common.{◌≡◌, Option, Some, None, ap}
 use Rattle.sts_scope.specs.declared.kinds.Kind.{Kind}
 use Rattle.sts_scope.specs.declared.known.Part.{Part}
 use Rattle.type_derive.specs.Typing.{◌>>=◌}

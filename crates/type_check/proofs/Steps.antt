@@ -1,5 +1,5 @@
 -- Going through statements and declared names.
-use Rattle.std.proofs.Common.{◌≡◌, ℕ, ◌+◌, ◌<◌, Bool, true, false, not, Option, Some, None, List, length, get_or, drop, refl, sym, ap, ◌∙◌, subst, Result}
+use Rattle.std.proofs.Common.{◌≡◌, ℕ, ◌+◌, ◌<◌, Bool, not, Option, Some, None, List, length, get_or, drop, refl, sym, ap, ◌∙◌, subst, Result}
 use Rattle.std.specs.Prelude.{if◌then◌else◌}
 use Rattle.sts_base.specs.declared.refused.Refused.{Refused}
 use Rattle.sts_base.specs.declared.refused.Code.TheVariants.{Mismatch, UnknownName, NeedsType}
@@ -10,7 +10,7 @@ use Rattle.sts_syntax.specs.declared.trees.Form.TheVariants as f
 use Rattle.sts_syntax.specs.declared.trees.Stmt.{Stmt}
 use Rattle.sts_syntax.specs.declared.trees.Binding.{Binding}
 use Rattle.sts_syntax.specs.Annotations.{Annotation}
-use Rattle.sts_syntax.specs.Trees.{Tree, OptionalTree, absent, present, Statement, For, ForOf, Return, OptionalStatement, omitted, written, Declaration, Declare}
+use Rattle.sts_syntax.specs.Trees.{Tree, OptionalTree, absent, present, Statement, For, ForOf, Return, OptionalStatement, omitted, written}
 use Rattle.sts_syntax.specs.Views.{tree, statement, statements, declaration, declarations, form_statement, optional_expression}
 use Rattle.sts_scope.specs.declared.kinds.Kind.{Kind}
 use Rattle.sts_scope.specs.Faults.{Fault, ◌then◌, own, unless, Finds}
@@ -28,7 +28,8 @@ use Rattle.type_derive.proofs.Moves.{stays, further, extends_to, after_extends}
 use Rattle.type_check.specs.declared.context.Context.{Context}
 use Rattle.type_check.specs.Bounds as bounds
 use Rattle.type_check.specs.Seen.{is_test, initial_kind}
-use Rattle.type_check.specs.Contexts.{naming, fault, after_first, statement_fault, statements_fault, declaration_fault, declarations_fault, declared, all_declared, after}
+use Rattle.type_check.specs.Naming.{naming}
+use Rattle.type_check.specs.Contexts.{fault, after_first, statement_fault, statements_fault, declaration_fault, declarations_fault, declared, all_declared, after}
 
 module _ (c : Context) where
   pub statements_step : (p : Place) (all : List Stmt) (i : ℕ) (s : Stmt) → i < length all → s ≡ get_or all i s →

@@ -1,5 +1,5 @@
 -- Going through arguments: what is found at one of them, and what is left behind it.
-use Rattle.std.proofs.Common.{◌≡◌, ℕ, zero, suc, ◌+◌, ◌-◌, ◌<◌, ◌≤◌, ◌&&◌, ◌||◌, Bool, true, false, Option, Some, None, List, [], ◌∷◌, length, get_or, drop, map, min, refl, sym, ap, ◌∙◌, arith, drop-cons, length-drop}
+use Rattle.std.proofs.Common.{◌≡◌, ℕ, zero, suc, ◌+◌, ◌<◌, ◌≤◌, ◌&&◌, ◌||◌, Bool, true, false, Option, None, List, [], ◌∷◌, length, get_or, drop, map, min, refl, sym, ap, ◌∙◌, arith, drop-cons, length-drop}
 use Rattle.sts_base.specs.declared.tables.Tables.{Tables}
 use Rattle.sts_syntax.specs.declared.trees.Expr.{Expr}
 use Rattle.sts_syntax.specs.declared.board_rows.BoardParameter.{BoardParameter as Parameter}
@@ -16,7 +16,7 @@ use Rattle.sts_scope.specs.Places.{Place}
 use Rattle.sts_scope.proofs.Lists.{drop_at, drop_end}
 use Rattle.type_derive.specs.Nodes.{lacks_handler}
 use Rattle.type_derive.specs.Shown.{goes_some}
-use Rattle.type_derive.specs.Typing.{type_of, role_of, behind, are_given}
+use Rattle.type_derive.specs.Typing.{type_of, role_of, are_given}
 use Rattle.type_check.specs.Seen.{fit_all, lacks_here, fits_place, kinds_given}
 
 and_false : (b : Bool) → false ≡ (b && false)

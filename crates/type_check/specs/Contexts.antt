@@ -1,26 +1,19 @@
 -- The definitions of failures and types, over what the code knows.
-use Rattle.std.specs.Prelude.{ℕ, Bool, Option, Some, None, List, []}
-use Rattle.sts_base.specs.declared.tables.Tables.{Tables}
+use Rattle.std.specs.Prelude.{Bool, Option, Some, None, List, []}
 use Rattle.sts_syntax.specs.BoardTable.{BoardParameter, row_of}
 use Rattle.sts_syntax.specs.declared.board_calls.BoardCall.{BoardCall}
 use Rattle.sts_syntax.specs.Annotations.{Annotation}
 use Rattle.sts_syntax.specs.Trees.{Tree, Trees, OptionalTree, Statement, Statements, OptionalStatement, Declaration, Declarations, Routine}
 use Rattle.sts_scope.specs.declared.kinds.Kind.{Kind}
-use Rattle.sts_scope.specs.declared.known.Known.{Known}
-use Rattle.sts_scope.specs.Entries.{Naming}
 use Rattle.sts_scope.specs.Faults.{Fault}
 use Rattle.sts_scope.specs.Places.{Place}
-use Rattle.sts_scope.specs.Values.{value_at}
 use Rattle.type_derive.specs.declared.roles.Role.{Role}
 use Rattle.type_derive.specs.Nodes as node
 use Rattle.type_derive.specs.Returns as derive
 use Rattle.type_check.specs.declared.context.Context.{Context}
+use Rattle.type_check.specs.Naming.{naming}
 use Rattle.type_check.specs.declared.seen.Seen.{Seen}
-use Rattle.type_check.specs.Seen.{seen, kinds_given, is_test, initial_kind}
-
--- which class a name stands for
-abbrev pub naming : Context → Naming
-naming c = value_at c.classes.now.values.items
+use Rattle.type_check.specs.Seen.{seen, kinds_given}
 
 abbrev pub fault : Context → Place → Role → Tree → Option Fault
 fault c p r e = node.fault c.tables.now (naming c) c.known.now p r e

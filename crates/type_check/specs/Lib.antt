@@ -1,7 +1,13 @@
-pub mod Building
 pub mod Uses
 pub mod Contexts
 pub mod Seen
 pub mod Bounds
 pub mod Texts
+pub mod Checking
+pub mod Building
+pub mod Calls
+pub mod Naming
 pub mod Heads
+pub mod Sites
+pub mod Steps
+pub mod Wholes

@@ -6,10 +6,10 @@ ghost use Rattle.type_derive.specs.Nodes as node;
 ghost use Rattle.type_derive.specs.Scopes.{place};
 ghost use Rattle.type_derive.specs.Shown.{shown};
 ghost use Rattle.type_derive.specs.Typing as typing;
-ghost use Rattle.type_check.specs.Contexts.{naming};
+ghost use Rattle.type_check.specs.Naming.{naming};
 ghost use Rattle.type_check.specs.Seen.{fit_all, fit_one, listed_kind, called_kind, kinds_given, lacks_here, fits_place};
 
-use crate::context::Context;
+use crate::Context;
 use sts_base::NoMemory;
 use sts_scope::{Base, ClassHead, Kind, Known};
 use sts_syntax::{BoardParameter, Expr, Node};

@@ -9,9 +9,9 @@ ghost use Rattle.sts_scope.specs.Values.{value_at};
 ghost use Rattle.type_derive.specs.Nodes as node;
 ghost use Rattle.type_derive.specs.Scopes.{place};
 ghost use Rattle.type_check.specs.Bounds as bounds;
-ghost use Rattle.type_check.specs.Contexts.{naming};
+ghost use Rattle.type_check.specs.Naming.{naming};
 
-use crate::context::Context;
+use crate::Context;
 use sts_base::{Code, Refused};
 use sts_scope::{
     Base, ByNumber, Kind, Known, check_written, is_dollar, kind_of, or_no_memory, unless,

@@ -89,7 +89,7 @@ fn copied(alloc: Global, names: &[u32]) -> Result<Seq<u32>, NoMemory>
 }
 
 /// The base of a class.
-fn base_of(known: &Known, class: u32) -> Option<u32>
+pub fn base_of(known: &Known, class: u32) -> Option<u32>
     ensures { result ≡ look.base_of known.now.classes class }
 {
     match known.classes.get(class as usize) {
@@ -149,7 +149,7 @@ fn all_names(alloc: Global, which: Members, known: &Known) -> Result<Seq<Seq<u32
     Ok(all)
 }
 
-fn is_global(sort: Sort) -> bool
+pub fn is_global(sort: Sort) -> bool
     ensures { result ≡ scope.is_global sort }
 {
     match sort {

@@ -16,10 +16,12 @@ use sts_syntax::{Binding, Form, Item, Member, Stmt, Unit};
 pub struct Numbers {
     pub routines: Seq<u32>,
     pub makers: Seq<u32>,
+    /// how many functions the library has
+    pub library: u32,
 }
 
 /// Behind a member, whose functions begin with a number.
-fn behind_member(member: &Member, from: u32) -> Result<u32, NoMemory>
+pub fn behind_member(member: &Member, from: u32) -> Result<u32, NoMemory>
     ensures { IfOk result (λ n. n ≡ from + h.member_routines (class_member member.now)) }
 {
     match member {
@@ -30,7 +32,7 @@ fn behind_member(member: &Member, from: u32) -> Result<u32, NoMemory>
 }
 
 /// How many constructors of some members aren't written: one, or none.
-fn unwritten(members: &[Member]) -> u32
+pub fn unwritten(members: &[Member]) -> u32
     ensures { result ≡ h.unwritten (class_members members.now) }
 {
     for member in members {
@@ -143,13 +145,16 @@ impl Numbers {
 /// The numbers of all functions of a library and a text behind it.
 #[tactic(auto, using(crate::proofs::Numbered::numbers_append, crate::proofs::Numbered::makers_append))]
 pub fn numbering(alloc: Global, library: &Unit, text: &Unit) -> Result<Numbers, NoMemory>
-    ensures { IfOk result (λ n. numbering_of n ≡ number.numbering (program library.now ++ program text.now)) }
+    ensures numbers { IfOk result (λ n. numbering_of n ≡ number.numbering (program library.now ++ program text.now)) }
+    ensures library { IfOk result (λ n. n.library ≡ h.all_routines (program library.now)) }
 {
     let mut numbers = Numbers {
         routines: Seq::new(alloc),
         makers: Seq::new(alloc),
+        library: 0,
     };
     let behind = numbers.add_items(library.items.as_slice(), 0)?;
     numbers.add_items(text.items.as_slice(), behind)?;
+    numbers.library = behind;
     Ok(numbers)
 }

@@ -11,7 +11,7 @@ ghost use Rattle.type_derive.specs.Typing as typing;
 ghost use Rattle.sts_scope.specs.Kinds as kind;
 ghost use Rattle.type_check.specs.Bounds.{optional_boxed};
 ghost use Rattle.type_check.specs.Contexts as c;
-ghost use Rattle.type_check.specs.Contexts.{naming};
+ghost use Rattle.type_check.specs.Naming.{naming};
 ghost use Rattle.type_derive.specs.Moves.{Extends};
 ghost use Rattle.type_check.specs.Seen.{is_test, initial_kind};
 
@@ -20,14 +20,13 @@ use crate::bounds::{
     shape_role,
 };
 use crate::codes::why_this;
-use crate::context::Context;
 use crate::nodes::{
     board_call_seen, bump_kind, call_seen, callee, is_called, is_served, items_seen, make_seen,
     member_seen, name_seen, set_kind, settable, super_call_seen,
 };
-use crate::places::{enter_loop, handler_scope};
-use crate::results::handler_result;
+use crate::places::enter_loop;
 use crate::seen::{Seen, always, own, plain};
+use crate::{Context, handler_result, handler_scope};
 use sts_base::{Code, Refused, Seq};
 use sts_scope::{Base, Kind, check_written, is_dollar, or_no_memory, unless};
 use sts_syntax::{Binding, BoardCall, BoardParameter, Body, Expr, Form, Node, Shape, Stmt};

@@ -1,9 +1,9 @@
-// How constructors begin.
+// How constructors begin, and what statements declare.
 ghost use Rattle.std.specs.Prelude.{◌≡◌};
 ghost use Rattle.sts_syntax.specs.Views.{tree, statement};
-ghost use Rattle.type_check.specs.Heads.{head, super_of, head_of};
+ghost use Rattle.type_check.specs.Heads.{head, super_of, head_of, lets, lets_of};
 
-use sts_syntax::{Expr, Form, Node, Stmt};
+use sts_syntax::{Binding, Expr, Form, Node, Stmt};
 
 /// The call of a base's constructor: its place and arguments.
 #[derive(Clone, Copy)]
@@ -71,6 +71,42 @@ pub fn head_of(s: &Stmt) -> Option<Head<'_>>
         Form::Return(_) => None,
         Form::Break => None,
         Form::Continue => None,
+        Form::Empty => None,
+    }
+}
+
+/// Declared names of a statement.
+#[derive(Clone, Copy)]
+pub struct Lets<'a> {
+    /// whether it is `const`
+    pub fixed: bool,
+    pub each: &'a [Binding],
+}
+
+/// `let` and `const`, where a statement is that.
+pub fn lets_of(s: &Stmt) -> Option<Lets<'_>>
+    ensures { lets result ≡ lets_of (statement s.now) }
+{
+    match &s.form {
+        Form::Let { fixed, each } => Some(Lets {
+            fixed: *fixed,
+            each: each.as_slice(),
+        }),
+        Form::Block(_) => None,
+        Form::If(_, _, _) => None,
+        Form::While(_, _) => None,
+        Form::DoWhile(_, _) => None,
+        Form::For(_, _, _, _) => None,
+        Form::ForOf {
+            fixed: _,
+            name: _,
+            list: _,
+            body: _,
+        } => None,
+        Form::Return(_) => None,
+        Form::Break => None,
+        Form::Continue => None,
+        Form::Plain(_) => None,
         Form::Empty => None,
     }
 }

@@ -12,12 +12,12 @@ ghost use Rattle.type_derive.specs.Scopes.{place};
 ghost use Rattle.type_derive.specs.Shown.{shown, all_shown};
 ghost use Rattle.type_derive.specs.Typing as typing;
 ghost use Rattle.type_derive.specs.Typing.{◌>>=◌ as bind};
-ghost use Rattle.type_check.specs.Contexts.{naming};
+ghost use Rattle.type_check.specs.Naming.{naming};
 ghost use Rattle.type_check.specs.Seen.{plain, part_at, member, kinds_given, listed_kind, called_kind, own_called_kind, super_callee, board_kind_of};
 
+use crate::Context;
 use crate::arguments::{are_given, call_type, items_kind, lacks_handler};
 use crate::codes::{why_call, why_make, why_name, why_part, why_super};
-use crate::context::Context;
 use crate::seen::{Seen, own, plain};
 use sts_base::{Code, Refused};
 use sts_scope::{ClassHead, Found, Kind, Part, or_no_memory, unless};

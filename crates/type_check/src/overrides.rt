@@ -9,10 +9,10 @@ ghost use Rattle.sts_scope.specs.Faults.{Finds};
 ghost use Rattle.sts_scope.specs.Headings as heading;
 ghost use Rattle.sts_scope.specs.Lookup as look;
 ghost use Rattle.type_derive.specs.Passes as pass;
-ghost use Rattle.type_check.specs.Contexts.{naming};
+ghost use Rattle.type_check.specs.Naming.{naming};
 ghost use Rattle.type_check.specs.Texts.{override_fault};
 
-use crate::context::Context;
+use crate::Context;
 use sts_base::{Code, Refused};
 use sts_scope::{Kind, Known, inherited, unless};
 use sts_syntax::{Body, Form, Item, Member, Stmt};

@@ -10,16 +10,14 @@ ghost use Rattle.sts_scope.specs.declared.known.This.TheVariants as this;
 ghost use Rattle.type_derive.specs.Passes as pass;
 ghost use Rattle.type_derive.specs.Scopes.{place};
 ghost use Rattle.type_check.specs.Contexts as c;
-ghost use Rattle.type_check.specs.Contexts.{naming};
+ghost use Rattle.type_check.specs.Naming.{naming};
 ghost use Rattle.type_check.specs.Texts.{member_nodes, super_fault, unmade_fault};
 
 use crate::arguments::all_go;
 use crate::bounds::bound;
-use crate::context::Context;
 use crate::fault::{initial, kinds_of, statement, statements};
-use crate::heads::head_of;
 use crate::overrides::{behind_member, class_behind, further, globals_in};
-use crate::places::{outer_scope, routine_scope};
+use crate::{Context, head_of, outer_scope, routine_scope};
 use sts_base::{Code, Refused};
 use sts_scope::{Base, ClassHead, Kind, This, check_written, or_no_memory, unless};
 use sts_syntax::{Binding, Body, Expr, Form, Item, Member, Stmt};

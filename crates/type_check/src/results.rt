@@ -4,10 +4,10 @@ ghost use Rattle.sts_syntax.specs.Views.{parameters, optional_annotation, statem
 ghost use Rattle.type_derive.specs.Nodes as node;
 ghost use Rattle.type_derive.specs.Returns as derive;
 ghost use Rattle.type_derive.specs.Scopes.{place};
-ghost use Rattle.type_check.specs.Contexts.{naming};
+ghost use Rattle.type_check.specs.Naming.{naming};
 
+use crate::build_scopes::handler_scope;
 use crate::context::Context;
-use crate::places::handler_scope;
 use sts_base::{NoMemory, Refused};
 use sts_scope::{Base, Kind, kind_of, or_no_memory};
 use sts_syntax::{Param, Shape, Stmt};

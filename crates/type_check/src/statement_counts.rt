@@ -3,7 +3,7 @@ ghost use Rattle.std.specs.Prelude.{◌≡◌, ◌+◌, ◌^◌, ◌<◌, IfOk, 
 ghost use Rattle.sts_syntax.specs.TypedViews.{typed_statement, typed_statements};
 ghost use Rattle.sts_syntax.specs.Sizes.{statement_nodes, statements_nodes};
 
-use crate::build_handlers::one_more;
+use crate::one_more;
 use sts_base::NoMemory;
 use sts_syntax::TypedStmt;
 

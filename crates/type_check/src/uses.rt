@@ -5,7 +5,7 @@ ghost use Rattle.sts_syntax.specs.Nodes.{nodes, nodes_of, optional_nodes, declar
 ghost use Rattle.sts_syntax.specs.Sizes.{statement_nodes, statements_nodes};
 ghost use Rattle.type_check.specs.Uses.{with_node, noted};
 
-use crate::build_handlers::one_more;
+use crate::one_more;
 use sts_base::{NoMemory, Seq};
 use sts_syntax::{BoardAction, Callee, TypedBinding, TypedExpr, TypedNode, TypedStmt};
 

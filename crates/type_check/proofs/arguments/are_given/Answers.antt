@@ -1,4 +1,4 @@
-use Rattle.std.proofs.Common.{◌≡◌, ◌<◌, ◌≤◌, length, sym, ◌∙◌, arith}
+use Rattle.std.proofs.Common.{◌<◌, length, sym, ◌∙◌, arith}
 use Rattle.sts_syntax.specs.declared.board_rows.BoardParameter.TheVariants.{Number}
 use Rattle.type_derive.specs.Scopes.{place}
 use Rattle.type_check.proofs.Taking.{given_unlike, kinds_here, given_found, given_kept, kinds_kept}

@@ -1,24 +1,24 @@
-use Rattle.std.proofs.Common.{◌≡◌, ℕ, ◌+◌, ◌<◌, ◌≤◌, ◌++◌, Bool, true, false, Option, Some, None, List, [], ◌∷◌, length, get_or, drop, map, refl, sym, ap, ◌∙◌, subst, arith, Result}
+use Rattle.std.proofs.Common.{◌≡◌, ◌<◌, true, None, length, drop, refl, sym, ap, ◌∙◌, subst, arith}
 use Rattle.std.proofs.lemmas.Grind.{common_steps}
 use Rattle.std.proofs.lemmas.List.{drop-map}
 use Rattle.std.specs.Prelude.{IfOk, OnOk, is_some, if◌then◌else◌}
 use Rattle.sts_syntax.specs.BoardViews.{board_parameter}
-use Rattle.sts_syntax.specs.Trees.{Tree, Binary, Both, Either, Choice, Set, Bump, Member, Item, Items, Call, SuperCall, Make, For}
+use Rattle.sts_syntax.specs.Trees.{Binary, Both, Either, Choice, Set, Bump, Member, Item, Items, Call, SuperCall, Make, For}
 use Rattle.sts_syntax.specs.Views.{tree, trees, node_tree, statement, statements, declarations, form_statement, optional_expression}
-use Rattle.sts_scope.specs.declared.kinds.Kind.{Kind}
-use Rattle.sts_scope.specs.Faults.{Finds, ◌then◌, own}
+use Rattle.sts_scope.specs.Faults.{Finds, ◌then◌}
 use Rattle.sts_scope.specs.Rules.{operate, joined, element, choose, assign, counted}
 use Rattle.type_derive.specs.declared.roles.Role.TheVariants.{Free, Given}
 use Rattle.type_derive.specs.Scopes.{place}
 use Rattle.type_derive.specs.Typing.{◌>>=◌, type_of, role_of, constant_of, board_callee, settable}
-use Rattle.type_derive.proofs.Evaluated.{none_if, two}
+use Rattle.type_derive.proofs.Evaluated.{none_if}
 use Rattle.sts_scope.specs.Places.{inner}
 use Rattle.sts_syntax.proofs.Laws.{routine_parts, let_statement}
 use Rattle.type_derive.proofs.Moves.{closed, extends_to, after_extends}
 use Rattle.type_derive.proofs.Opened.{block_is, call_is, super_call_is, make_is, items_is}
 use Rattle.type_check.specs.declared.seen.Seen.{Seen}
 use Rattle.type_check.specs.Bounds.{optional_boxed}
-use Rattle.type_check.specs.Contexts.{naming, fault, faults, kinds_of, seen_of, taken, handler_fault, statement_fault, statements_fault, declarations_fault, all_declared, after}
+use Rattle.type_check.specs.Naming.{naming}
+use Rattle.type_check.specs.Contexts.{fault, seen_of, taken, handler_fault, statement_fault, statements_fault, declarations_fault, all_declared, after}
 use Rattle.type_check.proofs.Found.{part_kind, part_fault, found_one, found_two, found_three, trees_first, args_step, args_kept, kinds_more, untyped, member_board, member_found, call_found, call_typed, make_found, make_typed, super_found, super_typed, items_found, items_typed}
 use Rattle.type_check.proofs.Steps.{return_is, statements_kept, extends_after, for_is, for_of_step, returned_step, returned_found, first_extends}
 use Rattle.type_check.proofs.fault.+walk.Goals as goal

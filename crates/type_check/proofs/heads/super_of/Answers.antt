@@ -1,8 +1,7 @@
-use Rattle.std.proofs.Common.{◌≡◌, ℕ, List, Option, Some, None, sym, ap, ◌∙◌}
+use Rattle.std.proofs.Common.{ℕ, List, Option, Some, sym, ap, ◌∙◌}
 use Rattle.sts_syntax.specs.declared.trees.Expr.{Expr}
 use Rattle.sts_syntax.specs.Trees.{Trees, SuperCall}
 use Rattle.sts_syntax.specs.Views.{trees, node_tree}
-use Rattle.sts_syntax.specs.declared.trees.Node.TheVariants as n
 use Rattle.sts_syntax.proofs.Laws.{super_call_tree}
 use Rattle.type_check.specs.Heads.{SuperHead, super_of}
 use Rattle.type_check.proofs.heads.super_of.Goals as goal

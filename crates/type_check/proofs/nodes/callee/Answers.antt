@@ -1,5 +1,4 @@
-use Rattle.std.proofs.Common.{◌≡◌, sym, ap, ◌∙◌}
-use Rattle.std.specs.Prelude.{Some}
+use Rattle.std.proofs.Common.{sym, ap, ◌∙◌}
 use Rattle.sts_syntax.specs.Views.{tree}
 use Rattle.sts_scope.specs.Rules.{part_of}
 use Rattle.type_derive.specs.declared.roles.Role.TheVariants.{Free}

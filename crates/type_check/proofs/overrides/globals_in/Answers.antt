@@ -1,5 +1,4 @@
-use Rattle.std.proofs.Common.{sym, ap, ◌∙◌, length}
-use Rattle.sts_syntax.specs.Views.{form_statement}
+use Rattle.std.proofs.Common.{sym, ◌∙◌}
 use Rattle.sts_scope.proofs.Statements.{let_count}
 use Rattle.type_check.proofs.overrides.globals_in.Goals as goal
 

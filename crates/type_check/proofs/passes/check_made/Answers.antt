@@ -1,10 +1,11 @@
-use Rattle.std.proofs.Common.{◌≡◌, List, drop, sym, ap, ◌∙◌, subst}
+use Rattle.std.proofs.Common.{List, drop, sym, ap, ◌∙◌, subst}
 use Rattle.sts_syntax.specs.declared.trees.Stmt.{Stmt}
 use Rattle.sts_syntax.specs.Views.{trees, statement, statements}
 use Rattle.sts_scope.specs.Faults.{Finds, ◌then◌}
 use Rattle.type_derive.specs.Passes.{made_fault}
 use Rattle.type_derive.specs.Scopes.{place}
-use Rattle.type_check.specs.Contexts.{naming, statements_fault}
+use Rattle.type_check.specs.Naming.{naming}
+use Rattle.type_check.specs.Contexts.{statements_fault}
 use Rattle.type_check.specs.Texts.{super_fault, unmade_fault}
 use Rattle.type_check.proofs.Texts.{made_without, made_with, statements_first, rest_is}
 use Rattle.type_check.proofs.passes.check_made.Goals as goal

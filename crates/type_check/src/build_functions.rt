@@ -1,0 +1,186 @@
+// Functions and methods of a typed program, each before those that stand in it.
+ghost use Rattle.std.specs.Prelude.{◌≡◌, ◌+◌, ◌∷◌, [], ◌++◌, length, IfOk, OnOk};
+ghost use Rattle.sts_syntax.specs.Types as value;
+ghost use Rattle.sts_syntax.specs.TypedViews.{typed_routine, typed_routines, typed_statements};
+ghost use Rattle.sts_syntax.specs.Views.{parameters, statements, routine};
+ghost use Rattle.sts_scope.specs.Kinds as kind;
+ghost use Rattle.sts_scope.specs.Entries.{parameter_kinds};
+ghost use Rattle.type_derive.specs.Returns.{parameter_locals};
+ghost use Rattle.type_derive.specs.Programs.{parameter_spots};
+ghost use Rattle.type_check.specs.Sites as s;
+ghost use Rattle.type_check.specs.Sites.{IsPlan, naming};
+ghost use Rattle.type_check.specs.Wholes as w;
+
+use crate::build_handlers::one_more;
+use crate::build_nodes::noted_type;
+use crate::build_places::{Builder, Plan, Site};
+use crate::build_statements::build_statements;
+use crate::gathered::Gathered;
+use sts_base::{NoMemory, Seq};
+use sts_scope::{Kind, Local, This, written_kind};
+use sts_syntax::{Body, Param, Spot, Stmt, Ty, TypedBody, TypedStmt};
+use type_derive::Scope;
+
+/// The parameters of a function, as they are in scope.
+fn parameter_locals(plan: &Plan, params: &[Param]) -> Result<Vec<Local>, NoMemory>
+    ensures { IfOk result (λ all. all.items ≡ parameter_locals (naming plan.now) (parameters params.now)) }
+{
+    let mut all = Vec::new(plan.alloc);
+    for param in params {
+        let local = Local {
+            name: param.name,
+            kind: written_kind(plan.classes, &param.shape)?,
+            fixed: false,
+        };
+        if all.push(local).is_err() {
+            return Err(NoMemory);
+        }
+    }
+    Ok(all)
+}
+
+/// Where their values are, from a parameter on.
+fn parameter_spots(plan: &Plan, first: u32, params: &[Param]) -> Result<Vec<Spot>, NoMemory>
+    ensures { IfOk result (λ all. all.items ≡ parameter_spots first (parameters params.now)) }
+{
+    let mut all = Vec::new(plan.alloc);
+    let mut at = first;
+    for _param in params {
+        if all.push(Spot::Param(at)).is_err() {
+            return Err(NoMemory);
+        }
+        at = one_more(at)?;
+    }
+    Ok(all)
+}
+
+/// Their types, behind others.
+pub fn add_types(plan: &Plan, all: &mut Seq<Ty>, params: &[Param]) -> Result<(), NoMemory>
+    ensures { OnOk result (value.value_types all.new ≡ value.value_types all.old ++ kind.value_types (parameter_kinds (naming plan.now) (parameters params.now))) }
+{
+    for param in params {
+        let kind = written_kind(plan.classes, &param.shape)?;
+        all.push(noted_type(plan.alloc, kind)?)?;
+    }
+    Ok(())
+}
+
+/// Where the statements of a function stand, whose parameters are numbered from one on.
+pub fn function_site(
+    plan: &Plan,
+    this: This,
+    gives: Option<Kind>,
+    library: bool,
+    first: u32,
+    params: &[Param],
+) -> Result<Site, NoMemory>
+    ensures { IfOk result (λ site. s.site site ≡ w.site_of plan.now this gives library first (parameters params.now)) }
+{
+    let locals = parameter_locals(plan, params)?;
+    let spots = parameter_spots(plan, first, params)?;
+    let block = locals.len();
+    let scope = Scope {
+        locals,
+        floor: 0,
+        block,
+        this,
+        gives,
+        library,
+    };
+    Ok(Site { scope, spots })
+}
+
+/// A function, and those that stand in it.
+#[derive(Drop)]
+pub struct Function {
+    pub own: TypedBody,
+    pub inner: Gathered<TypedBody>,
+}
+
+/// The function with these parameters and this result whose statements these are, and which is number n.
+fn build_function(
+    plan: &Plan,
+    site: &mut Site,
+    params: Seq<Ty>,
+    gives: Ty,
+    n: u32,
+    all: &[Stmt],
+) -> Result<Function, NoMemory>
+    requires { IsPlan plan.now }
+    ensures own { IfOk result (λ f. typed_routine f.own ≡ (w.routine plan.now (value.value_types params) (value.value_type gives) (s.statements_made plan.now (s.site site.old) (statements all.now)) n).it) }
+    ensures inner { IfOk result (λ f. typed_routines f.inner ≡ (w.routine plan.now (value.value_types params) (value.value_type gives) (s.statements_made plan.now (s.site site.old) (statements all.now)) n).routines) }
+{
+    let mut builder = Builder {
+        locals: Seq::new(plan.alloc),
+        routines: Gathered::new(plan.alloc),
+        local: 0,
+        function: one_more(n)?,
+    };
+    let stmts = build_statements(plan, site, &mut builder, all)?;
+    let Builder {
+        locals,
+        routines,
+        ..
+    } = builder;
+    let own = TypedBody {
+        params,
+        locals,
+        gives,
+        stmts,
+    };
+    Ok(Function {
+        own,
+        inner: routines,
+    })
+}
+
+/// A function behind others, and those that stand in it behind it.
+pub fn add(routines: &mut Gathered<TypedBody>, function: Function) -> Result<(), NoMemory>
+    ensures { OnOk result (typed_routines routines.new ≡ typed_routines routines.old ++ (typed_routine function.own ∷ typed_routines function.inner)) }
+{
+    routines.push(function.own)?;
+    routines.append(function.inner)
+}
+
+/// A function of the whole text, whose number is n, and those that stand in it.
+pub fn add_function(
+    plan: &Plan,
+    routines: &mut Gathered<TypedBody>,
+    library: bool,
+    n: u32,
+    gives: Option<Kind>,
+    body: &Body,
+) -> Result<(), NoMemory>
+    requires { IsPlan plan.now }
+    ensures { OnOk result (typed_routines routines.new ≡ typed_routines routines.old ++ w.function_made plan.now library n gives (routine body.now)) }
+{
+    let params = body.params.as_slice();
+    let mut site = function_site(plan, This::Nowhere, gives, library, 0, params)?;
+    let mut types = Seq::new(plan.alloc);
+    add_types(plan, &mut types, params)?;
+    let gives = noted_type(plan.alloc, gives)?;
+    let function = build_function(plan, &mut site, types, gives, n, body.stmts.as_slice())?;
+    add(routines, function)
+}
+
+/// A method of a class, which takes `this` first, and those that stand in it.
+pub fn add_method(
+    plan: &Plan,
+    routines: &mut Gathered<TypedBody>,
+    class: u32,
+    n: u32,
+    gives: Option<Kind>,
+    body: &Body,
+) -> Result<(), NoMemory>
+    requires { IsPlan plan.now }
+    ensures { OnOk result (typed_routines routines.new ≡ typed_routines routines.old ++ w.method_made plan.now class n gives (routine body.now)) }
+{
+    let params = body.params.as_slice();
+    let mut site = function_site(plan, This::Object(class), gives, false, 1, params)?;
+    let mut types = Seq::new(plan.alloc);
+    types.push(Ty::Class(class))?;
+    add_types(plan, &mut types, params)?;
+    let gives = noted_type(plan.alloc, gives)?;
+    let function = build_function(plan, &mut site, types, gives, n, body.stmts.as_slice())?;
+    add(routines, function)
+}
