@@ -1,8 +1,11 @@
 -- The statuses of calls in which nothing fails, and of commands.
-use Rattle.std.proofs.Common.{◌≡◌, ◌≤◌, ◌++◌, ℕ, List, [], inl, inr, refl, sym, subst, ap, ◌∙◌, arith, ◌⊎◌}
+use Rattle.std.proofs.Common.{◌≡◌, codes, ℕ, List, [], inl, inr, refl, sym, subst, ap, ◌∙◌, arith}
 use Rattle.std.specs.Prelude.{Option, Some, None, Bool, true, false}
 use Rattle.std.proofs.lemmas.Bool.{false≢true}
-use Rattle.board_world.specs.Observations.{End, Quietly, By_script, Panicked, Faulted}
+use Rattle.board_world.specs.Observations.{ByteList, End, Quietly, By_script, Panicked, Faulted}
+use Rattle.board_world.specs.Invariants.{SoundEnd}
+use Rattle.sts_syntax.specs.TypedTrees.{TypedProgram}
+use Rattle.hex_image.specs.Writing.{hextext}
 use Rattle.event_script.specs.declared.script.Script.{Script}
 use Rattle.run_tool.specs.declared.ending.Status.{Status}
 use Rattle.run_tool.specs.declared.ending.Status.TheVariants as status
@@ -12,19 +15,24 @@ use Rattle.run_tool.specs.declared.fetched.Fetched.{Fetched}
 use Rattle.run_tool.specs.declared.fetched.Fetched.TheVariants.{Text, Absent, Long, Failed}
 use Rattle.sts_words.specs.Orders.{Asked, check_program, build_program, run_program, run_image, run_big}
 use Rattle.run_tool.specs.Fetches.{MayFetch}
-use Rattle.run_tool.specs.Answers.{Answer, says, runs, status_of, status_number, Ends, ending_number}
-use Rattle.run_tool.specs.Files.{AnswersFetched, AnswersFile}
-use Rattle.run_tool.specs.Scripts.{AnswersScript, OverScript}
+use Rattle.run_tool.specs.Answers.{Answer, says, status_of, status_number, Ends, ending_number}
+use Rattle.run_tool.specs.Files.{AnswersFetched}
+use Rattle.run_tool.specs.Scripts.{AnswersScript, OverScript, default_script}
 use Rattle.run_tool.specs.Runs.{run_status, RunsBoard}
 use Rattle.run_tool.specs.RunHex.{RunsHex}
-use Rattle.run_tool.specs.Orders.{file_of, RunsTextWhere, is_built_run, AnswersText, AnswersNamed, MayAnswer, IsStatusOf, Completes, AsksForImage, NamesScript}
-use Rattle.run_tool.proofs.ImageRuns.{fetch-onwards, hex-onwards}
+use Rattle.run_tool.specs.Big.{big_text}
+use Rattle.run_tool.specs.Programs.{OverProgram, SaysAccepted, WritesImage, ChecksText, BuildsText}
+use Rattle.run_tool.specs.Run.{RunsProgram, RunsText}
+use Rattle.run_tool.specs.Orders.{file_of, AnswersText, AnswersNamed, MayAnswer, Completes, AsksForImage, AsksForProgram, IsOfProgram, NamesScript}
+use Rattle.sts_whole.specs.Programs.{source_after}
+use Rattle.sts_whole.proofs.Laws.{faultless}
+use Rattle.run_tool.proofs.ImageRuns.{fetch-onwards, program-onwards, hex-onwards}
 
 -- what may be answered may be answered too where the folder may have failed more
 text-onwards : (told : List ℕ → Option (Option (List ℕ))) (rose rose' : Type 0) (asked : Asked) (text : List ℕ) (answer : Answer) → (rose → rose') → AnswersText told rose asked text answer → AnswersText told rose' asked text answer
 text-onwards told rose rose' (check_program name) text answer f h = h
 text-onwards told rose rose' (build_program name) text answer f h = h
-text-onwards told rose rose' (run_program name script budget stats image) text answer f h = h
+text-onwards told rose rose' (run_program name script budget stats image) text answer f h = program-onwards told told rose rose' script budget stats image text answer (λ file. refl) f h
 text-onwards told rose rose' (run_image name script budget) text answer f h = hex-onwards told told rose rose' script budget text answer (λ file. refl) f h
 text-onwards told rose rose' (run_big size budget stats) text answer f h = h
 
@@ -56,19 +64,23 @@ module _ {B : Type 0} (log : B → Option (List (ℕ × ℕ))) (failed : B → �
       → (answer : Answer) × may answer × (status_of answer ≡ given)
   given-answer may a b given ending e s = (let known : Ends log failed lead may a b places places' (Gave given) = subst (λ x. Ends log failed lead may a b places places' x) e s in (known.0, known.1, sym known.2))
 
--- a status that only answers of `run-hex` have
+-- kinds of statuses
 abbrev of_image : Status → Bool
-of_image status.Done = false
-of_image status.Usage = false
-of_image status.Panicked = false
-of_image status.OutOfBudget = false
-of_image status.Refused = false
-of_image status.ScriptRefused = true
 of_image status.ImageRefused = true
 of_image status.Faulted = true
-of_image status.FolderFailed = false
-of_image status.Missing = false
-of_image status.TooLong = false
+of_image other = false
+
+abbrev of_refused : Status → Bool
+of_refused status.Refused = true
+of_refused other = false
+
+abbrev of_script : Status → Bool
+of_script status.ScriptRefused = true
+of_script other = false
+
+abbrev of_folder : Status → Bool
+of_folder status.FolderFailed = true
+of_folder other = false
 
 is-of : {X : Type 0} (t : Status → X) (answer : Answer) (given : Status) (output : List ℕ) (x : X) → answer ≡ says given output → t given ≡ x → t (status_of answer) ≡ x
 is-of t answer given output x e h = ap (λ a. t (status_of a)) e ∙ h
@@ -76,51 +88,13 @@ is-of t answer given output x e h = ap (λ a. t (status_of a)) e ∙ h
 two-ways : (b : Bool) → b ≡ false → b ≡ true → ⊥
 two-ways b f t = false≢true (sym f ∙ t)
 
-runs-text : (b : Bool) (text : List ℕ) (answer : Answer) → RunsTextWhere b text answer → (status_of answer ≡ status.Done) ⊎ (status_of answer ≡ status.Refused)
-runs-text true text answer (inl h) = inl (ap status_of h.3)
-runs-text true text answer (inr h) = inr (ap status_of h.1.3)
-runs-text false text answer h = inr (ap status_of h.3)
-
--- the statuses of answers to a text, but for those of an image
-plain-text : (told : List ℕ → Option (Option (List ℕ))) (rose : Type 0) (asked : Asked) (text : List ℕ) (answer : Answer) → AnswersText told rose asked text answer
-    → ((status_of answer ≡ status.Done) ⊎ (status_of answer ≡ status.Refused)) ⊎ AsksForImage (Some asked)
-plain-text told rose (check_program name) text answer (inl h) = inl (inl (ap status_of h.1))
-plain-text told rose (check_program name) text answer (inr h) = inl (inr (ap status_of h.3.3))
-plain-text told rose (build_program name) text answer h = inl (inr (ap status_of h.3))
-plain-text told rose (run_program name script budget stats image) text answer h = inl (runs-text (is_built_run script budget stats) text answer h)
-plain-text told rose (run_image name script budget) text answer h = inr (name, script, budget, refl)
-plain-text told rose (run_big size budget stats) text answer h = inl (inr (ap status_of h))
-
-image-plain : (answer : Answer) → of_image (status_of answer) ≡ true → (status_of answer ≡ status.Done) ⊎ (status_of answer ≡ status.Refused) → ⊥
-image-plain answer i (inl h) = two-ways (of_image (status_of answer)) (ap of_image h) i
-image-plain answer i (inr h) = two-ways (of_image (status_of answer)) (ap of_image h) i
-
--- only words of `run-hex` have answers with these
-image-status : (told : List ℕ → Option (Option (List ℕ))) (rose : Type 0) (asked : Asked) (text : List ℕ) (answer : Answer) → of_image (status_of answer) ≡ true → AnswersText told rose asked text answer → AsksForImage (Some asked)
-image-status told rose asked text answer i h = by_case (plain-text told rose asked text answer h)
-  where
-    by_case : ((status_of answer ≡ status.Done) ⊎ (status_of answer ≡ status.Refused)) ⊎ AsksForImage (Some asked) → AsksForImage (Some asked)
-    by_case (inl x) = absurd (image-plain answer i x)
-    by_case (inr x) = x
-
-image-fetched : (told : List ℕ → Option (Option (List ℕ))) (rose : Type 0) (asked : Asked) (fetched : Fetched) (answer : Answer) → of_image (status_of answer) ≡ true
-    → AnswersFetched (AnswersText told rose asked) fetched answer → AsksForImage (Some asked)
-image-fetched told rose asked (Text bytes) answer i h = image-status told rose asked bytes.items answer i h
-image-fetched told rose asked Absent answer i h = absurd (two-ways (of_image (status_of answer)) (is-of of_image answer status.Missing _ false h refl) i)
-image-fetched told rose asked Long answer i h = absurd (two-ways (of_image (status_of answer)) (is-of of_image answer status.TooLong _ false h refl) i)
-image-fetched told rose asked Failed answer i h = absurd (two-ways (of_image (status_of answer)) (is-of of_image answer status.FolderFailed _ false h refl) i)
-
-image-named : (told : List ℕ → Option (Option (List ℕ))) (rose : Type 0) (asked : Asked) (file : Option (List ℕ)) (answer : Answer) → of_image (status_of answer) ≡ true
-    → AnswersNamed told rose file (AnswersText told rose asked) answer → AsksForImage (Some asked)
-image-named told rose asked (Some name) answer i h = image-fetched told rose asked h.0 answer i h.2
-image-named told rose asked None answer i h = image-status told rose asked [] answer i h
-
-pub image-answer : (told : List ℕ → Option (Option (List ℕ))) (rose : Type 0) (asked : Option Asked) (answer : Answer) → of_image (status_of answer) ≡ true → MayAnswer told rose asked answer → AsksForImage asked
-image-answer told rose None answer i r = absurd (two-ways (of_image (status_of answer)) (is-of of_image answer status.Usage _ false r refl) i)
-image-answer told rose (Some asked) answer i r = image-named told rose asked (file_of asked) answer i r
+-- an output of another status
+not-said : (t : Status → Bool) (answer : Answer) (given : Status) (output : List ℕ) → t (status_of answer) ≡ true → t given ≡ false → answer ≡ says given output → ⊥
+not-said t answer given output i f e = two-ways (t (status_of answer)) (is-of t answer given output false e f) i
 
 -- a run's status is no refusal, and no failure of the folder
 abbrev of_run : Status → Bool
+of_run status.Refused = false
 of_run status.ScriptRefused = false
 of_run status.ImageRefused = false
 of_run status.FolderFailed = false
@@ -136,86 +110,229 @@ run-of (Some (Faulted kind address)) = refl
 board-status : (image : List ℕ) (script : Script) (budget : ℕ) (answer : Answer) → RunsBoard image script budget answer → of_run (status_of answer) ≡ true
 board-status image script budget answer r = ap (λ a. of_run (status_of a)) r.is ∙ run-of _
 
--- a script is refused only where it is named
-hex-script : (told : List ℕ → Option (Option (List ℕ))) (rose : Type 0) (name : List ℕ) (script : Option (List ℕ)) (budget : ℕ) (text : List ℕ) (answer : Answer) → status_of answer ≡ status.ScriptRefused
-    → RunsHex told rose script budget text answer → NamesScript (Some (run_image name script budget))
-hex-script told rose name (Some script) budget text answer e h = (name, script, budget, refl)
-hex-script told rose name None budget text answer e (inl h) = absurd (two-ways (of_run (status_of answer)) (ap of_run e) (board-status h.0 _ budget answer h.2))
-hex-script told rose name None budget text answer e (inr h) = absurd (let c : status.ScriptRefused ≡ status.ImageRefused = sym e ∙ ap status_of h.2 in cc)
+-- that of a program's run is no fault either
+abbrev of_program : Status → Bool
+of_program status.Faulted = false
+of_program other = of_run other
 
-plain-of : (given : Status) (answer : Answer) → (given ≡ status.Done → ⊥) → (given ≡ status.Refused → ⊥) → status_of answer ≡ given → (status_of answer ≡ status.Done) ⊎ (status_of answer ≡ status.Refused) → ⊥
-plain-of given answer n m e (inl h) = n (sym e ∙ h)
-plain-of given answer n m e (inr h) = m (sym e ∙ h)
+program-of : (end : Option End) → SoundEnd (λ kind address. ⊥) end → of_program (run_status end) ≡ true
+program-of None h = refl
+program-of (Some Quietly) h = refl
+program-of (Some By_script) h = refl
+program-of (Some (Panicked code)) h = refl
+program-of (Some (Faulted kind address)) h = absurd h
 
--- an answer to the text of an image
-as-image : (told : List ℕ → Option (Option (List ℕ))) (rose : Type 0) (asked : Asked) (text : List ℕ) (answer : Answer) (a : AsksForImage (Some asked)) → AnswersText told rose asked text answer → RunsHex told rose a.1 a.2 text answer
-as-image told rose asked text answer a h = (let same : asked ≡ run_image a.0 a.1 a.2 = (let e : Some asked ≡ Some (run_image a.0 a.1 a.2) = a.3 in cc) in subst (λ x. AnswersText told rose x text answer) same h)
+program-status : (P : TypedProgram) (texts : List ByteList) (script : Script) (budget : ℕ) (stats image : Bool) (answer : Answer) → RunsProgram P texts script budget stats image answer
+    → of_program (status_of answer) ≡ true
+program-status P texts script budget stats image answer r =
+    let sound : SoundEnd (λ kind address. ⊥) (source_after P texts script r.steps).board.end =
+    subst (λ e. SoundEnd (λ kind address. ⊥) e) (sym r.reaches.alike.end) (faultless P texts r.image r.implements script r.free r.executed) in
+    ap (λ a. of_program (status_of a)) r.is ∙ program-of (source_after P texts script r.steps).board.end sound
 
-script-text : (told : List ℕ → Option (Option (List ℕ))) (rose : Type 0) (asked : Asked) (text : List ℕ) (answer : Answer) → status_of answer ≡ status.ScriptRefused → AnswersText told rose asked text answer → NamesScript (Some asked)
-script-text told rose asked text answer e h = by_case (plain-text told rose asked text answer h)
+-- a status of which runs have none
+abbrev Misses : (Status → Bool) → (Status → Bool) → Type 0
+Misses t kind = (s : Status) → kind s ≡ true → t s ≡ false
+
+missed : (t kind : Status → Bool) (answer : Answer) → Misses t kind → kind (status_of answer) ≡ true → t (status_of answer) ≡ true → ⊥
+missed t kind answer m r i = two-ways (t (status_of answer)) (m (status_of answer) r) i
+
+image-program : Misses of_image of_program
+image-program status.ImageRefused e = absurd (two-ways false refl e)
+image-program status.Faulted e = absurd (two-ways false refl e)
+image-program other e = refl
+
+refused-run : Misses of_refused of_run
+refused-run status.Refused e = absurd (two-ways false refl e)
+refused-run other e = refl
+
+script-run : Misses of_script of_run
+script-run status.ScriptRefused e = absurd (two-ways false refl e)
+script-run other e = refl
+
+folder-run : Misses of_folder of_run
+folder-run status.FolderFailed e = absurd (two-ways false refl e)
+folder-run other e = refl
+
+run-program : (s : Status) → of_program s ≡ true → of_run s ≡ true
+run-program status.Faulted e = refl
+run-program other e = e
+
+-- an accepted program is answered where the answer is no refusal of a text
+accepted-one : (t : Status → Bool) (answers : TypedProgram → List ByteList → Answer → Type 0) (text : List ℕ) (answer : Answer) → t status.Refused ≡ false → t (status_of answer) ≡ true
+    → OverProgram answers text answer → (P : TypedProgram) × (texts : List ByteList) × answers P texts answer
+accepted-one t answers text answer f i (inl h) = (h.1, h.0.texts, h.3)
+accepted-one t answers text answer f i (inr h) = absurd (not-said t answer status.Refused _ i f h.3.3)
+
+-- a file of which the answer isn't told is a text
+text-one : (t : Status → Bool) (answers : List ℕ → Answer → Type 0) (told : Option (Option (List ℕ))) (rose : Type 0) (answer : Answer) → t status.Missing ≡ false → t status.TooLong ≡ false
+    → t status.FolderFailed ≡ false → t (status_of answer) ≡ true → (fetched : Fetched) → MayFetch told rose fetched → AnswersFetched answers fetched answer
+    → (text : List ℕ) × answers text answer
+text-one t answers told rose answer a b c i (Text bytes) m h = (bytes.items, h)
+text-one t answers told rose answer a b c i Absent m h = absurd (not-said t answer status.Missing _ i a h)
+text-one t answers told rose answer a b c i Long m h = absurd (not-said t answer status.TooLong _ i b h)
+text-one t answers told rose answer a b c i Failed m h = absurd (not-said t answer status.FolderFailed _ i c h)
+
+-- the same of a script
+script-one : (t : Status → Bool) (answers : Script → Answer → Type 0) (told : List ℕ → Option (Option (List ℕ))) (rose : Type 0) (script : Option (List ℕ)) (answer : Answer) → t status.Missing ≡ false
+    → t status.TooLong ≡ false → t status.FolderFailed ≡ false → t status.ScriptRefused ≡ false → t (status_of answer) ≡ true → OverScript told rose script answers answer
+    → (read : Script) × answers read answer
+script-one t answers told rose None answer a b c d i h = (default_script, h)
+script-one t answers told rose (Some name) answer a b c d i h =
+    (let r = text-one t (AnswersScript answers) (told name) rose answer a b c i h.0 h.1 h.2 in by_case r.0 r.1)
   where
-    by_case : ((status_of answer ≡ status.Done) ⊎ (status_of answer ≡ status.Refused)) ⊎ AsksForImage (Some asked) → NamesScript (Some asked)
-    by_case (inl x) = absurd (plain-of status.ScriptRefused answer (λ q. cc) (λ q. cc) e x)
-    by_case (inr x) = subst NamesScript (sym x.3) (hex-script told rose x.0 x.1 x.2 text answer e (as-image told rose asked text answer x h))
+    by_case : (text : List ℕ) → AnswersScript answers text answer → (read : Script) × answers read answer
+    by_case text (inl x) = (x.0, x.2)
+    by_case text (inr x) = absurd (not-said t answer status.ScriptRefused _ i d x.2)
 
-script-fetched : (told : List ℕ → Option (Option (List ℕ))) (rose : Type 0) (asked : Asked) (fetched : Fetched) (answer : Answer) → status_of answer ≡ status.ScriptRefused
-    → AnswersFetched (AnswersText told rose asked) fetched answer → NamesScript (Some asked)
-script-fetched told rose asked (Text bytes) answer e h = script-text told rose asked bytes.items answer e h
-script-fetched told rose asked Absent answer e h = absurd (let c : status.ScriptRefused ≡ status.Missing = sym e ∙ ap status_of h in cc)
-script-fetched told rose asked Long answer e h = absurd (let c : status.ScriptRefused ≡ status.TooLong = sym e ∙ ap status_of h in cc)
-script-fetched told rose asked Failed answer e h = absurd (let c : status.ScriptRefused ≡ status.FolderFailed = sym e ∙ ap status_of h in cc)
+-- a run of a program, and of an image, with such a status
+no-program-run : (t : Status → Bool) (told : List ℕ → Option (Option (List ℕ))) (rose : Type 0) (script : Option (List ℕ)) (budget : ℕ) (stats image : Bool) (text : List ℕ) (answer : Answer) → Misses t of_program
+    → t status.Missing ≡ false → t status.TooLong ≡ false → t status.FolderFailed ≡ false → t status.ScriptRefused ≡ false → t status.Refused ≡ false → t (status_of answer) ≡ true
+    → RunsText told rose script budget stats image text answer → ⊥
+no-program-run t told rose script budget stats image text answer m a b c d f i h =
+    let p = accepted-one t (λ P texts. OverScript told rose script (λ read. RunsProgram P texts read budget stats image)) text answer f i h in
+    let r = script-one t (λ read. RunsProgram p.0 p.1 read budget stats image) told rose script answer a b c d i p.2 in
+    missed t of_program answer m (program-status p.0 p.1 r.0 budget stats image answer r.1) i
 
-script-named : (told : List ℕ → Option (Option (List ℕ))) (rose : Type 0) (asked : Asked) (file : Option (List ℕ)) (answer : Answer) → status_of answer ≡ status.ScriptRefused
-    → AnswersNamed told rose file (AnswersText told rose asked) answer → NamesScript (Some asked)
-script-named told rose asked (Some name) answer e h = script-fetched told rose asked h.0 answer e h.2
-script-named told rose asked None answer e h = script-text told rose asked [] answer e h
+no-image-run : (t : Status → Bool) (told : List ℕ → Option (Option (List ℕ))) (rose : Type 0) (script : Option (List ℕ)) (budget : ℕ) (text : List ℕ) (answer : Answer) → Misses t of_run
+    → t status.Missing ≡ false → t status.TooLong ≡ false → t status.FolderFailed ≡ false → t status.ScriptRefused ≡ false → t status.ImageRefused ≡ false → t (status_of answer) ≡ true
+    → RunsHex told rose script budget text answer → ⊥
+no-image-run t told rose script budget text answer m a b c d f i (inl h) =
+    let r = script-one t (λ read. RunsBoard h.0 read budget) told rose script answer a b c d i h.2 in
+    missed t of_run answer m (board-status h.0 r.0 budget answer r.1) i
+no-image-run t told rose script budget text answer m a b c d f i (inr h) = not-said t answer status.ImageRefused _ i f h.2
 
-pub script-answer : (told : List ℕ → Option (Option (List ℕ))) (rose : Type 0) (asked : Option Asked) (answer : Answer) → status_of answer ≡ status.ScriptRefused → MayAnswer told rose asked answer → NamesScript asked
-script-answer told rose None answer e r = absurd (let c : status.ScriptRefused ≡ status.Usage = sym e ∙ ap status_of r in cc)
-script-answer told rose (Some asked) answer e r = script-named told rose asked (file_of asked) answer e r
+-- `check` and `build`
+no-output : (t : Status → Bool) (answers : TypedProgram → List ByteList → Answer → Type 0) (text : List ℕ) (answer : Answer) → t status.Refused ≡ false → t status.Done ≡ false → t (status_of answer) ≡ true
+    → ((P : TypedProgram) (texts : List ByteList) → answers P texts answer → (output : List ℕ) × (answer ≡ says status.Done output)) → OverProgram answers text answer → ⊥
+no-output t answers text answer f g i done h =
+    let p = accepted-one t answers text answer f i h in
+    let d = done p.0 p.1 p.2 in
+    not-said t answer status.Done d.0 i g d.1
+
+no-check : (t : Status → Bool) (text : List ℕ) (answer : Answer) → t status.Refused ≡ false → t status.Done ≡ false → t (status_of answer) ≡ true → ChecksText text answer → ⊥
+no-check t text answer f g i h = no-output t SaysAccepted text answer f g i (λ P texts e. (codes "accepted\n", e)) h
+
+no-build : (t : Status → Bool) (text : List ℕ) (answer : Answer) → t status.Refused ≡ false → t status.Done ≡ false → t (status_of answer) ≡ true → BuildsText text answer → ⊥
+no-build t text answer f g i h = no-output t WritesImage text answer f g i (λ P texts e. (hextext e.0, e.2)) h
+
+-- only words of `run-hex` have answers with these
+image-status : (told : List ℕ → Option (Option (List ℕ))) (rose : Type 0) (asked : Asked) (text : List ℕ) (answer : Answer) → of_image (status_of answer) ≡ true → AnswersText told rose asked text answer → AsksForImage (Some asked)
+image-status told rose (check_program name) text answer i h = absurd (no-check of_image text answer refl refl i h)
+image-status told rose (build_program name) text answer i h = absurd (no-build of_image text answer refl refl i h)
+image-status told rose (run_program name script budget stats image) text answer i h = absurd (no-program-run of_image told rose script budget stats image text answer image-program refl refl refl refl refl i h)
+image-status told rose (run_image name script budget) text answer i h = (name, script, budget, refl)
+image-status told rose (run_big size budget stats) text answer i h = absurd (no-program-run of_image told rose None budget stats false (big_text size) answer image-program refl refl refl refl refl i h)
+
+-- a program is refused only where the words ask for one
+refused-status : (told : List ℕ → Option (Option (List ℕ))) (rose : Type 0) (asked : Asked) (text : List ℕ) (answer : Answer) → of_refused (status_of answer) ≡ true → AnswersText told rose asked text answer → IsOfProgram asked
+refused-status told rose (check_program name) text answer i h = tt
+refused-status told rose (build_program name) text answer i h = tt
+refused-status told rose (run_program name script budget stats image) text answer i h = tt
+refused-status told rose (run_image name script budget) text answer i h = no-image-run of_refused told rose script budget text answer refused-run refl refl refl refl refl i h
+refused-status told rose (run_big size budget stats) text answer i h = tt
+
+-- a script is refused only where it is named
+program-script : (told : List ℕ → Option (Option (List ℕ))) (rose : Type 0) (name : List ℕ) (script : Option (List ℕ)) (budget : ℕ) (stats image : Bool) (text : List ℕ) (answer : Answer)
+    → of_script (status_of answer) ≡ true → RunsText told rose script budget stats image text answer → NamesScript (Some (run_program name script budget stats image))
+program-script told rose name (Some script) budget stats image text answer i h = inl (name, script, budget, stats, image, refl)
+program-script told rose name None budget stats image text answer i h =
+    let p = accepted-one of_script (λ P texts. OverScript told rose None (λ read. RunsProgram P texts read budget stats image)) text answer refl i h in
+    absurd (missed of_script of_run answer script-run (run-program (status_of answer) (program-status p.0 p.1 default_script budget stats image answer p.2)) i)
+
+hex-script : (told : List ℕ → Option (Option (List ℕ))) (rose : Type 0) (name : List ℕ) (script : Option (List ℕ)) (budget : ℕ) (text : List ℕ) (answer : Answer) → of_script (status_of answer) ≡ true
+    → RunsHex told rose script budget text answer → NamesScript (Some (run_image name script budget))
+hex-script told rose name (Some script) budget text answer i h = inr (name, script, budget, refl)
+hex-script told rose name None budget text answer i (inl h) = absurd (missed of_script of_run answer script-run (board-status h.0 default_script budget answer h.2) i)
+hex-script told rose name None budget text answer i (inr h) = absurd (not-said of_script answer status.ImageRefused _ i refl h.2)
+
+big-script : (told : List ℕ → Option (Option (List ℕ))) (rose : Type 0) (budget : ℕ) (stats : Bool) (text : List ℕ) (answer : Answer) → of_script (status_of answer) ≡ true
+    → RunsText told rose None budget stats false text answer → ⊥
+big-script told rose budget stats text answer i h =
+    let p = accepted-one of_script (λ P texts. OverScript told rose None (λ read. RunsProgram P texts read budget stats false)) text answer refl i h in
+    missed of_script of_run answer script-run (run-program (status_of answer) (program-status p.0 p.1 default_script budget stats false answer p.2)) i
+
+script-status : (told : List ℕ → Option (Option (List ℕ))) (rose : Type 0) (asked : Asked) (text : List ℕ) (answer : Answer) → of_script (status_of answer) ≡ true → AnswersText told rose asked text answer → NamesScript (Some asked)
+script-status told rose (check_program name) text answer i h = absurd (no-check of_script text answer refl refl i h)
+script-status told rose (build_program name) text answer i h = absurd (no-build of_script text answer refl refl i h)
+script-status told rose (run_program name script budget stats image) text answer i h = program-script told rose name script budget stats image text answer i h
+script-status told rose (run_image name script budget) text answer i h = hex-script told rose name script budget text answer i h
+script-status told rose (run_big size budget stats) text answer i h = absurd (big-script told rose budget stats (big_text size) answer i h)
+
+-- Of an answer to words, which is no answer to a file that isn't there or is too long, or to a folder that failed, something holds that holds of answers to texts.
+module _ (t : Status → Bool) (a : t status.Missing ≡ false) (b : t status.TooLong ≡ false) (c : t status.FolderFailed ≡ false) (Holds : Asked → Type 0) (told : List ℕ → Option (Option (List ℕ))) (rose : Type 0)
+    (of_text : (asked : Asked) (text : List ℕ) (answer : Answer) → t (status_of answer) ≡ true → AnswersText told rose asked text answer → Holds asked) where
+  of-named : (asked : Asked) (file : Option (List ℕ)) (answer : Answer) → t (status_of answer) ≡ true → AnswersNamed told rose file (AnswersText told rose asked) answer → Holds asked
+  of-named asked (Some name) answer i h = (let r = text-one t (AnswersText told rose asked) (told name) rose answer a b c i h.0 h.1 h.2 in of_text asked r.0 answer i r.1)
+  of-named asked None answer i h = of_text asked [] answer i h
+
+  of-words : (asked : Asked) (answer : Answer) → t (status_of answer) ≡ true → MayAnswer told rose (Some asked) answer → Holds asked
+  of-words asked answer i r = of-named asked (file_of asked) answer i r
+
+image-answer : (told : List ℕ → Option (Option (List ℕ))) (rose : Type 0) (asked : Option Asked) (answer : Answer) → of_image (status_of answer) ≡ true → MayAnswer told rose asked answer → AsksForImage asked
+image-answer told rose None answer i r = absurd (not-said of_image answer status.Usage _ i refl r)
+image-answer told rose (Some asked) answer i r = of-words of_image refl refl refl (λ x. AsksForImage (Some x)) told rose (image-status told rose) asked answer i r
+
+refused-answer : (told : List ℕ → Option (Option (List ℕ))) (rose : Type 0) (asked : Option Asked) (answer : Answer) → of_refused (status_of answer) ≡ true → MayAnswer told rose asked answer → AsksForProgram asked
+refused-answer told rose None answer i r = not-said of_refused answer status.Usage _ i refl r
+refused-answer told rose (Some asked) answer i r = of-words of_refused refl refl refl IsOfProgram told rose (refused-status told rose) asked answer i r
+
+script-answer : (told : List ℕ → Option (Option (List ℕ))) (rose : Type 0) (asked : Option Asked) (answer : Answer) → of_script (status_of answer) ≡ true → MayAnswer told rose asked answer → NamesScript asked
+script-answer told rose None answer i r = absurd (not-said of_script answer status.Usage _ i refl r)
+script-answer told rose (Some asked) answer i r = of-words of_script refl refl refl (λ x. NamesScript (Some x)) told rose (script-status told rose) asked answer i r
 
 -- the folder's failure is told only where its count of faults rose
-failed-file : (answers : List ℕ → Answer → Type 0) (told : Option (Option (List ℕ))) (rose : Type 0) (answer : Answer) → status_of answer ≡ status.FolderFailed
+failed-file : (answers : List ℕ → Answer → Type 0) (told : Option (Option (List ℕ))) (rose : Type 0) (answer : Answer) → of_folder (status_of answer) ≡ true
     → ((text : List ℕ) → answers text answer → rose) → (fetched : Fetched) → MayFetch told rose fetched → AnswersFetched answers fetched answer → rose
-failed-file answers told rose answer e f (Text bytes) m h = f bytes.items h
-failed-file answers told rose answer e f Absent m h = absurd (let c : status.FolderFailed ≡ status.Missing = sym e ∙ ap status_of h in cc)
-failed-file answers told rose answer e f Long m h = absurd (let c : status.FolderFailed ≡ status.TooLong = sym e ∙ ap status_of h in cc)
-failed-file answers told rose answer e f Failed m h = m
+failed-file answers told rose answer i f (Text bytes) m h = f bytes.items h
+failed-file answers told rose answer i f Absent m h = absurd (not-said of_folder answer status.Missing _ i refl h)
+failed-file answers told rose answer i f Long m h = absurd (not-said of_folder answer status.TooLong _ i refl h)
+failed-file answers told rose answer i f Failed m h = m
 
-failed-board : (image : List ℕ) (script : Script) (budget : ℕ) (answer : Answer) → status_of answer ≡ status.FolderFailed → RunsBoard image script budget answer → ⊥
-failed-board image script budget answer e h = two-ways (of_run (status_of answer)) (ap of_run e) (board-status image script budget answer h)
+failed-script : (rose : Type 0) (answers : Script → Answer → Type 0) (answer : Answer) → of_folder (status_of answer) ≡ true → ((read : Script) → answers read answer → ⊥) → (text : List ℕ) → AnswersScript answers text answer → rose
+failed-script rose answers answer i f text (inl h) = absurd (f h.0 h.2)
+failed-script rose answers answer i f text (inr h) = absurd (not-said of_folder answer status.ScriptRefused _ i refl h.2)
 
-failed-script : (rose : Type 0) (image : List ℕ) (budget : ℕ) (answer : Answer) → status_of answer ≡ status.FolderFailed → (text : List ℕ) → AnswersScript (λ read. RunsBoard image read budget) text answer → rose
-failed-script rose image budget answer e text (inl h) = absurd (failed-board image h.0 budget answer e h.2)
-failed-script rose image budget answer e text (inr h) = absurd (let c : status.FolderFailed ≡ status.ScriptRefused = sym e ∙ ap status_of h.2 in cc)
+failed-over : (told : List ℕ → Option (Option (List ℕ))) (rose : Type 0) (script : Option (List ℕ)) (answers : Script → Answer → Type 0) (answer : Answer) → of_folder (status_of answer) ≡ true
+    → ((read : Script) → answers read answer → ⊥) → OverScript told rose script answers answer → rose
+failed-over told rose None answers answer i f h = absurd (f default_script h)
+failed-over told rose (Some name) answers answer i f h = failed-file (AnswersScript answers) (told name) rose answer i (λ text x. failed-script rose answers answer i f text x) h.0 h.1 h.2
 
-failed-over : (told : List ℕ → Option (Option (List ℕ))) (rose : Type 0) (script : Option (List ℕ)) (image : List ℕ) (budget : ℕ) (answer : Answer) → status_of answer ≡ status.FolderFailed
-    → OverScript told rose script (λ read. RunsBoard image read budget) answer → rose
-failed-over told rose None image budget answer e h = absurd (failed-board image _ budget answer e h)
-failed-over told rose (Some name) image budget answer e h =
-    failed-file (AnswersScript (λ read. RunsBoard image read budget)) (told name) rose answer e (λ text a. failed-script rose image budget answer e text a) h.0 h.1 h.2
+failed-run : (told : List ℕ → Option (Option (List ℕ))) (rose : Type 0) (script : Option (List ℕ)) (budget : ℕ) (stats image : Bool) (text : List ℕ) (answer : Answer) → of_folder (status_of answer) ≡ true
+    → RunsText told rose script budget stats image text answer → rose
+failed-run told rose script budget stats image text answer i h =
+    let p = accepted-one of_folder (λ P texts. OverScript told rose script (λ read. RunsProgram P texts read budget stats image)) text answer refl i h in
+    failed-over told rose script (λ read. RunsProgram p.0 p.1 read budget stats image) answer i
+    (λ read r. missed of_folder of_run answer folder-run (run-program (status_of answer) (program-status p.0 p.1 read budget stats image answer r)) i) p.2
 
-failed-hex : (told : List ℕ → Option (Option (List ℕ))) (rose : Type 0) (script : Option (List ℕ)) (budget : ℕ) (text : List ℕ) (answer : Answer) → status_of answer ≡ status.FolderFailed → RunsHex told rose script budget text answer → rose
-failed-hex told rose script budget text answer e (inl h) = failed-over told rose script h.0 budget answer e h.2
-failed-hex told rose script budget text answer e (inr h) = absurd (let c : status.FolderFailed ≡ status.ImageRefused = sym e ∙ ap status_of h.2 in cc)
+failed-hex : (told : List ℕ → Option (Option (List ℕ))) (rose : Type 0) (script : Option (List ℕ)) (budget : ℕ) (text : List ℕ) (answer : Answer) → of_folder (status_of answer) ≡ true
+    → RunsHex told rose script budget text answer → rose
+failed-hex told rose script budget text answer i (inl h) =
+    failed-over told rose script (λ read. RunsBoard h.0 read budget) answer i (λ read r. missed of_folder of_run answer folder-run (board-status h.0 read budget answer r) i) h.2
+failed-hex told rose script budget text answer i (inr h) = absurd (not-said of_folder answer status.ImageRefused _ i refl h.2)
 
-failed-text : (told : List ℕ → Option (Option (List ℕ))) (rose : Type 0) (asked : Asked) (text : List ℕ) (answer : Answer) → status_of answer ≡ status.FolderFailed → AnswersText told rose asked text answer → rose
-failed-text told rose asked text answer e h = by_case (plain-text told rose asked text answer h)
-  where
-    by_case : ((status_of answer ≡ status.Done) ⊎ (status_of answer ≡ status.Refused)) ⊎ AsksForImage (Some asked) → rose
-    by_case (inl x) = absurd (plain-of status.FolderFailed answer (λ q. cc) (λ q. cc) e x)
-    by_case (inr x) = failed-hex told rose x.1 x.2 text answer e (as-image told rose asked text answer x h)
+failed-text : (told : List ℕ → Option (Option (List ℕ))) (rose : Type 0) (asked : Asked) (text : List ℕ) (answer : Answer) → of_folder (status_of answer) ≡ true → AnswersText told rose asked text answer → rose
+failed-text told rose (check_program name) text answer i h = absurd (no-check of_folder text answer refl refl i h)
+failed-text told rose (build_program name) text answer i h = absurd (no-build of_folder text answer refl refl i h)
+failed-text told rose (run_program name script budget stats image) text answer i h = failed-run told rose script budget stats image text answer i h
+failed-text told rose (run_image name script budget) text answer i h = failed-hex told rose script budget text answer i h
+failed-text told rose (run_big size budget stats) text answer i h = failed-run told rose None budget stats false (big_text size) answer i h
 
-failed-named : (told : List ℕ → Option (Option (List ℕ))) (rose : Type 0) (asked : Asked) (file : Option (List ℕ)) (answer : Answer) → status_of answer ≡ status.FolderFailed
+failed-named : (told : List ℕ → Option (Option (List ℕ))) (rose : Type 0) (asked : Asked) (file : Option (List ℕ)) (answer : Answer) → of_folder (status_of answer) ≡ true
     → AnswersNamed told rose file (AnswersText told rose asked) answer → rose
-failed-named told rose asked (Some name) answer e h = failed-file (AnswersText told rose asked) (told name) rose answer e (λ text a. failed-text told rose asked text answer e a) h.0 h.1 h.2
-failed-named told rose asked None answer e h = failed-text told rose asked [] answer e h
+failed-named told rose asked (Some name) answer i h = failed-file (AnswersText told rose asked) (told name) rose answer i (λ text x. failed-text told rose asked text answer i x) h.0 h.1 h.2
+failed-named told rose asked None answer i h = failed-text told rose asked [] answer i h
 
-pub failed-answer : (told : List ℕ → Option (Option (List ℕ))) (rose : Type 0) (asked : Option Asked) (answer : Answer) → status_of answer ≡ status.FolderFailed → MayAnswer told rose asked answer → rose
-failed-answer told rose None answer e r = absurd (let c : status.FolderFailed ≡ status.Usage = sym e ∙ ap status_of r in cc)
-failed-answer told rose (Some asked) answer e r = failed-named told rose asked (file_of asked) answer e r
+failed-answer : (told : List ℕ → Option (Option (List ℕ))) (rose : Type 0) (asked : Option Asked) (answer : Answer) → of_folder (status_of answer) ≡ true → MayAnswer told rose asked answer → rose
+failed-answer told rose None answer i r = absurd (not-said of_folder answer status.Usage _ i refl r)
+failed-answer told rose (Some asked) answer i r = failed-named told rose asked (file_of asked) answer i r
 
--- the numbers 11, 12, 13 and 20 stand for one status each
+-- the numbers 10 to 13 and 20 stand for one status each
+refused-10 : (ending : Ending) → 10 ≡ ending_number ending → ending ≡ Gave status.Refused
+refused-10 (Gave status.Refused) e = refl
+refused-10 (Gave other) e = absurd (omega (arith, e))
+refused-10 Cut e = absurd (omega (arith, e))
+refused-10 NoMemory e = absurd (omega (arith, e))
+
 script-11 : (ending : Ending) → 11 ≡ ending_number ending → ending ≡ Gave status.ScriptRefused
 script-11 (Gave status.ScriptRefused) e = refl
 script-11 (Gave other) e = absurd (omega (arith, e))
@@ -242,8 +359,11 @@ failed-20 NoMemory e = absurd (omega (arith, e))
 
 module _ {B : Type 0} (log : B → Option (List (ℕ × ℕ))) (failed : B → ℕ) (places places' : List (Option B)) (lead : List ℕ) (told : List ℕ → Option (Option (List ℕ))) (rose : Type 0)
     (asked : Option Asked) (a b : Option (List ℕ)) (ending : Ending) (number : ℕ) (n : number ≡ ending_number ending) (s : Ends log failed lead (MayAnswer told rose asked) a b places places' ending) where
+  pub refused : number ≡ 10 → AsksForProgram asked
+  refused is = (let k = given-answer log failed places places' lead (MayAnswer told rose asked) a b status.Refused ending (refused-10 ending (sym is ∙ n)) s in refused-answer told rose asked k.0 (ap of_refused k.2) k.1)
+
   pub script-refused : number ≡ 11 → NamesScript asked
-  script-refused is = (let k = given-answer log failed places places' lead (MayAnswer told rose asked) a b status.ScriptRefused ending (script-11 ending (sym is ∙ n)) s in script-answer told rose asked k.0 k.2 k.1)
+  script-refused is = (let k = given-answer log failed places places' lead (MayAnswer told rose asked) a b status.ScriptRefused ending (script-11 ending (sym is ∙ n)) s in script-answer told rose asked k.0 (ap of_script k.2) k.1)
 
   pub image-refused : number ≡ 12 → AsksForImage asked
   image-refused is = (let k = given-answer log failed places places' lead (MayAnswer told rose asked) a b status.ImageRefused ending (refused-12 ending (sym is ∙ n)) s in image-answer told rose asked k.0 (ap of_image k.2) k.1)
@@ -252,4 +372,4 @@ module _ {B : Type 0} (log : B → Option (List (ℕ × ℕ))) (failed : B → �
   faulted is = (let k = given-answer log failed places places' lead (MayAnswer told rose asked) a b status.Faulted ending (faulted-13 ending (sym is ∙ n)) s in image-answer told rose asked k.0 (ap of_image k.2) k.1)
 
   pub folder-failed : number ≡ 20 → rose
-  folder-failed is = (let k = given-answer log failed places places' lead (MayAnswer told rose asked) a b status.FolderFailed ending (failed-20 ending (sym is ∙ n)) s in failed-answer told rose asked k.0 k.2 k.1)
+  folder-failed is = (let k = given-answer log failed places places' lead (MayAnswer told rose asked) a b status.FolderFailed ending (failed-20 ending (sym is ∙ n)) s in failed-answer told rose asked k.0 (ap of_folder k.2) k.1)

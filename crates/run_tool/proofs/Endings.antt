@@ -1,6 +1,6 @@
 -- Endings that are handed on.
-use Rattle.std.proofs.Common.{◌≡◌, ◌≤◌, ◌+◌, ℕ, List, [], inl, inr, refl, subst, arith}
-use Rattle.std.proofs.Common.{◌++◌, ap, ◌∙◌}
+use Rattle.std.proofs.Common.{◌≡◌, ◌≤◌, ℕ, List, [], inl, inr, refl, subst, arith}
+use Rattle.std.proofs.Common.{◌++◌, ap, sym, ◌∙◌, append_assoc}
 use Rattle.std.proofs.lemmas.List.{append-nil}
 use Rattle.std.specs.Prelude.{Option, Some, None, Result, Ok, Err, IfOk, IfErr}
 use Rattle.serde_json.specs.Data.{Data}
@@ -17,29 +17,30 @@ use Rattle.board_outside.specs.Moves.{seen_of}
 use Rattle.run_tool.specs.declared.ending.Status.{Status}
 use Rattle.std.specs.declared.vec.Vec.{Vec}
 use Rattle.std.specs.declared.alloc.Global.{Global}
-use Rattle.sts_base.specs.declared.refused.Code.TheVariants.{NotThisForm}
 use Rattle.tool_io.specs.Putting.{Took}
-use Rattle.tool_io.proofs.Laws.{took-nothing, took-then, part-then}
-use Rattle.sts_whole.specs.First.{IsNoSum, Runs}
-use Rattle.sts_whole.specs.declared.first.First.{First}
-use Rattle.sts_whole.specs.declared.first.First.TheVariants.{NotThisForm as NotOfForm, SinkFault as SinkFailed}
+use Rattle.sts_base.specs.Faults.{Rose}
+use Rattle.sts_base.specs.Numbers.{number_of}
+use Rattle.sts_base.specs.Places.{IsPlace}
+use Rattle.sts_base.specs.declared.refused.Code.{Code}
+use Rattle.tool_io.proofs.Laws.{took-nothing, took-then, part-then, part-more}
 use Rattle.run_tool.specs.declared.ending.Ending.{Ending}
 use Rattle.run_tool.specs.declared.ending.Ending.TheVariants.{Gave, Cut, NoMemory}
 use Rattle.run_tool.specs.declared.fetched.Fetched.{Fetched}
 use Rattle.run_tool.specs.declared.fetched.Fetched.TheVariants.{Text, Absent, Long, Failed}
 use Rattle.run_tool.specs.Fetches.{MayFetch}
-use Rattle.run_tool.specs.Answers.{Answer, says, runs, status_of, output_of, Leaves, IsCut, Ends, Concludes, Says, GivesOneOf}
-use Rattle.run_tool.specs.Refusals.{Refuses}
-use Rattle.run_tool.specs.Run.{RunsText}
-use Rattle.sts_base.specs.Int32.{to_int32}
-use Rattle.sts_whole.specs.First.{number_transcript}
-use Rattle.run_tool.specs.declared.ending.Status.TheVariants.{Done}
+use Rattle.run_tool.specs.Answers.{Answer, says, runs, status_of, output_of, IsCut, Ends, Concludes, Says, GivesOneOf, Led}
+use Rattle.run_tool.specs.declared.ending.Status.TheVariants.{Refused}
+use Rattle.run_tool.specs.Refusals.{Refuses, refused_line}
+use Rattle.run_tool.specs.Programs.{OverProgram, none_to_programs}
+use Rattle.run_tool.specs.Run.{ending_by}
+use Rattle.board_world.specs.Observations.{ByteList}
+use Rattle.sts_syntax.specs.TypedTrees.{TypedProgram}
+use Rattle.sts_whole.specs.Built.{Builds}
 use Rattle.sts_words.specs.Orders.{Asked}
 use Rattle.run_tool.specs.Files.{AnswersFetched, AnswersFile, none_to_texts}
 use Rattle.run_tool.specs.Orders.{MayAnswer, lead_of}
 use Rattle.run_tool.specs.Scripts.{AnswersScript, OverScript, RefusesScript, IsScriptOf, none_to_scripts}
 use Rattle.event_script.specs.declared.script.Script.{Script}
-use Rattle.board_outside.specs.Cuts.{TookInto, Stopped}
 use Rattle.tool_io.specs.Putting.{TookPart}
 
 -- an ending where more answers may be given
@@ -61,10 +62,6 @@ says-after may a b c (Gave status) t s = (s.0, s.1, took-then [] s.0 t s.2)
 says-after may a b c Cut t s = (s.0, s.1, s.2, part-then [] s.1 t s.3)
 says-after may a b c NoMemory t s = took-then [] [] t s
 
--- what is known where a run says that the text isn't of the form
-pub not-of-form : (text : List ℕ) (a b : Option (List ℕ)) (m n : ℕ) (why : First) → why ≡ NotOfForm → Runs text a b m n (Err why) → IsNoSum text × Took a b []
-not-of-form text a b m n why e r = subst (λ x. Runs text a b m n (Err x)) e r
-
 -- behind a call that took nothing
 pub gives-after : {S : Type 0} {taken : S → Option (List ℕ)} {faults : S → ℕ} {old between new : S} (may : Answer → Type 0) (ending : Ending)
     → Took (taken old) (taken between) [] → faults old ≤ faults between → GivesOneOf taken faults between new may ending → GivesOneOf taken faults old new may ending
@@ -74,13 +71,6 @@ gives-after {S} {taken} {faults} {old} {between} {new} may ending t later s =
       later = omega (arith, later, s.later);
       cut = λ e. let rose = s.cut e in omega (arith, later, rose);
     }
-
--- a text of no form is refused
-pub refused-gives : {S : Type 0} {taken : S → Option (List ℕ)} {faults : S → ℕ} {old between new : S} (text : List ℕ) (ending : Ending) → IsNoSum text
-    → Took (taken old) (taken between) [] → faults old ≤ faults between → GivesOneOf taken faults between new (Refuses text NotThisForm 0) ending
-    → GivesOneOf taken faults old new (RunsText text) ending
-refused-gives text ending none t later s =
-    gives-after (RunsText text) ending t later (gives-more (Refuses text NotThisForm 0) (RunsText text) ending (λ answer r. inr (none, r)) s)
 
 -- a text that was fetched is answered, and nothing was written before
 pub text-gives : {S : Type 0} {taken : S → Option (List ℕ)} {faults : S → ℕ} {old between new : S} (answers : List ℕ → Answer → Type 0) (told : Option (Option (List ℕ)))
@@ -102,13 +92,6 @@ pub no-text-gives : {S : Type 0} {taken : S → Option (List ℕ)} {faults : S �
     (rose : Type 0) (ending : Ending) → GivesOneOf taken faults old new (AnswersFile none_to_texts told rose) ending → GivesOneOf taken faults old new (AnswersFile answers told rose) ending
 no-text-gives answers told rose ending s =
     gives-more (AnswersFile none_to_texts told rose) (AnswersFile answers told rose) ending (λ answer h. no-text answers told rose answer h.0 h.1 h.2) s
-
--- a run of a sum that the sink cut short
-pub sum-cut : {S : Type 0} {taken : S → Option (List ℕ)} {faults : S → ℕ} {old new : S} (text : List ℕ) (why : First) → why ≡ SinkFailed
-    → Runs text (taken old) (taken new) (faults old) (faults new) (Err why) → faults old ≤ faults new → GivesOneOf taken faults old new (RunsText text) Cut
-sum-cut {S} {taken} {faults} {old} {new} text why e r later =
-    let ran : Runs text (taken old) (taken new) (faults old) (faults new) (Err SinkFailed) = subst (λ x. Runs text (taken old) (taken new) (faults old) (faults new) (Err x)) e r in
-    record { ends = (Done, number_transcript (to_int32 (ran.0 + ran.1)), inl (ran.0, ran.1, ran.2, refl), ran.3.0); later = later; cut = λ cut. ran.3.1 }
 
 -- the same over devices
 module _ {B : Type 0} (log : B → Option (List (ℕ × ℕ))) (failed : B → ℕ) (places places' : List (Option B)) (lead : List ℕ) where
@@ -159,16 +142,58 @@ module _ {B : Type 0} (log : B → Option (List (ℕ × ℕ))) (failed : B → �
       → Concludes taken faults old new log failed places places' [] may ending
   says-concludes {S} {taken} {faults} {old} {new} may ending s = record { ends = ends-said may (taken old) (taken new) ending s.ends; later = s.later; cut = s.cut }
 
-  ends-led : (lead output : List ℕ) (status : Status) (a b : Option (List ℕ)) (ending : Ending) → Says (λ answer. answer ≡ says status (lead ++ output)) a b ending
-      → Ends log failed lead (λ answer. answer ≡ says status output) a b places places' ending
-  ends-led lead output status a b (Gave given) s = (says status output, refl, ap status_of s.1, subst (λ l. Took a b l) (ap output_of s.1) s.2, same)
-  ends-led lead output status a b Cut s = (says status output, refl, (subst (λ l. TookPart a b l) (ap output_of s.2) s.3, same))
-  ends-led lead output status a b NoMemory s = (inl s, same)
+  ends-led : (lead : List ℕ) (may : Answer → Type 0) (a b : Option (List ℕ)) (ending : Ending) → Says (Led lead may) a b ending → Ends log failed lead may a b places places' ending
+  ends-led lead may a b (Gave given) s = (let l = s.1 in (says l.0 l.1, l.2, ap status_of l.3, subst (λ x. Took a b x) (ap output_of l.3) s.2, same))
+  ends-led lead may a b Cut s = (let l = s.2 in (says l.0 l.1, l.2, (subst (λ x. TookPart a b x) (ap output_of l.3) s.3, same)))
+  ends-led lead may a b NoMemory s = (inl s, same)
 
   -- the same behind the line that the command begins with
-  pub led-concludes : {S : Type 0} {taken : S → Option (List ℕ)} {faults : S → ℕ} {old new : S} (lead output : List ℕ) (status : Status) (ending : Ending)
-      → GivesOneOf taken faults old new (λ answer. answer ≡ says status (lead ++ output)) ending → Concludes taken faults old new log failed places places' lead (λ answer. answer ≡ says status output) ending
-  led-concludes {S} {taken} {faults} {old} {new} lead output status ending s = record { ends = ends-led lead output status (taken old) (taken new) ending s.ends; later = s.later; cut = s.cut }
+  pub led-concludes : {S : Type 0} {taken : S → Option (List ℕ)} {faults : S → ℕ} {old new : S} (lead : List ℕ) (may : Answer → Type 0) (ending : Ending)
+      → GivesOneOf taken faults old new (Led lead may) ending → Concludes taken faults old new log failed places places' lead may ending
+  led-concludes {S} {taken} {faults} {old} {new} lead may ending s = record { ends = ends-led lead may (taken old) (taken new) ending s.ends; later = s.later; cut = s.cut }
+
+  cut-in-lead : (lead : List ℕ) (answer : Answer) (a b : Option (List ℕ)) → TookPart a b lead → IsCut log failed lead answer a b places places'
+  cut-in-lead lead (says status output) a b t = (part-more lead output t, same)
+  cut-in-lead lead (runs status moves behind) a b t = inl (t, same)
+
+  -- the sink stopped that line, and an answer is due
+  pub lead-concludes : {S : Type 0} {taken : S → Option (List ℕ)} {faults : S → ℕ} {old new : S} (lead : List ℕ) (may : Answer → Type 0) (answer : Answer) → may answer
+      → TookPart (taken old) (taken new) lead → faults old ≤ faults new → Rose (faults old) (faults new) → Concludes taken faults old new log failed places places' lead may Cut
+  lead-concludes {S} {taken} {faults} {old} {new} lead may answer due t later rose =
+      record { ends = (answer, due, cut-in-lead lead answer (taken old) (taken new) t); later = later; cut = λ e. rose }
+
+-- a run behind the line that the command begins with
+module _ {B : Type 0} (log : B → Option (List (ℕ × ℕ))) (failed : B → ℕ) (places places' : List (Option B)) (lead : List ℕ) where
+  cut-behind : (a b c : Option (List ℕ)) (answer : Answer) → Took a b lead → IsCut log failed [] answer b c places places' → IsCut log failed lead answer a c places places'
+  cut-behind a b c (says status output) t x = (part-then lead output t x.0, x.1)
+  cut-behind a b c (runs status moves behind) t (inl x) = inl (subst (λ l. TookPart a c l) (append-nil lead) (part-then lead [] t x.0), x.1)
+  cut-behind a b c (runs status moves behind) t (inr x) = inr (record {
+    done = x.done;
+    left = x.left;
+    split = x.split;
+    due = x.due;
+    written = record {
+      told = λ had e. (
+          let r = x.written.told (had ++ lead) (t.told had e) in
+          let whole = lines (seen_of x.done) in
+          (r.0, r.1, r.2 ∙ ap Some (append_assoc had lead (whole ++ r.0) ∙ ap (λ l. had ++ l) (sym (append_assoc lead whole r.0)))));
+    };
+    devices = x.devices;
+  })
+
+  ends-behind : (may : Answer → Type 0) (a b c : Option (List ℕ)) (ending : Ending) → Took a b lead → Ends log failed [] may b c places places' ending → Ends log failed lead may a c places places' ending
+  ends-behind may a b c (Gave status) t s = (s.0, s.1, s.2, took-then lead (output_of s.0) t s.3, s.4)
+  ends-behind may a b c Cut t s = (s.0, s.1, cut-behind a b c s.0 t s.2)
+  ends-behind may a b c NoMemory t (inl x, p) = (inr (subst (λ l. Took a c l) (append-nil lead) (took-then lead [] t x)), p)
+  ends-behind may a b c NoMemory t (inr x, p) = (inr (subst (λ l. Took a c l) (append-nil lead) (took-then lead [] t x)), p)
+
+  pub concludes-behind : {S : Type 0} {taken : S → Option (List ℕ)} {faults : S → ℕ} {old between new : S} (may : Answer → Type 0) (ending : Ending) → Took (taken old) (taken between) lead
+      → faults old ≤ faults between → Concludes taken faults between new log failed places places' [] may ending → Concludes taken faults old new log failed places places' lead may ending
+  concludes-behind {S} {taken} {faults} {old} {between} {new} may ending t later s = record {
+    ends = ends-behind may (taken old) (taken between) (taken new) ending t s.ends;
+    later = omega (arith, later, s.later);
+    cut = λ e. let rose = s.cut e in omega (arith, later, rose);
+  }
 
 -- a text that was fetched is answered over devices, and nothing was written before
 pub text-concludes : {S B : Type 0} {taken : S → Option (List ℕ)} {faults : S → ℕ} {old between new : S} (log : B → Option (List (ℕ × ℕ))) (failed : B → ℕ) (places places' : List (Option B))
@@ -228,13 +253,39 @@ refuses-script text r OutOfOrder e a b c d f = c e
 refuses-script text r PastEnd e a b c d f = d e
 refuses-script text r TooMany e a b c d f = f e
 
--- how a call ends whose output was put so
-abbrev pub ending_by : Status → Result (Unit {0}) PutFailed → Ending
-ending_by status (Ok x) = Gave status
-ending_by status (Err x) = Cut
-
 -- puts of the whole output of one answer
 pub puts-give : {S : Type 0} {taken : S → Option (List ℕ)} {faults : S → ℕ} {old new : S} (status : Status) (output : List ℕ) (put : Result (Unit {0}) PutFailed)
     → Puts (taken old) (taken new) (faults old) (faults new) output put → GivesOneOf taken faults old new (λ answer. answer ≡ says status output) (ending_by status put)
 puts-give status output (Ok x) p = record { ends = (output, refl, p.took); later = p.later; cut = λ e. absurd (cc) }
 puts-give status output (Err x) p = record { ends = (status, output, refl, p.part); later = p.later; cut = λ e. p.failed }
+
+-- puts of the line of a refusal, behind the line that the command begins with
+pub refused-led : {S : Type 0} {taken : S → Option (List ℕ)} {faults : S → ℕ} {old new : S} (lead text : List ℕ) (code : Code) (at line column : ℕ) (put : Result (Unit {0}) PutFailed) → IsPlace text at line column
+    → Puts (taken old) (taken new) (faults old) (faults new) (lead ++ refused_line (number_of code) line column) put → GivesOneOf taken faults old new (Led lead (Refuses text code at)) (ending_by Refused put)
+refused-led lead text code at line column put here p =
+    gives-more (λ answer. answer ≡ says Refused (lead ++ refused_line (number_of code) line column)) (Led lead (Refuses text code at)) (ending_by Refused put)
+    (λ answer e. (Refused, refused_line (number_of code) line column, (line, column, here, refl), e)) (puts-give Refused (lead ++ refused_line (number_of code) line column) put p)
+
+-- the same without such a line
+pub refused-given : {S : Type 0} {taken : S → Option (List ℕ)} {faults : S → ℕ} {old new : S} (text : List ℕ) (code : Code) (at line column : ℕ) (put : Result (Unit {0}) PutFailed) → IsPlace text at line column
+    → Puts (taken old) (taken new) (faults old) (faults new) (refused_line (number_of code) line column) put → GivesOneOf taken faults old new (Refuses text code at) (ending_by Refused put)
+refused-given text code at line column put here p =
+    gives-more (λ answer. answer ≡ says Refused (refused_line (number_of code) line column)) (Refuses text code at) (ending_by Refused put)
+    (λ answer e. (line, column, here, e)) (puts-give Refused (refused_line (number_of code) line column) put p)
+
+-- where no program was accepted, the answer is one of each command
+pub no-program : (answers : TypedProgram → List ByteList → Answer → Type 0) (text : List ℕ) (answer : Answer) → OverProgram none_to_programs text answer → OverProgram answers text answer
+no-program answers text answer (inl h) = absurd h.3
+no-program answers text answer (inr h) = inr h
+
+pub no-program-gives : {S : Type 0} {taken : S → Option (List ℕ)} {faults : S → ℕ} {old new : S} (answers : TypedProgram → List ByteList → Answer → Type 0) (text : List ℕ) (ending : Ending)
+    → GivesOneOf taken faults old new (OverProgram none_to_programs text) ending → GivesOneOf taken faults old new (OverProgram answers text) ending
+no-program-gives answers text ending s = gives-more (OverProgram none_to_programs text) (OverProgram answers text) ending (no-program answers text) s
+
+-- the answers to the program as which a text is accepted
+pub of-program : (answers : TypedProgram → List ByteList → Answer → Type 0) (text image : List ℕ) (b : Builds text image) (answer : Answer) → answers b.program b.tables.texts answer → OverProgram answers text answer
+of-program answers text image b answer h = inl (b.tables, b.program, b.accepted, h)
+
+-- the same of outputs behind a line
+pub led-more : (lead : List ℕ) (may more : Answer → Type 0) → ((answer : Answer) → may answer → more answer) → (answer : Answer) → Led lead may answer → Led lead more answer
+led-more lead may more f answer l = (l.0, l.1, f (says l.0 l.1) l.2, l.3)

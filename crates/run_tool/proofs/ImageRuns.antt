@@ -1,7 +1,7 @@
 -- Images that were read and run.
 use Rattle.std.proofs.Common.{◌≡◌, ℕ, ◌<◌, ◌≤◌, List, [], ◌∷◌, ◌++◌, length, refl, sym, ap, subst, ◌∙◌, arith, inl, inr, append_assoc, codes, decimal}
 use Rattle.std.proofs.lemmas.List.{length-map}
-use Rattle.std.specs.Prelude.{Option, Some, None, unwrap_or}
+use Rattle.std.specs.Prelude.{Bool, Option, Some, None, unwrap_or}
 use Rattle.std.specs.List.{AllByRecursion, range_with_len}
 use Rattle.std.proofs.lemmas.List.FromFn.{length-range_with_len}
 use Rattle.hex_image.specs.declared.refused.HexCode.{HexCode}
@@ -31,6 +31,7 @@ use Rattle.run_tool.specs.Fetches.{MayFetch}
 use Rattle.run_tool.specs.Answers.{Answer, says, runs, Concludes}
 use Rattle.run_tool.specs.Scripts.{OverScript, script_refused_line}
 use Rattle.run_tool.specs.Runs.{run_status, ending_of, RunsBoard}
+use Rattle.run_tool.specs.Run.{RunsProgram, RunsText}
 use Rattle.run_tool.specs.RunHex.{image_refused_line, RunsHex}
 
 extent-fits : (cells : List Cell) → AllByRecursion (λ cell. cell.at < flash_bytes) cells → extent cells ≤ flash_bytes
@@ -112,6 +113,12 @@ pub hex-onwards : (told told' : List ℕ → Option (Option (List ℕ))) (rose r
     → ((file : List ℕ) → told file ≡ told' file) → (rose → rose') → RunsHex told rose script budget text answer → RunsHex told' rose' script budget text answer
 hex-onwards told told' rose rose' script budget text answer e f (inl h) = inl (h.0, h.1, script-onwards told told' rose rose' script (λ read. RunsBoard h.0 read budget) answer e f h.2)
 hex-onwards told told' rose rose' script budget text answer e f (inr h) = inr h
+
+pub program-onwards : (told told' : List ℕ → Option (Option (List ℕ))) (rose rose' : Type 0) (script : Option (List ℕ)) (budget : ℕ) (stats image : Bool) (text : List ℕ) (answer : Answer)
+    → ((file : List ℕ) → told file ≡ told' file) → (rose → rose') → RunsText told rose script budget stats image text answer → RunsText told' rose' script budget stats image text answer
+program-onwards told told' rose rose' script budget stats image text answer e f (inl h) =
+    inl (h.0, h.1, h.2, script-onwards told told' rose rose' script (λ read. RunsProgram h.1 h.0.texts read budget stats image) answer e f h.3)
+program-onwards told told' rose rose' script budget stats image text answer e f (inr h) = inr h
 
 -- a text that spells no image is refused
 pub broken-answer : (told : List ℕ → Option (Option (List ℕ))) (rose : Type 0) (script : Option (List ℕ)) (text : List ℕ) (budget : ℕ) (code : HexCode) (why : HexRefused) → why ≡ Image code

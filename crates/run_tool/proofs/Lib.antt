@@ -3,5 +3,6 @@ mod Endings
 mod Completing
 mod BigTexts
 mod ImageRuns
-mod Spelling
+mod ProgramRuns
 mod Statuses
+mod ProgramStatuses

@@ -82,3 +82,7 @@ pub record GivesOneOf {S : Type 0} (taken : S → Option (List ℕ)) (faults : S
   pub ends : Says may (taken old) (taken new) ending
   pub later : faults old ≤ faults new
   pub cut : ending ≡ Cut → Rose (faults old) (faults new)
+
+-- one of these outputs behind the line that the command begins with
+abbrev pub Led : List ℕ → (Answer → Type 0) → Answer → Type 0
+Led lead may answer = (status : Status) × (output : List ℕ) × may (says status output) × (answer ≡ says status (lead ++ output))

@@ -23,7 +23,3 @@ big_text n =
 -- `big N`
 abbrev pub big_line : ℕ → List ℕ
 big_line size = codes "big " ++ (decimal size ++ codes "\n")
-
--- What `big` answers until its program can be built: it is refused by code 16 where it begins.
-abbrev pub big_refused_line : List ℕ
-big_refused_line = codes "refused 16 1 1\n"

@@ -1,7 +1,13 @@
 -- What holds of the answers.
-use Rattle.std.specs.Prelude.{◌≡◌, ◌⊎◌, ℕ, List, Option, None}
+use Rattle.std.specs.Prelude.{◌≡◌, ◌⊎◌, ℕ, Bool, List, Option, None}
+use Rattle.sts_base.specs.declared.refused.Code.{Code}
+use Rattle.sts_base.specs.declared.tables.Tables.{Tables}
+use Rattle.sts_syntax.specs.TypedTrees.{TypedProgram}
+use Rattle.sts_whole.specs.Accepting.{Accepts, IsRefusedFor}
 use Rattle.hex_image.specs.declared.refused.HexCode.{HexCode}
 use Rattle.hex_image.specs.Spells.{Spells, Breaks}
+use Rattle.run_tool.specs.Programs.{ChecksText, BuildsText}
+use Rattle.run_tool.specs.Run.{RunsText}
 use Rattle.run_tool.specs.RunHex.{RunsHex}
 use Rattle.run_tool.specs.Orders.{IsStatusOf}
 
@@ -11,3 +17,14 @@ pub record HexStatuses (told : List ℕ → Option (Option (List ℕ))) (budget 
   pub spelled : (image : List ℕ) (number : ℕ) → Spells text image → IsStatusOf (RunsHex told ⊥ None budget text) number
       → (number ≡ 0) ⊎ ((number ≡ 3) ⊎ ((number ≡ 4) ⊎ (number ≡ 13)))
   pub broken : (script : Option (List ℕ)) (code : HexCode) (number : ℕ) → Breaks text code → IsStatusOf (RunsHex told ⊥ script budget text) number → number ≡ 12
+
+-- The status of an answer over a program is that of what was done, or of a run, where the text is accepted and no script is named, and that of a refusal where the text isn't accepted.
+pub record ProgramStatuses (told : List ℕ → Option (Option (List ℕ))) (text : List ℕ) : Type 0 where
+  pub checked : (tables : Tables) (P : TypedProgram) (number : ℕ) → Accepts text tables P → IsStatusOf (ChecksText text) number → number ≡ 0
+  pub built : (tables : Tables) (P : TypedProgram) (number : ℕ) → Accepts text tables P → IsStatusOf (BuildsText text) number → number ≡ 0
+  pub ran : (tables : Tables) (P : TypedProgram) (budget : ℕ) (stats image : Bool) (number : ℕ) → Accepts text tables P → IsStatusOf (RunsText told ⊥ None budget stats image text) number
+      → (number ≡ 0) ⊎ ((number ≡ 3) ⊎ (number ≡ 4))
+  pub not_checked : (code : Code) (at number : ℕ) → IsRefusedFor text code at → IsStatusOf (ChecksText text) number → number ≡ 10
+  pub not_built : (code : Code) (at number : ℕ) → IsRefusedFor text code at → IsStatusOf (BuildsText text) number → number ≡ 10
+  pub not_run : (code : Code) (at : ℕ) (script : Option (List ℕ)) (budget : ℕ) (stats image : Bool) (number : ℕ) → IsRefusedFor text code at
+      → IsStatusOf (RunsText told ⊥ script budget stats image text) number → number ≡ 10

@@ -3,11 +3,10 @@ pub mod Fetches
 pub mod Answers
 pub mod Files
 pub mod Refusals
-pub mod Check
+pub mod Programs
 pub mod Run
 pub mod Scripts
 pub mod Runs
 pub mod RunHex
-pub mod NotBuilt
 pub mod Orders
 pub mod Laws

@@ -1,15 +1,14 @@
 -- The answers to each order, by what the fetch of its file comes to.
-use Rattle.std.specs.Prelude.{◌≡◌, ◌⊎◌, ◌==◌, ◌&&◌, not, is_some, ℕ, Bool, true, false, List, [], codes, Option, Some, None}
+use Rattle.std.specs.Prelude.{◌≡◌, ◌⊎◌, ℕ, Bool, false, List, [], codes, Option, Some, None}
 use Rattle.sts_base.specs.Faults.{Rose}
-use Rattle.run_tool.specs.declared.ending.Status.TheVariants.{Usage, Refused}
-use Rattle.sts_words.specs.Orders.{Asked, check_program, build_program, run_program, run_image, run_big, default_budget}
+use Rattle.run_tool.specs.declared.ending.Status.TheVariants.{Usage}
+use Rattle.sts_words.specs.Orders.{Asked, check_program, build_program, run_program, run_image, run_big}
 use Rattle.sts_words.specs.Words.{order_of}
 use Rattle.run_tool.specs.Answers.{Answer, says, status_of, status_number}
 use Rattle.run_tool.specs.Files.{AnswersFile}
-use Rattle.run_tool.specs.Big.{big_line, big_refused_line}
+use Rattle.run_tool.specs.Big.{big_line, big_text}
 use Rattle.run_tool.specs.Run.{RunsText}
-use Rattle.run_tool.specs.Check.{ChecksText}
-use Rattle.run_tool.specs.NotBuilt.{NotBuilt}
+use Rattle.run_tool.specs.Programs.{ChecksText, BuildsText}
 use Rattle.run_tool.specs.RunHex.{RunsHex}
 
 -- the file that an order names first, if it names one
@@ -20,23 +19,14 @@ file_of (run_program name script budget stats image) = Some name
 file_of (run_image name script budget) = Some name
 file_of (run_big size budget stats) = None
 
--- Of `run` is built so far: without a script, with the budget of 50000000, and without statistics.
-abbrev pub is_built_run : Option (List ℕ) → ℕ → Bool → Bool
-is_built_run script budget stats = not (is_some script) && (budget == default_budget) && not stats
-
--- the answers of `run` to a text, where that is built or isn't
-abbrev pub RunsTextWhere : Bool → List ℕ → Answer → Type 0
-RunsTextWhere true text answer = RunsText text answer
-RunsTextWhere false text answer = NotBuilt text answer
-
 -- The answers to an order over a file of this text, or over none; a script may be named behind it, in a folder that tells this of its files, where
 -- `rose` says that its count of faults rose.
 abbrev pub AnswersText : (List ℕ → Option (Option (List ℕ))) → Type 0 → Asked → List ℕ → Answer → Type 0
 AnswersText told rose (check_program name) text answer = ChecksText text answer
-AnswersText told rose (build_program name) text answer = NotBuilt text answer
-AnswersText told rose (run_program name script budget stats image) text answer = RunsTextWhere (is_built_run script budget stats) text answer
+AnswersText told rose (build_program name) text answer = BuildsText text answer
+AnswersText told rose (run_program name script budget stats image) text answer = RunsText told rose script budget stats image text answer
 AnswersText told rose (run_image name script budget) text answer = RunsHex told rose script budget text answer
-AnswersText told rose (run_big size budget stats) text answer = answer ≡ says Refused big_refused_line
+AnswersText told rose (run_big size budget stats) text answer = RunsText told rose None budget stats false (big_text size) answer
 
 -- the line that is written before anything is built
 abbrev pub lead_of : Option Asked → List ℕ
@@ -74,10 +64,24 @@ IsStatusOf may number = (answer : Answer) × may answer × (number ≡ status_nu
 abbrev pub Completes : (List ℕ → Option (Option (List ℕ))) → Option Asked → (folder_rose sink_rose : Type 0) → ℕ → Type 0
 Completes told asked folder_rose sink_rose number = ¬ folder_rose → ¬ sink_rose → IsStatusOf (MayAnswer told ⊥ asked) number ⊎ (number ≡ 30)
 
+-- the words ask to check, build or run a program, or the one of `big`
+abbrev pub IsOfProgram : Asked → Type 0
+IsOfProgram (check_program name) = Unit {0}
+IsOfProgram (build_program name) = Unit {0}
+IsOfProgram (run_program name script budget stats image) = Unit {0}
+IsOfProgram (run_image name script budget) = ⊥
+IsOfProgram (run_big size budget stats) = Unit {0}
+
+abbrev pub AsksForProgram : Option Asked → Type 0
+AsksForProgram None = ⊥
+AsksForProgram (Some asked) = IsOfProgram asked
+
 -- the words ask to run an image
 abbrev pub AsksForImage : Option Asked → Type 0
 AsksForImage asked = (name : List ℕ) × (script : Option (List ℕ)) × (budget : ℕ) × (asked ≡ Some (run_image name script budget))
 
--- the words name a script behind an image
+-- the words name a script behind a program or an image
 abbrev pub NamesScript : Option Asked → Type 0
-NamesScript asked = (name : List ℕ) × (script : List ℕ) × (budget : ℕ) × (asked ≡ Some (run_image name (Some script) budget))
+NamesScript asked =
+    ((name : List ℕ) × (script : List ℕ) × (budget : ℕ) × (stats : Bool) × (image : Bool) × (asked ≡ Some (run_program name (Some script) budget stats image)))
+    ⊎ ((name : List ℕ) × (script : List ℕ) × (budget : ℕ) × (asked ≡ Some (run_image name (Some script) budget)))

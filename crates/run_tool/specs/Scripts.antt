@@ -4,7 +4,7 @@ use Rattle.serde_json.specs.Data.{Data}
 use Rattle.board_world.specs.Transcript.{count_text}
 use Rattle.event_script.specs.declared.script.Script.{Script}
 use Rattle.event_script.specs.declared.script.ScriptCode.{ScriptCode}
-use Rattle.event_script.specs.declared.script.ScriptCode.TheVariants.{NotJson, NotScript, OutOfOrder, PastEnd, TooMany}
+use Rattle.event_script.specs.declared.script.ScriptCode.TheVariants.{NotJson}
 use Rattle.event_script.specs.Codes.{number_of}
 use Rattle.event_script.specs.Json.{IsTree}
 use Rattle.event_script.specs.Verdict.{Tells}

@@ -1,14 +1,29 @@
 // The command `big`.
-ghost use Rattle.std.specs.Prelude.{◌≡◌, ◌++◌, ◌≤◌, OnOk, IfOk, decimal};
+ghost use Rattle.std.specs.Prelude.{◌≡◌, ◌++◌, ◌≤◌, ◌<◌, List, OnOk, IfOk, decimal, length, vec_len};
+ghost use Rattle.board_world.specs.Observations.{ByteList};
+ghost use Rattle.thumb_code.specs.Map.{flash_end};
 ghost use Rattle.tool_io.specs.Putting.{PutsTo};
-ghost use Rattle.run_tool.specs.declared.ending.Status.TheVariants as status;
-ghost use Rattle.run_tool.specs.Answers.{GivesOneOf, says};
+ghost use Rattle.sts_syntax.specs.TypedTrees.{TypedProgram};
+ghost use Rattle.sts_whole.specs.Accepting as accepting;
+ghost use Rattle.sts_implements.specs.Images.{ImageImplements};
+ghost use Rattle.sts_words.specs.Orders.{IsBudget};
+ghost use Rattle.run_tool.specs.Answers.{Concludes, GivesOneOf, Led};
 ghost use Rattle.run_tool.specs.Big as spec;
+ghost use Rattle.run_tool.specs.Programs.{OverProgram, none_to_programs};
+ghost use Rattle.run_tool.specs.Refusals.{Refuses};
+ghost use Rattle.run_tool.specs.Run.{RunsProgram};
+ghost use Rattle.run_tool.specs.Scripts.{default_script};
 
 use crate::ending::{Ending, Status};
+use crate::run::{Manner, run_program};
+use crate::said::then_put_refused;
+use crate::script::default_script;
+use board_ports::Device;
 use itoa::Buffer;
+use sts_whole::refusals_stand_in_their_texts;
 use std::alloc::{AllocError, Global};
-use sts_base::NoMemory;
+use sts_base::{Code, NoMemory, Refused, place};
+use sts_whole::build;
 use tool_io::{PutFailed, Sink, then_put, then_put_decimal};
 
 /// Adds a number in decimal.
@@ -97,13 +112,87 @@ fn put_big_line<K: Sink>(out: &mut K, size: u32) -> Result<(), PutFailed>
     then_put(put, out, b"\n")
 }
 
-/// The command `big`: its line, and that its program, which can't be built yet, is refused where it begins.
-pub fn big<K: Sink>(size: u32, out: &mut K) -> Ending
-    ensures { GivesOneOf K.taken K.faults out.old out.new (λ answer. answer ≡ says status.Refused (spec.big_line size ++ spec.big_refused_line)) result }
+/// Gives the answer that the program is refused by a code at a place, behind the command's line.
+fn refuse_big<K: Sink>(out: &mut K, size: u32, text: &[u8], code: Code, at: u32) -> Ending
+    requires within { at ≤ length text.now }
+    requires fits { at < 4294967295 }
+    ensures { GivesOneOf K.taken K.faults out.old out.new (Led (spec.big_line size) (Refuses text.now code at)) result }
 {
+    let (line, column) = place(text, at);
     let put = put_big_line(out, size);
-    match then_put(put, out, b"refused 16 1 1\n") {
+    match then_put_refused(put, out, code, line, column) {
         Ok(()) => Ending::Gave(Status::Refused),
         Err(PutFailed) => Ending::Cut,
+    }
+}
+
+/// The same for this reason; without memory nothing is given.
+fn say_big_refused<K: Sink>(out: &mut K, size: u32, text: &[u8], why: Refused) -> Ending
+    requires { accepting.Refuses text.now why }
+    ensures { GivesOneOf K.taken K.faults out.old out.new (Led (spec.big_line size) (OverProgram none_to_programs text.now)) result }
+{
+    refusals_stand_in_their_texts();
+    match why {
+        Refused::Program { code, at } => refuse_big(out, size, text, code, at),
+        Refused::NoMemory => Ending::NoMemory,
+    }
+}
+
+/// Puts the command's line, and runs the image of its program, which is built, behind it.
+fn run_big<K: Sink, D: Device>(
+    alloc: Global,
+    size: u32,
+    image: Vec<u8>,
+    manner: Manner,
+    out: &mut K,
+    places: &mut Vec<Option<D>>,
+) -> Ending
+    requires size { vec_len image ≤ flash_end }
+    requires budget { IsBudget manner.budget }
+    ensures { (P : TypedProgram) (texts : List ByteList) → ImageImplements P texts image.items
+        → Concludes K.taken K.faults out.old out.new D.log D.faults places.old.items places.new.items (spec.big_line size) (RunsProgram P texts default_script manner.budget manner.stats manner.image) result }
+{
+    match put_big_line(out, size) {
+        Ok(()) => run_program(alloc, image, default_script(alloc), manner, out, places),
+        Err(PutFailed) => Ending::Cut,
+    }
+}
+
+/// The same with the text of the program, which is built first.
+fn big_of<K: Sink, D: Device>(
+    alloc: Global,
+    size: u32,
+    text: &[u8],
+    manner: Manner,
+    out: &mut K,
+    places: &mut Vec<Option<D>>,
+) -> Ending
+    requires budget { IsBudget manner.budget }
+    ensures { Concludes K.taken K.faults out.old out.new D.log D.faults places.old.items places.new.items (spec.big_line size)
+        (OverProgram (λ P texts. RunsProgram P texts default_script manner.budget manner.stats manner.image) text.now) result }
+{
+    match build(alloc, text) {
+        Ok(image) => run_big(alloc, size, image, manner, out, places),
+        Err(why) => say_big_refused(out, size, text, why),
+    }
+}
+
+/// The command `big`: its program is built, and behind the command's line it is run, on the script of no name.
+pub fn big<K: Sink, D: Device>(
+    alloc: Global,
+    size: u32,
+    manner: Manner,
+    out: &mut K,
+    places: &mut Vec<Option<D>>,
+) -> Ending
+    requires least { 1 ≤ size }
+    requires most { size ≤ 200 }
+    requires budget { IsBudget manner.budget }
+    ensures { Concludes K.taken K.faults out.old out.new D.log D.faults places.old.items places.new.items (spec.big_line size)
+        (OverProgram (λ P texts. RunsProgram P texts default_script manner.budget manner.stats manner.image) (spec.big_text size)) result }
+{
+    match big_text(alloc, size) {
+        Ok(text) => big_of(alloc, size, &text, manner, out, places),
+        Err(NoMemory) => Ending::NoMemory,
     }
 }

@@ -2,12 +2,12 @@
 #![tactic(auto)]
 
 mod big;
+mod build;
 mod check;
 mod commands;
 mod ending;
 mod fetched;
 mod laws;
-mod not_built;
 mod run;
 mod run_hex;
 mod said;
@@ -16,4 +16,4 @@ mod script;
 pub use big::big_text;
 pub use commands::sts_main;
 pub use ending::{Ending, Status};
-pub use laws::statuses_of_run_hex;
+pub use laws::{statuses_of_programs, statuses_of_run_hex};

@@ -1,36 +1,250 @@
 // The command `run`.
-ghost use Rattle.std.specs.Prelude.{◌≡◌, ◌≤◌};
-ghost use Rattle.run_tool.specs.Answers.{GivesOneOf};
-ghost use Rattle.run_tool.specs.Run.{RunsText};
+ghost use Rattle.std.specs.Prelude.{◌≡◌, ◌≤◌, ◌++◌, ℕ, List, [], true, decimal, length, vec_len, IfOk};
+ghost use Rattle.std.specs.Option.{option_map};
+ghost use Rattle.std.specs.declared.option.Option.{Option};
+ghost use Rattle.sts_base.specs.Faults.{Rose};
+ghost use Rattle.board_world.specs.Observations.{ByteList};
+ghost use Rattle.board_world.specs.Transcript.{stats_line};
+ghost use Rattle.thumb_code.specs.Map.{flash_end};
+ghost use Rattle.tool_io.specs.Putting.{Puts, PutsTo};
+ghost use Rattle.hex_image.specs.Writing.{hextext};
+ghost use Rattle.sts_syntax.specs.TypedTrees.{TypedProgram};
+ghost use Rattle.event_script.specs.Sound.{IsSound};
+ghost use Rattle.sts_implements.specs.Images.{ImageImplements};
+ghost use Rattle.sts_words.specs.Orders.{IsBudget};
+ghost use Rattle.sts_words.specs.Views.{spoken};
+ghost use Rattle.run_tool.specs.Answers.{Concludes};
 ghost use Rattle.run_tool.specs.Files.{OverFile};
+ghost use Rattle.run_tool.specs.Scripts.{OverScript};
+ghost use Rattle.run_tool.specs.Runs.{ending_of};
+ghost use Rattle.run_tool.specs.Run.{RunsProgram, RunsText, Finishes, counted_behind, instructions_line};
 
-use crate::ending::{Ending, Status};
+use crate::build::image_of;
+use crate::ending::Ending;
 use crate::fetched::text_of;
-use crate::said::say_refused;
+use crate::run_hex::ending_of;
+use crate::script::script_of;
+use board_ports::Device;
+use board_run::{End, Stats};
+use event_script::Script;
+use hex_image::write_hex;
+use itoa::Buffer;
 use std::alloc::Global;
-use sts_base::Code;
-use sts_whole::{First, first_run};
-use tool_io::{Folder, Sink};
+use sts_base::NoMemory;
+use sts_whole::run_image;
+use tool_io::{Folder, PutFailed, Sink, then_put};
 
-/// Builds and runs a text.
-fn run_text<K: Sink>(alloc: Global, text: &[u8], out: &mut K) -> Ending
-    ensures { GivesOneOf K.taken K.faults out.old out.new (RunsText text.now) result }
+/// What a run is to be done with beside its program and its script.
+#[derive(Clone, Copy, Drop)]
+pub struct Manner {
+    /// the most instructions
+    pub budget: u32,
+    /// whether the line of statistics is asked for
+    pub stats: bool,
+    /// whether the image is asked for behind it
+    pub image: bool,
+}
+
+/// Goes on with a count in decimal, unless a put before has failed.
+fn then_put_count<K: Sink>(
+    before: Result<(), PutFailed>,
+    out: &mut K,
+    count: u64,
+) -> Result<(), PutFailed>
+    ensures { (taken : Option (List ℕ)) (faults : ℕ) (text : List ℕ)
+        → Puts taken (K.taken out.old) faults (K.faults out.old) text before
+        → Puts taken (K.taken out.new) faults (K.faults out.new) (text ++ decimal count) result }
 {
-    match first_run(alloc, text, out) {
-        Ok(()) => Ending::Gave(Status::Done),
-        Err(First::NotThisForm) => say_refused(out, text, Code::NotThisForm, 0),
-        Err(First::SinkFault) => Ending::Cut,
-        Err(First::NoMemory) => Ending::NoMemory,
+    let mut buffer = Buffer::new();
+    then_put(before, out, buffer.format(count).as_bytes())
+}
+
+/// Puts the line of statistics.
+fn put_stats<K: Sink>(out: &mut K, stats: &Stats) -> Result<(), PutFailed>
+    ensures { PutsTo K.taken K.faults out.old out.new (stats_line stats.now.spawned stats.now.blocked stats.now.words stats.now.seats) result }
+{
+    let put = then_put(Ok(()), out, b"stats spawned ");
+    let put = then_put_count(put, out, stats.spawned);
+    let put = then_put(put, out, b" blocked ");
+    let put = then_put_count(put, out, stats.blocked);
+    let put = then_put(put, out, b" words ");
+    let put = then_put_count(put, out, stats.words);
+    let put = then_put(put, out, b" seats ");
+    let put = then_put_count(put, out, stats.seats);
+    then_put(put, out, b"\n")
+}
+
+/// Goes on with the line of the instructions executed and a HEX text, unless a put before has failed.
+fn then_put_image<K: Sink>(
+    before: Result<(), PutFailed>,
+    out: &mut K,
+    executed: u64,
+    hex: &[u8],
+) -> Result<(), PutFailed>
+    ensures { (taken : Option (List ℕ)) (faults : ℕ) (text : List ℕ)
+        → Puts taken (K.taken out.old) faults (K.faults out.old) text before
+        → Puts taken (K.taken out.new) faults (K.faults out.new) (text ++ (instructions_line executed ++ hex.now)) result }
+{
+    let put = then_put(before, out, b"instructions ");
+    let put = then_put_count(put, out, executed);
+    let put = then_put(put, out, b"\n");
+    then_put(put, out, hex)
+}
+
+/// Puts what stands behind a transcript: nothing, or the line of statistics, and behind it nothing, or the instructions executed and a HEX text.
+fn put_asked<K: Sink>(
+    out: &mut K,
+    manner: Manner,
+    stats: &Stats,
+    hex: &[u8],
+) -> Result<(), PutFailed>
+    ensures { PutsTo K.taken K.faults out.old out.new (counted_behind manner.stats manner.image stats.now hex.now) result }
+{
+    if manner.stats {
+        let put = put_stats(out, stats);
+        if manner.image {
+            then_put_image(put, out, stats.instructions, hex)
+        } else {
+            put
+        }
+    } else {
+        Ok(())
+    }
+}
+
+/// How a call ends whose run ended so; what is asked for is put behind a run that the sink didn't stop.
+fn finish<K: Sink>(out: &mut K, end: End, manner: Manner, stats: &Stats, hex: &[u8]) -> Ending
+    ensures { Finishes (K.taken out.old) (K.taken out.new) (K.faults out.old) (K.faults out.new) (ending_of end) (counted_behind manner.stats manner.image stats.now hex.now) result }
+{
+    match ending_of(end) {
+        Ending::Gave(status) => match put_asked(out, manner, stats, hex) {
+            Ok(()) => Ending::Gave(status),
+            Err(PutFailed) => Ending::Cut,
+        },
+        Ending::Cut => Ending::Cut,
+        Ending::NoMemory => Ending::NoMemory,
+    }
+}
+
+/// Runs an image, and puts behind the transcript what is asked for, where this is the image's HEX text, if that is asked for.
+fn run_with<K: Sink, D: Device>(
+    alloc: Global,
+    image: Vec<u8>,
+    hex: &[u8],
+    script: Script,
+    manner: Manner,
+    out: &mut K,
+    places: &mut Vec<Option<D>>,
+) -> Ending
+    requires size { vec_len image ≤ flash_end }
+    requires text { manner.image ≡ true → hex.now ≡ hextext image.items }
+    requires script { IsSound script }
+    requires budget { IsBudget manner.budget }
+    ensures { (P : TypedProgram) (texts : List ByteList) → ImageImplements P texts image.items
+        → Concludes K.taken K.faults out.old out.new D.log D.faults places.old.items places.new.items [] (RunsProgram P texts script manner.budget manner.stats manner.image) result }
+{
+    match run_image(alloc, image, script, places, manner.budget, out) {
+        Ok((end, stats)) => finish(out, end, manner, &stats, hex),
+        Err(NoMemory) => Ending::NoMemory,
+    }
+}
+
+/// The HEX text of an image, if it is asked for.
+fn hex_of(alloc: Global, image: &[u8], manner: Manner) -> Result<Vec<u8>, NoMemory>
+    requires { length image.now ≤ flash_end }
+    ensures { IfOk result (λ hex. manner.image ≡ true → hex.items ≡ hextext image.now) }
+{
+    if manner.image {
+        write_hex(alloc, image)
+    } else {
+        Ok(Vec::new(alloc))
+    }
+}
+
+/// Runs an image that implements a program on a script, and writes the transcript and what is asked for behind it. The image's HEX text is made before the run.
+pub fn run_program<K: Sink, D: Device>(
+    alloc: Global,
+    image: Vec<u8>,
+    script: Script,
+    manner: Manner,
+    out: &mut K,
+    places: &mut Vec<Option<D>>,
+) -> Ending
+    requires size { vec_len image ≤ flash_end }
+    requires script { IsSound script }
+    requires budget { IsBudget manner.budget }
+    ensures { (P : TypedProgram) (texts : List ByteList) → ImageImplements P texts image.items
+        → Concludes K.taken K.faults out.old out.new D.log D.faults places.old.items places.new.items [] (RunsProgram P texts script manner.budget manner.stats manner.image) result }
+{
+    match hex_of(alloc, &image, manner) {
+        Ok(hex) => run_with(alloc, image, &hex, script, manner, out, places),
+        Err(NoMemory) => Ending::NoMemory,
+    }
+}
+
+/// Runs an image that implements a program on the script that is named.
+fn run_named<F: Folder, K: Sink, D: Device>(
+    alloc: Global,
+    image: Vec<u8>,
+    script: Option<&str>,
+    manner: Manner,
+    folder: &mut F,
+    out: &mut K,
+    places: &mut Vec<Option<D>>,
+) -> Ending
+    requires size { vec_len image ≤ flash_end }
+    requires budget { IsBudget manner.budget }
+    ensures answer { (P : TypedProgram) (texts : List ByteList) → ImageImplements P texts image.items
+        → Concludes K.taken K.faults out.old out.new D.log D.faults places.old.items places.new.items []
+        (OverScript (F.holds folder.old) (Rose (F.faults folder.old) (F.faults folder.new)) (option_map spoken script.entry)
+        (λ read. RunsProgram P texts read manner.budget manner.stats manner.image)) result }
+    ensures folder_later { F.faults folder.old ≤ F.faults folder.new }
+{
+    match script_of(alloc, script, folder, out) {
+        Ok(script) => run_program(alloc, image, script, manner, out, places),
+        Err(ending) => ending,
+    }
+}
+
+/// Builds a text, and runs its image on the script that is named, which is fetched behind that.
+fn run_text<F: Folder, K: Sink, D: Device>(
+    alloc: Global,
+    text: &[u8],
+    script: Option<&str>,
+    manner: Manner,
+    folder: &mut F,
+    out: &mut K,
+    places: &mut Vec<Option<D>>,
+) -> Ending
+    requires budget { IsBudget manner.budget }
+    ensures answer { Concludes K.taken K.faults out.old out.new D.log D.faults places.old.items places.new.items []
+        (RunsText (F.holds folder.old) (Rose (F.faults folder.old) (F.faults folder.new)) (option_map spoken script.entry) manner.budget manner.stats manner.image text.now) result }
+    ensures folder_later { F.faults folder.old ≤ F.faults folder.new }
+{
+    match image_of(alloc, text, out) {
+        Ok(image) => run_named(alloc, image, script, manner, folder, out, places),
+        Err(ending) => ending,
     }
 }
 
 /// The command `run`.
-pub fn run<F: Folder, K: Sink>(alloc: Global, name: &str, folder: &mut F, out: &mut K) -> Ending
-    ensures answer { GivesOneOf K.taken K.faults out.old out.new (OverFile F.holds F.faults folder.old folder.new name.now RunsText) result }
+pub fn run<F: Folder, K: Sink, D: Device>(
+    alloc: Global,
+    name: &str,
+    script: Option<&str>,
+    manner: Manner,
+    folder: &mut F,
+    out: &mut K,
+    places: &mut Vec<Option<D>>,
+) -> Ending
+    requires budget { IsBudget manner.budget }
+    ensures answer { Concludes K.taken K.faults out.old out.new D.log D.faults places.old.items places.new.items []
+        (OverFile F.holds F.faults folder.old folder.new name.now
+        (RunsText (F.holds folder.old) (Rose (F.faults folder.old) (F.faults folder.new)) (option_map spoken script.entry) manner.budget manner.stats manner.image)) result }
     ensures folder_later { F.faults folder.old ≤ F.faults folder.new }
 {
     match text_of(alloc, name, folder, out) {
-        Ok(text) => run_text(alloc, &text, out),
+        Ok(text) => run_text(alloc, &text, script, manner, folder, out, places),
         Err(ending) => ending,
     }
 }

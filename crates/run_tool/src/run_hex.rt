@@ -47,7 +47,7 @@ fn say_image_refused<K: Sink>(out: &mut K, code: HexCode) -> Ending
 }
 
 /// How a call ends whose run ended so.
-fn ending_of(end: End) -> Ending
+pub fn ending_of(end: End) -> Ending
     ensures { result ≡ ending_of end }
 {
     match end {

@@ -1,12 +1,16 @@
 // Answers of one line.
-ghost use Rattle.std.specs.Prelude.{◌≡◌, ◌≤◌, ◌<◌, length};
+ghost use Rattle.std.specs.Prelude.{◌≡◌, ◌≤◌, ◌<◌, ◌++◌, List, ℕ, length};
+ghost use Rattle.std.specs.declared.option.Option.{Option};
 ghost use Rattle.sts_base.specs.Numbers.{number_of};
-ghost use Rattle.tool_io.specs.Putting.{PutsTo};
+ghost use Rattle.sts_whole.specs.Accepting as accepting;
+ghost use Rattle.tool_io.specs.Putting.{Puts};
 ghost use Rattle.run_tool.specs.Answers.{says, GivesOneOf};
 ghost use Rattle.run_tool.specs.Refusals.{Refuses, refused_line};
+ghost use Rattle.run_tool.specs.Programs.{OverProgram, none_to_programs};
 
 use crate::ending::{Ending, Status};
-use sts_base::{Code, number, place};
+use sts_whole::refusals_stand_in_their_texts;
+use sts_base::{Code, Refused, number, place};
 use tool_io::{PutFailed, Sink, then_put, then_put_decimal};
 
 /// Gives an answer of one line.
@@ -19,11 +23,19 @@ pub fn say<K: Sink>(out: &mut K, status: Status, line: &[u8]) -> Ending
     }
 }
 
-/// Puts the line of a refusal: the code's number, the line and the column.
-fn put_refused<K: Sink>(out: &mut K, code: Code, line: u32, column: u32) -> Result<(), PutFailed>
-    ensures { PutsTo K.taken K.faults out.old out.new (refused_line (number_of code) line column) result }
+/// Goes on with the line of a refusal: the code's number, the line and the column.
+pub fn then_put_refused<K: Sink>(
+    before: Result<(), PutFailed>,
+    out: &mut K,
+    code: Code,
+    line: u32,
+    column: u32,
+) -> Result<(), PutFailed>
+    ensures { (taken : Option (List ℕ)) (faults : ℕ) (text : List ℕ)
+        → Puts taken (K.taken out.old) faults (K.faults out.old) text before
+        → Puts taken (K.taken out.new) faults (K.faults out.new) (text ++ refused_line (number_of code) line column) result }
 {
-    let put = then_put(Ok(()), out, b"refused ");
+    let put = then_put(before, out, b"refused ");
     let put = then_put_decimal(put, out, u32::from(number(code)));
     let put = then_put(put, out, b" ");
     let put = then_put_decimal(put, out, line);
@@ -39,8 +51,20 @@ pub fn say_refused<K: Sink>(out: &mut K, text: &[u8], code: Code, at: u32) -> En
     ensures { GivesOneOf K.taken K.faults out.old out.new (Refuses text.now code at) result }
 {
     let (line, column) = place(text, at);
-    match put_refused(out, code, line, column) {
+    match then_put_refused(Ok(()), out, code, line, column) {
         Ok(()) => Ending::Gave(Status::Refused),
         Err(PutFailed) => Ending::Cut,
+    }
+}
+
+/// Gives the answer that the text is refused for this reason; without memory none.
+pub fn say_refusal<K: Sink>(out: &mut K, text: &[u8], why: Refused) -> Ending
+    requires { accepting.Refuses text.now why }
+    ensures { GivesOneOf K.taken K.faults out.old out.new (OverProgram none_to_programs text.now) result }
+{
+    refusals_stand_in_their_texts();
+    match why {
+        Refused::Program { code, at } => say_refused(out, text, code, at),
+        Refused::NoMemory => Ending::NoMemory,
     }
 }

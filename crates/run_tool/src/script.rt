@@ -9,7 +9,7 @@ ghost use Rattle.event_script.specs.Verdict.{Tells};
 ghost use Rattle.sts_words.specs.Views.{spoken};
 ghost use Rattle.run_tool.specs.declared.ending.Status.TheVariants as status;
 ghost use Rattle.run_tool.specs.Answers.{GivesOneOf, says};
-ghost use Rattle.run_tool.specs.Scripts.{AnswersScript, OverScript, IsScriptOf, none_to_scripts, script_refused_line};
+ghost use Rattle.run_tool.specs.Scripts.{AnswersScript, OverScript, IsScriptOf, default_script, none_to_scripts, script_refused_line};
 
 use crate::ending::{Ending, Status};
 use crate::fetched::text_of;
@@ -55,6 +55,17 @@ fn script_in<K: Sink>(alloc: Global, text: &[u8], out: &mut K) -> Result<Script,
     }
 }
 
+/// The script where none is named: it has no entries, and ends at 1000 ms.
+pub fn default_script(alloc: Global) -> Script
+    ensures script { result ≡ default_script }
+    ensures sound { IsSound result }
+{
+    Script {
+        end: DEFAULT_END,
+        entries: Seq::new(alloc),
+    }
+}
+
 /// The script of the file of that name, or where none is named the one without entries that ends at 1000 ms; nothing was written. Where there is
 /// none, the answer that says so was given.
 pub fn script_of<F: Folder, K: Sink>(
@@ -72,10 +83,7 @@ pub fn script_of<F: Folder, K: Sink>(
     ensures later { K.faults out.old ≤ K.faults out.new }
 {
     match name {
-        None => Ok(Script {
-            end: DEFAULT_END,
-            entries: Seq::new(alloc),
-        }),
+        None => Ok(default_script(alloc)),
         Some(name) => match text_of(alloc, name, folder, out) {
             Ok(text) => script_in(alloc, &text, out),
             Err(ending) => Err(ending),

@@ -58,7 +58,8 @@ use Rattle.thumb_emit.proofs.Laws.{function_named, function_sound}
 use Rattle.emit_simulation.specs.Ties.{IsImage, IsText, IsCode, ties}
 use Rattle.image_link.specs.Image as link
 use Rattle.image_link.specs.Shown.{IsImaged, shown_at}
-use Rattle.sts_whole.specs.Compiled.{functions_of, bodies_of, IsCompiled, IsBuildable}
+use Rattle.sts_whole.specs.Buildable.{IsBuildable}
+use Rattle.sts_whole.specs.Compiled.{functions_of, bodies_of, IsCompiled}
 
 -- of lists
 mapped_at : {X Y : Type 0} (g : X → Y) (xs : List X) (i : ℕ) (y : Y) → slice_get (map g xs) i ≡ Some y → (x : X) × (slice_get xs i ≡ Some x) × (g x ≡ y)

@@ -1,11 +1,9 @@
 -- Images that are compiled from programs.
-use Rattle.std.specs.Prelude.{◌≡◌, ℕ, ◌<◌, ◌≤◌, List, length, map}
+use Rattle.std.specs.Prelude.{◌≡◌, ℕ, ◌≤◌, List, length, map}
 use Rattle.std.specs.List.{AllByRecursion}
 use Rattle.thumb_code.specs.Map.{flash_end}
 use Rattle.board_world.specs.Observations.{ByteList}
 use Rattle.sts_syntax.specs.TypedTrees.{TypedProgram}
-use Rattle.sts_syntax.specs.Nodes.{NamesTexts}
-use Rattle.sts_syntax.specs.WellTypedPrograms.{IsWellTyped, IsProgramWithinLimits}
 use Rattle.sts_lower.specs.Lowered.{lowered}
 use Rattle.flat_ir.specs.declared.ops.Function.{Function}
 use Rattle.register_assign.specs.declared.places.Placed.{Placed}
@@ -14,13 +12,6 @@ use Rattle.thumb_layout.specs.declared.pieces.Piece.{Piece}
 use Rattle.thumb_layout.specs.Cells.{laid}
 use Rattle.thumb_emit.specs.Emit.{function_pieces}
 use Rattle.image_link.specs.Image as link
-
--- what is asked of a program with its texts: it is well typed, within the limits, and names only texts that are there, which are bytes
-pub record IsBuildable (P : TypedProgram) (texts : List ByteList) : Type 0 where
-  pub typed : IsWellTyped P
-  pub limits : IsProgramWithinLimits P texts
-  pub named : NamesTexts (length texts) P
-  pub bytes : AllByRecursion (AllByRecursion (λ b. b < 256)) texts
 
 -- the functions of functions with places, and their pieces
 abbrev pub functions_of : List Placed → List Function

@@ -1,7 +1,8 @@
-pub mod Form
-pub mod Image
-pub mod Services
-pub mod First
 pub mod Compiled
 pub mod Building
 pub mod Runs
+pub mod Built
+pub mod Programs
+pub mod Accepting
+pub mod Buildable
+pub mod Laws

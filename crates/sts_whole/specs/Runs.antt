@@ -40,3 +40,8 @@ RunsImage log faults image script budget taken taken' fs fs' places places' (Pan
 RunsImage log faults image script budget taken taken' fs fs' places places' (Fault fault address) stats = RunsTo log faults image script budget taken taken' places places' (Some (Faulted (number_of fault) address)) stats
 RunsImage log faults image script budget taken taken' fs fs' places places' Budget stats = RunsTo log faults image script budget taken taken' places places' None stats
 RunsImage log faults image script budget taken taken' fs fs' places places' SinkFault stats = IsCut log faults image script budget taken taken' places places' × Rose fs fs'
+
+-- No run of a built image ends by a fault.
+abbrev pub IsFaultless : End → Type 0
+IsFaultless (Fault fault address) = ⊥
+IsFaultless end = Unit {0}

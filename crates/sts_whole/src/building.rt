@@ -70,7 +70,7 @@ fn lay_all(alloc: Global, placed: &[Placed]) -> Result<Seq<Laid>, NoMemory>
 
 /// The image of a well-typed program within the limits, whose texts are in the tables and whose library weighs no more than 600. The only refusal is want of
 /// memory: such a program fits into flash.
-pub fn build(alloc: Global, typed: &Typed, tables: &Tables) -> Result<Vec<u8>, NoMemory>
+pub fn compile(alloc: Global, typed: &Typed, tables: &Tables) -> Result<Vec<u8>, NoMemory>
     requires well_typed { IsWellTyped (typed_program typed.now) }
     requires limits { IsProgramWithinLimits (typed_program typed.now) tables.now.texts }
     requires library { routines_weight (take library_size (typed_program typed.now).functions) ≤ 600 }

@@ -3,7 +3,8 @@ ghost use Rattle.std.specs.Prelude.{ℕ, List};
 ghost use Rattle.board_world.specs.Observations.{ByteList};
 ghost use Rattle.sts_syntax.specs.TypedTrees.{TypedProgram};
 ghost use Rattle.sts_implements.specs.Images.{ImageImplements};
-ghost use Rattle.sts_whole.specs.Compiled.{IsBuildable, IsCompiled};
+ghost use Rattle.sts_whole.specs.Buildable.{IsBuildable};
+ghost use Rattle.sts_whole.specs.Compiled.{IsCompiled};
 
 use emit_simulation::images_do_what_flat_code_does;
 use image_link::the_image_shows_its_program;

@@ -1,15 +1,19 @@
-//! A text, built and run, and an image, run on a board. For now one form of text can be built, a serial write of the sum of two literals.
+//! A text: accepted, built and run; and an image, run on a board.
 #![tactic(auto)]
 
+mod accepted_programs;
+mod accepting;
 mod board;
 mod building;
 mod compiled;
-mod first;
-mod form;
-mod image;
+mod program;
+mod reaching;
+mod refused_places;
 
+pub use accepted_programs::{accepted_programs_are_buildable, one_answer};
+pub use accepting::accept;
 pub use board::run_image;
-pub use building::build;
 pub use compiled::compiled_images_implement_their_programs;
-pub use first::{First, first_image, first_run};
-pub use form::{Sum, read_sum};
+pub use program::{build, run_text};
+pub use reaching::runs_reach_their_sources;
+pub use refused_places::refusals_stand_in_their_texts;

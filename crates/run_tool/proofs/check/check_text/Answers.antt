@@ -1,18 +1,23 @@
-use Rattle.run_tool.proofs.Spelling.{refusal-within, reads-none, checked-gives}
+use Rattle.std.proofs.Common.{◌≡◌, codes, inl, subst, sym}
+use Rattle.sts_syntax.specs.TypedViews.{typed_program}
+use Rattle.run_tool.specs.declared.ending.Status.TheVariants.{Done}
+use Rattle.run_tool.specs.Answers.{says, GivesOneOf}
+use Rattle.run_tool.specs.Programs.{SaysAccepted, ChecksText}
+use Rattle.run_tool.proofs.Endings.{gives-more, no-program-gives}
 use Rattle.run_tool.proofs.check.check_text.Goals as goal
+use Rattle.run_tool.proofs.check.check_text.Goals.{in-Ok, in-Err}
 
-pub say_refused-requires-clause-within : goal.say_refused-requires-clause-within
-say_refused-requires-clause-within g c =
-    (refusal-within c.args.text.now c.in-Err-Program.code c.in-Err-Program.at
-    (reads-none c.args.text.now c.in-Err-Program.field-0 c.in-Err-Program.code c.in-Err-Program.at c.in-Err-Program.field-0-is c.in-Err-Program.ensures)).0
-
-pub say_refused-requires-clause-fits : goal.say_refused-requires-clause-fits
-say_refused-requires-clause-fits g c =
-    (refusal-within c.args.text.now c.in-Err-Program.code c.in-Err-Program.at
-    (reads-none c.args.text.now c.in-Err-Program.field-0 c.in-Err-Program.code c.in-Err-Program.at c.in-Err-Program.field-0-is c.in-Err-Program.ensures)).1
-
-pub returns-in-Err-Program : goal.returns-in-Err-Program
-returns-in-Err-Program g c =
-    checked-gives c.args.text.now c.in-Err-Program.code c.in-Err-Program.at c.say_refused.result
-    (reads-none c.args.text.now c.in-Err-Program.field-0 c.in-Err-Program.code c.in-Err-Program.at c.in-Err-Program.field-0-is c.in-Err-Program.ensures)
-    c.say_refused.ensures
+pub returns : goal.returns
+returns g c =
+    let may = ChecksText c.args.text.now in
+    elim c.match-accept.branch [
+      | in-Ok w ↦
+          subst (λ o. GivesOneOf g.K.Sink.taken g.K.Sink.faults c.args.out.now o may c.match-accept.result) (sym w.out-is)
+          (subst (λ r. GivesOneOf g.K.Sink.taken g.K.Sink.faults c.args.out.now w.say.new.out may r) (sym w.result-is)
+          (gives-more (λ answer. answer ≡ says Done (codes "accepted\n")) may w.say.result
+          (λ answer e. inl (w.in-Ok.field-0.1, typed_program w.in-Ok.field-0.0, w.in-Ok.ensures.accepted, e)) w.say.ensures))
+      | in-Err w ↦
+          subst (λ o. GivesOneOf g.K.Sink.taken g.K.Sink.faults c.args.out.now o may c.match-accept.result) (sym w.out-is)
+          (subst (λ r. GivesOneOf g.K.Sink.taken g.K.Sink.faults c.args.out.now w.say_refusal.new.out may r) (sym w.result-is)
+          (no-program-gives SaysAccepted c.args.text.now w.say_refusal.result w.say_refusal.ensures))
+    ]

@@ -1,9 +1,9 @@
-use Rattle.std.proofs.Common.{subst, sym, refl, [], Some}
+use Rattle.std.proofs.Common.{subst, sym, refl, Some}
 use Rattle.sts_words.specs.declared.order.Order.{Order}
 use Rattle.sts_words.specs.Orders.{order_view}
 use Rattle.run_tool.specs.Answers.{Concludes}
 use Rattle.run_tool.specs.Orders.{AnswersOrder, lead_of}
-use Rattle.run_tool.proofs.Endings.{says-concludes, led-concludes}
+use Rattle.run_tool.proofs.Endings.{says-concludes}
 use Rattle.run_tool.proofs.commands.perform_order.Goals as goal
 
 pub returns-in-Check-clause-answer : goal.returns-in-Check-clause-answer
@@ -14,15 +14,14 @@ returns-in-Check-clause-answer g c =
 
 pub returns-in-Build-clause-answer : goal.returns-in-Build-clause-answer
 returns-in-Build-clause-answer g c =
-    subst (λ (o : Order). Concludes g.K.Sink.taken g.K.Sink.faults c.args.out.now c.not_built.new.out g.D.Device.log g.D.Device.faults c.args.places.now.items c.args.places.now.items (lead_of (Some (order_view o)))
-    (AnswersOrder g.F.Folder.holds g.F.Folder.faults c.args.folder.now c.not_built.new.folder (order_view o)) c.not_built.result) (sym c.in-Build.is)
-    (says-concludes g.D.Device.log g.D.Device.faults c.args.places.now.items c.args.places.now.items refl _ c.not_built.result c.not_built.ensures.answer)
+    subst (λ (o : Order). Concludes g.K.Sink.taken g.K.Sink.faults c.args.out.now c.build.new.out g.D.Device.log g.D.Device.faults c.args.places.now.items c.args.places.now.items (lead_of (Some (order_view o)))
+    (AnswersOrder g.F.Folder.holds g.F.Folder.faults c.args.folder.now c.build.new.folder (order_view o)) c.build.result) (sym c.in-Build.is)
+    (says-concludes g.D.Device.log g.D.Device.faults c.args.places.now.items c.args.places.now.items refl _ c.build.result c.build.ensures.answer)
 
 pub returns-in-Run-clause-answer : goal.returns-in-Run-clause-answer
 returns-in-Run-clause-answer g c =
-    subst (λ (o : Order). Concludes g.K.Sink.taken g.K.Sink.faults c.args.out.now c.run_on.new.out g.D.Device.log g.D.Device.faults c.args.places.now.items c.args.places.now.items (lead_of (Some (order_view o)))
-    (AnswersOrder g.F.Folder.holds g.F.Folder.faults c.args.folder.now c.run_on.new.folder (order_view o)) c.run_on.result) (sym c.in-Run.is)
-    (says-concludes g.D.Device.log g.D.Device.faults c.args.places.now.items c.args.places.now.items refl _ c.run_on.result c.run_on.ensures.answer)
+    subst (λ (o : Order). Concludes g.K.Sink.taken g.K.Sink.faults c.args.out.now c.run.new.out g.D.Device.log g.D.Device.faults c.args.places.now.items c.run.new.places.items (lead_of (Some (order_view o)))
+    (AnswersOrder g.F.Folder.holds g.F.Folder.faults c.args.folder.now c.run.new.folder (order_view o)) c.run.result) (sym c.in-Run.is) c.run.ensures.answer
 
 pub returns-in-RunHex-clause-answer : goal.returns-in-RunHex-clause-answer
 returns-in-RunHex-clause-answer g c =
@@ -31,6 +30,5 @@ returns-in-RunHex-clause-answer g c =
 
 pub returns-in-Big-clause-answer : goal.returns-in-Big-clause-answer
 returns-in-Big-clause-answer g c =
-    subst (λ (o : Order). Concludes g.K.Sink.taken g.K.Sink.faults c.args.out.now c.big.new.out g.D.Device.log g.D.Device.faults c.args.places.now.items c.args.places.now.items (lead_of (Some (order_view o)))
-    (AnswersOrder g.F.Folder.holds g.F.Folder.faults c.args.folder.now c.args.folder.now (order_view o)) c.big.result) (sym c.in-Big.is)
-    (led-concludes g.D.Device.log g.D.Device.faults c.args.places.now.items c.args.places.now.items refl _ _ _ c.big.result c.big.ensures)
+    subst (λ (o : Order). Concludes g.K.Sink.taken g.K.Sink.faults c.args.out.now c.big.new.out g.D.Device.log g.D.Device.faults c.args.places.now.items c.big.new.places.items (lead_of (Some (order_view o)))
+    (AnswersOrder g.F.Folder.holds g.F.Folder.faults c.args.folder.now c.args.folder.now (order_view o)) c.big.result) (sym c.in-Big.is) c.big.ensures

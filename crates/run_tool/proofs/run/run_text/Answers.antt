@@ -1,11 +1,36 @@
-use Rattle.run_tool.proofs.Endings.{refused-gives, not-of-form, sum-cut}
+use Rattle.std.proofs.Common.{List, subst, refl, []}
+use Rattle.std.specs.Option.{option_map}
+use Rattle.sts_base.specs.Faults.{Rose}
+use Rattle.sts_words.specs.Views.{spoken}
+use Rattle.tool_io.specs.Putting.{Took}
+use Rattle.tool_io.proofs.Laws.{took-nothing}
+use Rattle.board_world.specs.Observations.{ByteList}
+use Rattle.sts_syntax.specs.TypedTrees.{TypedProgram}
+use Rattle.run_tool.specs.Run.{RunsProgram, RunsText}
+use Rattle.run_tool.specs.Scripts.{OverScript}
+use Rattle.run_tool.proofs.Endings.{concludes-more, concludes-after, says-concludes, no-program-gives, of-program}
 use Rattle.run_tool.proofs.run.run_text.Goals as goal
 
-pub returns-in-Err-NotThisForm : goal.returns-in-Err-NotThisForm
-returns-in-Err-NotThisForm g c =
-    let known = not-of-form c.args.text.now _ _ _ _ c.in-Err-NotThisForm.field-0 c.in-Err-NotThisForm.field-0-is c.in-Err-NotThisForm.ensures.ran in
-    refused-gives c.args.text.now c.say_refused.result known.0 known.1 c.in-Err-NotThisForm.ensures.later c.say_refused.ensures
+pub returns-in-Ok-clause-answer : goal.returns-in-Ok-clause-answer
+returns-in-Ok-clause-answer g c =
+    let told = g.F.Folder.holds c.args.folder.now in
+    let rose = Rose (g.F.Folder.faults c.args.folder.now) (g.F.Folder.faults c.run_named.new.folder) in
+    let name = option_map spoken c.args.script in
+    let m = c.args.manner in
+    let answers = λ (P : TypedProgram) (texts : List ByteList). OverScript told rose name (λ read. RunsProgram P texts read m.budget m.stats m.image) in
+    let b = c.in-Ok.ensures.built in
+    let may = RunsText told rose name m.budget m.stats m.image c.args.text.now in
+    concludes-after g.D.Device.log g.D.Device.faults c.args.places.now.items c.run_named.new.places.items [] may c.run_named.result
+    (subst (λ x. Took x (g.K.Sink.taken c.image_of.new.out) []) c.in-Ok.ensures.unwritten (took-nothing (g.K.Sink.taken c.image_of.new.out))) c.in-Ok.ensures.later
+    (concludes-more g.D.Device.log g.D.Device.faults c.args.places.now.items c.run_named.new.places.items [] (answers b.program b.tables.texts) may c.run_named.result
+    (of-program answers c.args.text.now c.in-Ok.image.items b) (c.run_named.ensures.answer b.program b.tables.texts b.implements))
 
-pub returns-in-Err-SinkFault : goal.returns-in-Err-SinkFault
-returns-in-Err-SinkFault g c =
-    sum-cut c.args.text.now c.in-Err-SinkFault.field-0 c.in-Err-SinkFault.field-0-is c.in-Err-SinkFault.ensures.ran c.in-Err-SinkFault.ensures.later
+pub returns-in-Err-clause-answer : goal.returns-in-Err-clause-answer
+returns-in-Err-clause-answer g c =
+    let told = g.F.Folder.holds c.args.folder.now in
+    let rose = Rose (g.F.Folder.faults c.args.folder.now) (g.F.Folder.faults c.args.folder.now) in
+    let name = option_map spoken c.args.script in
+    let m = c.args.manner in
+    let answers = λ (P : TypedProgram) (texts : List ByteList). OverScript told rose name (λ read. RunsProgram P texts read m.budget m.stats m.image) in
+    says-concludes g.D.Device.log g.D.Device.faults c.args.places.now.items c.args.places.now.items refl (RunsText told rose name m.budget m.stats m.image c.args.text.now) c.in-Err.ending
+    (no-program-gives answers c.args.text.now c.in-Err.ending c.in-Err.ensures.none)

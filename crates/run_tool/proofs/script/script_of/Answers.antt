@@ -1,4 +1,4 @@
-use Rattle.std.proofs.Common.{subst, sym, Some, IfOk, IfErr, ◌≡◌, Ok, List, ℕ}
+use Rattle.std.proofs.Common.{subst, sym, IfOk, IfErr, Ok, List, ℕ}
 use Rattle.std.specs.Option.{option_map}
 use Rattle.std.specs.declared.option.Option.{Option}
 use Rattle.std.specs.Borrow.{Bor}

@@ -1,0 +1,23 @@
+use Rattle.std.proofs.Common.{subst, refl, []}
+use Rattle.run_tool.specs.Answers.{Concludes}
+use Rattle.run_tool.specs.Big.{big_line}
+use Rattle.run_tool.specs.Run.{RunsProgram}
+use Rattle.run_tool.specs.Scripts.{default_script}
+use Rattle.run_tool.proofs.Endings.{concludes-behind, lead-concludes}
+use Rattle.run_tool.proofs.ProgramRuns.{some-run}
+use Rattle.run_tool.proofs.big.run_big.Goals as goal
+
+pub returns-in-Ok : goal.returns-in-Ok
+returns-in-Ok g c = λ P texts implements.
+    let m = c.args.manner in
+    concludes-behind g.D.Device.log g.D.Device.faults c.args.places.now.items c.run_program.new.places.items (big_line c.args.size) (RunsProgram P texts default_script m.budget m.stats m.image) c.run_program.result
+    c.in-Ok.ensures.took c.in-Ok.ensures.later
+    (subst (λ s. Concludes g.K.Sink.taken g.K.Sink.faults c.put_big_line.new.out c.run_program.new.out g.D.Device.log g.D.Device.faults c.args.places.now.items c.run_program.new.places.items []
+    (RunsProgram P texts s m.budget m.stats m.image) c.run_program.result) c.default_script.ensures.script (c.run_program.ensures P texts implements))
+
+pub returns-in-Err : goal.returns-in-Err
+returns-in-Err g c = λ P texts implements.
+    let m = c.args.manner in
+    let due = some-run P texts c.args.image.items implements default_script m.budget m.stats m.image in
+    lead-concludes g.D.Device.log g.D.Device.faults c.args.places.now.items c.args.places.now.items refl (big_line c.args.size) (RunsProgram P texts default_script m.budget m.stats m.image) due.0 due.1
+    c.in-Err.ensures.part c.in-Err.ensures.later c.in-Err.ensures.failed

@@ -1,0 +1,51 @@
+// The command `build`.
+ghost use Rattle.std.specs.Prelude.{◌≡◌, ◌≤◌, IfOk, IfErr, OnOk};
+ghost use Rattle.sts_whole.specs.Built.{Builds};
+ghost use Rattle.run_tool.specs.Answers.{GivesOneOf};
+ghost use Rattle.run_tool.specs.Programs.{OverProgram, BuildsText, none_to_programs};
+ghost use Rattle.run_tool.specs.Files.{OverFile};
+
+use crate::ending::{Ending, Status};
+use crate::fetched::text_of;
+use crate::said::{say, say_refusal};
+use hex_image::write_hex;
+use std::alloc::Global;
+use sts_base::NoMemory;
+use tool_io::{Folder, Sink};
+
+/// The image that is built of a text, with nothing written. Where the text is refused, the answer that says so was given.
+pub fn image_of<K: Sink>(alloc: Global, text: &[u8], out: &mut K) -> Result<Vec<u8>, Ending>
+    ensures built { IfOk result (λ image. Builds text.now image.items) }
+    ensures unwritten { OnOk result (K.taken out.new ≡ K.taken out.old) }
+    ensures none { IfErr result (GivesOneOf K.taken K.faults out.old out.new (OverProgram none_to_programs text.now)) }
+    ensures later { K.faults out.old ≤ K.faults out.new }
+{
+    match sts_whole::build(alloc, text) {
+        Ok(image) => Ok(image),
+        Err(why) => Err(say_refusal(out, text, why)),
+    }
+}
+
+/// Writes the image that is built of a text as HEX.
+fn build_text<K: Sink>(alloc: Global, text: &[u8], out: &mut K) -> Ending
+    ensures { GivesOneOf K.taken K.faults out.old out.new (BuildsText text.now) result }
+{
+    match image_of(alloc, text, out) {
+        Ok(image) => match write_hex(alloc, &image) {
+            Ok(hex) => say(out, Status::Done, &hex),
+            Err(NoMemory) => Ending::NoMemory,
+        },
+        Err(ending) => ending,
+    }
+}
+
+/// The command `build`.
+pub fn build<F: Folder, K: Sink>(alloc: Global, name: &str, folder: &mut F, out: &mut K) -> Ending
+    ensures answer { GivesOneOf K.taken K.faults out.old out.new (OverFile F.holds F.faults folder.old folder.new name.now BuildsText) result }
+    ensures folder_later { F.faults folder.old ≤ F.faults folder.new }
+{
+    match text_of(alloc, name, folder, out) {
+        Ok(text) => build_text(alloc, &text, out),
+        Err(ending) => ending,
+    }
+}

@@ -1,0 +1,18 @@
+-- Why a text that has tokens is refused.
+use Rattle.std.proofs.Common.{ℕ, List, inr}
+use Rattle.sts_base.specs.declared.refused.Refused.{Refused}
+use Rattle.sts_base.specs.declared.refused.Refused.TheVariants as why
+use Rattle.sts_base.specs.declared.tables.Tables.{Tables}
+use Rattle.sts_lexer.specs.declared.token.Token.{Token}
+use Rattle.sts_syntax.specs.Programs.{Program}
+use Rattle.sts_grammar.specs.Deep.{NoneDeep}
+use Rattle.sts_grammar.specs.Texts.{source}
+use Rattle.sts_grammar.specs.Units.{IsProgram}
+use Rattle.type_check.specs.Checking as checking
+use Rattle.sts_whole.specs.Accepting.{Reads, Refuses}
+
+pub program_refused : (why : Refused) (text : List ℕ) (tables : Tables) (library : Program) (tokens : List Token) (p : Program) → Reads text tables library tokens → NoneDeep tokens
+    → IsProgram (source tokens tables) p → checking.Refuses why tables library p → Refuses text why
+program_refused (why.Program code at) text tables library tokens p read shallow spelled refused =
+    inr (inr (record { tables = tables; library = library; tokens = tokens; read = read; shallow = shallow; program = p; spelled = spelled; refused = refused }))
+program_refused why.NoMemory text tables library tokens p read shallow spelled refused = tt

@@ -1,0 +1,87 @@
+use Rattle.std.proofs.Common.{◌≡◌, ℕ, ◌<◌, ◌≤◌, List, length, map, subst, sym, ap, ◌∙◌, arith}
+use Rattle.std.specs.List.{AllByRecursion}
+use Rattle.thumb_code.specs.Map.{flash_end}
+use Rattle.sts_syntax.specs.TypedViews.{typed_program}
+use Rattle.flat_ir.specs.declared.ops.Function.{Function}
+use Rattle.flat_ir.specs.declared.ops.FlatCode.{FlatCode}
+use Rattle.sts_lower.specs.Lowered.{lowered}
+use Rattle.register_assign.specs.declared.places.Placed.{Placed}
+use Rattle.thumb_layout.specs.declared.laid.Laid.{Laid}
+use Rattle.thumb_layout.specs.Cells.{laid}
+use Rattle.image_link.specs.Image.{image}
+use Rattle.image_link.specs.Linkable.{IsLinkable}
+use Rattle.sts_whole.specs.Building.{IsPlaceable, IsLayable}
+use Rattle.sts_whole.specs.Compiled.{bodies_of}
+use Rattle.sts_whole.proofs.Layable.{placeable, layable, texts_below, fits}
+use Rattle.sts_whole.proofs.building.compile.Goals as goal
+
+pub place_all-requires : goal.place_all-requires
+place_all-requires c =
+    let P = typed_program c.args.typed.now in
+    let formed = c.code_is_well_formed.ensures.formed P c.args.tables.now.texts c.requires.well_typed c.requires.limits in
+    let is = c.as_slice.ensures ∙ ap (λ (k : FlatCode). k.functions) c.in_ok-code.ensures in
+    subst (λ (fs : List Function). AllByRecursion IsPlaceable fs) (sym is)
+    (placeable (length (lowered P).functions) (length (lowered P).classes) (lowered P).functions formed.functions
+    (c.only_parameters_are_live_at_entry.ensures P c.requires.well_typed))
+
+pub lay_all-requires : goal.lay_all-requires
+lay_all-requires c =
+    let P = typed_program c.args.typed.now in
+    let texts = c.args.tables.now.texts in
+    let formed = c.code_is_well_formed.ensures.formed P texts c.requires.well_typed c.requires.limits in
+    let functions = c.in_ok-placed.ensures.functions ∙ c.as_slice.ensures ∙ ap (λ (k : FlatCode). k.functions) c.in_ok-code.ensures in
+    subst (λ (placed : List Placed). AllByRecursion IsLayable placed) (sym c.deref.ensures.value)
+    (layable c.laid_code_keeps_its_weight.ensures.routines c.laid_code_keeps_its_weight.ensures.repeating P texts c.in_ok-placed.placed.items c.requires.limits
+    formed functions c.in_ok-placed.ensures.sound)
+
+pub link-requires : goal.link-requires
+link-requires c =
+    let P = typed_program c.args.typed.now in
+    let texts = c.args.tables.now.texts in
+    let formed = c.code_is_well_formed.ensures.formed P texts c.requires.well_typed c.requires.limits in
+    let placed = c.in_ok-placed.placed.items in
+    let functions = c.in_ok-placed.ensures.functions ∙ c.as_slice.ensures ∙ ap (λ (k : FlatCode). k.functions) c.in_ok-code.ensures in
+    let laid_is = c.in_ok-laid.ensures ∙ ap (λ (all : List Placed). map laid (bodies_of all)) c.deref.ensures.value in
+    let below = texts_below P (length texts) c.requires.texts (c.names_only_its_texts.ensures P) in
+    let linkable = c.emitted_code_can_be_linked.ensures (lowered P) placed (length texts) formed functions below in
+    subst (λ (k : FlatCode). IsLinkable c.in_ok-laid.laid k (length texts)) (sym c.in_ok-code.ensures)
+    (subst (λ (all : List Laid). IsLinkable all (lowered P) (length texts)) (sym laid_is) linkable)
+
+pub unreachable-requires : goal.unreachable-requires
+unreachable-requires c =
+    let P = typed_program c.args.typed.now in
+    let texts = c.args.tables.now.texts in
+    let placed = c.in_ok-placed.placed.items in
+    let functions = c.in_ok-placed.ensures.functions ∙ c.as_slice.ensures ∙ ap (λ (k : FlatCode). k.functions) c.in_ok-code.ensures in
+    let laid_is = c.in_ok-laid.ensures ∙ ap (λ (all : List Placed). map laid (bodies_of all)) c.deref.ensures.value in
+    let past : flash_end < length (image c.in_ok-laid.laid c.in_ok-code.code texts) = c.in-Err-PastFlash.ensures.past_flash c.in-Err-PastFlash.field-0-is in
+    let more : flash_end < length (image (map laid (bodies_of placed)) (lowered P) texts) =
+    subst (λ (k : FlatCode). flash_end < length (image (map laid (bodies_of placed)) k texts)) c.in_ok-code.ensures
+    (subst (λ (all : List Laid). flash_end < length (image all c.in_ok-code.code texts)) laid_is past) in
+    let formed = c.code_is_well_formed.ensures.formed P texts c.requires.well_typed c.requires.limits in
+    let fit = fits c.laid_code_keeps_its_weight.ensures.routines c.laid_code_keeps_its_weight.ensures.repeating c.programs_within_the_limits_fit.ensures.image
+    P texts placed
+    c.requires.limits c.requires.library formed functions c.in_ok-placed.ensures.sound in
+    absurd (omega (arith, more, fit))
+
+pub returns-in-Ok : goal.returns-in-Ok
+returns-in-Ok c =
+    let P = typed_program c.args.typed.now in
+    let texts = c.args.tables.now.texts in
+    let placed = c.in_ok-placed.placed.items in
+    let functions = c.in_ok-placed.ensures.functions ∙ c.as_slice.ensures ∙ ap (λ (k : FlatCode). k.functions) c.in_ok-code.ensures in
+    let laid_is = c.in_ok-laid.ensures ∙ ap (λ (all : List Placed). map laid (bodies_of all)) c.deref.ensures.value in
+    let linked : c.in-Ok.image.items ≡ image (map laid (bodies_of placed)) (lowered P) texts =
+    c.in-Ok.ensures.linked ∙ ap (λ (all : List Laid). image all c.in_ok-code.code texts) laid_is ∙ ap (λ (k : FlatCode). image (map laid (bodies_of placed)) k
+    texts) c.in_ok-code.ensures in
+    let formed = c.code_is_well_formed.ensures.formed P texts c.requires.well_typed c.requires.limits in
+    let fit = fits c.laid_code_keeps_its_weight.ensures.routines c.laid_code_keeps_its_weight.ensures.repeating c.programs_within_the_limits_fit.ensures.image
+    P texts placed
+    c.requires.limits c.requires.library formed functions c.in_ok-placed.ensures.sound in
+    record {
+      placed = placed;
+      functions = functions;
+      sound = c.in_ok-placed.ensures.sound;
+      linked = linked;
+      room = subst (λ (bytes : List ℕ). length bytes ≤ flash_end) (sym linked) fit;
+    }

@@ -1,0 +1,16 @@
+use Rattle.sts_syntax.specs.TypedViews.{typed_program}
+use Rattle.sts_whole.proofs.program.build.Goals as goal
+
+pub returns-in-Ok-compile-clause-built : goal.returns-in-Ok-compile-clause-built
+returns-in-Ok-compile-clause-built c =
+    let P = typed_program c.in-Ok.typed in
+    let tables = c.in-Ok.tables in
+    let accepted = c.in-Ok.ensures.accepted in
+    let b = c.accepted_programs_are_buildable.ensures c.args.text.now tables P accepted in
+    record {
+      tables = tables;
+      program = P;
+      accepted = accepted;
+      implements = c.compiled_images_implement_their_programs.ensures P tables.texts c.in-Ok-compile.image.items b.0 c.in-Ok-compile.ensures;
+      room = c.in-Ok-compile.ensures.room;
+    }

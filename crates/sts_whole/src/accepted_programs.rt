@@ -1,0 +1,32 @@
+//! Laws of accepted texts.
+ghost use Rattle.sts_whole.specs.Laws.{AcceptedIsBuildable, OneAnswer};
+
+use library_laws::{library_leaves_first, prelude_is_library, typed_library_is_light};
+use sts_grammar::one_program;
+use sts_lexer::{one_reading, spellings_stay};
+use sts_prelude::text_spells_library;
+use type_derive::derived_types_are_one;
+use typed_laws::accepted_texts_are_well_typed;
+
+/// The typed program of an accepted text can be built: it is well typed and within the limits, its texts stand in the tables and are bytes, and the library's
+/// functions, which stand first in it, weigh at most 600.
+pub fn accepted_programs_are_buildable()
+    ensures { AcceptedIsBuildable }
+{
+    spellings_stay();
+    text_spells_library();
+    library_leaves_first();
+    prelude_is_library();
+    typed_library_is_light();
+    accepted_texts_are_well_typed();
+}
+
+/// A text isn't both accepted and refused. It is accepted as one program, with one pair of tables, or refused with one code and, but for a syntax error, one place.
+pub fn one_answer()
+    ensures { OneAnswer }
+{
+    one_reading();
+    library_leaves_first();
+    derived_types_are_one();
+    one_program();
+}
