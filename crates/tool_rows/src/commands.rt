@@ -71,7 +71,7 @@ fn show_row<W: Write>(alloc: Global, out: &mut W, row: &Row, room: usize) -> io:
     out.write_all(b"|\n")
 }
 
-const ROWS: [Row; 23] = [
+const ROWS: [Row; 39] = [
     (0, 0, &["run", "f"], SUM),
     (1, 0, &["run", "f"], SUM),
     (0, 1, &["run", "f"], SUM),
@@ -95,6 +95,22 @@ const ROWS: [Row; 23] = [
     (0, 6, &["run-hex", "f"], SEVEN),
     (0, 7, &["run-hex", "f"], SEVEN),
     (0, 8, &["run-hex", "f"], SEVEN),
+    (0, 0, &["check", "f"], SUM),
+    (0, 1, &["check", "f"], SUM),
+    (1, 0, &["build", "f"], SUM),
+    (0, 1, &["build", "f"], SUM),
+    (0, 1, &["build", "f"], "#"),
+    (0, 0, &["run", "f", "--stats"], ""),
+    (0, 4, &["run", "f", "--stats"], ""),
+    (0, 5, &["run", "f", "--stats"], ""),
+    (0, 12, &["run", "f", "--stats"], ""),
+    (0, 13, &["run", "f", "--stats", "--image"], ""),
+    (0, 14, &["run", "f", "--stats", "--image"], ""),
+    (0, 1, &["big", "1"], ""),
+    (0, 2, &["big", "1"], ""),
+    (0, 3, &["big", "1"], ""),
+    (0, 4, &["big", "1"], ""),
+    (0, 5, &["big", "1"], ""),
 ];
 
 /// The same over a folder and a sink that never fail.
