@@ -117,11 +117,11 @@ class Rows:
         return ran.returncode, ran.stdout
 
     def run_in_little(self, words, due, where):
-        """Runs the words in more and more memory, from where the program can be loaded (else the status is 127) to where there is enough."""
+        """Runs the words in more and more memory, from a megabyte beside the program's own size, where it can't be loaded yet (the status is 127), to where there is enough."""
         status, _, output = due.strip().partition(" ")
         enough, wanting = (int(status), text_of(output)), 0
         self.rows += 1
-        for limit in range(1 << 20, 64 << 20, 1 << 15):
+        for limit in range(os.path.getsize(self.program) + (1 << 20), 64 << 20, 1 << 15):
             ran = self.run_within(words, limit)
             if ran == enough:
                 break

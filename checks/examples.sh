@@ -1,11 +1,14 @@
 #!/bin/sh
 # Each program of examples/ has a transcript NAME.txt, and most a script NAME.json: the transcript was worked out from the rules, and is what the rules give
-# as bench/programs/reading.py reads them, with no code of this repository. The program takes each example's text.
+# as bench/programs/reading.py reads them, with no code of this repository. The program accepts each example's text, and writes that transcript by `run`, and by
+# `build` and then `run-hex`.
 # usage: checks/examples.sh [PROGRAM]
 set -eu
 top=$(cd "$(dirname "$0")/.." && pwd)
 program=${1:-$top/crates/sts/out/sts}
 [ -x "$program" ] || "$top/bin/sts" > /dev/null || [ -x "$program" ]
+folder=$(mktemp -d)
+trap 'rm -rf "$folder"' EXIT
 wrong=0
 count=0
 for text in "$top"/examples/*.ts; do
@@ -16,7 +19,10 @@ for text in "$top"/examples/*.ts; do
     [ -f "$script" ] || script=
     python3 "$top/bench/programs/reading.py" "$text" $script | cmp - "$top/examples/$name.txt" || wrong=$((wrong + 1))
     said=$("$program" check "$text")
-    [ "$said" = spelled ] || { echo "examples: check says of $name: $said"; wrong=$((wrong + 1)); }
+    [ "$said" = accepted ] || { echo "examples: check says of $name: $said"; wrong=$((wrong + 1)); }
+    "$program" run "$text" $script 2> /dev/null | cmp - "$top/examples/$name.txt" || wrong=$((wrong + 1))
+    "$program" build "$text" > "$folder/image.hex" || wrong=$((wrong + 1))
+    "$program" run-hex "$folder/image.hex" $script 2> /dev/null | cmp - "$top/examples/$name.txt" || wrong=$((wrong + 1))
 done
 echo "examples: $count programs, $wrong wrong"
 [ "$wrong" -eq 0 ] && [ "$count" -ge 10 ]

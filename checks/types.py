@@ -13,8 +13,6 @@ import sys
 
 program, folder = sys.argv[1:3]
 node = sys.argv[3] if len(sys.argv) > 3 else None
-# `check` decides the grammar today: each of these programs spells one.
-SPELLED = "spelled"
 
 
 def grown(line):
@@ -56,8 +54,8 @@ for number, (verdict, why, lines) in enumerate(cases):
     with open(f"{folder}/p.ts", "w", encoding="utf-8") as file:
         file.write(texts[number])
     ran = subprocess.run([program, "check", "p.ts"], cwd=folder, stdout=subprocess.PIPE, text=True)
-    if ran.stdout.strip() != SPELLED:
-        tell(number, f"{wanted}, and not {ran.stdout.strip()}")
+    if ran.stdout != f"{wanted}\n" or ran.returncode != (0 if verdict == "accepted" else 10):
+        tell(number, f"{wanted}, and not {ran.stdout.strip()} with status {ran.returncode}")
     if peer[number] is not None and (not peer[number]) != ((verdict == "accepted") != bool(why)):
         tell(number, f"{wanted}{', other than by TypeScript: ' + why if why else ''}, and TypeScript says {peer[number][:2]}")
 print(f"types: {len(cases)} programs ({', '.join(f'{n} {it}' for it, n in sorted(codes.items()))}), {wrong} wrong{'' if node else '; TypeScript was not asked'}")
