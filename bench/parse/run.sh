@@ -60,7 +60,10 @@ console.log(least.toFixed(1));
 JS
 for text in functions list type deep; do
     file=$folder/$text.ts
-    [ "$("$program" check "$file")" = spelled ] || { echo "$text: is not spelled"; exit 1; }
+    case $("$program" check "$file") in
+    accepted | 'refused 8 '* | 'refused 9 '* | 'refused 1'[0-5]' '*) ;;
+    *) echo "$text: spells no program"; exit 1 ;;
+    esac
     printf '%s (%s bytes): sts check %s ms' "$text" "$(wc -c < "$file")" "$(least "$program" check "$file")"
     if command -v node > /dev/null && [ -e /usr/share/nodejs/typescript/lib/typescript.js ]; then
         printf ', TypeScript %s ms, its parse alone %s ms' "$(least node "$folder/parse.js" "$file" 1)" "$(node "$folder/parse.js" "$file" "$runs")"
