@@ -42,7 +42,7 @@ class Maker:
         if pick < 5:
             return f"({self.number(known, depth - 1)} {self.some(*ARITHMETIC)} {self.number(known, depth - 1)})"
         if pick == 5:
-            return f"({self.some('-', '~', '+')}{self.number(known, depth - 1)})"
+            return f"({self.some('- ', '~', '+ ')}{self.number(known, depth - 1)})"
         if pick == 6:
             return f"({self.boolean(known, depth - 1)} ? {self.number(known, depth - 1)} : {self.number(known, depth - 1)})"
         if pick == 7 and known["number[]"]:
