@@ -1,7 +1,7 @@
 -- The numbers of the codes.
 use Rattle.std.specs.Prelude.{ℕ}
 use Rattle.sts_base.specs.declared.refused.Code.{Code}
-use Rattle.sts_base.specs.declared.refused.Code.TheVariants.{TextTooLong, NotUtf8, BadCharacter, BadNumber, BadText, Syntax, TooDeep, UnknownName, TwiceNamed, Captures, Mismatch, NeedsType, BadHandler, ClassCycle, OverLimit, NotThisForm}
+use Rattle.sts_base.specs.declared.refused.Code.TheVariants.{TextTooLong, NotUtf8, BadCharacter, BadNumber, BadText, Syntax, TooDeep, UnknownName, TwiceNamed, Captures, Mismatch, NeedsType, BadHandler, ClassCycle, OverLimit}
 
 -- the number that is printed for a code
 abbrev pub number_of : Code → ℕ
@@ -20,4 +20,3 @@ number_of NeedsType = 12
 number_of BadHandler = 13
 number_of ClassCycle = 14
 number_of OverLimit = 15
-number_of NotThisForm = 16

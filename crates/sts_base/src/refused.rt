@@ -2,7 +2,7 @@
 ghost use Rattle.std.specs.Prelude.{◌≡◌};
 ghost use Rattle.sts_base.specs.Numbers.{number_of};
 
-/// Why a text is no program that can be built.
+/// Why a text is no program.
 #[derive(Clone, Copy, Debug, PartialEq, Eq, Drop)]
 pub enum Code {
     /// The text has more bytes than a program may have.
@@ -35,8 +35,6 @@ pub enum Code {
     ClassCycle,
     /// A counted limit is passed.
     OverLimit,
-    /// The program is of a form that can't be built yet.
-    NotThisForm,
 }
 
 /// A refusal: of the text, by a code and the place of the byte where it stands, or for want of memory.

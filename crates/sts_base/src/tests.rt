@@ -44,7 +44,6 @@ fn codes_are_numbered_in_their_order(rt: HostRuntime) {
     assert_eq!(rt; number(Code::TextTooLong), 1);
     assert_eq!(rt; number(Code::UnknownName), 8);
     assert_eq!(rt; number(Code::OverLimit), 15);
-    assert_eq!(rt; number(Code::NotThisForm), 16);
 }
 
 /// A type that holds lists of itself.

@@ -34,7 +34,6 @@ one_of text code.NeedsType at h = inr (inr h)
 one_of text code.BadHandler at h = inr (inr h)
 one_of text code.ClassCycle at h = inr (inr h)
 one_of text code.OverLimit at h = inr (inr h)
-one_of text code.NotThisForm at h = inr (inr h)
 
 not_valid : (text : List ℕ) (at : ℕ) → IsValidUpTo text at → IsUtf8 text → ⊥
 not_valid text at h utf8 = h.longest (length text) h.short (subst (λ (x : List ℕ). IsUtf8 x) (sym (take_all (length text) text (omega arith))) utf8)
