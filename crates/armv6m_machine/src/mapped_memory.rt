@@ -28,7 +28,7 @@ const RAM_END: u32 = 0x2000_4000;
 /// The arena's words.
 const ARENA_WORDS: usize = 2816;
 
-/// Flash, the words of the three regions of RAM, and the base.
+/// Flash, the words of the three regions of RAM, and the base, with whether it may be one.
 #[derive(Drop)]
 pub struct MappedMemory {
     flash: Flash,
@@ -36,6 +36,7 @@ pub struct MappedMemory {
     arena: Vec<u32>,
     stack: Vec<u32>,
     base: u32,
+    sound: bool,
 }
 
 impl Model for MappedMemory {
@@ -43,7 +44,7 @@ impl Model for MappedMemory {
 
     ghost view = { λ m. record { flash = m.flash; globals = m.globals.items; arena = m.arena.items; stack = m.stack.items; base = m.base } };
 
-    ghost invariant = { λ m. (vec_len m.globals ≡ 256) × (vec_len m.arena ≡ arena_words) × (vec_len m.stack ≡ 1024) };
+    ghost invariant = { λ m. (vec_len m.globals ≡ 256) × (vec_len m.arena ≡ arena_words) × (vec_len m.stack ≡ 1024) × (m.sound ≡ is_base m.base) };
 }
 
 /// So many words of 0.
@@ -74,6 +75,7 @@ impl MappedMemory {
             arena: zeros(alloc, ARENA_WORDS)?,
             stack: zeros(alloc, 1024)?,
             base,
+            sound: is_base(base),
         })
     }
 
@@ -113,14 +115,15 @@ impl MappedMemory {
         ensures { self.new ≡ record self.old { base = base } }
     {
         self.base = base;
+        self.sound = is_base(base);
     }
 
-    /// Whether the base is a multiple of 4 from the start of the stack region to its end.
+    /// Whether the base may be one.
     #[inline(always)]
     pub fn has_base(&self) -> bool
         ensures { result ≡ is_base self.now.base }
     {
-        self.base % 4 == 0 && self.base >= STACK && self.base <= RAM_END
+        self.sound
     }
 
     pub fn stack(&self) -> &[u32]
@@ -185,6 +188,13 @@ fn is_aligned(address: u32, bytes: u8) -> bool
         2 => address % 2 == 0,
         _ => address % 4 == 0,
     }
+}
+
+/// Whether a base is a multiple of 4 from the start of the stack region to its end.
+fn is_base(base: u32) -> bool
+    ensures { result ≡ is_base base }
+{
+    base % 4 == 0 && base >= STACK && base <= RAM_END
 }
 
 /// Whether the address is in RAM.
