@@ -11,7 +11,8 @@ use crate::groups::{
     execute_store, execute_sum,
 };
 use crate::memory::Memory;
-use crate::rows::{asks, go, stops};
+use crate::operands::{low, scaled, target};
+use crate::rows::{adds, asks, branches, compares, go, loads, logic, stops, stores, subs};
 use thumb_code::{Instr, Registers};
 
 /// Executes an instruction, where `wide` stands for one of two halfwords. Its accesses are all tried before the first store, and
@@ -44,6 +45,18 @@ fn by_row<M: Memory>(instr: Instr, next: u32, s: &mut Registers, m: &mut M) -> T
     ensures flags { s.old.flags < 16 → s.new.flags < 16 }
 {
     match instr {
+        Instr::AddReg { rd, rn, rm } => adds(m, s, next, rd, low(s, rn), low(s, rm), 0),
+        Instr::CmpImm { rd, imm } => compares(m, s, next, low(s, rd), u32::from(imm)),
+        Instr::AddImm8 { rd, imm } => adds(m, s, next, rd, low(s, rd), u32::from(imm), 0),
+        Instr::SubImm8 { rd, imm } => subs(m, s, next, rd, low(s, rd), u32::from(imm)),
+        Instr::CmpReg { rdn, rm } => compares(m, s, next, low(s, rdn), low(s, rm)),
+        Instr::MovImm { rd, imm } => logic(m, s, next, rd, u32::from(imm)),
+        Instr::LdrImm { rt, rn, imm } => loads(m, s, next, rt, scaled(low(s, rn), imm, 4), 4),
+        Instr::LdrSp { rt, imm } => loads(m, s, next, rt, scaled(s.sp, imm, 4), 4),
+        Instr::StrImm { rt, rn, imm } => stores(m, s, next, rt, scaled(low(s, rn), imm, 4), 4),
+        Instr::StrSp { rt, imm } => stores(m, s, next, rt, scaled(s.sp, imm, 4), 4),
+        Instr::BCond { cond, offset } => branches(m, s, next, cond, offset),
+        Instr::B { offset } => go(m, s, target(s, offset)),
         Instr::LslImm { .. }
         | Instr::LsrImm { .. }
         | Instr::AsrImm { .. }
@@ -51,21 +64,15 @@ fn by_row<M: Memory>(instr: Instr, next: u32, s: &mut Registers, m: &mut M) -> T
         | Instr::LsrReg { .. }
         | Instr::AsrReg { .. }
         | Instr::Ror { .. } => execute_shift(instr, next, s, m),
-        Instr::AddReg { .. }
-        | Instr::SubReg { .. }
+        Instr::SubReg { .. }
         | Instr::AddImm3 { .. }
         | Instr::SubImm3 { .. }
-        | Instr::CmpImm { .. }
-        | Instr::AddImm8 { .. }
-        | Instr::SubImm8 { .. }
         | Instr::Adc { .. }
         | Instr::Sbc { .. }
         | Instr::Rsb { .. }
-        | Instr::CmpReg { .. }
         | Instr::Cmn { .. }
         | Instr::CmpHigh { .. } => execute_sum(instr, next, s, m),
-        Instr::MovImm { .. }
-        | Instr::And { .. }
+        Instr::And { .. }
         | Instr::Eor { .. }
         | Instr::Tst { .. }
         | Instr::Orr { .. }
@@ -91,24 +98,18 @@ fn by_row<M: Memory>(instr: Instr, next: u32, s: &mut Registers, m: &mut M) -> T
         | Instr::LdrhReg { .. }
         | Instr::LdrbReg { .. }
         | Instr::Ldrsh { .. }
-        | Instr::LdrImm { .. }
         | Instr::LdrbImm { .. }
-        | Instr::LdrhImm { .. }
-        | Instr::LdrSp { .. } => execute_load(instr, next, s, m),
+        | Instr::LdrhImm { .. } => execute_load(instr, next, s, m),
         Instr::StrReg { .. }
         | Instr::StrhReg { .. }
         | Instr::StrbReg { .. }
-        | Instr::StrImm { .. }
         | Instr::StrbImm { .. }
-        | Instr::StrhImm { .. }
-        | Instr::StrSp { .. } => execute_store(instr, next, s, m),
+        | Instr::StrhImm { .. } => execute_store(instr, next, s, m),
         Instr::Push { .. } | Instr::Pop { .. } | Instr::Stm { .. } | Instr::Ldm { .. } =>
             execute_many(instr, next, s, m),
-        Instr::Bx { .. }
-        | Instr::Blx { .. }
-        | Instr::BCond { .. }
-        | Instr::B { .. }
-        | Instr::Bl { .. } => execute_branch(instr, next, s, m),
+        Instr::Bx { .. } | Instr::Blx { .. } | Instr::Bl { .. } => execute_branch(
+            instr, next, s, m,
+        ),
         Instr::Bkpt { .. } => stops(m, s, Fault::Breakpoint),
         Instr::Nop | Instr::Yield | Instr::Wfe | Instr::Wfi | Instr::Sev => go(m, s, next),
         Instr::Udf { .. } => stops(m, s, Fault::Undefined),

@@ -10,12 +10,10 @@ use crate::arithmetic::{
 };
 use crate::faults::Turn;
 use crate::memory::Memory;
-use crate::operands::{
-    carry, inverted, low, low_byte, low_half, or_32, pc_read, reg, scaled, sum, target,
-};
+use crate::operands::{carry, inverted, low, low_byte, low_half, or_32, pc_read, reg, scaled, sum};
 use crate::rows::{
-    adds, branches, calls, compares, compares_sum, go, jumps, loads, loads_signed, logic, moves,
-    moves_sp, puts, rotates, shifts_left, shifts_right, shifts_signed, stores, subs, tests, writes,
+    adds, calls, compares, compares_sum, jumps, loads, loads_signed, logic, moves, moves_sp, puts,
+    rotates, shifts_left, shifts_right, shifts_signed, stores, subs, tests, writes,
 };
 use crate::transfers::{loads_many, pops, pops_pc, pushes, pushes_lr, stores_many};
 use thumb_code::{Instr, Registers};
@@ -61,17 +59,12 @@ pub fn execute_sum<M: Memory>(instr: Instr, next: u32, s: &mut Registers, m: &M)
     ensures flags { s.old.flags < 16 → s.new.flags < 16 }
 {
     match instr {
-        Instr::AddReg { rd, rn, rm } => adds(m, s, next, rd, low(s, rn), low(s, rm), 0),
         Instr::SubReg { rd, rn, rm } => subs(m, s, next, rd, low(s, rn), low(s, rm)),
         Instr::AddImm3 { rd, rn, imm } => adds(m, s, next, rd, low(s, rn), u32::from(imm), 0),
         Instr::SubImm3 { rd, rn, imm } => subs(m, s, next, rd, low(s, rn), u32::from(imm)),
-        Instr::CmpImm { rd, imm } => compares(m, s, next, low(s, rd), u32::from(imm)),
-        Instr::AddImm8 { rd, imm } => adds(m, s, next, rd, low(s, rd), u32::from(imm), 0),
-        Instr::SubImm8 { rd, imm } => subs(m, s, next, rd, low(s, rd), u32::from(imm)),
         Instr::Adc { rdn, rm } => adds(m, s, next, rdn, low(s, rdn), low(s, rm), carry(s)),
         Instr::Sbc { rdn, rm } => adds(m, s, next, rdn, low(s, rdn), inverted(s, rm), carry(s)),
         Instr::Rsb { rdn, rm } => subs(m, s, next, rdn, 0, low(s, rm)),
-        Instr::CmpReg { rdn, rm } => compares(m, s, next, low(s, rdn), low(s, rm)),
         Instr::Cmn { rdn, rm } => compares_sum(m, s, next, low(s, rdn), low(s, rm)),
         Instr::CmpHigh { rd, rm } => compares(m, s, next, reg(s, rd), reg(s, rm)),
         _ => unreachable!(),
@@ -87,7 +80,6 @@ pub fn execute_logic<M: Memory>(instr: Instr, next: u32, s: &mut Registers, m: &
     ensures flags { s.old.flags < 16 → s.new.flags < 16 }
 {
     match instr {
-        Instr::MovImm { rd, imm } => logic(m, s, next, rd, u32::from(imm)),
         Instr::And { rdn, rm } => logic(m, s, next, rdn, low(s, rdn) & low(s, rm)),
         Instr::Eor { rdn, rm } => logic(m, s, next, rdn, low(s, rdn) ^ low(s, rm)),
         Instr::Tst { rdn, rm } => tests(m, s, next, low(s, rdn) & low(s, rm)),
@@ -140,10 +132,8 @@ pub fn execute_load<M: Memory>(instr: Instr, next: u32, s: &mut Registers, m: &m
         Instr::LdrhReg { rt, rn, rm } => loads(m, s, next, rt, sum(s, rn, rm), 2),
         Instr::LdrbReg { rt, rn, rm } => loads(m, s, next, rt, sum(s, rn, rm), 1),
         Instr::Ldrsh { rt, rn, rm } => loads_signed(m, s, next, rt, sum(s, rn, rm), 2),
-        Instr::LdrImm { rt, rn, imm } => loads(m, s, next, rt, scaled(low(s, rn), imm, 4), 4),
         Instr::LdrbImm { rt, rn, imm } => loads(m, s, next, rt, scaled(low(s, rn), imm, 1), 1),
         Instr::LdrhImm { rt, rn, imm } => loads(m, s, next, rt, scaled(low(s, rn), imm, 2), 2),
-        Instr::LdrSp { rt, imm } => loads(m, s, next, rt, scaled(s.sp, imm, 4), 4),
         _ => unreachable!(),
     }
 }
@@ -160,10 +150,8 @@ pub fn execute_store<M: Memory>(instr: Instr, next: u32, s: &mut Registers, m: &
         Instr::StrReg { rt, rn, rm } => stores(m, s, next, rt, sum(s, rn, rm), 4),
         Instr::StrhReg { rt, rn, rm } => stores(m, s, next, rt, sum(s, rn, rm), 2),
         Instr::StrbReg { rt, rn, rm } => stores(m, s, next, rt, sum(s, rn, rm), 1),
-        Instr::StrImm { rt, rn, imm } => stores(m, s, next, rt, scaled(low(s, rn), imm, 4), 4),
         Instr::StrbImm { rt, rn, imm } => stores(m, s, next, rt, scaled(low(s, rn), imm, 1), 1),
         Instr::StrhImm { rt, rn, imm } => stores(m, s, next, rt, scaled(low(s, rn), imm, 2), 2),
-        Instr::StrSp { rt, imm } => stores(m, s, next, rt, scaled(s.sp, imm, 4), 4),
         _ => unreachable!(),
     }
 }
@@ -198,8 +186,6 @@ pub fn execute_branch<M: Memory>(instr: Instr, next: u32, s: &mut Registers, m: 
     match instr {
         Instr::Bx { rm } => jumps(m, s, s.lr, reg(s, rm)),
         Instr::Blx { rm } => jumps(m, s, next.wrapping_add(1), reg(s, rm)),
-        Instr::BCond { cond, offset } => branches(m, s, next, cond, offset),
-        Instr::B { offset } => go(m, s, target(s, offset)),
         Instr::Bl { offset } => calls(m, s, next, offset),
         _ => unreachable!(),
     }
