@@ -1,4 +1,4 @@
--- The instructions by what they do: one function executes each group.
+-- The instructions by what they do: one function executes each group. The commonest are in none, but in the table itself.
 use Rattle.thumb_code.specs.declared.instructions.Instr.{Instr}
 use Rattle.thumb_code.specs.declared.instructions.Instr.TheVariants.{LslImm, LsrImm, AsrImm, LslReg, LsrReg, AsrReg, Ror, SubReg, AddImm3, SubImm3, Adc, Sbc, Rsb, Cmn, CmpHigh, And, Eor, Tst, Orr, Mul, Bic, Mvn, AddHigh, MovHigh, Adr, AddSp, AddSpImm, SubSpImm, Sxth, Sxtb, Uxth, Uxtb, Rev, Rev16, Revsh, LdrPc, Ldrsb, LdrReg, LdrhReg, LdrbReg, Ldrsh, LdrbImm, LdrhImm, StrReg, StrhReg, StrbReg, StrbImm, StrhImm, Push, Pop, Stm, Ldm, Bx, Blx, Bl}
 

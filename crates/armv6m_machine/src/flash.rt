@@ -73,8 +73,12 @@ fn slots_of(alloc: Global, bytes: &[u8]) -> Result<Vec<Option<(Instr, bool)>>, N
     requires { length bytes.now ≤ flash_end }
     ensures { IfOk result (λ v. AreSlots bytes.now 0 v.items) }
 {
-    let mut slots = Vec::new(alloc);
-    for k in 0..bytes.len() / 2 {
+    let count = bytes.len() / 2;
+    let mut slots = match Vec::with_capacity(alloc, count) {
+        Ok(slots) => slots,
+        Err(_) => return Err(NoMemory),
+    };
+    for k in 0..count {
         match slots.push(read(bytes, (2 * k) as u32)) {
             Ok(()) => {}
             Err(_) => return Err(NoMemory),

@@ -1,4 +1,4 @@
-//! The table, a group of instructions at a time: each in the form of its row.
+//! The rows of the table that are in groups, a function for each group.
 ghost use Rattle.std.specs.Prelude.{◌<◌};
 ghost use Rattle.thumb_code.specs.Table.{Fits};
 ghost use Rattle.thumb_code.specs.Effect.{effect};
