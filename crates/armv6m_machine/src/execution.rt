@@ -11,8 +11,11 @@ use crate::groups::{
     execute_store, execute_sum,
 };
 use crate::memory::Memory;
-use crate::operands::{low, scaled, target};
-use crate::rows::{adds, asks, branches, compares, go, loads, logic, stops, stores, subs};
+use crate::operands::{low, target};
+use crate::rows::{
+    adds_low, adds_number, asks, branches, compares_low, compares_number, go, loads_word,
+    logic_number, stops, stores_word, subs_number,
+};
 use thumb_code::{Instr, Registers};
 
 /// Executes an instruction, where `wide` stands for one of two halfwords. Its accesses are all tried before the first store, and
@@ -45,16 +48,16 @@ fn by_row<M: Memory>(instr: Instr, next: u32, s: &mut Registers, m: &mut M) -> T
     ensures flags { s.old.flags < 16 → s.new.flags < 16 }
 {
     match instr {
-        Instr::AddReg { rd, rn, rm } => adds(m, s, next, rd, low(s, rn), low(s, rm), 0),
-        Instr::CmpImm { rd, imm } => compares(m, s, next, low(s, rd), u32::from(imm)),
-        Instr::AddImm8 { rd, imm } => adds(m, s, next, rd, low(s, rd), u32::from(imm), 0),
-        Instr::SubImm8 { rd, imm } => subs(m, s, next, rd, low(s, rd), u32::from(imm)),
-        Instr::CmpReg { rdn, rm } => compares(m, s, next, low(s, rdn), low(s, rm)),
-        Instr::MovImm { rd, imm } => logic(m, s, next, rd, u32::from(imm)),
-        Instr::LdrImm { rt, rn, imm } => loads(m, s, next, rt, scaled(low(s, rn), imm, 4), 4),
-        Instr::LdrSp { rt, imm } => loads(m, s, next, rt, scaled(s.sp, imm, 4), 4),
-        Instr::StrImm { rt, rn, imm } => stores(m, s, next, rt, scaled(low(s, rn), imm, 4), 4),
-        Instr::StrSp { rt, imm } => stores(m, s, next, rt, scaled(s.sp, imm, 4), 4),
+        Instr::AddReg { rd, rn, rm } => adds_low(m, s, next, rd, rn, rm),
+        Instr::CmpImm { rd, imm } => compares_number(m, s, next, rd, imm),
+        Instr::AddImm8 { rd, imm } => adds_number(m, s, next, rd, imm),
+        Instr::SubImm8 { rd, imm } => subs_number(m, s, next, rd, imm),
+        Instr::CmpReg { rdn, rm } => compares_low(m, s, next, rdn, rm),
+        Instr::MovImm { rd, imm } => logic_number(m, s, next, rd, imm),
+        Instr::LdrImm { rt, rn, imm } => loads_word(m, s, next, rt, low(s, rn), imm),
+        Instr::LdrSp { rt, imm } => loads_word(m, s, next, rt, s.sp, imm),
+        Instr::StrImm { rt, rn, imm } => stores_word(m, s, next, rt, low(s, rn), imm),
+        Instr::StrSp { rt, imm } => stores_word(m, s, next, rt, s.sp, imm),
         Instr::BCond { cond, offset } => branches(m, s, next, cond, offset),
         Instr::B { offset } => go(m, s, target(s, offset)),
         Instr::LslImm { .. }
