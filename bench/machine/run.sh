@@ -1,6 +1,6 @@
 #!/bin/bash
-# Instructions per second of a loop of four instructions: the machine, through `Machine::step`, beside the plain C interpreter of this
-# folder, compiled with -O2 in the same run. No test, and no claim is made of it.
+# Seconds of a processor for a loop of four instructions, in three rounds: a plain C interpreter, of this folder, compiled with -O2 in the same run,
+# the machine, through `Machine::step`, and a board, through `Board::run`. No test, and no claim is made of it.
 # usage: bench/machine/run.sh [COUNT]
 set -eu
 here=$(cd "$(dirname "$0")" && pwd)
@@ -15,11 +15,18 @@ image = struct.pack("<III", 0x20003f80, 13, 1) + b"".join(struct.pack("<H", h) f
 open(sys.argv[1] + "/image", "wb").write(image)
 PY
 "${CC:-cc}" -O2 -o "$work/interpreter" "$here/interpreter.c"
-program=$("$here/../program.sh" "$work/program" "$here/main.txt" "armv6m_machine anyhow" sts_base thumb_code armv6m_machine)
-rate() {
-    local from=$EPOCHREALTIME
-    "${@:2}" >/dev/null
-    awk -v n="$count" -v a="$from" -v b="$EPOCHREALTIME" -v what="$1" 'BEGIN { printf "%-16s %7.1f million instructions per second\n", what, n / (b - a) / 1e6 }'
+program() { "$here/../program.sh" "$work/$1" "$here/$1.txt" "${@:2}"; }
+machine=$(program main "armv6m_machine anyhow" sts_base thumb_code armv6m_machine)
+board=$(program board "sts_base tool_io board_ports event_script board_run anyhow" sts_base thumb_code board_world tool_io board_ports bank_model \
+    armv6m_machine board_outside arena_heap fiber_queues message_bus fiber_pool fiber_runtime fork_on_block board_drivers event_script board_run)
+TIMEFORMAT=%U
+seconds() {
+    local taken
+    taken=$({ time "${@:2}" >/dev/null; } 2>&1)
+    awk -v n="$count" -v s="$taken" -v what="$1" 'BEGIN { printf "%-16s %6.2f s, %7.1f million instructions a second\n", what, s, n / s / 1e6 }'
 }
-rate "C interpreter" "$work/interpreter" "$work/image" "$count"
-rate "the machine" "$program" "$count" "$work/image"
+for _ in 1 2 3; do
+    seconds "C interpreter" "$work/interpreter" "$work/image" "$count"
+    seconds "the machine" "$machine" "$count" "$work/image"
+    seconds "a board" "$board" "$count" "$work/image"
+done
