@@ -5,21 +5,19 @@ ghost use Rattle.thumb_code.specs.Effect.{effect};
 ghost use Rattle.thumb_code.specs.Step.{behind};
 ghost use Rattle.armv6m_machine.specs.Turns.{Does};
 
-use crate::faults::{Fault, Turn};
+use crate::faults::Turn;
 use crate::groups::{
     execute_branch, execute_load, execute_logic, execute_many, execute_move, execute_shift,
-    execute_store, execute_sum,
+    execute_signal, execute_store, execute_sum,
 };
 use crate::memory::Memory;
-use crate::operands::{low, target};
-use crate::rows::{
-    adds_low, adds_number, asks, branches, compares_low, compares_number, go, loads_word,
-    logic_number, stops, stores_word, subs_number,
-};
+use crate::operands::{low, scaled};
+use crate::rows::{adds, branches, compares, loads, stores};
 use thumb_code::{Instr, Registers};
 
 /// Executes an instruction, where `wide` stands for one of two halfwords. Its accesses are all tried before the first store, and
 /// a fault changes nothing.
+#[inline(always)]
 pub fn execute<M: Memory>(
     instr: Instr,
     wide: bool,
@@ -41,25 +39,20 @@ fn size(wide: bool) -> u32
     if wide { 4 } else { 2 }
 }
 
-/// The table: each instruction by its group, or in the form of its row.
+/// The table: each of the commonest instructions in the form of its row, and the others by their groups.
+#[inline(always)]
 fn by_row<M: Memory>(instr: Instr, next: u32, s: &mut Registers, m: &mut M) -> Turn
     requires { Fits instr }
     ensures row { Does M.memory m.old (effect next s.old instr) result s.old s.new m.new }
     ensures flags { s.old.flags < 16 → s.new.flags < 16 }
 {
     match instr {
-        Instr::AddReg { rd, rn, rm } => adds_low(m, s, next, rd, rn, rm),
-        Instr::CmpImm { rd, imm } => compares_number(m, s, next, rd, imm),
-        Instr::AddImm8 { rd, imm } => adds_number(m, s, next, rd, imm),
-        Instr::SubImm8 { rd, imm } => subs_number(m, s, next, rd, imm),
-        Instr::CmpReg { rdn, rm } => compares_low(m, s, next, rdn, rm),
-        Instr::MovImm { rd, imm } => logic_number(m, s, next, rd, imm),
-        Instr::LdrImm { rt, rn, imm } => loads_word(m, s, next, rt, low(s, rn), imm),
-        Instr::LdrSp { rt, imm } => loads_word(m, s, next, rt, s.sp, imm),
-        Instr::StrImm { rt, rn, imm } => stores_word(m, s, next, rt, low(s, rn), imm),
-        Instr::StrSp { rt, imm } => stores_word(m, s, next, rt, s.sp, imm),
+        Instr::AddReg { rd, rn, rm } => adds(m, s, next, rd, low(s, rn), low(s, rm), 0),
+        Instr::CmpImm { rd, imm } => compares(m, s, next, low(s, rd), u32::from(imm)),
+        Instr::CmpReg { rdn, rm } => compares(m, s, next, low(s, rdn), low(s, rm)),
+        Instr::LdrSp { rt, imm } => loads(m, s, next, rt, scaled(s.sp, imm, 4), 4),
+        Instr::StrSp { rt, imm } => stores(m, s, next, rt, scaled(s.sp, imm, 4), 4),
         Instr::BCond { cond, offset } => branches(m, s, next, cond, offset),
-        Instr::B { offset } => go(m, s, target(s, offset)),
         Instr::LslImm { .. }
         | Instr::LsrImm { .. }
         | Instr::AsrImm { .. }
@@ -70,12 +63,15 @@ fn by_row<M: Memory>(instr: Instr, next: u32, s: &mut Registers, m: &mut M) -> T
         Instr::SubReg { .. }
         | Instr::AddImm3 { .. }
         | Instr::SubImm3 { .. }
+        | Instr::AddImm8 { .. }
+        | Instr::SubImm8 { .. }
         | Instr::Adc { .. }
         | Instr::Sbc { .. }
         | Instr::Rsb { .. }
         | Instr::Cmn { .. }
         | Instr::CmpHigh { .. } => execute_sum(instr, next, s, m),
-        Instr::And { .. }
+        Instr::MovImm { .. }
+        | Instr::And { .. }
         | Instr::Eor { .. }
         | Instr::Tst { .. }
         | Instr::Orr { .. }
@@ -101,21 +97,27 @@ fn by_row<M: Memory>(instr: Instr, next: u32, s: &mut Registers, m: &mut M) -> T
         | Instr::LdrhReg { .. }
         | Instr::LdrbReg { .. }
         | Instr::Ldrsh { .. }
+        | Instr::LdrImm { .. }
         | Instr::LdrbImm { .. }
         | Instr::LdrhImm { .. } => execute_load(instr, next, s, m),
         Instr::StrReg { .. }
         | Instr::StrhReg { .. }
         | Instr::StrbReg { .. }
+        | Instr::StrImm { .. }
         | Instr::StrbImm { .. }
         | Instr::StrhImm { .. } => execute_store(instr, next, s, m),
         Instr::Push { .. } | Instr::Pop { .. } | Instr::Stm { .. } | Instr::Ldm { .. } =>
             execute_many(instr, next, s, m),
-        Instr::Bx { .. } | Instr::Blx { .. } | Instr::Bl { .. } => execute_branch(
+        Instr::Bx { .. } | Instr::Blx { .. } | Instr::B { .. } | Instr::Bl { .. } => execute_branch(
             instr, next, s, m,
         ),
-        Instr::Bkpt { .. } => stops(m, s, Fault::Breakpoint),
-        Instr::Nop | Instr::Yield | Instr::Wfe | Instr::Wfi | Instr::Sev => go(m, s, next),
-        Instr::Udf { .. } => stops(m, s, Fault::Undefined),
-        Instr::Svc { imm } => asks(m, s, next, imm),
+        Instr::Bkpt { .. }
+        | Instr::Nop
+        | Instr::Yield
+        | Instr::Wfe
+        | Instr::Wfi
+        | Instr::Sev
+        | Instr::Udf { .. }
+        | Instr::Svc { .. } => execute_signal(instr, next, s, m),
     }
 }

@@ -12,7 +12,7 @@ ghost use Rattle.armv6m_machine.specs.Transfers.{load_from, store_to};
 use crate::arithmetic::{add_with_carry, asr, holds, lsl, lsr, nz, ror, signed_byte, signed_half};
 use crate::faults::{Fault, Turn};
 use crate::memory::Memory;
-use crate::operands::{low, low_byte, scaled, target};
+use crate::operands::{low, low_byte, target};
 use thumb_code::Registers;
 
 /// To another address.
@@ -276,132 +276,6 @@ pub fn logic<M: Memory>(memory: &M, registers: &mut Registers, next: u32, rd: u8
     writes(memory, registers, next, rd, (v, nz(registers.flags, v)))
 }
 
-/// A sum of two low registers into a third, and its flags.
-#[inline(always)]
-pub fn adds_low<M: Memory>(
-    memory: &M,
-    registers: &mut Registers,
-    next: u32,
-    rd: u8,
-    rn: u8,
-    rm: u8,
-) -> Turn
-    requires { (rd < 13) × (rn < 13) × (rm < 13) }
-    ensures row { Does M.memory memory.now (adding next registers.old rd (low_of registers.old rn) (low_of registers.old rm) 0) result registers.old registers.new memory.now }
-    ensures flags { registers.old.flags < 16 → registers.new.flags < 16 }
-{
-    adds(
-        memory,
-        registers,
-        next,
-        rd,
-        low(registers, rn),
-        low(registers, rm),
-        0,
-    )
-}
-
-/// A number added to a low register, and the flags.
-#[inline(always)]
-pub fn adds_number<M: Memory>(
-    memory: &M,
-    registers: &mut Registers,
-    next: u32,
-    rd: u8,
-    imm: u8,
-) -> Turn
-    requires { rd < 13 }
-    ensures row { Does M.memory memory.now (adding next registers.old rd (low_of registers.old rd) imm 0) result registers.old registers.new memory.now }
-    ensures flags { registers.old.flags < 16 → registers.new.flags < 16 }
-{
-    adds(
-        memory,
-        registers,
-        next,
-        rd,
-        low(registers, rd),
-        u32::from(imm),
-        0,
-    )
-}
-
-/// A number taken off a low register, and the flags.
-#[inline(always)]
-pub fn subs_number<M: Memory>(
-    memory: &M,
-    registers: &mut Registers,
-    next: u32,
-    rd: u8,
-    imm: u8,
-) -> Turn
-    requires { rd < 13 }
-    ensures row { Does M.memory memory.now (subtracting next registers.old rd (low_of registers.old rd) imm) result registers.old registers.new memory.now }
-    ensures flags { registers.old.flags < 16 → registers.new.flags < 16 }
-{
-    subs(
-        memory,
-        registers,
-        next,
-        rd,
-        low(registers, rd),
-        u32::from(imm),
-    )
-}
-
-/// The flags of a low register less a number.
-#[inline(always)]
-pub fn compares_number<M: Memory>(
-    memory: &M,
-    registers: &mut Registers,
-    next: u32,
-    rd: u8,
-    imm: u8,
-) -> Turn
-    requires { rd < 13 }
-    ensures row { Does M.memory memory.now (comparing next registers.old (low_of registers.old rd) imm) result registers.old registers.new memory.now }
-    ensures flags { registers.old.flags < 16 → registers.new.flags < 16 }
-{
-    compares(memory, registers, next, low(registers, rd), u32::from(imm))
-}
-
-/// The flags of a low register less another.
-#[inline(always)]
-pub fn compares_low<M: Memory>(
-    memory: &M,
-    registers: &mut Registers,
-    next: u32,
-    rdn: u8,
-    rm: u8,
-) -> Turn
-    requires { (rdn < 13) × (rm < 13) }
-    ensures row { Does M.memory memory.now (comparing next registers.old (low_of registers.old rdn) (low_of registers.old rm)) result registers.old registers.new memory.now }
-    ensures flags { registers.old.flags < 16 → registers.new.flags < 16 }
-{
-    compares(
-        memory,
-        registers,
-        next,
-        low(registers, rdn),
-        low(registers, rm),
-    )
-}
-
-/// A number into a low register, and N and Z.
-#[inline(always)]
-pub fn logic_number<M: Memory>(
-    memory: &M,
-    registers: &mut Registers,
-    next: u32,
-    rd: u8,
-    imm: u8,
-) -> Turn
-    requires { rd < 13 }
-    ensures row { Does M.memory memory.now (reckoning next registers.old rd imm) result registers.old registers.new memory.now }
-    ensures flags { registers.old.flags < 16 → registers.new.flags < 16 }
-{
-    logic(memory, registers, next, rd, u32::from(imm))
-}
-
 /// A word into any of the sixteen registers.
 pub fn moves<M: Memory>(memory: &M, registers: &mut Registers, next: u32, rd: u8, v: u32) -> Turn
     requires { rd < 16 }
@@ -524,40 +398,6 @@ pub fn stores<M: Memory>(
     memory.store(at, bytes, low_bytes(registers.r[rt as usize], bytes));
     registers.pc = next;
     Turn::Went
-}
-
-/// A word into a low register, from so many words above an address.
-#[inline(always)]
-pub fn loads_word<M: Memory>(
-    memory: &mut M,
-    registers: &mut Registers,
-    next: u32,
-    rt: u8,
-    from: u32,
-    imm: u8,
-) -> Turn
-    requires { rt < 13 }
-    ensures row { Does M.memory memory.old (load_from next registers.old rt unsigned (record { at = word (from + imm * 4); bytes = 4 })) result registers.old registers.new memory.new }
-    ensures flags { registers.new.flags ≡ registers.old.flags }
-{
-    loads(memory, registers, next, rt, scaled(from, imm, 4), 4)
-}
-
-/// A low register's word, to so many words above an address.
-#[inline(always)]
-pub fn stores_word<M: Memory>(
-    memory: &mut M,
-    registers: &mut Registers,
-    next: u32,
-    rt: u8,
-    from: u32,
-    imm: u8,
-) -> Turn
-    requires { rt < 13 }
-    ensures row { Does M.memory memory.old (store_to next registers.old rt (record { at = word (from + imm * 4); bytes = 4 })) result registers.old registers.new memory.new }
-    ensures flags { registers.new.flags ≡ registers.old.flags }
-{
-    stores(memory, registers, next, rt, scaled(from, imm, 4), 4)
 }
 
 /// A halfword or byte into a low register, with its sign extended.
