@@ -17,7 +17,6 @@ use thumb_code::{Instr, Registers};
 
 /// Executes an instruction, where `wide` stands for one of two halfwords. Its accesses are all tried before the first store, and
 /// a fault changes nothing.
-#[inline(always)]
 pub fn execute<M: Memory>(
     instr: Instr,
     wide: bool,
@@ -40,7 +39,6 @@ fn size(wide: bool) -> u32
 }
 
 /// The table: each of the commonest instructions in the form of its row, and the others by their groups.
-#[inline(always)]
 fn by_row<M: Memory>(instr: Instr, next: u32, s: &mut Registers, m: &mut M) -> Turn
     requires { Fits instr }
     ensures row { Does M.memory m.old (effect next s.old instr) result s.old s.new m.new }

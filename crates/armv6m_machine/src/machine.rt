@@ -51,7 +51,6 @@ impl Machine {
     }
 
     /// Executes one instruction. After a fault nothing has changed, so each further step answers the same fault.
-    #[inline(always)]
     pub fn step(&mut self) -> Turn
         ensures step { IsStep (step_of self.old) result self.old self.new }
         ensures again { IsFault result → step_of self.new ≡ step_of self.old }
@@ -64,7 +63,6 @@ impl Machine {
     }
 
     /// What stands at PC, and whether it is two halfwords; or a fault and its address.
-    #[inline(always)]
     fn fetch(&self) -> Result<(Instr, bool), (Fault, u32)>
         ensures value { IsFetch result self.now.registers.pc (fetched self.now.memory.flash self.now.memory.base self.now.registers.pc) }
         ensures instruction { IfOk result IsInstruction }
@@ -83,7 +81,6 @@ impl Machine {
     }
 
     /// What stands at an even PC, read anew.
-    #[cold]
     fn read(&self, pc: u32) -> Result<(Instr, bool), (Fault, u32)>
         requires base { is_base self.now.memory.base ≡ true }
         requires even { pc % 2 ≡ 0 }
