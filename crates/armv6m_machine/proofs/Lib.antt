@@ -5,3 +5,4 @@ pub mod ManyWords
 pub mod TurnSteps
 pub mod StackPointer
 pub mod Bytes
+pub mod Slots

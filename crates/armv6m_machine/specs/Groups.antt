@@ -1,6 +1,6 @@
--- The instructions by what they do: one function executes each group.
+-- The instructions by what they do: one function executes each group. The commonest are in none, but in the table itself.
 use Rattle.thumb_code.specs.declared.instructions.Instr.{Instr}
-use Rattle.thumb_code.specs.declared.instructions.Instr.TheVariants.{LslImm, LsrImm, AsrImm, LslReg, LsrReg, AsrReg, Ror, AddReg, SubReg, AddImm3, SubImm3, CmpImm, AddImm8, SubImm8, Adc, Sbc, Rsb, CmpReg, Cmn, CmpHigh, MovImm, And, Eor, Tst, Orr, Mul, Bic, Mvn, AddHigh, MovHigh, Adr, AddSp, AddSpImm, SubSpImm, Sxth, Sxtb, Uxth, Uxtb, Rev, Rev16, Revsh, LdrPc, Ldrsb, LdrReg, LdrhReg, LdrbReg, Ldrsh, LdrImm, LdrbImm, LdrhImm, LdrSp, StrReg, StrhReg, StrbReg, StrImm, StrbImm, StrhImm, StrSp, Push, Pop, Stm, Ldm, Bx, Blx, BCond, B, Bl}
+use Rattle.thumb_code.specs.declared.instructions.Instr.TheVariants.{LslImm, LsrImm, AsrImm, LslReg, LsrReg, AsrReg, Ror, SubReg, AddImm3, SubImm3, AddImm8, SubImm8, Adc, Sbc, Rsb, Cmn, CmpHigh, MovImm, And, Eor, Tst, Orr, Mul, Bic, Mvn, AddHigh, MovHigh, Adr, AddSp, AddSpImm, SubSpImm, Sxth, Sxtb, Uxth, Uxtb, Rev, Rev16, Revsh, LdrPc, Ldrsb, LdrReg, LdrhReg, LdrbReg, Ldrsh, LdrImm, LdrbImm, LdrhImm, StrReg, StrhReg, StrbReg, StrImm, StrbImm, StrhImm, Push, Pop, Stm, Ldm, Bx, Blx, B, Bl, Bkpt, Nop, Yield, Wfe, Wfi, Sev, Udf, Svc}
 
 -- A shift or a rotation, by a number or by a register.
 abbrev pub IsShift : Instr → Type 0
@@ -15,17 +15,14 @@ IsShift _ = ⊥
 
 -- A sum or a difference, or the flags of one.
 abbrev pub IsSum : Instr → Type 0
-IsSum (AddReg rd rn rm) = Unit {0}
 IsSum (SubReg rd rn rm) = Unit {0}
 IsSum (AddImm3 rd rn imm) = Unit {0}
 IsSum (SubImm3 rd rn imm) = Unit {0}
-IsSum (CmpImm rd imm) = Unit {0}
 IsSum (AddImm8 rd imm) = Unit {0}
 IsSum (SubImm8 rd imm) = Unit {0}
 IsSum (Adc rdn rm) = Unit {0}
 IsSum (Sbc rdn rm) = Unit {0}
 IsSum (Rsb rdn rm) = Unit {0}
-IsSum (CmpReg rdn rm) = Unit {0}
 IsSum (Cmn rdn rm) = Unit {0}
 IsSum (CmpHigh rd rm) = Unit {0}
 IsSum _ = ⊥
@@ -70,7 +67,6 @@ IsLoad (Ldrsh rt rn rm) = Unit {0}
 IsLoad (LdrImm rt rn imm) = Unit {0}
 IsLoad (LdrbImm rt rn imm) = Unit {0}
 IsLoad (LdrhImm rt rn imm) = Unit {0}
-IsLoad (LdrSp rt imm) = Unit {0}
 IsLoad _ = ⊥
 
 -- A store of one item.
@@ -81,7 +77,6 @@ IsStore (StrbReg rt rn rm) = Unit {0}
 IsStore (StrImm rt rn imm) = Unit {0}
 IsStore (StrbImm rt rn imm) = Unit {0}
 IsStore (StrhImm rt rn imm) = Unit {0}
-IsStore (StrSp rt imm) = Unit {0}
 IsStore _ = ⊥
 
 -- Loads or stores of several words.
@@ -96,7 +91,18 @@ IsMany _ = ⊥
 abbrev pub IsBranch : Instr → Type 0
 IsBranch (Bx rm) = Unit {0}
 IsBranch (Blx rm) = Unit {0}
-IsBranch (BCond cond offset) = Unit {0}
 IsBranch (B offset) = Unit {0}
 IsBranch (Bl offset) = Unit {0}
 IsBranch _ = ⊥
+
+-- A breakpoint, a hint, what is undefined for good, or a call for a service.
+abbrev pub IsSignal : Instr → Type 0
+IsSignal (Bkpt imm) = Unit {0}
+IsSignal Nop = Unit {0}
+IsSignal Yield = Unit {0}
+IsSignal Wfe = Unit {0}
+IsSignal Wfi = Unit {0}
+IsSignal Sev = Unit {0}
+IsSignal (Udf imm) = Unit {0}
+IsSignal (Svc imm) = Unit {0}
+IsSignal _ = ⊥

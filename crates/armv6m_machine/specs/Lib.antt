@@ -3,6 +3,7 @@ pub mod Groups
 pub mod Turns
 pub mod Transfers
 pub mod Steps
+pub mod Slots
 pub mod Words
 pub mod Lending
 pub mod MachineLending

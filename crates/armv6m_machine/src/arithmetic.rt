@@ -4,6 +4,7 @@ ghost use Rattle.thumb_code.specs.Arithmetic.{sum_of, sum_flags, nz as flags_of_
 ghost use Rattle.thumb_code.specs.Conditions.{holds as condition_holds};
 
 /// A sum with a carry in, and its flags.
+#[inline(always)]
 pub fn add_with_carry(x: u32, y: u32, c: u32) -> (u32, u8)
     requires { c < 2 }
     ensures value { result.0 ≡ sum_of x y c }
@@ -13,20 +14,14 @@ pub fn add_with_carry(x: u32, y: u32, c: u32) -> (u32, u8)
     let sum = u64::from(x) + u64::from(y) + u64::from(c);
     let value = (sum % (1 << 32)) as u32;
     let sign = value >> 31;
-    let mut flags = (sign * 8) as u8;
-    if value == 0 {
-        flags += 4;
-    }
-    if sum >= 1 << 32 {
-        flags += 2;
-    }
-    if x >> 31 == y >> 31 && x >> 31 != sign {
-        flags += 1;
-    }
-    (value, flags)
+    let zero = u8::from(value == 0);
+    let carry = (sum >> 32) as u8;
+    let overflow = u8::from(x >> 31 == y >> 31 && x >> 31 != sign);
+    (value, (sign * 8) as u8 + zero * 4 + carry * 2 + overflow)
 }
 
 /// The flags with N and Z of a word.
+#[inline(always)]
 pub fn nz(flags: u8, value: u32) -> u8
     ensures value { result ≡ flags_of_word flags value }
     ensures bits { result < 16 }
@@ -185,6 +180,7 @@ pub fn reversed_in_halves(v: u32) -> u32
 }
 
 /// Whether a condition holds.
+#[inline(always)]
 pub fn holds(flags: u8, cond: u8) -> bool
     requires { cond < 14 }
     ensures { result ≡ condition_holds flags cond }

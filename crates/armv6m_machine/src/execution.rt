@@ -5,13 +5,14 @@ ghost use Rattle.thumb_code.specs.Effect.{effect};
 ghost use Rattle.thumb_code.specs.Step.{behind};
 ghost use Rattle.armv6m_machine.specs.Turns.{Does};
 
-use crate::faults::{Fault, Turn};
+use crate::faults::Turn;
 use crate::groups::{
     execute_branch, execute_load, execute_logic, execute_many, execute_move, execute_shift,
-    execute_store, execute_sum,
+    execute_signal, execute_store, execute_sum,
 };
 use crate::memory::Memory;
-use crate::rows::{asks, go, stops};
+use crate::operands::{low, scaled};
+use crate::rows::{adds, branches, compares, loads, stores};
 use thumb_code::{Instr, Registers};
 
 /// Executes an instruction, where `wide` stands for one of two halfwords. Its accesses are all tried before the first store, and
@@ -37,13 +38,19 @@ fn size(wide: bool) -> u32
     if wide { 4 } else { 2 }
 }
 
-/// The table: each instruction by its group, or in the form of its row.
+/// The table: each of the commonest instructions in the form of its row, and the others by their groups.
 fn by_row<M: Memory>(instr: Instr, next: u32, s: &mut Registers, m: &mut M) -> Turn
     requires { Fits instr }
     ensures row { Does M.memory m.old (effect next s.old instr) result s.old s.new m.new }
     ensures flags { s.old.flags < 16 → s.new.flags < 16 }
 {
     match instr {
+        Instr::AddReg { rd, rn, rm } => adds(m, s, next, rd, low(s, rn), low(s, rm), 0),
+        Instr::CmpImm { rd, imm } => compares(m, s, next, low(s, rd), u32::from(imm)),
+        Instr::CmpReg { rdn, rm } => compares(m, s, next, low(s, rdn), low(s, rm)),
+        Instr::LdrSp { rt, imm } => loads(m, s, next, rt, scaled(s.sp, imm, 4), 4),
+        Instr::StrSp { rt, imm } => stores(m, s, next, rt, scaled(s.sp, imm, 4), 4),
+        Instr::BCond { cond, offset } => branches(m, s, next, cond, offset),
         Instr::LslImm { .. }
         | Instr::LsrImm { .. }
         | Instr::AsrImm { .. }
@@ -51,17 +58,14 @@ fn by_row<M: Memory>(instr: Instr, next: u32, s: &mut Registers, m: &mut M) -> T
         | Instr::LsrReg { .. }
         | Instr::AsrReg { .. }
         | Instr::Ror { .. } => execute_shift(instr, next, s, m),
-        Instr::AddReg { .. }
-        | Instr::SubReg { .. }
+        Instr::SubReg { .. }
         | Instr::AddImm3 { .. }
         | Instr::SubImm3 { .. }
-        | Instr::CmpImm { .. }
         | Instr::AddImm8 { .. }
         | Instr::SubImm8 { .. }
         | Instr::Adc { .. }
         | Instr::Sbc { .. }
         | Instr::Rsb { .. }
-        | Instr::CmpReg { .. }
         | Instr::Cmn { .. }
         | Instr::CmpHigh { .. } => execute_sum(instr, next, s, m),
         Instr::MovImm { .. }
@@ -93,25 +97,25 @@ fn by_row<M: Memory>(instr: Instr, next: u32, s: &mut Registers, m: &mut M) -> T
         | Instr::Ldrsh { .. }
         | Instr::LdrImm { .. }
         | Instr::LdrbImm { .. }
-        | Instr::LdrhImm { .. }
-        | Instr::LdrSp { .. } => execute_load(instr, next, s, m),
+        | Instr::LdrhImm { .. } => execute_load(instr, next, s, m),
         Instr::StrReg { .. }
         | Instr::StrhReg { .. }
         | Instr::StrbReg { .. }
         | Instr::StrImm { .. }
         | Instr::StrbImm { .. }
-        | Instr::StrhImm { .. }
-        | Instr::StrSp { .. } => execute_store(instr, next, s, m),
+        | Instr::StrhImm { .. } => execute_store(instr, next, s, m),
         Instr::Push { .. } | Instr::Pop { .. } | Instr::Stm { .. } | Instr::Ldm { .. } =>
             execute_many(instr, next, s, m),
-        Instr::Bx { .. }
-        | Instr::Blx { .. }
-        | Instr::BCond { .. }
-        | Instr::B { .. }
-        | Instr::Bl { .. } => execute_branch(instr, next, s, m),
-        Instr::Bkpt { .. } => stops(m, s, Fault::Breakpoint),
-        Instr::Nop | Instr::Yield | Instr::Wfe | Instr::Wfi | Instr::Sev => go(m, s, next),
-        Instr::Udf { .. } => stops(m, s, Fault::Undefined),
-        Instr::Svc { imm } => asks(m, s, next, imm),
+        Instr::Bx { .. } | Instr::Blx { .. } | Instr::B { .. } | Instr::Bl { .. } => execute_branch(
+            instr, next, s, m,
+        ),
+        Instr::Bkpt { .. }
+        | Instr::Nop
+        | Instr::Yield
+        | Instr::Wfe
+        | Instr::Wfi
+        | Instr::Sev
+        | Instr::Udf { .. }
+        | Instr::Svc { .. } => execute_signal(instr, next, s, m),
     }
 }

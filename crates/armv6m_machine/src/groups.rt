@@ -1,21 +1,22 @@
-//! The table, a group of instructions at a time: each in the form of its row.
+//! The rows of the table that are in groups, a function for each group.
 ghost use Rattle.std.specs.Prelude.{◌<◌};
 ghost use Rattle.thumb_code.specs.Table.{Fits};
 ghost use Rattle.thumb_code.specs.Effect.{effect};
 ghost use Rattle.armv6m_machine.specs.Turns.{Does};
-ghost use Rattle.armv6m_machine.specs.Groups.{IsShift, IsSum, IsLogic, IsMove, IsLoad, IsStore, IsMany, IsBranch};
+ghost use Rattle.armv6m_machine.specs.Groups.{IsShift, IsSum, IsLogic, IsMove, IsLoad, IsStore, IsMany, IsBranch, IsSignal};
 
 use crate::arithmetic::{
     asr, lsl, lsr, reversed, reversed_in_halves, signed_byte, signed_half, swapped,
 };
-use crate::faults::Turn;
+use crate::faults::{Fault, Turn};
 use crate::memory::Memory;
 use crate::operands::{
     carry, inverted, low, low_byte, low_half, or_32, pc_read, reg, scaled, sum, target,
 };
 use crate::rows::{
-    adds, branches, calls, compares, compares_sum, go, jumps, loads, loads_signed, logic, moves,
-    moves_sp, puts, rotates, shifts_left, shifts_right, shifts_signed, stores, subs, tests, writes,
+    adds, asks, calls, compares, compares_sum, go, jumps, loads, loads_signed, logic, moves,
+    moves_sp, puts, rotates, shifts_left, shifts_right, shifts_signed, stops, stores, subs, tests,
+    writes,
 };
 use crate::transfers::{loads_many, pops, pops_pc, pushes, pushes_lr, stores_many};
 use thumb_code::{Instr, Registers};
@@ -61,17 +62,14 @@ pub fn execute_sum<M: Memory>(instr: Instr, next: u32, s: &mut Registers, m: &M)
     ensures flags { s.old.flags < 16 → s.new.flags < 16 }
 {
     match instr {
-        Instr::AddReg { rd, rn, rm } => adds(m, s, next, rd, low(s, rn), low(s, rm), 0),
         Instr::SubReg { rd, rn, rm } => subs(m, s, next, rd, low(s, rn), low(s, rm)),
         Instr::AddImm3 { rd, rn, imm } => adds(m, s, next, rd, low(s, rn), u32::from(imm), 0),
         Instr::SubImm3 { rd, rn, imm } => subs(m, s, next, rd, low(s, rn), u32::from(imm)),
-        Instr::CmpImm { rd, imm } => compares(m, s, next, low(s, rd), u32::from(imm)),
         Instr::AddImm8 { rd, imm } => adds(m, s, next, rd, low(s, rd), u32::from(imm), 0),
         Instr::SubImm8 { rd, imm } => subs(m, s, next, rd, low(s, rd), u32::from(imm)),
         Instr::Adc { rdn, rm } => adds(m, s, next, rdn, low(s, rdn), low(s, rm), carry(s)),
         Instr::Sbc { rdn, rm } => adds(m, s, next, rdn, low(s, rdn), inverted(s, rm), carry(s)),
         Instr::Rsb { rdn, rm } => subs(m, s, next, rdn, 0, low(s, rm)),
-        Instr::CmpReg { rdn, rm } => compares(m, s, next, low(s, rdn), low(s, rm)),
         Instr::Cmn { rdn, rm } => compares_sum(m, s, next, low(s, rdn), low(s, rm)),
         Instr::CmpHigh { rd, rm } => compares(m, s, next, reg(s, rd), reg(s, rm)),
         _ => unreachable!(),
@@ -143,7 +141,6 @@ pub fn execute_load<M: Memory>(instr: Instr, next: u32, s: &mut Registers, m: &m
         Instr::LdrImm { rt, rn, imm } => loads(m, s, next, rt, scaled(low(s, rn), imm, 4), 4),
         Instr::LdrbImm { rt, rn, imm } => loads(m, s, next, rt, scaled(low(s, rn), imm, 1), 1),
         Instr::LdrhImm { rt, rn, imm } => loads(m, s, next, rt, scaled(low(s, rn), imm, 2), 2),
-        Instr::LdrSp { rt, imm } => loads(m, s, next, rt, scaled(s.sp, imm, 4), 4),
         _ => unreachable!(),
     }
 }
@@ -163,7 +160,6 @@ pub fn execute_store<M: Memory>(instr: Instr, next: u32, s: &mut Registers, m: &
         Instr::StrImm { rt, rn, imm } => stores(m, s, next, rt, scaled(low(s, rn), imm, 4), 4),
         Instr::StrbImm { rt, rn, imm } => stores(m, s, next, rt, scaled(low(s, rn), imm, 1), 1),
         Instr::StrhImm { rt, rn, imm } => stores(m, s, next, rt, scaled(low(s, rn), imm, 2), 2),
-        Instr::StrSp { rt, imm } => stores(m, s, next, rt, scaled(s.sp, imm, 4), 4),
         _ => unreachable!(),
     }
 }
@@ -198,9 +194,25 @@ pub fn execute_branch<M: Memory>(instr: Instr, next: u32, s: &mut Registers, m: 
     match instr {
         Instr::Bx { rm } => jumps(m, s, s.lr, reg(s, rm)),
         Instr::Blx { rm } => jumps(m, s, next.wrapping_add(1), reg(s, rm)),
-        Instr::BCond { cond, offset } => branches(m, s, next, cond, offset),
         Instr::B { offset } => go(m, s, target(s, offset)),
         Instr::Bl { offset } => calls(m, s, next, offset),
+        _ => unreachable!(),
+    }
+}
+
+/// A breakpoint, a hint, what is undefined for good, or a call for a service.
+#[inline(always)]
+pub fn execute_signal<M: Memory>(instr: Instr, next: u32, s: &mut Registers, m: &M) -> Turn
+    requires fits { Fits instr }
+    requires group { IsSignal instr }
+    ensures row { Does M.memory m.now (effect next s.old instr) result s.old s.new m.now }
+    ensures flags { s.old.flags < 16 → s.new.flags < 16 }
+{
+    match instr {
+        Instr::Bkpt { .. } => stops(m, s, Fault::Breakpoint),
+        Instr::Nop | Instr::Yield | Instr::Wfe | Instr::Wfi | Instr::Sev => go(m, s, next),
+        Instr::Udf { .. } => stops(m, s, Fault::Undefined),
+        Instr::Svc { imm } => asks(m, s, next, imm),
         _ => unreachable!(),
     }
 }

@@ -7,6 +7,7 @@
 mod arithmetic;
 mod execution;
 mod faults;
+mod flash;
 mod groups;
 mod laws;
 mod machine;

@@ -1,7 +1,7 @@
 //! The machine with one RAM.
-ghost use Rattle.std.specs.Prelude.{◌≡◌, ◌≤◌, ◌<◌, ◌^◌, length, vec_len, IfOk};
+ghost use Rattle.std.specs.Prelude.{◌≡◌, ◌%◌, ◌≤◌, ◌<◌, ◌^◌, length, vec_len, IfOk, true};
 ghost use Rattle.std.specs.Bool.{OnTrue, OnFalse};
-ghost use Rattle.thumb_code.specs.Map.{flash_end};
+ghost use Rattle.thumb_code.specs.Map.{flash_end, is_base};
 ghost use Rattle.thumb_code.specs.Machine.{State, step as step_of, reset as reset_of};
 ghost use Rattle.thumb_code.specs.Step.{fetched};
 ghost use Rattle.armv6m_machine.specs.Steps.{IsStep, IsFault, IsFetch, IsInstruction};
@@ -9,7 +9,8 @@ ghost use Rattle.armv6m_machine.specs.Words.{word_at, begins_ram_word, with_word
 
 use crate::execution::execute;
 use crate::faults::{Fault, Turn};
-use crate::mapped_memory::{FLASH_END, MappedMemory, is_ram};
+use crate::flash::FLASH_END;
+use crate::mapped_memory::{MappedMemory, is_ram};
 use std::alloc::Global;
 use std::marker::Model;
 use sts_base::NoMemory;
@@ -73,6 +74,19 @@ impl Machine {
         if pc % 2 == 1 {
             return Err((Fault::NotThumb, pc.wrapping_add(1)));
         }
+        match self.memory.slot(pc) {
+            Some(found) => Ok(found),
+            None => self.read(pc),
+        }
+    }
+
+    /// What stands at an even PC, read anew.
+    fn read(&self, pc: u32) -> Result<(Instr, bool), (Fault, u32)>
+        requires base { is_base self.now.memory.base ≡ true }
+        requires even { pc % 2 ≡ 0 }
+        ensures value { IsFetch result pc (fetched self.now.memory.flash self.now.memory.base pc) }
+        ensures instruction { IfOk result IsInstruction }
+    {
         if pc >= FLASH_END {
             return Err((Fault::OutOfMap, pc));
         }

@@ -1,20 +1,21 @@
 //! Flash and one RAM, by the map of addresses.
 ghost use Rattle.std.specs.Prelude.{◌≡◌, ◌+◌, ◌-◌, ◌*◌, ◌/◌, ◌%◌, ◌^◌, ◌<◌, ◌≤◌, vec_len, length, ◌==◌, refl, None, true, false, IfOk, replicate};
-ghost use Rattle.thumb_code.specs.Map.{arena_words, flash_byte, flash_half, flash_word, is_base, access_fault, in_ram, in_flash, sp_in_range};
+ghost use Rattle.thumb_code.specs.Map.{arena_words, flash_end, flash_half, flash_word, is_base, access_fault, in_ram, in_flash, sp_in_range};
 ghost use Rattle.thumb_code.specs.Ram.{Ram, IsWhole, ram_memory, ram_word, ram_store};
 ghost use Rattle.thumb_code.specs.Machine.{reset};
 ghost use Rattle.armv6m_machine.specs.Answers.{IsSize, IsHeld};
+ghost use Rattle.armv6m_machine.specs.Slots.{IsSlot};
 ghost use Rattle.armv6m_machine.specs.RamLaws.{store_keeps_base};
 ghost use Rattle.std.proofs.Common.{ap};
 
 use crate::faults::Fault;
+use crate::flash::{FLASH_END, Flash};
 use crate::memory::Memory;
 use crate::parts::{merged, part};
 use std::alloc::Global;
 use std::marker::Model;
 use sts_base::NoMemory;
-
-pub const FLASH_END: u32 = 0x0004_0000;
+use thumb_code::Instr;
 
 const GLOBALS: u32 = 0x2000_0000;
 
@@ -27,22 +28,23 @@ const RAM_END: u32 = 0x2000_4000;
 /// The arena's words.
 const ARENA_WORDS: usize = 2816;
 
-/// Flash, the words of the three regions of RAM, and the base.
+/// Flash, the words of the three regions of RAM, and the base, with whether it may be one.
 #[derive(Drop)]
 pub struct MappedMemory {
-    flash: Vec<u8>,
+    flash: Flash,
     globals: Vec<u32>,
     arena: Vec<u32>,
     stack: Vec<u32>,
     base: u32,
+    sound: bool,
 }
 
 impl Model for MappedMemory {
     ghost Value = { Ram };
 
-    ghost view = { λ m. record { flash = m.flash.items; globals = m.globals.items; arena = m.arena.items; stack = m.stack.items; base = m.base } };
+    ghost view = { λ m. record { flash = m.flash; globals = m.globals.items; arena = m.arena.items; stack = m.stack.items; base = m.base } };
 
-    ghost invariant = { λ m. (vec_len m.globals ≡ 256) × (vec_len m.arena ≡ arena_words) × (vec_len m.stack ≡ 1024) };
+    ghost invariant = { λ m. (vec_len m.globals ≡ 256) × (vec_len m.arena ≡ arena_words) × (vec_len m.stack ≡ 1024) × (m.sound ≡ is_base m.base) };
 }
 
 /// So many words of 0.
@@ -62,15 +64,18 @@ impl MappedMemory {
 
     /// This image in flash, its word 0 as the base, and RAM of zeros.
     pub fn reset(alloc: Global, flash: Vec<u8>) -> Result<MappedMemory, NoMemory>
+        requires { vec_len flash ≤ flash_end }
         ensures { IfOk result (λ m. m ≡ (reset flash.items).memory) }
     {
-        let base = flash_word(&flash, 0);
+        let flash = Flash::new(alloc, flash)?;
+        let base = flash.word(0);
         Ok(MappedMemory {
             flash,
             globals: zeros(alloc, 256)?,
             arena: zeros(alloc, ARENA_WORDS)?,
             stack: zeros(alloc, 1024)?,
             base,
+            sound: is_base(base),
         })
     }
 
@@ -80,7 +85,16 @@ impl MappedMemory {
         requires { at < 2 ^ 31 }
         ensures { result ≡ flash_half self.now.flash at }
     {
-        flash_half(&self.flash, at)
+        self.flash.half(at)
+    }
+
+    /// The instruction at an even address of flash, and whether it is two halfwords. None where there is none, and past the image.
+    #[inline(always)]
+    pub fn slot(&self, at: u32) -> Option<(Instr, bool)>
+        requires { at % 2 ≡ 0 }
+        ensures { IsSlot self.now.flash at result }
+    {
+        self.flash.slot(at)
     }
 
     /// The word of flash at an address.
@@ -88,7 +102,7 @@ impl MappedMemory {
         requires { at < 2 ^ 31 }
         ensures { result ≡ flash_word self.now.flash at }
     {
-        flash_word(&self.flash, at)
+        self.flash.word(at)
     }
 
     pub fn base(&self) -> u32
@@ -101,14 +115,15 @@ impl MappedMemory {
         ensures { self.new ≡ record self.old { base = base } }
     {
         self.base = base;
+        self.sound = is_base(base);
     }
 
-    /// Whether the base is a multiple of 4 from the start of the stack region to its end.
+    /// Whether the base may be one.
     #[inline(always)]
     pub fn has_base(&self) -> bool
         ensures { result ≡ is_base self.now.base }
     {
-        self.base % 4 == 0 && self.base >= STACK && self.base <= RAM_END
+        self.sound
     }
 
     pub fn stack(&self) -> &[u32]
@@ -175,40 +190,18 @@ fn is_aligned(address: u32, bytes: u8) -> bool
     }
 }
 
+/// Whether a base is a multiple of 4 from the start of the stack region to its end.
+fn is_base(base: u32) -> bool
+    ensures { result ≡ is_base base }
+{
+    base % 4 == 0 && base >= STACK && base <= RAM_END
+}
+
 /// Whether the address is in RAM.
 pub fn is_ram(address: u32) -> bool
     ensures { result ≡ in_ram address }
 {
     address >= GLOBALS && address < RAM_END
-}
-
-fn flash_byte(flash: &[u8], at: u32) -> u8
-    ensures { result ≡ flash_byte flash.now at }
-{
-    if (at as usize) < flash.len() {
-        flash[at as usize]
-    } else {
-        0xff
-    }
-}
-
-fn flash_half(flash: &[u8], at: u32) -> u16
-    requires { at < 2 ^ 32 - 1 }
-    ensures { result ≡ flash_half flash.now at }
-{
-    let place = at as usize;
-    if place + 1 < flash.len() {
-        u16::from(flash[place]) + u16::from(flash[place + 1]) * (1 << 8)
-    } else {
-        u16::from(flash_byte(flash, at)) + u16::from(flash_byte(flash, at + 1)) * (1 << 8)
-    }
-}
-
-fn flash_word(flash: &[u8], at: u32) -> u32
-    requires { at < 2 ^ 31 }
-    ensures { result ≡ flash_word flash.now at }
-{
-    u32::from(flash_half(flash, at)) + u32::from(flash_half(flash, at + 2)) * (1 << 16)
 }
 
 impl Memory for MappedMemory {

@@ -141,6 +141,7 @@ impl<D: Device> Board<D> {
 
     /// One instruction of the running fiber, with its line and its words, and the idle moves behind it. After `PutFailed` the line was
     /// cut, and no device was touched.
+    #[inline(always)]
     fn advance<K: Sink>(&mut self, out: &mut K) -> Result<(), PutFailed>
         requires whole { IsWhole self.old.engine self.old.instructions }
         requires settled { IsSettled self.old.engine }

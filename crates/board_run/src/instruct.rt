@@ -25,6 +25,7 @@ fn put_back(runtime: &mut Runtime, at: u32)
 impl Engine {
     /// One instruction of the running fiber, with the service that it asks for. A fault or a panic ends the run, and leaves the fiber before
     /// its instruction.
+    #[inline(always)]
     pub fn instruct(&mut self) -> Sight
         requires runs { IsSome self.old.runtime.running }
         requires shown { IsShown (state_of self.old) }

@@ -25,6 +25,7 @@ fn panics(runtime: &Runtime) -> Served
 
 impl Engine {
     /// Does the service of a number, for which the instruction at an address has asked. Where it ends the run, nothing has changed.
+    #[inline(never)]
     pub fn serve(&mut self, service: u8, at: u32) -> Served
         requires runs { IsSome self.old.runtime.running }
         requires shown { IsShown (state_of self.old) }
