@@ -21,7 +21,9 @@ use Rattle.run_tool.specs.Scripts.{AnswersScript, OverScript, default_script}
 use Rattle.run_tool.specs.Runs.{run_status, RunsBoard}
 use Rattle.run_tool.specs.RunHex.{RunsHex}
 use Rattle.run_tool.specs.Big.{big_text}
-use Rattle.run_tool.specs.Programs.{OverProgram, SaysAccepted, WritesImage, ChecksText, BuildsText}
+use Rattle.run_tool.specs.Programs.{OverProgram}
+use Rattle.run_tool.specs.Check.{SaysAccepted, ChecksText}
+use Rattle.run_tool.specs.Build.{WritesImage, BuildsText}
 use Rattle.run_tool.specs.Run.{RunsProgram, RunsText}
 use Rattle.run_tool.specs.Orders.{file_of, AnswersText, AnswersNamed, MayAnswer, Completes, AsksForImage, AsksForProgram, IsOfProgram, NamesScript}
 use Rattle.sts_whole.specs.Programs.{source_after}

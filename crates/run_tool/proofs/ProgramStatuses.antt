@@ -13,7 +13,9 @@ use Rattle.sts_whole.proofs.Laws.{faultless}
 use Rattle.run_tool.specs.Answers.{Answer, status_of, status_number}
 use Rattle.run_tool.specs.Runs.{run_status}
 use Rattle.run_tool.specs.Scripts.{OverScript, default_script}
-use Rattle.run_tool.specs.Programs.{OverProgram, SaysAccepted, WritesImage}
+use Rattle.run_tool.specs.Programs.{OverProgram}
+use Rattle.run_tool.specs.Check.{SaysAccepted}
+use Rattle.run_tool.specs.Build.{WritesImage}
 use Rattle.run_tool.specs.Run.{RunsProgram}
 use Rattle.run_tool.specs.Laws.{ProgramStatuses}
 

@@ -6,7 +6,8 @@ use Rattle.sts_syntax.specs.TypedTrees.{TypedProgram}
 use Rattle.sts_whole.specs.Accepting.{Accepts, IsRefusedFor}
 use Rattle.hex_image.specs.declared.refused.HexCode.{HexCode}
 use Rattle.hex_image.specs.Spells.{Spells, Breaks}
-use Rattle.run_tool.specs.Programs.{ChecksText, BuildsText}
+use Rattle.run_tool.specs.Check.{ChecksText}
+use Rattle.run_tool.specs.Build.{BuildsText}
 use Rattle.run_tool.specs.Run.{RunsText}
 use Rattle.run_tool.specs.RunHex.{RunsHex}
 use Rattle.run_tool.specs.Orders.{IsStatusOf}

@@ -4,6 +4,8 @@ pub mod Answers
 pub mod Files
 pub mod Refusals
 pub mod Programs
+pub mod Check
+pub mod Build
 pub mod Run
 pub mod Scripts
 pub mod Runs

@@ -8,7 +8,8 @@ use Rattle.run_tool.specs.Answers.{Answer, says, status_of, status_number}
 use Rattle.run_tool.specs.Files.{AnswersFile}
 use Rattle.run_tool.specs.Big.{big_line, big_text}
 use Rattle.run_tool.specs.Run.{RunsText}
-use Rattle.run_tool.specs.Programs.{ChecksText, BuildsText}
+use Rattle.run_tool.specs.Check.{ChecksText}
+use Rattle.run_tool.specs.Build.{BuildsText}
 use Rattle.run_tool.specs.RunHex.{RunsHex}
 
 -- the file that an order names first, if it names one

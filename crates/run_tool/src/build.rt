@@ -2,7 +2,8 @@
 ghost use Rattle.std.specs.Prelude.{◌≡◌, ◌≤◌, IfOk, IfErr, OnOk};
 ghost use Rattle.sts_whole.specs.Built.{Builds};
 ghost use Rattle.run_tool.specs.Answers.{GivesOneOf};
-ghost use Rattle.run_tool.specs.Programs.{OverProgram, BuildsText, none_to_programs};
+ghost use Rattle.run_tool.specs.Programs.{OverProgram, none_to_programs};
+ghost use Rattle.run_tool.specs.Build.{BuildsText};
 ghost use Rattle.run_tool.specs.Files.{OverFile};
 
 use crate::ending::{Ending, Status};

@@ -1,7 +1,7 @@
 // The command `check`.
 ghost use Rattle.std.specs.Prelude.{◌≡◌, ◌≤◌};
 ghost use Rattle.run_tool.specs.Answers.{GivesOneOf};
-ghost use Rattle.run_tool.specs.Programs.{ChecksText};
+ghost use Rattle.run_tool.specs.Check.{ChecksText};
 ghost use Rattle.run_tool.specs.Files.{OverFile};
 
 use crate::ending::{Ending, Status};

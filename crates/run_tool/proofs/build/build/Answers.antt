@@ -1,5 +1,5 @@
 use Rattle.sts_base.specs.Faults.{Rose}
-use Rattle.run_tool.specs.Programs.{BuildsText}
+use Rattle.run_tool.specs.Build.{BuildsText}
 use Rattle.run_tool.proofs.Endings.{text-gives, no-text-gives}
 use Rattle.run_tool.proofs.build.build.Goals as goal
 

@@ -1,5 +1,5 @@
 use Rattle.sts_base.specs.Faults.{Rose}
-use Rattle.run_tool.specs.Programs.{ChecksText}
+use Rattle.run_tool.specs.Check.{ChecksText}
 use Rattle.run_tool.proofs.Endings.{text-gives, no-text-gives}
 use Rattle.run_tool.proofs.check.check.Goals as goal
 

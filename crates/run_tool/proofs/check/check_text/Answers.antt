@@ -2,7 +2,7 @@ use Rattle.std.proofs.Common.{◌≡◌, codes, inl, subst, sym}
 use Rattle.sts_syntax.specs.TypedViews.{typed_program}
 use Rattle.run_tool.specs.declared.ending.Status.TheVariants.{Done}
 use Rattle.run_tool.specs.Answers.{says, GivesOneOf}
-use Rattle.run_tool.specs.Programs.{SaysAccepted, ChecksText}
+use Rattle.run_tool.specs.Check.{SaysAccepted, ChecksText}
 use Rattle.run_tool.proofs.Endings.{gives-more, no-program-gives}
 use Rattle.run_tool.proofs.check.check_text.Goals as goal
 use Rattle.run_tool.proofs.check.check_text.Goals.{in-Ok, in-Err}
