@@ -12,6 +12,9 @@ use sts_base::{NoMemory, Seq};
 /// The text of an image that pauses for 5 ms, writes 7, and shows the frame 7.
 const PAUSES: &str = ":18000000803F00200D00000015000000052002DF07200CDF0BDF00DF06\n:00000001FF\n";
 
+/// A program that toggles a light every 20 ms.
+const TOGGLES: &str = "basic.forever(function () { led.toggle(0, 0) })";
+
 const QUIET: &str = "{\"end\":9,\"events\":[]}";
 
 /// The put and the display's write that are to fail, and the script.
@@ -40,10 +43,16 @@ fn show_place<W: Write>(out: &mut W, place: &Option<Box<dyn Device>>) -> io::Res
     }
 }
 
-/// Runs the image over a display and a device at the serial port, and writes the status, what was taken, between bars, and both devices.
-fn show_row<W: Write>(alloc: Global, out: &mut W, row: &Row) -> io::Result<()> {
+/// Runs an image or a program, by the command `run-hex` or `run`, over a display and a device at the serial port, and writes the status, what was taken, between bars, and both devices.
+fn show_row<W: Write>(
+    alloc: Global,
+    out: &mut W,
+    command: &str,
+    text: &str,
+    row: &Row,
+) -> io::Result<()> {
     let (put, write, script) = *row;
-    let mut folder = folder(alloc, 0, PAUSES).map_err(wanting)?;
+    let mut folder = folder(alloc, 0, text).map_err(wanting)?;
     folder.add(alloc, "s", script.as_bytes()).map_err(wanting)?;
     let mut sink = sink(alloc, put, 1000).map_err(wanting)?;
     let display = device(alloc, write).map_err(wanting)?;
@@ -51,7 +60,7 @@ fn show_row<W: Write>(alloc: Global, out: &mut W, row: &Row) -> io::Result<()> {
     let mut plugs: Vec<Option<Box<dyn Device>>> = Vec::new(alloc);
     plugs.push(Some(Box::new(alloc, display)?))?;
     plugs.push(Some(Box::new(alloc, serial)?))?;
-    let words = words_of(alloc, &["run-hex", "f", "s"])?;
+    let words = words_of(alloc, &[command, "f", "s"])?;
     let status = sts_main(alloc, words.as_slice(), &mut folder, &mut sink, &mut plugs);
     write!(out, "{status} |")?;
     out.write_all(sink.taken())?;
@@ -80,10 +89,23 @@ const ROWS: [Row; 7] = [
     (0, 0, "{\"end\":9}"),
 ];
 
+const PROGRAM_ROWS: [Row; 3] = [
+    (
+        0,
+        0,
+        "{\"end\":50,\"events\":[{\"at\":30,\"do\":\"unplug\",\"port\":0}]}",
+    ),
+    (0, 2, "{\"end\":50,\"events\":[]}"),
+    (0, 0, "{\"end\":50,\"events\":[]}"),
+];
+
 /// Each row in turn.
 pub fn show<W: Write>(alloc: Global, out: &mut W) -> io::Result<()> {
     for row in &ROWS {
-        show_row(alloc, out, row)?;
+        show_row(alloc, out, "run-hex", PAUSES, row)?;
+    }
+    for row in &PROGRAM_ROWS {
+        show_row(alloc, out, "run", TOGGLES, row)?;
     }
     Ok(())
 }
