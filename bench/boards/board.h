@@ -44,7 +44,8 @@ typedef struct {
   X(FORKED_NESTED, "handlers' first blocks on top of a raiser") X(WOKEN, "waiters woken by the queue")                                    \
   X(WOKEN_NOW, "waiters woken at once") X(BOTH, "events that began a handler and woke a waiter")                                          \
   X(BLOCKED_WORDS, "blocks with words in the bank") X(BLOCKED_RAISED, "blocks with words on a raiser's base")                             \
-  X(BLOCKED_DEEP, "blocks with more than 100 words") X(WAKES, "pauses over") X(WAKES_TOGETHER, "moments with two wakes or more")          \
+  X(BLOCKED_DEEP, "blocks with more than 100 words") X(BLOCKED_DEEPEST, "blocks with more than 900 words") X(LONG_TEXTS, "texts of 1000 bytes or more") \
+  X(WAKES, "pauses over") X(WAKES_TOGETHER, "moments with two wakes or more")          \
   X(WAKE_AND_ENTRY, "moments with a wake and an entry") X(RAISED_NONE, "raises at once that began none")                                  \
   X(CAME_BACK, "raisers that went on behind handlers") X(CAME_BACK_BLOCKED, "raisers that went on behind a handler that blocked")         \
   X(NEST_1, "raises at once, 1 suspended") X(NEST_2, "raises at once, 2 suspended") X(NEST_3, "raises at once, 3 to 8 suspended")         \

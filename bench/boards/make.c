@@ -1,120 +1,15 @@
 /* Random images out of idioms: loads of constants, services with arguments, loops with a counter, tests, calls, frames, stores and loads, the
    bodies of handlers and of other fibers, faults, and random halfwords. r7 holds the address of the globals, r4 to r6 count loops. */
-#include "make.h"
+#include "assemble.h"
 #include <string.h>
 
-enum { VALUE, CODE, WORDS };
 enum { COUNTERS = 0, ARRAYS = 16, NUMBERS = 20, SAVED = 28 };   /* words of the globals: below 32, so that one instruction reaches them */
 enum { FUNCTIONS = 9, CALLED = 3, MOST_TEXTS = 6 };
 enum { MIXED, SEATS, LISTENERS, NEST, QUEUE, HOLD, FILL, DEEP, TIMES, HALFWORDS, NOISE, PROFILES };
 
-static uint64_t state;
-static image *it;
-static uint32_t here, room_left;
-static struct { uint32_t at, value; int kind; } pool[64];
-static int pooled;
-static struct { uint32_t at, value; int kind; } words[1024];
-static int word_count;
-static struct { uint32_t at; int to; } calls[256];
-static int call_count;
-static uint32_t function_at[FUNCTIONS + CALLED], text_place[MOST_TEXTS + 2];
+static uint32_t room_left;
 static int functions, texts, profile, loops, in_called, is_framed, risk;
 static uint32_t sources[3], values[3];
-
-uint32_t random_below(uint32_t bound) {
-  state += 0x9e3779b97f4a7c15u;
-  uint64_t x = state;
-  x = (x ^ x >> 30) * 0xbf58476d1ce4e5b9u;
-  x = (x ^ x >> 27) * 0x94d049bb133111ebu;
-  return (uint32_t)((x ^ x >> 31) >> 16 & 0xffffffffu) % bound;
-}
-
-static int one_in(uint32_t bound) { return random_below(bound) == 0; }
-static uint32_t between(uint32_t low, uint32_t high) { return low + random_below(high - low + 1); }
-static uint32_t any_word(void) { return random_below(0x10000) << 16 | random_below(0x10000); }
-
-/* Bytes. */
-static void half(uint32_t h) {
-  it->bytes[here++] = (uint8_t)h;
-  it->bytes[here++] = (uint8_t)(h >> 8);
-}
-
-static void set_half(uint32_t a, uint32_t h) {
-  it->bytes[a] = (uint8_t)h;
-  it->bytes[a + 1] = (uint8_t)(h >> 8);
-}
-
-static void put_word(uint32_t w) {
-  half(w);
-  half(w >> 16);
-}
-
-static void branch_from(uint32_t at, uint32_t to) { set_half(at, 0xe000 | ((to - at - 4) >> 1 & 0x7ff)); }
-
-/* The words that loads wait for stand here; `over` says that a branch goes over them. */
-static void put_pool(int over) {
-  if (!pooled) return;
-  uint32_t branch = here;
-  if (over) half(0);
-  if (here & 2) half(0xde00);
-  for (int k = 0; k < pooled; k++) {
-    uint32_t at = pool[k].at;
-    it->bytes[at] = (uint8_t)((here - ((at + 4) & ~3u)) / 4);
-    words[word_count].at = here;
-    words[word_count].value = pool[k].value;
-    words[word_count++].kind = pool[k].kind;
-    put_word(0);
-  }
-  pooled = 0;
-  if (over) branch_from(branch, here);
-}
-
-static void load_word(uint32_t reg, int kind, uint32_t value) {
-  if (pooled == 60 || (pooled && here - pool[0].at > 500)) put_pool(1);
-  pool[pooled].at = here;
-  pool[pooled].kind = kind;
-  pool[pooled++].value = value;
-  half(0x4800 | reg << 8);
-}
-
-static void constant(uint32_t reg, uint32_t value) {
-  int low = value ? __builtin_ctz(value) : 0;
-  if (value < 256) {
-    half(0x2000 | reg << 8 | value);
-  } else if (~value < 256 && one_in(2)) {
-    half(0x2000 | reg << 8 | (~value & 255));
-    half(0x43c0 | reg << 3 | reg);
-  } else if (0u - value < 256 && one_in(2)) {
-    half(0x2000 | reg << 8 | (0u - value));
-    half(0x4240 | reg << 3 | reg);
-  } else if (value >> low < 256 && one_in(2)) {
-    half(0x2000 | reg << 8 | value >> low);
-    half((uint32_t)low << 6 | reg << 3 | reg);
-  } else {
-    load_word(reg, VALUE, value);
-  }
-}
-
-static void service(uint32_t number) { half(0xdf00 | number); }
-static void get_global(uint32_t reg, uint32_t place) { half(0x6800 | place << 6 | 7 << 3 | reg); }
-static void set_global(uint32_t reg, uint32_t place) { half(0x6000 | place << 6 | 7 << 3 | reg); }
-
-/* A test: what follows up to `end_skip` is left out where the condition doesn't hold. */
-static uint32_t skip_unless(uint32_t condition) {
-  half(0xd000 | condition << 8);
-  half(0xe000);
-  return here - 2;
-}
-
-static void end_skip(uint32_t at) {
-  uint32_t far = here - (at + 2), condition = it->bytes[at - 1] & 15;
-  if (far < 250 && one_in(2)) {
-    set_half(at - 2, 0xd000 | (condition ^ 1) << 8 | ((here - (at + 2)) >> 1));
-    set_half(at, 0xbf00);
-  } else {
-    branch_from(at, here);
-  }
-}
 
 /* What follows is done so often at most, by whoever comes here. */
 static uint32_t at_most(uint32_t times) {
@@ -124,17 +19,6 @@ static uint32_t at_most(uint32_t times) {
   set_global(0, place);
   half(0x2800 | times);
   return skip_unless(13);
-}
-
-static void back_to(uint32_t top, uint32_t condition) {
-  uint32_t back = here + 4 - top;
-  if (back < 250) {
-    half(0xd000 | condition << 8 | ((0u - back) >> 1 & 255));
-  } else {
-    half(0xd000 | (condition ^ 1) << 8);
-    half(0);
-    branch_from(here - 2, top);
-  }
 }
 
 /* Sources, values and other arguments. */
@@ -314,6 +198,61 @@ static void frame(void) {
   }
 }
 
+/* Registers and flags over what blocks or raises: all of them are written behind it. */
+static void kept(void) {
+  uint32_t flags, high = between(8, 12);
+  for (uint32_t k = 0; k < 4; k++) some(k);
+  half(0x4680 | (high & 7) | random_below(4) << 3);
+  if (!is_framed && one_in(3)) half(0x4686 | random_below(4) << 3);    /* MOV LR */
+  some(3);
+  if (one_in(2)) half(0x4298);                                         /* CMP r0, r3 */
+  else half(0x18c3 | random_below(2) << 9);                            /* ADDS, SUBS r3, r0, r3 */
+  if (one_in(3)) {
+    half(0x1c03);
+    half(one_in(2) ? 0xdf07 : 0xdf08);
+  } else {
+    half(0x2000 | between(1, 3));
+    half(0xdf02);
+  }
+  for (uint32_t k = random_below(4); k > 0; k--) {
+    flags = random_below(14);
+    half(0xd000 | flags << 8);
+    service(12);
+  }
+  half(0x4600 | high << 3);
+  service(12);
+  half(0x4600 | between(1, 14) << 3);
+  service(12);
+}
+
+/* Words on the stack over what blocks or raises: their sum is written behind it. */
+static void tower(void) {
+  if (loops == 3) return;
+  uint32_t reg = 4 + (uint32_t)loops++, times = one_in(8) ? between(60, 250) : one_in(3) ? between(10, 60) : between(2, 10), top;
+  some(0);
+  for (uint32_t k = 1; k < 4; k++) half(0x2000 | k << 8 | random_below(256));
+  constant(reg, times);
+  top = here;
+  half(0x1840);                                                        /* ADDS r0, r0, r1 */
+  half(0xb40f);
+  half(0x3801 | reg << 8);
+  back_to(top, 1);
+  simple();
+  half(0x2000);
+  constant(reg, times);
+  top = here;
+  half(0x0040);                                                        /* LSLS r0, r0, #1 */
+  half(0xbc02);
+  half(0x1840);
+  half(0xbc0e);
+  half(0x1840);
+  half(0x1880);
+  half(0x3801 | reg << 8);
+  back_to(top, 1);
+  service(12);
+  loops--;
+}
+
 static void loop(void) {
   if (loops == 3) return;
   uint32_t reg = 4 + (uint32_t)loops++, top;
@@ -340,12 +279,6 @@ static void guarded(void) {
   uint32_t skip = at_most(one_in(4) ? between(20, 60) : between(1, 6));
   body((int)between(1, 3));
   end_skip(skip);
-}
-
-static void call(int to) {
-  calls[call_count].at = here;
-  calls[call_count++].to = to;
-  put_word(0);
 }
 
 static void call_some(void) {
@@ -452,6 +385,34 @@ static void push_some(void) {
   }
 }
 
+/* An array whose items may stand over its own header, in new words; what stands in them is written behind the pushes. */
+static void odd_array(void) {
+  uint32_t skip = at_most(between(1, 2)), room = random_below(8), from = random_below(13 - room), length = random_below(room + 1);
+  if (risk && one_in(8)) from = between(0, 30), length = random_below(room + 3);
+  constant(0, 12);
+  service(18);
+  set_global(0, ARRAYS + random_below(4));
+  half(0x1c03);
+  constant(1, room);
+  half(0x6081);
+  constant(1, length);
+  half(0x6041);
+  half(0x1c01);
+  half(0x3100 | 4 * from);
+  if (risk && one_in(30)) half(0x3102);
+  half(0x60c1);
+  for (uint32_t k = between(1, 3); k > 0; k--) {
+    half(0x1c18);
+    some(1);
+    service(19);
+  }
+  for (uint32_t k = 0; k < 12; k++) {
+    half(0x6818 | k << 6);
+    service(12);
+  }
+  end_skip(skip);
+}
+
 static void allocate(void) {
   uint32_t skip = at_most(between(1, 3));
   constant(0, one_in(12) ? any_word() : one_in(4) ? between(200, 3000) : risk && one_in(20) ? 0 : between(1, 40));
@@ -468,7 +429,7 @@ static void trouble(void) {
     case 2: half(0x1c78); half(0x6800); break;                         /* LDR r0, [r7 + 1] */
     case 3: constant(0, one_in(2) ? FLASH : any_word()); half(0x6800); break;
     case 4: constant(1, random_below(4000) * 4); half(0x6008); break;  /* a store to flash */
-    case 5: constant(0, random_below(300) * 2); half(0x4700 | random_below(2) << 7); break;
+    case 5: constant(0, one_in(3) ? FLASH - 1 - random_below(6) : random_below(300) * 2); half(0x4700 | random_below(2) << 7); break;
     case 6: constant(0, RAM + 1 + 2 * random_below(100)); half(0x4700); break;
     case 7: constant(0, between(900, 1100) * 4); half(0x4240); half(0x4485); break;  /* ADD SP, r0 */
     case 8: half(0xb000 | between(1, 127)); break;
@@ -503,7 +464,7 @@ static void deep(void) {
 }
 
 static void idiom(void) {
-  switch (random_below(40)) {
+  switch (random_below(45)) {
     case 0: case 1: case 2: case 3: say_number(); break;
     case 4: case 5: picture(); break;
     case 6: case 7: speak(); break;
@@ -524,6 +485,9 @@ static void idiom(void) {
     case 35: case 36: push_some(); break;
     case 37: if (one_in(2)) allocate(); else high_registers(); break;
     case 38: if (risk) ending(); break;
+    case 39: case 40: kept(); break;
+    case 41: case 42: tower(); break;
+    case 43: odd_array(); break;
     default: if (risk && one_in(8)) trouble(); else if (!is_framed && one_in(20)) deep();
   }
 }
@@ -531,7 +495,7 @@ static void idiom(void) {
 static void body(int count) {
   for (int k = 0; k < count && here < room_left; k++) {
     idiom();
-    if (pooled && here - pool[0].at > 500) put_pool(1);
+    put_far_pool();
   }
 }
 
@@ -648,6 +612,16 @@ static void function(int number) {
   function_at[number] = here;
   room_left = here + between(60, number ? 500 : 900);
   is_framed = in_called || one_in(3);
+  if (!in_called && one_in(5)) {
+    for (uint32_t k = random_below(4); k > 0; k--) {
+      half(0xd000 | random_below(14) << 8);
+      service(12);
+    }
+    for (uint32_t k = between(1, 14); k > 0; k--) {
+      half(0x4600 | random_below(15) << 3);
+      service(12);
+    }
+  }
   if (!in_called) globals_address();
   uint32_t list = in_called ? 0x70 : between(0, 255);
   if (is_framed) half(0xb500 | list);
@@ -671,15 +645,18 @@ static void function(int number) {
 /* Halfwords by chance that mostly go on. */
 static uint32_t likely(void) {
   uint32_t x = any_word();
-  switch (random_below(20)) {
+  switch (random_below(22)) {
     case 0: case 1: case 2: return 0xdf00 | (x % 40 == 0 ? x >> 8 & 255 : x % 24);
     case 3: return 0xb400 | (x & 0x1ff);
     case 4: return 0xbc00 | (x & 0xff);
     case 5: return 0x9000 | (x & 0xf07);
     case 6: return 0xd000 | (x % 14) << 8 | (x >> 8 & 7);
     case 7: return 0x4400 | (x & 0x27f);
-    case 8: return 0xb200 | (x & 0xff);
-    case 9: return x & 0xffff;
+    case 8: case 9: return 0x2000 | (x & 0x300) | (17 + 2 * (x >> 10 & 31));
+    case 10: return 0x2000 | (x & 0x300) | (x >> 10 & 7);
+    case 11: return 0xb200 | (x & 0xff);
+    case 12: return x & 0xffff;
+    case 13: return 0x4600 | (x & 0x7f);
     default: return x % 0x4400;
   }
 }
@@ -687,7 +664,6 @@ static uint32_t likely(void) {
 static void halfwords(void) {
   for (uint32_t k = between(8, 90); k > 0; k--) half(profile == NOISE ? random_below(0x10000) : one_in(6) ? 0xdf00 | random_below(24) : likely());
   for (int k = 0; k < functions; k++) function_at[k] = 16 + 2 * random_below((here - 16) / 2);
-  for (int k = 0; k < word_count; k++) words[k].kind = VALUE;
 }
 
 static void put_text(uint32_t place, uint32_t length) {
@@ -709,7 +685,13 @@ static void put_texts(void) {
   }
   text_place[texts] = here - 2;
   text_place[texts + 1] = one_in(2) ? RAM + 4 * random_below(4000) : 16 + 4 * random_below(20);
-  if (one_in(20)) {
+  if (one_in(40)) {
+    static const uint32_t lengths[] = { 16384, 16383, 16385, 2000, 0xffffffff, 0x80000000 };
+    uint32_t length = lengths[random_below(6)];
+    text_place[length > 16384 ? (uint32_t)texts : 0] = here;
+    put_word(length);
+    it->low = it->far = it->length = here;
+  } else if (one_in(20)) {
     uint32_t room = between(0, 30), whole = random_below(3);
     it->far = here = FLASH - 4 - 4 * room;
     text_place[whole ? 0 : texts] = here;
@@ -730,22 +712,9 @@ static void put_head(void) {
   set_half(14, 0xbf00);
 }
 
-static void settle(void) {
-  for (int k = 0; k < word_count; k++) {
-    here = words[k].at;
-    uint32_t v = words[k].value;
-    put_word(words[k].kind == VALUE ? v : words[k].kind == CODE ? function_at[v >> 1] + (v & 1) : text_place[v]);
-  }
-  for (int k = 0; k < call_count; k++) {
-    uint32_t offset = function_at[calls[k].to] - calls[k].at - 4, s = offset >> 24 & 1;
-    set_half(calls[k].at, 0xf000 | s << 10 | (offset >> 12 & 0x3ff));
-    set_half(calls[k].at + 2, 0xd000 | (!((offset >> 23 & 1) ^ s)) << 13 | (!((offset >> 22 & 1) ^ s)) << 11 | (offset >> 1 & 0x7ff));
-  }
-}
-
 static void make_script(script *to) {
   static const uint32_t gaps[] = { 0, 0, 0, 1, 1, 2, 5, 5, 20, 100, 999, 1000, 1001 };
-  uint32_t at = 0, most = one_in(3) ? 0 : one_in(6) ? 60 : 14;
+  uint32_t at = 0, most = one_in(3) ? 0 : one_in(100) ? 4097 : one_in(6) ? 60 : 14;
   to->count = most ? random_below(most) : 0;
   int down[3] = { 0 };
   for (size_t k = 0; k < to->count; k++) {
@@ -766,12 +735,8 @@ static void make_script(script *to) {
 }
 
 void make(uint64_t number, uint64_t salt, image *to, script *events) {
-  state = (salt << 40) + number * 0x2545f4914f6cdd1du;
-  it = to;
-  if (it->length == 0) memset(it->bytes, 0xff, FLASH);
-  memset(it->bytes, 0xff, 16384);
-  memset(it->bytes + it->far, 0xff, it->length - it->far);
-  pooled = word_count = call_count = in_called = 0;
+  begin_image(to, (salt << 40) + number * 0x2545f4914f6cdd1du);
+  in_called = 0;
   profile = (int)random_below(PROFILES + 6);
   if (profile >= PROFILES) profile = MIXED;
   risk = !one_in(3);
@@ -781,7 +746,6 @@ void make(uint64_t number, uint64_t salt, image *to, script *events) {
   }
   functions = (int)between(2, FUNCTIONS);
   texts = (int)between(2, MOST_TEXTS);
-  here = 16;
   if (profile >= HALFWORDS) {
     halfwords();
   } else {

@@ -407,6 +407,7 @@ static void block(list *where) {
   if (self->r[13] < self->base) count(BLOCKED_WORDS);
   if (self->r[13] < self->base && self->is_over_raiser) count(BLOCKED_RAISED);
   if (self->base - self->r[13] > 400) count(BLOCKED_DEEP);
+  if (self->base - self->r[13] > 3600) count(BLOCKED_DEEPEST);
   for (size_t k = 0; k < ready.count; k++) ready.items[k]->had_blocker |= ready.items[k]->suspended;
 }
 
@@ -463,7 +464,7 @@ static void serve(int number) {
     case 12: write_bytes(bytes, (size_t)sprintf((char *)bytes, "%d", first)); break;
     case 13: {
       uint32_t length = text_at(r[0], bytes);
-      count(length ? TEXTS : EMPTY_TEXTS);
+      count(length >= 1000 ? LONG_TEXTS : length ? TEXTS : EMPTY_TEXTS);
       write_bytes(bytes, length);
       break;
     }
