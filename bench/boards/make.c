@@ -24,7 +24,7 @@ static uint32_t at_most(uint32_t times) {
 /* Sources, values and other arguments. */
 static void source(uint32_t reg, int may_be_any) {
   uint32_t which = random_below(12);
-  constant(reg, which < 8 ? sources[which % 3] : which == 8 && may_be_any ? 0 : which == 9 ? between(1, 2) : which == 10 ? any_word() : sources[0]);
+  constant(reg, which < 8 ? sources[which % 3] : which == 8 && may_be_any ? 0 : which == 9 ? between(0, 2) : which == 10 ? any_word() : sources[0]);
 }
 
 static void value(uint32_t reg, int may_be_any) {
@@ -443,6 +443,24 @@ static void trouble(void) {
   }
 }
 
+/* Loads of words that nothing of this fiber has written. */
+static void free_words(void) {
+  switch (random_below(3)) {
+    case 0:
+      half(0xb080 | between(1, 4));
+      half(0x9800);
+      break;
+    case 1:
+      half(0x4668);
+      constant(1, 4 * between(1, 30));
+      half(0x1a40);                                                    /* SUBS r0, r0, r1 */
+      half(0x6800);
+      break;
+    default: half(0x9800 | between(0, 40));
+  }
+  service(12);
+}
+
 static void ending(void) {
   some(0);
   half(0x2800 | random_below(100));
@@ -488,7 +506,10 @@ static void idiom(void) {
     case 39: case 40: kept(); break;
     case 41: case 42: tower(); break;
     case 43: odd_array(); break;
-    default: if (risk && one_in(8)) trouble(); else if (!is_framed && one_in(20)) deep();
+    default:
+      if (risk && one_in(8)) trouble();
+      else if (risk && one_in(40)) free_words();
+      else if (!is_framed && one_in(20)) deep();
   }
 }
 

@@ -7,6 +7,9 @@
 #include <string.h>
 
 #define ARENA_WORDS 2816
+#define QUEUE 32
+#define MOST_LISTENERS 32
+#define SEATS 24
 
 typedef struct { fiber **items; size_t count, room; } list;
 typedef struct { int32_t source, value, mode; uint32_t code; int held; int32_t values[10]; } listener;
@@ -19,9 +22,9 @@ static size_t next_entry;
 static uint32_t budget_left;
 static int64_t now;
 static list ready, sleepers, waiters;
-static struct { int32_t source, value; } queue[32];
+static struct { int32_t source, value; } queue[QUEUE];
 static int queued, listener_count, seats, living, most_living, took_all_seats, is_over, moved_clock, is_plugged;
-static listener listeners[32];
+static listener listeners[MOST_LISTENERS];
 static int is_down[3];
 static int64_t since[3];
 static uint32_t frame, used;
@@ -133,14 +136,14 @@ static fiber *new_fiber(uint32_t code, uint32_t base, int number, int32_t value)
 }
 
 static void take_seat(fiber *it, int kind) {
-  if (seats == 24) panic(101, kind);
-  if (++seats == 24) took_all_seats = 1;
+  if (seats == SEATS) panic(101, kind);
+  if (++seats == SEATS) took_all_seats = 1;
   it->seated = 1;
 }
 
 /* Events. */
 static void raise_event(int32_t source, int32_t value) {
-  if (queued == 32) {
+  if (queued == QUEUE) {
     count(QUEUE_FULL);
     return;
   }
@@ -430,13 +433,13 @@ static void end_fiber(void) {
 
 static void listen(int32_t source, int32_t value, uint32_t code, int32_t mode) {
   if (!(code & 1)) count(BAD_CODE), fault(NOT_THUMB, instruction_at);
-  if (listener_count == 32) panic(103, PANIC_103);
+  if (listener_count == MOST_LISTENERS) panic(103, PANIC_103);
   listeners[listener_count++] = (listener){ .source = source, .value = value, .mode = mode, .code = code };
 }
 
 static void spawn(uint32_t code) {
   if (!(code & 1)) count(BAD_CODE), fault(NOT_THUMB, instruction_at);
-  if (seats == 24) panic(101, PANIC_101_SPAWN);
+  if (seats == SEATS) panic(101, PANIC_101_SPAWN);
   fiber *made = new_fiber(code, flash_word(0), -1, 0);
   take_seat(made, PANIC_101_SPAWN);
   put_last(&ready, made);
@@ -558,7 +561,7 @@ void emulate(const uint8_t *image, size_t length, const script *events, uint32_t
   }
   count(most_living == 1 ? FIBERS_1 : most_living < 5 ? FIBERS_2 : most_living < 13 ? FIBERS_5 : most_living < 25 ? FIBERS_13 : FIBERS_25);
   if (took_all_seats) count(ALL_SEATS);
-  if (listener_count == 32) count(ALL_LISTENERS);
+  if (listener_count == MOST_LISTENERS) count(ALL_LISTENERS);
   close_list(&ready);
   close_list(&sleepers);
   close_list(&waiters);
