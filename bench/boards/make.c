@@ -546,15 +546,17 @@ static void raises(uint32_t number, uint32_t times) {
   end_loop(top);
 }
 
-static void listens(uint32_t times, uint32_t mode, uint32_t code) {
+static void listens_to(uint32_t heard, uint32_t times, uint32_t mode, uint32_t code) {
   uint32_t top = begin_loop(times);
   load_word(2, CODE, code << 1 | 1);
-  constant(0, sources[0]);
+  constant(0, heard);
   constant(1, one_in(2) ? values[0] : 0);
   constant(3, mode);
   service(22);
   end_loop(top);
 }
+
+static void listens(uint32_t times, uint32_t mode, uint32_t code) { listens_to(sources[0], times, mode, code); }
 
 static void spawns(uint32_t times) {
   uint32_t top = begin_loop(times);
@@ -576,7 +578,11 @@ static void beginning(void) {
       if (one_in(2)) listen_to(some_mode());
       raises(one_in(2) ? 6 : 23, between(1, 4));
       break;
-    case NEST: listens(between(1, 2), one_in(4) ? some_mode() : 8, 1); raises(23, between(1, 3)); break;
+    case NEST:
+      if (one_in(2)) listens_to(sources[1], between(1, 2), one_in(2) ? some_mode() : 16, any_function());
+      listens(between(1, 2), one_in(4) ? some_mode() : 8, 1);
+      raises(23, between(1, 3));
+      break;
     case QUEUE: listens(between(1, 3), some_mode(), 1); raises(6, between(28, 40)); break;
     case HOLD: listens(between(1, 2), one_in(3) ? some_mode() : 16, 1); raises(one_in(2) ? 6 : 23, between(8, 16)); break;
     case TIMES: spawns(between(4, 16)); break;
@@ -611,7 +617,12 @@ static void handler_beginning(void) {
   if (!is_framed && one_in(3)) half(0xb400 | between(1, 255));
   switch (profile) {
     case NEST:
-      skip = at_most(between(26, 40));
+      if (one_in(2)) {
+        constant(0, sources[1]);
+        constant(1, values[0]);
+        service(23);
+      }
+      skip = at_most(one_in(3) ? between(30, 33) : between(26, 40));
       if (!is_framed && one_in(3)) half(0xb500 | between(0, 15));
       constant(0, sources[0]);
       constant(1, values[0]);
