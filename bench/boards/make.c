@@ -70,6 +70,8 @@ static void say_number(void) {
   service(one_in(4) ? 15 : 12);
 }
 
+static void some_text(void) { load_word(0, WORDS, random_below((uint32_t)texts + (risk && one_in(15) ? 2 : 0))); }
+
 static void picture(void) {
   switch (random_below(5)) {
     case 0: some(0); service(11); break;
@@ -86,7 +88,7 @@ static void picture(void) {
       service(one_in(2) ? 12 : 11);
       break;
     default:
-      load_word(0, WORDS, random_below((uint32_t)texts));
+      some_text();
       constant(1, one_in(10) ? some_number() : random_below(8));
       service(16);
       service(one_in(2) ? 12 : 11);
@@ -95,7 +97,7 @@ static void picture(void) {
 
 static void speak(void) {
   switch (random_below(4)) {
-    case 0: load_word(0, WORDS, random_below((uint32_t)texts)); service(13); break;
+    case 0: some_text(); service(13); break;
     case 1: constant(0, one_in(10) ? some_number() : between(0, 22)); some(1); service(14); break;
     case 2: some(0); service(15); break;
     default:
@@ -709,13 +711,18 @@ static void put_text(uint32_t place, uint32_t length) {
 static void put_texts(void) {
   while (here & 3) half(0);
   for (uint32_t k = 0; k < (uint32_t)texts; k++) put_text(k, k == 1 ? 0 : between(1, 12));
+  half(random_below(0x10000));                                         /* what would be a text, but for its place */
+  half(between(1, 12));
+  half(0);
+  half(0x4241);
+  uint32_t odd_text = here - 6;
   it->low = it->far = it->length = here;
   if (one_in(3)) {
     text_place[0] = here;
     put_word(between(1, 40));                                          /* past the image flash has 0xFF */
     it->low = it->far = it->length = here;
   }
-  text_place[texts] = here - 2;
+  text_place[texts] = odd_text;
   text_place[texts + 1] = one_in(2) ? RAM + 4 * random_below(4000) : 16 + 4 * random_below(20);
   if (one_in(40)) {
     static const uint32_t lengths[] = { 16384, 16383, 16385, 2000, 0xffffffff, 0x80000000 };
