@@ -25,7 +25,7 @@ fi
 }
 work=$(mktemp -d)
 trap 'rm -rf "$work"' EXIT
-"${CC:-cc}" -O2 -o "$work/boards" "$here"/{boards,make,assemble,world,core,font}.c
+"${CC:-cc}" -O2 -o "$work/boards" "$here"/{boards,make,assemble,script,world,core,font}.c
 jobs=${JOBS:-$(nproc)}
 each=$(((count + jobs - 1) / jobs))
 from=0 pids=() result=0

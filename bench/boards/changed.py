@@ -15,7 +15,7 @@ import sys
 import tempfile
 
 HERE = pathlib.Path(__file__).resolve().parent
-FILES = ["boards.c", "make.c", "assemble.c", "world.c", "core.c", "font.c"]
+FILES = ["boards.c", "make.c", "assemble.c", "script.c", "world.c", "core.c", "font.c"]
 
 
 def changes():

@@ -408,8 +408,9 @@ static void odd_array(void) {
     some(1);
     service(19);
   }
-  for (uint32_t k = 0; k < 12; k++) {
-    half(0x6818 | k << 6);
+  half(0x68da);                                                        /* LDR r2, [r3, #12] */
+  for (uint32_t k = 0; k < 18; k++) {
+    half(k < 12 ? 0x6818 | k << 6 : 0x6810 | (k - 12) << 6);
     service(12);
   }
   end_skip(skip);
@@ -593,7 +594,15 @@ static void beginning(void) {
 }
 
 static void fill(void) {
-  uint32_t top;
+  uint32_t top, first = between(1, 2815);
+  if (one_in(3)) {
+    constant(0, first);
+    service(18);
+    constant(0, 2816 - first + (one_in(3) ? 1 : 0));
+    service(18);
+    service(12);
+    return;
+  }
   constant(0, 4);
   service(18);
   set_global(0, ARRAYS);
@@ -751,28 +760,6 @@ static void put_head(void) {
   set_half(14, 0xbf00);
 }
 
-static void make_script(script *to) {
-  static const uint32_t gaps[] = { 0, 0, 0, 1, 1, 2, 5, 5, 20, 100, 999, 1000, 1001 };
-  uint32_t at = 0, most = one_in(3) ? 0 : one_in(100) ? 4097 : one_in(6) ? 60 : 14;
-  to->count = most ? random_below(most) : 0;
-  int down[3] = { 0 };
-  for (size_t k = 0; k < to->count; k++) {
-    entry *e = &to->entries[k];
-    at += gaps[random_below(13)];
-    e->at = at;
-    uint32_t which = random_below(40), button = between(1, 2);
-    if (which < 20) {
-      *e = (entry){ at, down[button] != (int)one_in(8) ? UP : DOWN, button, 0 };
-      down[button] = e->what == DOWN;
-    } else if (which < 38) {
-      *e = (entry){ at, RAISE, one_in(8) ? random_below(65536) : sources[random_below(3)] & 0xffff, one_in(8) ? random_below(65536) : values[random_below(3)] & 0xffff };
-    } else {
-      *e = (entry){ at, UNPLUG, random_below(4), 0 };
-    }
-  }
-  to->end = one_in(4) ? at : one_in(10) ? 1073741824 : at + random_below(one_in(2) ? 60 : 3000);
-}
-
 void make(uint64_t number, uint64_t salt, image *to, script *events) {
   begin_image(to, (salt << 40) + number * 0x2545f4914f6cdd1du);
   in_called = 0;
@@ -794,5 +781,5 @@ void make(uint64_t number, uint64_t salt, image *to, script *events) {
   put_texts();
   put_head();
   settle();
-  make_script(events);
+  make_script(events, sources, values);
 }
