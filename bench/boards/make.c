@@ -127,7 +127,12 @@ static void high_registers(void) {
 }
 
 static void memory(void) {
-  switch (random_below(5)) {
+  switch (random_below(6)) {
+    case 5:                                                            /* words of the arena, used or not */
+      constant(3, ARENA + 4 * random_below(80));
+      for (uint32_t k = 0; k < 3; k++) some(k);
+      half(0xc307);
+      break;
     case 0: some(0); set_global(0, NUMBERS + random_below(8)); break;
     case 1:
       some(0);
