@@ -64,7 +64,12 @@ static void say_number(void) {
     case 0: service(7); break;
     case 1: service(8); break;
     case 2: some(0); break;
-    case 3: some(0); some(1); service(20 + random_below(2)); break;
+    case 3:
+      some(0);
+      some(1);
+      if (one_in(6)) constant(0, 0x80000000), constant(1, 0u - random_below(3));
+      service(20 + random_below(2));
+      break;
     default: break;
   }
   service(one_in(4) ? 15 : 12);
