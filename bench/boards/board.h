@@ -1,5 +1,5 @@
-/* An emulation of the board with several fibers, written from ARM DDI 0419, docs/MACHINE.md, docs/WORLD.md and docs/FORMATS.md, to compare
-   runs with. It is no part of the product. */
+/* An emulation of the board with several fibers, written from ARM DDI 0419, docs/MACHINE.md, docs/WORLD.md, docs/FORMATS.md and
+   docs/DECISIONS.md, to compare runs with. It is no part of the product. */
 #include <stddef.h>
 #include <stdint.h>
 

@@ -216,16 +216,17 @@ static void kept(void) {
   for (uint32_t k = 0; k < 4; k++) some(k);
   half(0x4680 | (high & 7) | random_below(4) << 3);
   if (!is_framed && one_in(3)) half(0x4686 | random_below(4) << 3);    /* MOV LR */
+  uint32_t raises = one_in(2), skip = at_most(between(2, 20));
+  some(2);
   some(3);
-  if (one_in(2)) half(0x4298);                                         /* CMP r0, r3 */
-  else half(0x18c3 | random_below(2) << 9);                            /* ADDS, SUBS r3, r0, r3 */
-  if (one_in(3)) {
-    half(0x1c03);
-    half(one_in(2) ? 0xdf07 : 0xdf08);
-  } else {
-    half(0x2000 | between(1, 3));
-    half(0xdf02);
-  }
+  if (one_in(4)) half(0x001a);                                         /* MOVS r2, r3 */
+  if (raises) source(0, 0);
+  if (raises) value(1, 0);
+  else constant(1, between(1, 3));
+  if (one_in(2)) half(0x429a);                                         /* CMP r2, r3 */
+  else half(0x18d3 | random_below(2) << 9);                            /* ADDS, SUBS r3, r2, r3 */
+  if (!raises) half(0x4608);                                           /* MOV r0, r1 */
+  service(raises ? 23 : 2);
   for (uint32_t k = random_below(4); k > 0; k--) {
     flags = random_below(14);
     half(0xd000 | flags << 8);
@@ -235,6 +236,7 @@ static void kept(void) {
   service(12);
   half(0x4600 | between(1, 14) << 3);
   service(12);
+  end_skip(skip);
 }
 
 /* Words on the stack over what blocks or raises: their sum is written behind it. */
