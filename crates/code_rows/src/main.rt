@@ -26,11 +26,20 @@ fn write_value<W: Write>(out: &mut W, op: &Op) -> io::Result<()> {
         Op::Const { to, value } => writeln!(out, "t{to} = {value}"),
         Op::Copy { to, from } => writeln!(out, "t{to} = t{from}"),
         Op::Unary { to, op, from } => writeln!(out, "t{to} = prefix {op} t{from}"),
-        Op::Binary { to, op, left, right } => writeln!(out, "t{to} = t{left} infix {op} t{right}"),
+        Op::Binary {
+            to,
+            op,
+            left,
+            right,
+        } => writeln!(out, "t{to} = t{left} infix {op} t{right}"),
         Op::GlobalGet { to, slot } => writeln!(out, "t{to} = global {slot}"),
         Op::GlobalSet { slot, from } => writeln!(out, "global {slot} = t{from}"),
         Op::FieldGet { to, object, field } => writeln!(out, "t{to} = t{object}.{field}"),
-        Op::FieldSet { object, field, from } => writeln!(out, "t{object}.{field} = t{from}"),
+        Op::FieldSet {
+            object,
+            field,
+            from,
+        } => writeln!(out, "t{object}.{field} = t{from}"),
         Op::ItemGet { to, array, index } => writeln!(out, "t{to} = t{array}[t{index}]"),
         Op::ItemSet { array, index, from } => writeln!(out, "t{array}[t{index}] = t{from}"),
         Op::Length { to, array } => writeln!(out, "t{to} = length t{array}"),
@@ -69,7 +78,10 @@ fn write_op<W: Write>(out: &mut W, op: &Op) -> io::Result<()> {
 fn write_function<W: Write>(out: &mut W, number: usize, function: &Function) -> io::Result<()> {
     let (params, locals) = (function.params, function.locals);
     let (operands, outgoing) = (function.operands, function.outgoing);
-    writeln!(out, "function {number}: {params} parameters, {locals} locals, {operands} operands, {outgoing} outgoing")?;
+    writeln!(
+        out,
+        "function {number}: {params} parameters, {locals} locals, {operands} operands, {outgoing} outgoing"
+    )?;
     for (i, op) in function.ops.as_slice().iter().enumerate() {
         write!(out, "{i}: ")?;
         write_op(out, op)?;

@@ -20,10 +20,9 @@ use crate::said::then_put_refused;
 use crate::script::default_script;
 use board_ports::Device;
 use itoa::Buffer;
-use sts_whole::refusals_stand_in_their_texts;
 use std::alloc::{AllocError, Global};
 use sts_base::{Code, NoMemory, Refused, place};
-use sts_whole::build;
+use sts_whole::{build, refusals_stand_in_their_texts};
 use tool_io::{PutFailed, Sink, then_put, then_put_decimal};
 
 /// Adds a number in decimal.

@@ -9,8 +9,8 @@ ghost use Rattle.run_tool.specs.Refusals.{Refuses, refused_line};
 ghost use Rattle.run_tool.specs.Programs.{OverProgram, none_to_programs};
 
 use crate::ending::{Ending, Status};
-use sts_whole::refusals_stand_in_their_texts;
 use sts_base::{Code, Refused, number, place};
+use sts_whole::refusals_stand_in_their_texts;
 use tool_io::{PutFailed, Sink, then_put, then_put_decimal};
 
 /// Gives an answer of one line.

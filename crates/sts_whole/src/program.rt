@@ -6,12 +6,12 @@ ghost use Rattle.event_script.specs.Sound.{IsSound};
 ghost use Rattle.sts_whole.specs.Built.{Builds};
 ghost use Rattle.sts_whole.specs.Runs.{RunsImage, IsFaultless};
 
+use crate::accepted_programs_are_buildable;
 use crate::accepting::accept;
 use crate::board::run_image;
 use crate::building::compile;
 use crate::compiled::compiled_images_implement_their_programs;
 use crate::reaching::runs_reach_their_sources;
-use crate::accepted_programs_are_buildable;
 use board_ports::Device;
 use board_run::{End, Stats};
 use event_script::Script;
