@@ -1,0 +1,82 @@
+#!/bin/sh
+# What the documents show is run as it is written there: each line of README.md and docs/*.md that begins with `bin/sts`, alone or behind `$`, writes the lines below it, or else the
+# next block; each `sts ..` of the README's table of words is taken, with a file in place of P, S and H and a number in place of N; and each example of a refusal in docs/LANGUAGE.md is
+# refused by its code at its place. Wants the program sts as rt ci builds it; without it the check is skipped (status 77).
+# usage: checks/as_written.sh [PROGRAM]
+set -eu
+top=$(cd "$(dirname "$0")/.." && pwd)
+program=${1:-$top/crates/sts/out/sts}
+[ -x "$program" ] || {
+    echo "as_written: $program is not built"
+    exit 77
+}
+folder=$(mktemp -d)
+trap 'rm -rf "$folder"' EXIT
+mkdir "$folder/bin"
+cp "$program" "$folder/bin/sts"
+cp -r "$top/examples" "$folder/examples"
+python3 - "$top" "$folder" <<'PYTHON'
+import glob
+import re
+import subprocess
+import sys
+
+top, folder = sys.argv[1:]
+wrong, counts = [], {"commands": 0, "forms": 0, "refusals": 0}
+
+
+def call(line):
+    ran = subprocess.run(["sh", "-c", line], cwd=folder, stdout=subprocess.PIPE, stderr=subprocess.DEVNULL, timeout=60, check=False)
+    return ran.returncode, ran.stdout.decode()
+
+
+def expect(what, had, wanted):
+    counts[what[0]] += 1
+    if had != wanted:
+        wrong.append(f"{what[1]}: {had!r} in place of {wanted!r}")
+
+
+def blocks_of(text):
+    """The blocks of a document that are moved in by four places, each as its lines."""
+    blocks = [[]]
+    for line in text.split("\n"):
+        if line.startswith("    "):
+            blocks[-1].append(line[4:])
+        elif blocks[-1]:
+            blocks.append([])
+    return blocks
+
+
+for document in [f"{top}/README.md", *sorted(glob.glob(f"{top}/docs/*.md"))]:
+    with open(document, encoding="utf-8") as file:
+        text = file.read()
+    blocks = blocks_of(text)
+    for number, block in enumerate(blocks):
+        begins = [at for at, line in enumerate(block) if re.match(r"(\$ )?bin/sts\b", line)]
+        for at, end in zip(begins, [*begins[1:], len(block)]):
+            line, due = block[at].removeprefix("$ "), block[at + 1 : end]
+            if not due and not block[at].startswith("$ ") and number + 1 < len(blocks):
+                due = blocks[number + 1]
+            expect(("commands", line), call(line)[1], "".join(f"{it}\n" for it in due))
+
+with open(f"{top}/README.md", encoding="utf-8") as file:
+    readme = file.read()
+given = {"P": "examples/counter.ts", "S": "examples/counter.json", "H": "counter.hex", "N": "5"}
+call("bin/sts build examples/counter.ts > counter.hex")
+for row in re.findall(r"(?m)^\| (`sts .*?) \|", readme):
+    for form in re.findall(r"`(sts [^`]*)`", row):
+        line = "bin/" + " ".join(given.get(word, word) for word in form.split(" "))
+        expect(("forms", line), call(line)[0], 0)
+
+with open(f"{top}/docs/LANGUAGE.md", encoding="utf-8") as file:
+    language = file.read()
+for code, example, line, column in re.findall(r"(?m)^\| (\d+) \|.*?\| ((?:`[^`]*` ?)+): line (\d+), column (\d+) \|", language):
+    with open(f"{folder}/example.ts", "w", encoding="utf-8") as file:
+        file.write("\n".join(re.findall(r"`([^`]*)`", example)))
+    expect(("refusals", example), call("bin/sts check example.ts"), (10, f"refused {code} {line} {column}\n"))
+
+for it in wrong:
+    print(f"as_written: {it}")
+print(f"as_written: {', '.join(f'{count} {what}' for what, count in counts.items())}, {len(wrong)} wrong")
+sys.exit(1 if wrong or not all(counts.values()) else 0)
+PYTHON
