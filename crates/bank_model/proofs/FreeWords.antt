@@ -10,7 +10,7 @@ use Rattle.board_world.specs.declared.events.Event.{Event}
 use Rattle.board_world.specs.declared.events.Listener.{Listener}
 use Rattle.board_world.specs.Modes.{queues_if_busy}
 use Rattle.board_world.specs.Transcript.{decimal_text}
-use Rattle.board_world.specs.Kinds.{Question, Turn, Goes, Asks, Takes, Pauses, Waits, Spawns, Listens, RaisesNow, Ends, Faults, Writes, Raises, Plots, Displays, Sets, Sends, Time, Value, Pressed}
+use Rattle.board_world.specs.Kinds.{Question, Turn, Goes, Takes, Pauses, Waits, Spawns, Listens, RaisesNow, Ends, Faults, Writes, Raises, Plots, Displays, Sets, Sends, Time, Value, Pressed}
 use Rattle.board_world.specs.Simulation.{Ties, ties, Going, Matches, Follows, Simulation, one, always}
 use Rattle.bank_model.specs.Bank.{Bank, bank_move, bank_memory}
 use Rattle.bank_model.specs.Division.{quotient, remainder}

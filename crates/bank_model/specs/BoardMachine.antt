@@ -1,5 +1,6 @@
--- The bank machine with all services: the board's world, in which a fiber stands for each activity, a handler's fiber from its start.
+-- The bank machine: the board's world, in which a fiber stands for each activity, a handler's fiber from its start.
 use Rattle.std.specs.Prelude.{ℕ, List, length}
+use Rattle.thumb_code.specs.declared.register_file.Registers.{Registers}
 use Rattle.thumb_code.specs.Step.{Stepped, On, Served, Faulted}
 use Rattle.thumb_code.specs.Machine.{main_of}
 use Rattle.board_world.specs.Board.{Entry}
@@ -10,7 +11,14 @@ use Rattle.bank_model.specs.Bank.{Bank}
 use Rattle.bank_model.specs.Steps.{bank_step}
 use Rattle.bank_model.specs.Fibers.{Fiber, Shared, shared_at_reset, begins}
 use Rattle.bank_model.specs.AllServices.{service}
-pub use Rattle.bank_model.specs.BankMachine.{memory_of, fiber_of}
+
+-- The memory as a fiber has it: flash, what all fibers share, and its own bank.
+abbrev pub memory_of : List ℕ → Fiber → Shared → Bank × List ℕ
+memory_of flash f s = (record { flash = flash; globals = s.globals; arena = s.arena; base = f.base; words = f.bank }, s.free)
+
+-- The fiber with these registers, out of the memory.
+abbrev pub fiber_of : Registers → Bank × List ℕ → Fiber
+fiber_of r m = record { registers = r; base = m.0.base; bank = m.0.words }
 
 -- What all share, out of the memory, where so many words of the arena are used.
 abbrev pub shared_in : ℕ → Bank × List ℕ → Shared

@@ -3,14 +3,11 @@ pub mod Steps
 pub mod Shows
 pub mod Division
 pub mod Fibers
-pub mod Services
 pub mod Texts
 pub mod Arrays
 pub mod AllServices
 pub mod BoardMachine
 pub mod Standing
 pub mod Watched
-pub mod BankMachine
 pub mod SingleFiber
 pub mod SmallImages
-pub mod BoardRows

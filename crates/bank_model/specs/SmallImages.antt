@@ -1,8 +1,8 @@
 -- Small images, and what the bank machine writes for them.
 use Rattle.std.specs.Prelude.{ℕ, ◌/◌, ◌%◌, List, [], ◌∷◌, ◌++◌}
 use Rattle.board_world.specs.Observations.{ByteList}
-use Rattle.board_world.specs.Board.{transcript_of}
-use Rattle.bank_model.specs.BankMachine.{bank_run}
+use Rattle.board_world.specs.Board.{Entry, transcript_of}
+use Rattle.bank_model.specs.BoardMachine.{bank_run}
 
 -- The bytes of halfwords, low byte first.
 abbrev pub code : List ℕ → List ℕ
@@ -16,3 +16,7 @@ image halves = code (0x3F80 ∷ 0x2000 ∷ 0x000D ∷ 0 ∷ 0x000D ∷ 0 ∷ [])
 -- What is written in n instructions on an empty script that ends at 1000 ms, with these free words.
 abbrev pub written : ℕ → List ℕ → List ℕ → ByteList
 written n free bytes = transcript_of (bank_run bytes 1000 [] free n).board
+
+-- What is written in n instructions on a script that ends at 1000 ms, without free words.
+abbrev pub written_with : ℕ → List Entry → List ℕ → ByteList
+written_with n script bytes = transcript_of (bank_run bytes 1000 script [] n).board

@@ -6,7 +6,7 @@ ghost use Rattle.board_world.specs.World.{tick};
 ghost use Rattle.thumb_code.specs.Machine.{State, reset, main_of};
 ghost use Rattle.bank_model.specs.Shows.{Agrees};
 ghost use Rattle.bank_model.specs.Fibers.{Fiber, Shared, begins, shared_at_reset};
-ghost use Rattle.bank_model.specs.BankMachine.{memory_of, fibers, fiber_turn, bank_start};
+ghost use Rattle.bank_model.specs.BoardMachine.{memory_of, fibers, fiber_turn, bank_start};
 ghost use Rattle.bank_model.specs.SingleFiber.{single, ended};
 
 /// Main's fiber begins with the registers of the machine at reset, and its bank agrees with the RAM there.
