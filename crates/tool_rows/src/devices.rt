@@ -1,12 +1,15 @@
 //! Runs over devices, which are unplugged, fail, or are left where the sink fails.
 
 use crate::commands::{folder, sink, words_of};
+use crate::copying::{Copies, CopyingDevice};
 use crate::folders::wanting;
 use board_ports::{Device, MemoryDevice};
 use run_tool::sts_main;
 use std::alloc::Global;
+use std::cell::RefCell;
 use std::io;
 use std::io::Write;
+use std::rc::Rc;
 use sts_base::{NoMemory, Seq};
 
 /// The text of an image that pauses for 5 ms, writes 7, and shows the frame 7.
@@ -43,7 +46,31 @@ fn show_place<W: Write>(out: &mut W, place: &Option<Box<dyn Device>>) -> io::Res
     }
 }
 
-/// Runs an image or a program, by the command `run-hex` or `run`, over a display and a device at the serial port, and writes the status, what was taken, between bars, and both devices.
+/// Runs an image or a program, by the command `run-hex` or `run`, on a script over these devices, where the put of that number is to fail, and writes the status, what was taken, between bars, and each device.
+fn show_run<W: Write>(
+    alloc: Global,
+    out: &mut W,
+    command: &str,
+    text: &str,
+    script: &str,
+    put: u64,
+    plugs: &mut Vec<Option<Box<dyn Device>>>,
+) -> io::Result<()> {
+    let mut folder = folder(alloc, 0, text).map_err(wanting)?;
+    folder.add(alloc, "s", script.as_bytes()).map_err(wanting)?;
+    let mut sink = sink(alloc, put, 1000).map_err(wanting)?;
+    let words = words_of(alloc, &[command, "f", "s"])?;
+    let status = sts_main(alloc, words.as_slice(), &mut folder, &mut sink, plugs);
+    write!(out, "{status} |")?;
+    out.write_all(sink.taken())?;
+    out.write_all(b"|")?;
+    for place in plugs.iter() {
+        show_place(out, place)?;
+    }
+    Ok(())
+}
+
+/// A run over a display and a device at the serial port.
 fn show_row<W: Write>(
     alloc: Global,
     out: &mut W,
@@ -52,23 +79,34 @@ fn show_row<W: Write>(
     row: &Row,
 ) -> io::Result<()> {
     let (put, write, script) = *row;
-    let mut folder = folder(alloc, 0, text).map_err(wanting)?;
-    folder.add(alloc, "s", script.as_bytes()).map_err(wanting)?;
-    let mut sink = sink(alloc, put, 1000).map_err(wanting)?;
     let display = device(alloc, write).map_err(wanting)?;
     let serial = device(alloc, 0).map_err(wanting)?;
     let mut plugs: Vec<Option<Box<dyn Device>>> = Vec::new(alloc);
     plugs.push(Some(Box::new(alloc, display)?))?;
     plugs.push(Some(Box::new(alloc, serial)?))?;
-    let words = words_of(alloc, &[command, "f", "s"])?;
-    let status = sts_main(alloc, words.as_slice(), &mut folder, &mut sink, &mut plugs);
-    write!(out, "{status} |")?;
-    out.write_all(sink.taken())?;
-    out.write_all(b"|")?;
-    for place in &plugs {
-        show_place(out, place)?;
+    show_run(alloc, out, command, text, script, put, &mut plugs)?;
+    out.write_all(b"\n")
+}
+
+/// Writes the copies, each behind its moment.
+fn show_copies<W: Write>(out: &mut W, copies: &Copies) -> io::Result<()> {
+    out.write_all(b" copies")?;
+    if let Ok(list) = copies.try_borrow() {
+        for (now, word) in list.as_slice() {
+            write!(out, " {now}:{word}")?;
+        }
     }
     out.write_all(b"\n")
+}
+
+/// A run over a display that copies its words to a shared list, and what stands in that list when the display is gone.
+fn show_copying<W: Write>(alloc: Global, out: &mut W, script: &str) -> io::Result<()> {
+    let copies: Copies = Rc::new(alloc, RefCell::new(Vec::new(alloc)))?;
+    let display = CopyingDevice::new(copies.clone()?);
+    let mut plugs: Vec<Option<Box<dyn Device>>> = Vec::new(alloc);
+    plugs.push(Some(Box::new(alloc, display)?))?;
+    show_run(alloc, out, "run", TOGGLES, script, 0, &mut plugs)?;
+    show_copies(out, &copies)
 }
 
 const ROWS: [Row; 7] = [
@@ -89,12 +127,10 @@ const ROWS: [Row; 7] = [
     (0, 0, "{\"end\":9}"),
 ];
 
+const UNPLUGS: &str = "{\"end\":50,\"events\":[{\"at\":30,\"do\":\"unplug\",\"port\":0}]}";
+
 const PROGRAM_ROWS: [Row; 3] = [
-    (
-        0,
-        0,
-        "{\"end\":50,\"events\":[{\"at\":30,\"do\":\"unplug\",\"port\":0}]}",
-    ),
+    (0, 0, UNPLUGS),
     (0, 2, "{\"end\":50,\"events\":[]}"),
     (0, 0, "{\"end\":50,\"events\":[]}"),
 ];
@@ -107,5 +143,5 @@ pub fn show<W: Write>(alloc: Global, out: &mut W) -> io::Result<()> {
     for row in &PROGRAM_ROWS {
         show_row(alloc, out, "run", TOGGLES, row)?;
     }
-    Ok(())
+    show_copying(alloc, out, UNPLUGS)
 }

@@ -4,6 +4,7 @@
 
 mod bigs;
 mod commands;
+mod copying;
 mod devices;
 mod folders;
 mod images;
