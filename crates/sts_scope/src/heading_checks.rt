@@ -12,8 +12,7 @@ ghost use Rattle.sts_base.specs.declared.refused.Code.TheVariants as code;
 
 use crate::by_number::ByNumber;
 use crate::faults::unless;
-use crate::lookup::{entry_number, inherited, inherits_field};
-use crate::{Entry, Known, Owner};
+use crate::{Known, Owner};
 use sts_base::{Code, Refused};
 use sts_syntax::{Binding, Body, Form, Item, Member, Param, Shape, Stmt};
 
@@ -86,14 +85,6 @@ fn check_routine(classes: &ByNumber, body: &Body) -> Result<(), Refused>
     check_written(classes, &body.gives)
 }
 
-/// Whether a declaration of a name of an owner stands before this place.
-fn is_second(entries: &[Entry], d: usize, owner: Owner, x: u32) -> bool
-    ensures { result ≡ look.is_second entries.now d owner x }
-{
-    let n = d.min(entries.len());
-    entry_number(&entries[..n], owner, x).is_some()
-}
-
 /// A field.
 #[tactic(auto, using(sts_syntax::proofs::Laws::declaration_parts))]
 fn check_field(
@@ -105,15 +96,15 @@ fn check_field(
 ) -> Result<(), Refused>
     ensures { Finds result (heading.field_fault (value_at classes.now.values.items) known.now.entries known.now.classes c d (declaration b.now)) }
 {
-    let entries = known.entries.as_slice();
+    let entries = &known.entries;
     let heads = known.classes.as_slice();
     unless(
-        !is_second(entries, d, Owner::Class(c), b.name),
+        !entries.is_second(d, Owner::Class(c), b.name),
         Code::TwiceNamed,
         b.at,
     )?;
     unless(
-        inherited(entries, heads, c, b.name).is_none(),
+        entries.inherited(heads, c, b.name).is_none(),
         Code::TwiceNamed,
         b.at,
     )?;
@@ -137,15 +128,15 @@ fn check_method(
 ) -> Result<(), Refused>
     ensures { Finds result (heading.method_fault (value_at classes.now.values.items) known.now.entries known.now.classes c d x (routine body.now)) }
 {
-    let entries = known.entries.as_slice();
+    let entries = &known.entries;
     let heads = known.classes.as_slice();
     let at = body.at;
     unless(
-        !is_second(entries, d, Owner::Class(c), x),
+        !entries.is_second(d, Owner::Class(c), x),
         Code::TwiceNamed,
         at,
     )?;
-    unless(!inherits_field(entries, heads, c, x), Code::TwiceNamed, at)?;
+    unless(!entries.inherits_field(heads, c, x), Code::TwiceNamed, at)?;
     check_routine(classes, body)
 }
 
