@@ -5,3 +5,4 @@ pub mod Chains
 pub mod SeenNames
 pub mod Parameters
 pub mod Refusals
+pub mod Symbols

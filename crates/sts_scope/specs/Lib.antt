@@ -10,6 +10,7 @@ pub mod Places
 pub mod Rules
 pub mod Codes
 pub mod Values
+pub mod Symbols
 pub mod Adding
 pub mod Seen
 pub mod Known

@@ -9,7 +9,7 @@ ghost use Rattle.sts_scope.specs.Known.{IsDeclared};
 
 use crate::build::{add_declared, add_entry, add_routine, number_classes, parameter_kinds};
 use crate::by_number::ByNumber;
-use crate::{ClassHead, Entry, Kind, Known, Owner, Sort, Table};
+use crate::{ClassHead, Entry, Kind, Known, Owner, Sort, SymbolTable, Table};
 use std::alloc::Global;
 use sts_base::{NoMemory, Seq};
 use sts_syntax::{Binding, Body, Form, Item, Member, Stmt, Unit};
@@ -231,7 +231,7 @@ pub fn declarations_of(alloc: Global, library: &Unit, text: &Unit) -> Result<Dec
     let count = number_classes(&mut classes, 0, library.items.as_slice())?;
     number_classes(&mut classes, count, text.items.as_slice())?;
     let mut known = Known {
-        entries: Seq::new(alloc),
+        entries: SymbolTable::new(alloc),
         classes: Seq::new(alloc),
         kinds: Table::new(alloc),
         library: 0,

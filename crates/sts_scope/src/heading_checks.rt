@@ -1,5 +1,7 @@
 // The headings of functions and of members of classes.
-ghost use Rattle.std.specs.Prelude.{◌≡◌, ℕ, ◌+◌, ◌||◌, ◌≤◌, length, drop, take, is_some, not, false, IfOk, IfErr};
+ghost use Rattle.std.specs.Prelude.{◌≡◌, ℕ, ◌+◌, ◌||◌, ◌==◌, ◌≤◌, length, drop, take, is_some, not, false, IfOk, OnOk, IfErr};
+ghost use Rattle.std.specs.BTreeSet.{contains};
+ghost use Rattle.std.specs.Ordering.{nat_cmp};
 ghost use Rattle.sts_syntax.specs.Annotations.{annotation};
 ghost use Rattle.sts_syntax.specs.Views.{declaration, declarations, routine, parameter, parameters, optional_annotation, optional_expression, statement};
 ghost use Rattle.sts_syntax.specs.Programs.{class_member, class_members, top_level, top_levels};
@@ -12,8 +14,9 @@ ghost use Rattle.sts_base.specs.declared.refused.Code.TheVariants as code;
 
 use crate::by_number::ByNumber;
 use crate::faults::unless;
-use crate::lookup::{entry_number, inherited, inherits_field};
-use crate::{Entry, Known, Owner};
+use crate::{Known, Owner};
+use std::alloc::Global;
+use std::collections::BTreeSet;
 use sts_base::{Code, Refused};
 use sts_syntax::{Binding, Body, Form, Item, Member, Param, Shape, Stmt};
 
@@ -46,52 +49,46 @@ pub fn check_written(classes: &ByNumber, shape: &Option<Shape>) -> Result<(), Re
     }
 }
 
-/// Whether a parameter of a name stands among these.
-fn takes_name(params: &[Param], x: u32) -> bool
-    ensures { result ≡ heading.takes_name (parameters params.now) x }
+/// Notes a name among those of parameters. Whether it is there already.
+fn note(seen: &mut BTreeSet<u32>, x: u32) -> Result<bool, Refused>
+    ensures twice { IfOk result (λ twice. twice ≡ contains nat_cmp seen.old x) }
+    ensures noted { OnOk result ((y : ℕ) → contains nat_cmp seen.new y ≡ (x == y || contains nat_cmp seen.old y)) }
+    ensures err { IfErr result (λ e. e ≡ Refused.NoMemory) }
 {
-    for i in 0..params.len() {
-        if params[i].name == x {
-            return true;
-        }
+    match seen.insert(x) {
+        Ok(added) => Ok(!added),
+        Err(_) => Err(Refused::NoMemory),
     }
-    false
 }
 
-/// A parameter behind others.
-fn check_parameter(classes: &ByNumber, before: &[Param], p: &Param) -> Result<(), Refused>
-    ensures { Finds result (own (optional_annotation p.now.shape) code.NeedsType p.now.at then unless (not (heading.takes_name (parameters before.now) p.now.name)) code.TwiceNamed p.now.at then heading.written_fault (value_at classes.now.values.items) (optional_annotation p.now.shape)) }
+/// A parameter, whose name stands before it already or doesn't.
+fn check_parameter(classes: &ByNumber, twice: bool, p: &Param) -> Result<(), Refused>
+    ensures { Finds result (own (optional_annotation p.now.shape) code.NeedsType p.now.at then unless (not twice) code.TwiceNamed p.now.at then heading.written_fault (value_at classes.now.values.items) (optional_annotation p.now.shape)) }
 {
     unless(p.shape.is_some(), Code::NeedsType, p.at)?;
-    unless(!takes_name(before, p.name), Code::TwiceNamed, p.at)?;
+    unless(!twice, Code::TwiceNamed, p.at)?;
     check_written(classes, &p.shape)
 }
 
 /// The parameters of a function.
-fn check_parameters(classes: &ByNumber, params: &[Param]) -> Result<(), Refused>
+fn check_parameters(alloc: Global, classes: &ByNumber, params: &[Param]) -> Result<(), Refused>
     ensures { Finds result (heading.parameters_fault (value_at classes.now.values.items) (parameters params.now) 0 (parameters params.now)) }
 {
+    let mut seen = BTreeSet::new(alloc);
     for i in 0..params.len() {
-        check_parameter(classes, &params[..i], &params[i])?;
+        let twice = note(&mut seen, params[i].name)?;
+        check_parameter(classes, twice, &params[i])?;
     }
     Ok(())
 }
 
 /// The heading of a function.
 #[tactic(auto, using(sts_syntax::proofs::Laws::routine_parts))]
-fn check_routine(classes: &ByNumber, body: &Body) -> Result<(), Refused>
+fn check_routine(alloc: Global, classes: &ByNumber, body: &Body) -> Result<(), Refused>
     ensures { Finds result (heading.routine_fault (value_at classes.now.values.items) (routine body.now)) }
 {
-    check_parameters(classes, body.params.as_slice())?;
+    check_parameters(alloc, classes, body.params.as_slice())?;
     check_written(classes, &body.gives)
-}
-
-/// Whether a declaration of a name of an owner stands before this place.
-fn is_second(entries: &[Entry], d: usize, owner: Owner, x: u32) -> bool
-    ensures { result ≡ look.is_second entries.now d owner x }
-{
-    let n = d.min(entries.len());
-    entry_number(&entries[..n], owner, x).is_some()
 }
 
 /// A field.
@@ -105,15 +102,15 @@ fn check_field(
 ) -> Result<(), Refused>
     ensures { Finds result (heading.field_fault (value_at classes.now.values.items) known.now.entries known.now.classes c d (declaration b.now)) }
 {
-    let entries = known.entries.as_slice();
+    let entries = &known.entries;
     let heads = known.classes.as_slice();
     unless(
-        !is_second(entries, d, Owner::Class(c), b.name),
+        !entries.is_second(d, Owner::Class(c), b.name),
         Code::TwiceNamed,
         b.at,
     )?;
     unless(
-        inherited(entries, heads, c, b.name).is_none(),
+        entries.inherited(heads, c, b.name).is_none(),
         Code::TwiceNamed,
         b.at,
     )?;
@@ -128,6 +125,7 @@ fn check_field(
 /// A method.
 #[tactic(auto, using(crate::proofs::Parameters::method_at))]
 fn check_method(
+    alloc: Global,
     classes: &ByNumber,
     known: &Known,
     c: u32,
@@ -137,16 +135,16 @@ fn check_method(
 ) -> Result<(), Refused>
     ensures { Finds result (heading.method_fault (value_at classes.now.values.items) known.now.entries known.now.classes c d x (routine body.now)) }
 {
-    let entries = known.entries.as_slice();
+    let entries = &known.entries;
     let heads = known.classes.as_slice();
     let at = body.at;
     unless(
-        !is_second(entries, d, Owner::Class(c), x),
+        !entries.is_second(d, Owner::Class(c), x),
         Code::TwiceNamed,
         at,
     )?;
-    unless(!inherits_field(entries, heads, c, x), Code::TwiceNamed, at)?;
-    check_routine(classes, body)
+    unless(!entries.inherits_field(heads, c, x), Code::TwiceNamed, at)?;
+    check_routine(alloc, classes, body)
 }
 
 /// So many declarations further, if memory could hold so many.
@@ -162,16 +160,22 @@ fn further(d: usize, by: usize) -> Result<usize, Refused>
 
 /// A constructor is no second one.
 #[tactic(auto, using(crate::proofs::Parameters::method_at))]
-fn check_constructor(classes: &ByNumber, made: bool, body: &Body) -> Result<(), Refused>
+fn check_constructor(
+    alloc: Global,
+    classes: &ByNumber,
+    made: bool,
+    body: &Body,
+) -> Result<(), Refused>
     ensures { Finds result (unless (not made) code.TwiceNamed (heading.routine_at (routine body.now)) then heading.routine_fault (value_at classes.now.values.items) (routine body.now)) }
 {
     let at = body.at;
     unless(!made, Code::TwiceNamed, at)?;
-    check_routine(classes, body)
+    check_routine(alloc, classes, body)
 }
 
 /// A member of the class c; the d-th declaration is the next. How many are declared behind it.
 fn check_member(
+    alloc: Global,
     classes: &ByNumber,
     known: &Known,
     c: u32,
@@ -188,11 +192,11 @@ fn check_member(
             further(d, 1)
         }
         Member::Method { name, body } => {
-            check_method(classes, known, c, d, *name, body)?;
+            check_method(alloc, classes, known, c, d, *name, body)?;
             further(d, 1)
         }
         Member::Constructor(body) => {
-            check_constructor(classes, made, body)?;
+            check_constructor(alloc, classes, made, body)?;
             Ok(d)
         }
     }
@@ -211,6 +215,7 @@ fn is_constructor(member: &Member) -> bool
 
 /// The members of a class.
 fn check_members(
+    alloc: Global,
     classes: &ByNumber,
     known: &Known,
     c: u32,
@@ -223,7 +228,7 @@ fn check_members(
     let mut d = first;
     let mut made = false;
     for i in 0..members.len() {
-        d = check_member(classes, known, c, d, made, &members[i])?;
+        d = check_member(alloc, classes, known, c, d, made, &members[i])?;
         made = made || is_constructor(&members[i]);
     }
     Ok(d)
@@ -256,6 +261,7 @@ fn globals_in(s: &Stmt) -> usize
 
 /// A part of a text, before which stand c classes and d declarations. How many are declared behind it.
 fn check_item(
+    alloc: Global,
     classes: &ByNumber,
     known: &Known,
     c: u32,
@@ -274,10 +280,10 @@ fn check_item(
             members,
         } => {
             let first = further(d, 1)?;
-            check_members(classes, known, c, first, members.as_slice())
+            check_members(alloc, classes, known, c, first, members.as_slice())
         }
         Item::Function { name: _, body } => {
-            check_routine(classes, body)?;
+            check_routine(alloc, classes, body)?;
             further(d, 1)
         }
         Item::Stmt(s) => further(d, globals_in(s)),
@@ -307,6 +313,7 @@ fn class_behind(c: u32, item: &Item) -> Result<u32, Refused>
 
 /// The headings of a text, before which stand so many classes and declarations.
 pub fn check_headings(
+    alloc: Global,
     classes: &ByNumber,
     known: &Known,
     first_class: u32,
@@ -318,7 +325,7 @@ pub fn check_headings(
     let mut c = first_class;
     let mut d = first;
     for i in 0..items.len() {
-        d = check_item(classes, known, c, d, &items[i])?;
+        d = check_item(alloc, classes, known, c, d, &items[i])?;
         c = class_behind(c, &items[i])?;
     }
     Ok(())

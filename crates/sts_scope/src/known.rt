@@ -1,12 +1,12 @@
 // What is known of a program, and what a name stands for.
-use crate::{ClassHead, Entry, Kind, Table};
+use crate::{ClassHead, Kind, SymbolTable, Table};
 use sts_base::Seq;
 
 /// All declarations of a library and a text, the library's first.
 #[derive(Drop)]
 pub struct Known {
     /// the declarations, in text order
-    pub entries: Seq<Entry>,
+    pub entries: SymbolTable,
     /// the classes, in text order
     pub classes: Seq<ClassHead>,
     /// The type of each declaration: a global's and a field's own, a function's and method's result. None for a class, and where none is known.

@@ -14,6 +14,7 @@ mod lookup;
 mod names;
 mod resolution;
 mod rows;
+mod symbol_table;
 mod table;
 
 pub use build::{kind_of, written_kind};
@@ -27,4 +28,5 @@ pub use known::{Found, Known, Local, Part, This};
 pub use lookup::{entry_number, inherited, is_dollar, member_number, sort_of};
 pub use resolution::{Scopes, headings, resolve};
 pub use rows::{rows_of_bases, rows_of_headings, rows_of_names};
+pub use symbol_table::SymbolTable;
 pub use table::Table;

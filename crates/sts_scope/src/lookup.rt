@@ -96,7 +96,8 @@ pub fn sort_of(entries: &[Entry], d: usize) -> Option<Sort>
     }
 }
 
-fn is_field(sort: Option<Sort>) -> bool
+/// Whether it is a field.
+pub fn is_field(sort: Option<Sort>) -> bool
     ensures { result ≡ look.is_field sort }
 {
     match sort {
@@ -106,16 +107,6 @@ fn is_field(sort: Option<Sort>) -> bool
         Some(Sort::Function) => false,
         Some(Sort::Class(_)) => false,
         Some(Sort::Global { fixed: _ }) => false,
-    }
-}
-
-/// Whether a class has a field of a name from its bases.
-pub fn inherits_field(entries: &[Entry], classes: &[ClassHead], c: u32, x: u32) -> bool
-    ensures { result ≡ look.inherits_field entries.now classes.now c x }
-{
-    match inherited(entries, classes, c, x) {
-        None => false,
-        Some(d) => is_field(sort_of(entries, d)),
     }
 }
 

@@ -52,6 +52,7 @@ fn check_all(
     check_bases(known.classes.as_slice(), first as usize)?;
     check_chains(known.classes.as_slice(), first as usize)?;
     check_headings(
+        alloc,
         &declared.classes,
         known,
         first,

@@ -12,7 +12,7 @@ ghost use Rattle.type_derive.specs.Shown.{shown, all_shown};
 use crate::kinds::flat;
 use crate::scopes::{Scope, kind_at, name_found};
 use sts_base::Tables;
-use sts_scope::{Base, ClassHead, Found, Kind, Known, Part, Sort, This, inherited, sort_of};
+use sts_scope::{Base, ClassHead, Found, Kind, Known, Part, Sort, This, sort_of};
 use sts_syntax::{BoardCall, Expr, Node, board_call, board_constant};
 
 /// What is called, but for calls of the board.
@@ -153,7 +153,7 @@ pub fn super_method(known: &Known, this: This, m: u32) -> Option<usize>
 {
     match this {
         This::Object(c) => {
-            match inherited(known.entries.as_slice(), known.classes.as_slice(), c, m) {
+            match known.entries.inherited(known.classes.as_slice(), c, m) {
                 None => None,
                 Some(d) => method_of(known, d),
             }

@@ -7,8 +7,7 @@ ghost use Rattle.type_derive.specs.Scopes.{place};
 use crate::kinds::{class_of, flat, is_array, item, same};
 use sts_base::Tables;
 use sts_scope::{
-    Base, Entry, Found, Kind, Known, Local, Owner, Part, Sort, This, entry_number, is_dollar,
-    member_number, sort_of,
+    Base, Entry, Found, Kind, Known, Local, Owner, Part, Sort, This, is_dollar, sort_of,
 };
 
 /// Where something stands.
@@ -58,14 +57,13 @@ fn entry_found(d: usize, sort: Sort) -> Found
 fn global_named(known: &Known, library: bool, x: u32) -> Found
     ensures { result ≡ name.global_named known.now library x }
 {
-    let entries = known.entries.as_slice();
-    match entry_number(entries, Owner::Whole, x) {
+    match known.entries.number(Owner::Whole, x) {
         None => Found::Unknown,
         Some(d) => {
             if library && known.library <= d {
                 Found::Unknown
             } else {
-                match sort_of(entries, d) {
+                match sort_of(known.entries.as_slice(), d) {
                     None => Found::Unknown,
                     Some(sort) => entry_found(d, sort),
                 }
@@ -213,12 +211,11 @@ fn member_part(d: usize, sort: Option<Sort>) -> Part
 fn class_part(known: &Known, class: Option<u32>, m: u32) -> Part
     ensures { result ≡ rule.class_part known.now class m }
 {
-    let entries = known.entries.as_slice();
     match class {
         None => Part::Missing,
-        Some(c) => match member_number(entries, known.classes.as_slice(), c, m) {
+        Some(c) => match known.entries.member(known.classes.as_slice(), c, m) {
             None => Part::Missing,
-            Some(d) => member_part(d, sort_of(entries, d)),
+            Some(d) => member_part(d, sort_of(known.entries.as_slice(), d)),
         },
     }
 }

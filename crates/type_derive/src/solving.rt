@@ -193,7 +193,7 @@ fn rounds(
     Ok(())
 }
 
-/// Goes on with the declaration that was asked for last, else with the next one that wasn't asked for yet. The next one behind it.
+/// Goes on with the declaration that was asked for last, else with one that waited for a type that is known now, else with the next one. The next one behind it.
 fn step(
     alloc: Global,
     wanted: &mut Wanted,
@@ -209,14 +209,13 @@ fn step(
     ensures same { OnOk result (Keeps known.old known.new) }
 {
     match wanted.last() {
-        None => {
-            wanted.ask(next)?;
-            Ok(next.saturating_add(1))
-        }
+        None => wanted.go_on(next),
         Some(d) => {
             let pending = wanted.pending();
             if d < known.kinds.len() {
-                advance(alloc, wanted, classes, tables, known, origins, d)?;
+                wanted.begin(d);
+                let said = advance(alloc, wanted, classes, tables, known, origins, d)?;
+                wanted.answer(d, said)?;
             }
             if wanted.pending() == pending {
                 wanted.done();
@@ -240,9 +239,12 @@ fn in_order(
     ensures len { OnOk result (length known.new.kinds ≡ length known.old.kinds) }
     ensures same { OnOk result (Keeps known.old known.new) }
 {
-    // Each declaration is asked for once, and each is gone on with once more for each time that it asks for others.
+    // Each declaration is asked for once, and gone on with once more for each time that it asks for others or is woken: once for each that it waits for.
     let mut next = 0;
-    for _ in 0..known.kinds.len().saturating_mul(4) {
+    for _ in 0..u64::MAX {
+        if wanted.is_over(next) {
+            break;
+        }
         next = step(alloc, wanted, classes, tables, known, origins, next)?;
     }
     Ok(())

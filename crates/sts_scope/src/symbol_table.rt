@@ -1,0 +1,169 @@
+// Declarations, which are found by their owners and names.
+ghost use Rattle.std.specs.Prelude.{◌≡◌, [], ◌∷◌, ◌++◌, ◌<◌, ◌^◌, length, slice_get, OnOk, OnErr, OnSome};
+ghost use Rattle.std.specs.Option.{option_copied};
+ghost use Rattle.sts_scope.specs.Lookup as look;
+ghost use Rattle.sts_scope.specs.Symbols.{key, Notes};
+
+use crate::lookup::{base_of, is_field, sort_of};
+use crate::{ClassHead, Entry, Owner};
+use std::alloc::Global;
+use std::collections::BTreeMap;
+use std::marker::Model;
+use sts_base::NoMemory;
+
+/// Declarations in text order. Contracts see the list of them. The first one of a name of an owner is found in logarithmic time.
+#[derive(Drop)]
+pub struct SymbolTable {
+    entries: Vec<Entry>,
+    /// the number of the first declaration of each name of each owner, by the name's key
+    numbers: BTreeMap<u128, usize>,
+}
+
+impl Model for SymbolTable {
+    ghost use Rattle.std.specs.Prelude.{List};
+    ghost use Rattle.sts_scope.specs.declared.entries.Entry.{Entry};
+    ghost use Rattle.sts_scope.specs.Symbols.{IsIndexed};
+
+    ghost Value = { List Entry };
+
+    ghost view = { λ table. table.entries.items };
+
+    ghost invariant = { λ table. IsIndexed table.numbers table.entries.items };
+}
+
+/// The key of a name of an owner.
+fn key(owner: Owner, x: u32) -> u128
+    ensures value { result ≡ key owner x }
+    ensures name { x < 2 ^ 32 }
+{
+    match owner {
+        Owner::Whole => u128::from(x),
+        Owner::Class(c) => (u128::from(c) + 1) * 4_294_967_296 + u128::from(x),
+    }
+}
+
+/// Notes a number at a key, unless one is kept there. After `NoMemory` nothing is noted.
+fn note(numbers: &mut BTreeMap<u128, usize>, key: u128, d: usize) -> Result<(), NoMemory>
+    ensures ok { OnOk result (Notes numbers.old numbers.new key d) }
+    ensures err { OnErr result (numbers.new.entries ≡ numbers.old.entries) }
+{
+    if numbers.contains_key(&key) {
+        return Ok(());
+    }
+    match numbers.insert(key, d) {
+        Ok(_) => Ok(()),
+        Err(_) => Err(NoMemory),
+    }
+}
+
+impl SymbolTable {
+    /// No declarations.
+    pub fn new(alloc: Global) -> SymbolTable
+        ensures { result ≡ [] }
+    {
+        SymbolTable {
+            entries: Vec::new(alloc),
+            numbers: BTreeMap::new(alloc),
+        }
+    }
+
+    /// How many declarations there are.
+    pub fn len(&self) -> usize
+        ensures { result ≡ length self.now }
+    {
+        self.entries.len()
+    }
+
+    /// The declaration of a number. None exactly past the end.
+    pub fn get(&self, d: usize) -> Option<&Entry>
+        ensures value { option_copied result ≡ slice_get self.now d }
+        ensures within { OnSome result (d < length self.now) }
+    {
+        self.entries.get(d)
+    }
+
+    /// All declarations, in text order.
+    pub fn as_slice(&self) -> &[Entry]
+        ensures { result.now ≡ self.now }
+    {
+        self.entries.as_slice()
+    }
+
+    /// Adds a declaration. After `NoMemory` none is added.
+    pub fn push(&mut self, entry: Entry) -> Result<(), NoMemory>
+        ensures ok { OnOk result (self.new ≡ self.old ++ entry ∷ []) }
+        ensures err { OnErr result (self.new ≡ self.old) }
+    {
+        let place = key(entry.owner, entry.name);
+        let d = self.entries.len();
+        match self.entries.push(entry) {
+            Ok(()) => {}
+            Err(_) => return Err(NoMemory),
+        }
+        match note(&mut self.numbers, place, d) {
+            Ok(()) => Ok(()),
+            Err(NoMemory) => {
+                self.entries.pop();
+                Err(NoMemory)
+            }
+        }
+    }
+
+    /// The number of the first declaration of a name of an owner.
+    pub fn number(&self, owner: Owner, x: u32) -> Option<usize>
+        ensures { result ≡ look.entry_number self.now owner x }
+    {
+        match self.numbers.get(&key(owner, x)) {
+            None => None,
+            Some(d) => Some(*d),
+        }
+    }
+
+    /// Whether a declaration of a name of an owner stands before the d-th one.
+    #[tactic(auto, using(crate::proofs::Symbols::second_is))]
+    pub fn is_second(&self, d: usize, owner: Owner, x: u32) -> bool
+        ensures { result ≡ look.is_second self.now d owner x }
+    {
+        match self.number(owner, x) {
+            None => false,
+            Some(first) => first < d,
+        }
+    }
+
+    /// The member of a name of a class: its own one, else that of the nearest base that has one.
+    pub fn member(&self, classes: &[ClassHead], c: u32, x: u32) -> Option<usize>
+        ensures { result ≡ look.member_number self.now classes.now c x }
+    {
+        let mut at = c;
+        for _ in 0..classes.len() {
+            if let Some(d) = self.number(Owner::Class(at), x) {
+                return Some(d);
+            }
+            match base_of(classes, at as usize) {
+                None => return None,
+                Some(b) => at = b,
+            }
+        }
+        None
+    }
+
+    /// The member of a name that a class has from its bases.
+    pub fn inherited(&self, classes: &[ClassHead], c: u32, x: u32) -> Option<usize>
+        ensures { result ≡ look.inherited self.now classes.now c x }
+    {
+        match base_of(classes, c as usize) {
+            None => None,
+            Some(b) => self.member(classes, b, x),
+        }
+    }
+
+    /// Whether a class has a field of a name from its bases.
+    pub fn inherits_field(&self, classes: &[ClassHead], c: u32, x: u32) -> bool
+        ensures { result ≡ look.inherits_field self.now classes.now c x }
+    {
+        match self.inherited(classes, c, x) {
+            None => false,
+            Some(d) => is_field(sort_of(self.as_slice(), d)),
+        }
+    }
+}
