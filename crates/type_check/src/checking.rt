@@ -8,13 +8,13 @@ ghost use Rattle.type_derive.specs.Accepted.{IsAccepted};
 ghost use Rattle.type_check.specs.Checking.{Refuses};
 
 use crate::finding::find_failure;
-use crate::limits::program_fits;
-use crate::typed_of;
+use crate::build_program::typed_of;
 use std::alloc::Global;
 use sts_base::{Code, Refused, Tables};
 use sts_scope::{headings, or_no_memory, unless};
 use sts_syntax::{Typed, Unit};
 use type_derive::solve;
+use typed_limits::program_fits;
 
 /// The counted limits.
 fn check_limits(alloc: Global, typed: &Typed, tables: &Tables) -> Result<(), Refused>

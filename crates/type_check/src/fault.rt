@@ -19,14 +19,16 @@ use crate::bounds::{
     bound, check_local, check_parameter_types, fits, is_boolean, is_list, is_nothing, kind_role,
     shape_role,
 };
+use crate::build_scopes::handler_scope;
 use crate::codes::why_this;
+use crate::context::Context;
 use crate::nodes::{
     board_call_seen, bump_kind, call_seen, callee, is_called, is_served, items_seen, make_seen,
     member_seen, name_seen, set_kind, settable, super_call_seen,
 };
 use crate::places::enter_loop;
+use crate::results::handler_result;
 use crate::seen::{Seen, always, own, plain};
-use crate::{Context, handler_result, handler_scope};
 use sts_base::{Code, Refused, Seq};
 use sts_scope::{Base, Kind, check_written, is_dollar, or_no_memory, unless};
 use sts_syntax::{Binding, BoardCall, BoardParameter, Body, Expr, Form, Node, Shape, Stmt};

@@ -15,7 +15,7 @@ ghost use Rattle.type_derive.specs.Typing.{◌>>=◌ as bind};
 ghost use Rattle.type_check.specs.Naming.{naming};
 ghost use Rattle.type_check.specs.Seen.{plain, part_at, member, kinds_given, listed_kind, called_kind, own_called_kind, super_callee, board_kind_of};
 
-use crate::Context;
+use crate::context::Context;
 use crate::arguments::{are_given, call_type, items_kind, lacks_handler};
 use crate::codes::{why_call, why_make, why_name, why_part, why_super};
 use crate::seen::{Seen, own, plain};

@@ -12,7 +12,7 @@ ghost use Rattle.type_derive.specs.Passes as pass;
 ghost use Rattle.type_check.specs.Naming.{naming};
 ghost use Rattle.type_check.specs.Texts.{override_fault};
 
-use crate::Context;
+use crate::context::Context;
 use sts_base::{Code, Refused};
 use sts_scope::{Kind, Known, inherited, unless};
 use sts_syntax::{Body, Form, Item, Member, Stmt};
