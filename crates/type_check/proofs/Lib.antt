@@ -27,3 +27,4 @@ mod Items
 mod ClassParts
 pub mod Constructors
 pub mod Initials
+pub mod Counted
