@@ -41,6 +41,10 @@ short_upto which k zero h = refl
 short_upto which k (suc n) h =
     one_more (names_upto which k n) (names_from which k (length k.classes) n) (short_upto which k n (λ c l. h c (omega arith))) (h n (omega arith))
 
+longer : (b : Bool) (u : ValueType) (x : ℕ) (us : List ValueType) (xs : List ℕ) → length us ≡ length xs → length (elim b as (λ z. List ValueType) [ true ↦ u ∷ us | false ↦ us ]) ≡ length (elim b as (λ z. List ℕ) [ true ↦ x ∷ xs | false ↦ xs ])
+longer true u x us xs h = ap suc h
+longer false u x us xs h = h
+
 module _ (tables : Tables) (names : Naming) (k : Known) (numbers : Numbering) where
   classes_long : (c : ℕ) (xs : List ClassHead) → length (p.class_entries tables names k numbers c xs) ≡ length xs
   classes_long c [] = refl
@@ -48,11 +52,8 @@ module _ (tables : Tables) (names : Naming) (k : Known) (numbers : Numbering) wh
 
   globals_long : (d : ℕ) (es : List Entry) → length (p.global_types tables names k numbers d es) ≡ length (names_of is_global es)
   globals_long d [] = refl
-  globals_long d (a ∷ rest) = by (is_global a.sort) where
-    by : (b : Bool) → length (elim b [ true ↦ p.class_result tables names k numbers (kind_at k d) ∷ p.global_types tables names k numbers (suc d) rest | false ↦ p.global_types tables names k numbers (suc d) rest ])
-        ≡ length (elim b [ true ↦ a.name ∷ names_of is_global rest | false ↦ names_of is_global rest ])
-    by true = ap suc (globals_long (suc d) rest)
-    by false = globals_long (suc d) rest
+  globals_long d (a ∷ rest) =
+      longer (is_global a.sort) (p.class_result tables names k numbers (kind_at k d)) a.name (p.global_types tables names k numbers (suc d) rest) (names_of is_global rest) (globals_long (suc d) rest)
 
   each : (c : ℕ) (xs : List ClassHead) → list_all class_fits (p.class_entries tables names k numbers c xs) ≡ true → (i : ℕ) → i < length xs → class_fits (p.class_entry tables names k numbers (c + i)) ≡ true
   each c [] h i l = absurd (omega arith)
@@ -88,7 +89,8 @@ module _ (tables : Tables) (names : Naming) (k : Known) (numbers : Numbering) wh
       let (g, c) = both G C h2 in
       let n = length k.classes in
       let all = each 0 k.classes (ap (list_all class_fits) (sym hc) ∙ e) in
-      let at : (i : ℕ) → i < n → class_fits (p.class_entry tables names k numbers i) ≡ true = λ i l. all i l in
+      let at : (i : ℕ) → i < n → class_fits (p.class_entry tables names k numbers i) ≡ true =
+      λ i l. (let z : 0 + i ≡ i = omega arith in subst (λ j. class_fits (p.class_entry tables names k numbers j) ≡ true) z (all i l)) in
       let c' : nat_le n 64 ≡ true = ap (λ i. nat_le i 64) (sym (ap length hc ∙ classes_long 0 k.classes)) ∙ c in
       let g' : nat_le (length (names_of is_global k.entries)) 256 ≡ true = ap (λ i. nat_le i 256) (sym (ap length hg ∙ globals_long 0 k.entries)) ∙ g in
       let f' = short_upto is_field k n (λ i l. (short i (at i l)).0) in
@@ -102,5 +104,5 @@ module _ (tables : Tables) (names : Naming) (k : Known) (numbers : Numbering) wh
   over_limit texts P hc hg found h = by (counts_fit k) (program_fits texts P) (counted texts P hc hg) h where
     by : (x y : Bool) → (y ≡ true → x ≡ true) → unless x OverLimit 0 ≡ Some found → unless y OverLimit 0 ≡ Some found
     by true y i e = cc
-    by false true i e = absurd (cc)
+    by false true i e = (let w = i refl in cc)
     by false false i e = e
