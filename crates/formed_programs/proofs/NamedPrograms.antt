@@ -19,8 +19,8 @@ use Rattle.sts_scope.specs.Lookup.{base_of}
 use Rattle.sts_scope.specs.Places.{outside}
 use Rattle.sts_scope.specs.Rules.{kind_at, maker_takes_of}
 use Rattle.sts_scope.specs.Scopes.{all_names, library_classes}
-use Rattle.type_derive.specs.Handlers.{unwritten, item_routines, declared_handlers, routine_handlers, all_routines}
-use Rattle.type_derive.specs.Numbers.{Numbering, numbering, global_number, maker_number}
+use Rattle.sts_scope.specs.Handlers.{unwritten, item_routines, declared_handlers, routine_handlers, all_routines}
+use Rattle.sts_scope.specs.Numbers.{Numbering, numbering, global_number, maker_number}
 use Rattle.type_derive.specs.Built.{Site, made_first, made_given, made_statements}
 use Rattle.type_derive.specs.Programs.{◌before◌, passed_on, site, class_result, function_made, method_made, initial_made, set_field, initials, super_called, made_statements_of, constructor_made, passes_on, unwritten_made, members_made, class_made, global_made, globals_made, main_made, items_made, library_made}
 use Rattle.type_derive.specs.Formed.{BodyHas, DeclarationHas, DeclarationsHave, StatementsHave, MembersHave, ProgramHas, StatementHas, TextsBelow}

@@ -22,7 +22,7 @@ use Rattle.sts_syntax.specs.declared.typed.Spot.{Spot}
 use Rattle.type_derive.specs.Typing.{space_of, space, own_call, board_callee, ◌>>=◌}
 use Rattle.type_derive.specs.Making.{Made, ◌>=>◌}
 use Rattle.type_derive.specs.Built.{Site, behind_statement, routine, made_tree, made_asked, made_statement, made_statements, made_locals, made_local, made_first}
-use Rattle.type_derive.specs.Numbers.{Numbering, numbering}
+use Rattle.sts_scope.specs.Numbers.{Numbering, numbering}
 use Rattle.type_derive.specs.Programs.{site, class_result, library_made}
 use Rattle.type_derive.specs.Accepted.{AreDerived}
 use Rattle.type_derive.specs.Libraries.{taken}

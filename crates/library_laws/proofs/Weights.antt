@@ -20,10 +20,10 @@ use Rattle.type_derive.specs.Returns.{within, bound}
 use Rattle.type_derive.specs.Typing.{space_of, space, own_call, board_callee, ◌>>=◌}
 use Rattle.type_derive.specs.Making.{Made, ◌>=>◌}
 use Rattle.type_derive.specs.Built.{Site, behind_statement, made_tree, made_asked, made_statement, made_statements, made_locals, made_local, made_first}
-use Rattle.type_derive.specs.Numbers.{Numbering, numbering}
+use Rattle.sts_scope.specs.Numbers.{Numbering, numbering}
 use Rattle.type_derive.specs.Programs.{site, items_made, library_made}
 use Rattle.sts_scope.specs.Scopes.{all_names, library_classes}
-use Rattle.type_derive.specs.Handlers.{all_routines}
+use Rattle.sts_scope.specs.Handlers.{all_routines}
 use Rattle.type_derive.specs.Accepted.{AreDerived, known, main_routine, typed}
 use Rattle.sts_prelude.specs.Library as l
 use Rattle.sts_prelude.proofs.Tokens.{own_tokens}

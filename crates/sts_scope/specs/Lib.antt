@@ -16,3 +16,5 @@ pub mod Seen
 pub mod Known
 pub mod Lists
 pub mod Rows
+pub mod Handlers
+pub mod Numbers

@@ -31,7 +31,8 @@ use Rattle.type_derive.specs.Returns.{parameter_locals, within}
 use Rattle.type_derive.specs.Nodes.{initial_fault, own_bound, faults, statements_fault}
 use Rattle.type_derive.specs.Passes.{agrees, overrides_fault, item_overrides, all_overrides, globals_fault, main_fault, body_fault, own_super_call, made_fault, constructor_fault, members_nodes, item_nodes, nodes_fault}
 use Rattle.type_derive.specs.Passes as passes
-use Rattle.type_derive.specs.Limits.{program_fits, limits_fault}
+use Rattle.typed_limits.specs.Limits.{program_fits}
+use Rattle.type_derive.specs.Limits.{limits_fault}
 use Rattle.type_derive.specs.Accepted.{known, typed, refusal}
 use Rattle.sts_whole.proofs.NodePlaces.{ParametersAt, RoutineAt, DeclarationAt, DeclarationsAt, StatementAt, StatementsAt, MemberAt, MembersAt, ItemAt, ProgramAt}
 use Rattle.sts_whole.proofs.FailurePlaces.{FailsAt, none_in, at_in, then_in, unless_in, own_in, written_in, bound_in, initial_in, faults_in, statement_in, statements_in}

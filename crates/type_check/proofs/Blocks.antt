@@ -9,7 +9,7 @@ use Rattle.sts_scope.specs.Entries.{Naming}
 use Rattle.sts_scope.specs.Places.{Place}
 use Rattle.type_derive.specs.Built.{Site, in_block, behind_statement, new_spots}
 use Rattle.type_derive.specs.Moves.{Extends, left}
-use Rattle.type_derive.specs.Numbers.{Numbering}
+use Rattle.sts_scope.specs.Numbers.{Numbering}
 use Rattle.type_derive.specs.Returns.{after}
 use Rattle.type_derive.proofs.Moves.{after_extends}
 

@@ -16,18 +16,18 @@ use Rattle.sts_scope.specs.Kinds.{nothing}
 use Rattle.sts_scope.specs.Rules as rule
 use Rattle.type_derive.specs.Built as b
 use Rattle.type_derive.specs.Making.{Made, Making, pure, ◌>=>◌}
-use Rattle.type_derive.specs.Numbers.{routine_number}
+use Rattle.sts_scope.specs.Numbers.{routine_number}
 use Rattle.type_derive.specs.Typing as typing
 use Rattle.type_check.specs.declared.build_places.Plan.{Plan}
 use Rattle.type_check.specs.declared.build_heads.Head.{Head}
 use Rattle.type_check.specs.declared.build_heads.Head.TheVariants as head
-use Rattle.type_check.specs.Building.{numbering_of}
+use Rattle.typed_numbers.specs.Building.{numbering_of}
 use Rattle.type_check.specs.Sites as s
 use Rattle.type_check.specs.Sites.{tree_made, tree_kind, given_made, items_made, asked_made, made_of, joined, naming}
 use Rattle.type_check.specs.Calls as call
 use Rattle.type_check.specs.Calls.{Places, Kinds, Alike, Asks, argument_made, arguments_made, asked_one, served, head_of, head_made, passed_made, object_made, behind_made, head_places, head_node, type_noted, has_list}
 use Rattle.type_check.proofs.GivenTrees.{next_at, later_at}
-use Rattle.type_check.proofs.Listed.{items_is}
+use Rattle.typed_numbers.proofs.Listed.{items_is}
 use Rattle.type_check.proofs.Made.{alone}
 
 none_noted : (given kind : Option Kind) (at : ℕ) (xs : List Expr) → length xs < 1 → s.noted given ≡ type_noted given kind (Items at (trees xs))

@@ -1,5 +1,5 @@
 -- The first failure of all passes, by what the code finds pass by pass.
-use Rattle.std.proofs.Common.{◌≡◌, Option, Some, None, sym, ap, ◌∙◌}
+use Rattle.std.proofs.Common.{◌≡◌, Option, Some, None, ◌++◌, refl, sym, ap, ◌∙◌}
 use Rattle.std.proofs.Math.Path.{fun_ext}
 use Rattle.sts_base.specs.declared.tables.Tables.{Tables}
 use Rattle.sts_base.specs.declared.refused.Refused.{Refused}
@@ -10,7 +10,11 @@ use Rattle.sts_scope.specs.declared.known.Known.{Known}
 use Rattle.sts_scope.specs.declared.collect.Declared.{Declared}
 use Rattle.sts_scope.specs.Entries.{Naming}
 use Rattle.sts_scope.specs.Values.{value_at}
-use Rattle.sts_scope.specs.Faults.{Fault, RefusedWith, ◌then◌}
+use Rattle.sts_base.specs.declared.refused.Code.TheVariants.{OverLimit}
+use Rattle.sts_scope.specs.Faults.{Fault, RefusedWith, ◌then◌, unless}
+use Rattle.sts_scope.specs.Numbers.{numbering}
+use Rattle.typed_numbers.specs.Counts.{counts_fit}
+use Rattle.type_check.proofs.Counted.{over_limit}
 use Rattle.sts_scope.specs.Scopes.{all_names, library_classes, heading_refusal}
 use Rattle.type_derive.specs.Passes.{all_overrides, nodes_fault}
 use Rattle.type_derive.specs.Limits.{limits_fault}
@@ -58,6 +62,15 @@ module _ (tables : Tables) (library text : Program) where
     pub found_refused : (why : Refused) → heading_refusal tables.names library text ≡ None → RefusedWith why found → Refuses why tables library text
     found_refused (r.Program code at) h f = (d.known.kinds, s.derived, refusal_is h ∙ ap (λ x. x then limits) f)
     found_refused r.NoMemory h f = tt
+
+    -- a program that declares more than a limit allows passes it
+    pub counts_refused : heading_refusal tables.names library text ≡ None → found ≡ None → (why : Refused) → RefusedWith why (unless (counts_fit d.known) OverLimit 0) → Refuses why tables library text
+    counts_refused h none (r.Program code at) f =
+        let n = numbering (library ++ text) in
+        let over = over_limit tables (all_names library text) k n tables.texts (typed tables library text d.known.kinds) refl refl (record { code = code; at = at })
+        (ap (λ x. unless (counts_fit x) OverLimit 0) (sym s.known_is) ∙ f) in
+        (d.known.kinds, s.derived, refusal_is h ∙ ap (λ x. x then limits) none ∙ over)
+    counts_refused h none r.NoMemory f = tt
 
     module _ (h : heading_refusal tables.names library text ≡ None) (none : found ≡ None) (p : TypedProgram) (is : p ≡ typed tables library text d.known.kinds) where
       rest_is : refusal tables library text d.known.kinds ≡ limits_fault tables.texts p

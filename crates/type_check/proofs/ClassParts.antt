@@ -5,7 +5,7 @@ use Rattle.sts_syntax.specs.Programs.{ClassMember, Field, Method, Constructor, c
 use Rattle.sts_scope.proofs.Lists.{drop_at}
 use Rattle.sts_syntax.specs.TypedTrees.{TypedStatement}
 use Rattle.sts_scope.specs.Entries.{Naming, member_entry, member_entries}
-use Rattle.type_derive.specs.Handlers.{member_routines, members_routines, declared_handlers, routine_handlers}
+use Rattle.sts_scope.specs.Handlers.{member_routines, members_routines, declared_handlers, routine_handlers}
 use Rattle.type_check.specs.declared.build_places.Plan.{Plan}
 use Rattle.type_check.specs.Sites.{naming}
 use Rattle.type_check.specs.Wholes as w

@@ -13,9 +13,9 @@ use Rattle.sts_scope.specs.declared.entries.ClassHead.{ClassHead}
 use Rattle.sts_scope.specs.declared.known.Known.{Known}
 use Rattle.sts_scope.specs.Scopes.{is_global}
 use Rattle.sts_scope.specs.Rules.{kind_at}
-use Rattle.type_derive.specs.Numbers.{names_from}
+use Rattle.sts_scope.specs.Numbers.{names_from}
 use Rattle.type_check.specs.declared.build_places.Plan.{Plan}
-use Rattle.type_check.specs.Building.{names_upto}
+use Rattle.typed_numbers.specs.Building.{names_upto}
 use Rattle.type_check.specs.Wholes as w
 use Rattle.std.proofs.lemmas.Bool.{cases_eq}
 use Rattle.std.specs.Prelude.{Result, Ok, Err, OnOk}

@@ -4,7 +4,7 @@ use Rattle.std.specs.Prelude.{if◌then◌else◌}
 use Rattle.std.proofs.lemmas.Option.{get_or_from_slice_get, slice_get_within}
 use Rattle.sts_scope.specs.declared.entries.Entry.{Entry}
 use Rattle.sts_scope.specs.Scopes.{is_global, names_of}
-use Rattle.type_check.specs.Building.{globals_from}
+use Rattle.typed_numbers.specs.Building.{globals_from}
 
 counted : (b : Bool) (e : Entry) (n : ℕ) (names : List ℕ) → (if b then n + 1 else n) + length names ≡ n + length {A = ℕ} (elim b [ true ↦ e.name ∷ names | false ↦ names ])
 counted true e n names = omega arith

@@ -8,7 +8,7 @@ use Rattle.sts_syntax.specs.Views.{declaration, optional_annotation, optional_ex
 use Rattle.sts_syntax.proofs.Laws.{declaration_parts}
 use Rattle.sts_scope.specs.declared.known.This.TheVariants as this
 use Rattle.sts_scope.specs.Entries.{member_entry}
-use Rattle.type_derive.specs.Handlers.{member_routines, declared_handlers, routine_handlers}
+use Rattle.sts_scope.specs.Handlers.{member_routines, declared_handlers, routine_handlers}
 use Rattle.type_check.specs.declared.build_places.Plan.{Plan}
 use Rattle.type_check.specs.Sites as s
 use Rattle.type_check.specs.Sites.{naming}

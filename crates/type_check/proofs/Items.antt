@@ -10,12 +10,12 @@ use Rattle.sts_syntax.specs.TypedViews.{typed_routines}
 use Rattle.sts_scope.proofs.Lists.{drop_at}
 use Rattle.sts_scope.specs.declared.known.Known.{Known}
 use Rattle.sts_scope.specs.Entries.{Naming, classes_in, item_entries}
-use Rattle.type_derive.specs.Handlers.{item_routines, all_routines}
+use Rattle.sts_scope.specs.Handlers.{item_routines, all_routines}
 use Rattle.type_derive.specs.Making.{Made}
-use Rattle.type_derive.specs.Numbers.{Numbering}
+use Rattle.sts_scope.specs.Numbers.{Numbering}
 use Rattle.type_derive.specs.Programs as p
 use Rattle.type_derive.specs.Programs.{◌before◌}
-use Rattle.type_check.specs.Building.{numbering_of}
+use Rattle.typed_numbers.specs.Building.{numbering_of}
 use Rattle.type_check.specs.declared.build_parts.Whole.{Whole}
 use Rattle.type_check.specs.declared.build_places.Plan.{Plan}
 use Rattle.type_check.specs.Sites.{naming}

@@ -1,6 +1,3 @@
-mod Lengths
-pub mod Noting
-mod Behind
 mod Checked
 pub mod Calls
 pub mod Found
@@ -8,10 +5,7 @@ pub mod Steps
 pub mod Parts
 pub mod Taking
 pub mod Texts
-pub mod Listed
 pub mod Values
-pub mod Numbered
-pub mod Chains
 pub mod Made
 pub mod Pieces
 pub mod Blocks
@@ -33,3 +27,4 @@ mod Items
 mod ClassParts
 pub mod Constructors
 pub mod Initials
+pub mod Counted

@@ -11,7 +11,7 @@ use Rattle.sts_syntax.specs.Views.{declaration, declarations}
 use Rattle.sts_scope.proofs.Lists.{drop_at}
 use Rattle.sts_scope.specs.declared.known.This.TheVariants as this
 use Rattle.type_derive.specs.Making.{Making, pure, ◌>=>◌}
-use Rattle.type_derive.specs.Numbers.{global_number}
+use Rattle.sts_scope.specs.Numbers.{global_number}
 use Rattle.type_check.specs.Heads.{Declares, lets_of}
 use Rattle.type_check.specs.declared.build_places.Builder.{Builder}
 use Rattle.type_check.specs.declared.build_places.Plan.{Plan}

@@ -21,9 +21,9 @@ use Rattle.sts_scope.specs.Entries.{Naming, written_kind}
 use Rattle.sts_scope.specs.Kinds.{value_type}
 use Rattle.type_derive.specs.Built.{Site, kind_or_nothing, made_first, made_local, spots_from}
 use Rattle.type_derive.specs.Making.{Making, pure, ◌>=>◌}
-use Rattle.type_derive.specs.Numbers.{Numbering}
+use Rattle.sts_scope.specs.Numbers.{Numbering}
 use Rattle.type_derive.specs.Returns.{all_declared, declared, bound}
-use Rattle.type_check.specs.Building.{numbering_of}
+use Rattle.typed_numbers.specs.Building.{numbering_of}
 use Rattle.type_check.specs.Sites as s
 use Rattle.type_check.specs.Steps.{handler_site, IsBuilt, local_made, bound_kind}
 use Rattle.type_check.specs.declared.build_places.Builder.{Builder}

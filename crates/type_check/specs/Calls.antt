@@ -19,9 +19,9 @@ use Rattle.sts_scope.specs.Kinds.{nothing}
 use Rattle.sts_scope.specs.Rules.{takes_at, maker_takes_of}
 use Rattle.type_derive.specs.Built as b
 use Rattle.type_derive.specs.Making.{Making, pure, ◌>=>◌}
-use Rattle.type_derive.specs.Numbers.{routine_number}
+use Rattle.sts_scope.specs.Numbers.{routine_number}
 use Rattle.type_derive.specs.Typing as typing
-use Rattle.type_check.specs.Building.{numbering_of}
+use Rattle.typed_numbers.specs.Building.{numbering_of}
 use Rattle.type_check.specs.Sites as s
 use Rattle.type_check.specs.Sites.{naming, tree_made, tree_kind, joined}
 use Rattle.type_check.specs.declared.build_places.Plan.{Plan}

@@ -1,10 +1,8 @@
-pub mod Uses
 pub mod Contexts
 pub mod Seen
 pub mod Bounds
 pub mod Texts
 pub mod Checking
-pub mod Building
 pub mod Calls
 pub mod Naming
 pub mod Heads

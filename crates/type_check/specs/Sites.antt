@@ -18,10 +18,10 @@ use Rattle.type_derive.specs.declared.roles.Role.{Role}
 use Rattle.type_derive.specs.Built as b
 use Rattle.type_derive.specs.Making.{Made, Making, pure, ◌>=>◌}
 use Rattle.type_derive.specs.Nodes.{kind_role}
-use Rattle.type_derive.specs.Numbers.{is_method}
+use Rattle.sts_scope.specs.Numbers.{is_method}
 use Rattle.type_derive.specs.Scopes.{place}
 use Rattle.type_derive.specs.Typing as typing
-use Rattle.type_check.specs.Building.{numbering_of, names_upto, globals_from}
+use Rattle.typed_numbers.specs.Building.{numbering_of, names_upto, globals_from}
 use Rattle.type_check.specs.declared.build_places.Plan.{Plan}
 use Rattle.type_check.specs.declared.build_places.Site.{Site}
 

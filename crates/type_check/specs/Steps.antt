@@ -10,7 +10,7 @@ use Rattle.sts_scope.specs.declared.kinds.Kind.{Kind}
 use Rattle.type_derive.specs.Built as b
 use Rattle.type_derive.specs.Returns.{is_alone}
 use Rattle.type_derive.specs.Making.{Making, pure, ◌>=>◌}
-use Rattle.type_check.specs.Building.{numbering_of}
+use Rattle.typed_numbers.specs.Building.{numbering_of}
 use Rattle.type_check.specs.Sites.{naming, optional_made, statement_made}
 use Rattle.type_check.specs.declared.build_places.Plan.{Plan}
 use Rattle.type_check.specs.declared.build_places.Builder.{Builder}

@@ -21,12 +21,12 @@ use Rattle.sts_scope.specs.Places.{outside}
 use Rattle.sts_scope.specs.Scopes.{is_global}
 use Rattle.sts_scope.specs.Rules.{kind_at, maker_takes_of}
 use Rattle.type_derive.specs.Built as b
-use Rattle.type_derive.specs.Handlers.{item_routines, all_routines}
+use Rattle.sts_scope.specs.Handlers.{item_routines, all_routines}
 use Rattle.type_derive.specs.Making.{Made, Making, pure, ◌>=>◌}
-use Rattle.type_derive.specs.Numbers.{place_among, field_names}
+use Rattle.sts_scope.specs.Numbers.{place_among, field_names}
 use Rattle.type_derive.specs.Programs as p
 use Rattle.type_derive.specs.Programs.{◌before◌}
-use Rattle.type_check.specs.Building.{numbering_of}
+use Rattle.typed_numbers.specs.Building.{numbering_of}
 use Rattle.type_check.specs.declared.build_parts.ClassParts.{ClassParts}
 use Rattle.type_check.specs.declared.build_parts.Whole.{Whole}
 use Rattle.type_check.specs.declared.build_places.Plan.{Plan}

@@ -9,7 +9,7 @@ ghost use Rattle.type_derive.specs.Typing as typing;
 ghost use Rattle.type_check.specs.Naming.{naming};
 ghost use Rattle.type_check.specs.Seen.{fit_all, fit_one, listed_kind, called_kind, kinds_given, lacks_here, fits_place};
 
-use crate::Context;
+use crate::context::Context;
 use sts_base::NoMemory;
 use sts_scope::{Base, ClassHead, Kind, Known};
 use sts_syntax::{BoardParameter, Expr, Node};

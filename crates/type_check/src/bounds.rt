@@ -11,7 +11,7 @@ ghost use Rattle.type_derive.specs.Scopes.{place};
 ghost use Rattle.type_check.specs.Bounds as bounds;
 ghost use Rattle.type_check.specs.Naming.{naming};
 
-use crate::Context;
+use crate::context::Context;
 use sts_base::{Code, Refused};
 use sts_scope::{
     Base, ByNumber, Kind, Known, check_written, is_dollar, kind_of, or_no_memory, unless,

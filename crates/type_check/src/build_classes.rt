@@ -8,25 +8,24 @@ ghost use Rattle.sts_scope.specs.Entries as entry;
 ghost use Rattle.sts_syntax.specs.Views.{declaration};
 ghost use Rattle.sts_scope.specs.Scopes as scope;
 ghost use Rattle.sts_scope.specs.Lookup as look;
-ghost use Rattle.type_derive.specs.Handlers as h;
-ghost use Rattle.type_derive.specs.Numbers as number;
-ghost use Rattle.type_check.specs.Building.{numbering_of};
+ghost use Rattle.sts_scope.specs.Handlers as h;
+ghost use Rattle.sts_scope.specs.Numbers as number;
+ghost use Rattle.typed_numbers.specs.Building.{numbering_of};
 ghost use Rattle.type_check.specs.Sites.{IsPlan, naming};
 ghost use Rattle.type_check.specs.Wholes as w;
 
 use crate::build_functions::add_method;
 use crate::build_initials::{Initial, build_field};
 use crate::build_makers::{add_constructor, add_unwritten};
-use crate::build_names::{base_of, is_global};
 use crate::build_nodes::noted_type;
-use crate::build_numbers::{Numbers, unwritten};
 use crate::build_parts::{ClassParts, Next, further, next_member};
 use crate::build_places::Plan;
 use crate::gathered::Gathered;
 use sts_base::{NoMemory, Seq};
-use sts_scope::{Entry, member_number};
+use sts_scope::Entry;
 use sts_syntax::{Binding, Member, Ty, TypedBody, TypedClass};
 use type_derive::kind_at;
+use typed_numbers::{Numbers, base_of, is_global, unwritten};
 
 /// The number of a function by its declaration.
 pub fn routine_number(numbers: &Numbers, d: usize) -> u32
@@ -53,12 +52,7 @@ fn member(plan: &Plan, class: u32, name: u32) -> Option<usize>
     ensures { result ≡ look.member_number plan.now.known.now.entries plan.now.known.now.classes class name }
 {
     let known = plan.known;
-    member_number(
-        known.entries.as_slice(),
-        known.classes.as_slice(),
-        class,
-        name,
-    )
+    known.entries.member(known.classes.as_slice(), class, name)
 }
 
 /// The type of a class's member of a name.

@@ -6,13 +6,13 @@ ghost use Rattle.sts_syntax.specs.TypedTrees as t;
 ghost use Rattle.sts_syntax.specs.TypedViews.{typed_statement, typed_statements};
 ghost use Rattle.type_check.specs.Sites as s;
 
-use crate::build_handlers::one_more;
 use crate::build_nodes::{boxed, noted_type};
 use crate::build_places::Builder;
 use std::alloc::Global;
 use sts_base::{NoMemory, Seq};
 use sts_scope::Kind;
 use sts_syntax::{Ty, TypedStmt};
+use typed_numbers::one_more;
 
 /// What is kept, beside what else was made, else neither. A generic function, in which no form of tree is written out.
 pub fn beside<A: Drop, B: Drop>(kept: A, other: Result<B, NoMemory>) -> Result<(A, B), NoMemory>

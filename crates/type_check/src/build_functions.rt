@@ -11,7 +11,6 @@ ghost use Rattle.type_check.specs.Sites as s;
 ghost use Rattle.type_check.specs.Sites.{IsPlan, naming};
 ghost use Rattle.type_check.specs.Wholes as w;
 
-use crate::build_handlers::one_more;
 use crate::build_nodes::noted_type;
 use crate::build_places::{Builder, Plan, Site};
 use crate::build_statements::build_statements;
@@ -20,6 +19,7 @@ use sts_base::{NoMemory, Seq};
 use sts_scope::{Kind, Local, This, written_kind};
 use sts_syntax::{Body, Param, Spot, Stmt, Ty, TypedBody, TypedStmt};
 use type_derive::Scope;
+use typed_numbers::one_more;
 
 /// The parameters of a function, as they are in scope.
 fn parameter_locals(plan: &Plan, params: &[Param]) -> Result<Vec<Local>, NoMemory>

@@ -6,7 +6,7 @@ ghost use Rattle.sts_syntax.specs.Types.{value_type};
 ghost use Rattle.sts_syntax.specs.TypedViews.{optional_typed_tree, typed_tree, typed_statement, typed_routines};
 ghost use Rattle.sts_syntax.specs.Views.{declaration};
 ghost use Rattle.sts_syntax.specs.Programs.{class_member};
-ghost use Rattle.type_derive.specs.Numbers as number;
+ghost use Rattle.sts_scope.specs.Numbers as number;
 ghost use Rattle.type_check.specs.Sites as s;
 ghost use Rattle.type_check.specs.Sites.{IsPlan};
 ghost use Rattle.type_check.specs.Wholes as w;

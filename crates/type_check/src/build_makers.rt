@@ -14,9 +14,7 @@ ghost use Rattle.type_check.specs.Wholes as w;
 
 use crate::build_classes::maker_number;
 use crate::build_functions::{Function, add, add_types, function_site};
-use crate::build_handlers::one_more;
 use crate::build_initials::{add_initials, add_statement};
-use crate::build_names::base_of;
 use crate::build_parts::ClassParts;
 use crate::build_places::{Builder, Plan, Site};
 use crate::build_statements::build_statement;
@@ -29,6 +27,7 @@ use sts_base::{NoMemory, Seq};
 use sts_scope::{Base, Kind, This};
 use sts_syntax::{Body, Expr, Param, Spot, Stmt, Ty, TypedBody, TypedExpr, TypedNode, TypedStmt};
 use type_derive::{flat, maker_takes};
+use typed_numbers::{base_of, one_more};
 
 /// Parameters of some types that are passed on, from one on.
 pub fn passed_on(alloc: Global, first: u32, takes: &[Kind]) -> Result<Seq<TypedExpr>, NoMemory>

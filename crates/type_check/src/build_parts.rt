@@ -3,13 +3,13 @@ ghost use Rattle.std.specs.Prelude.{◌≡◌, ◌+◌, length, IfOk};
 ghost use Rattle.sts_syntax.specs.Programs.{class_member};
 ghost use Rattle.sts_syntax.specs.Views.{statement};
 ghost use Rattle.sts_scope.specs.Entries as entry;
-ghost use Rattle.type_derive.specs.Handlers as h;
+ghost use Rattle.sts_scope.specs.Handlers as h;
 ghost use Rattle.type_check.specs.Sites.{naming};
 
-use crate::build_numbers::behind_member;
 use crate::build_places::{Builder, Plan};
 use sts_base::{NoMemory, Seq};
 use sts_syntax::{Form, Item, Member, Stmt, TypedStmt};
+use typed_numbers::behind_member;
 
 /// The numbers of the next declaration and the next function.
 #[derive(Clone, Copy)]

@@ -1,12 +1,11 @@
 // What is known where the parts of a program are built, and what is built.
-use crate::build_names::Names;
-use crate::build_numbers::Numbers;
 use crate::gathered::Gathered;
 use std::alloc::Global;
 use sts_base::{Seq, Tables};
 use sts_scope::{ByNumber, Kind, Known};
 use sts_syntax::{Spot, Ty, TypedBody, TypedExpr};
 use type_derive::Scope;
+use typed_numbers::{Names, Numbers};
 
 /// What is known of a library and a text, wherever a part stands.
 #[derive(Clone, Copy)]

@@ -6,11 +6,11 @@ ghost use Rattle.sts_syntax.specs.Programs.{Class, Function, Main, class_members
 ghost use Rattle.sts_syntax.specs.Views.{routine, statement};
 ghost use Rattle.sts_scope.specs.Scopes.{all_names, library_classes};
 ghost use Rattle.type_derive.specs.Accepted as accepted;
-ghost use Rattle.type_derive.specs.Handlers as h;
+ghost use Rattle.sts_scope.specs.Handlers as h;
 ghost use Rattle.type_derive.specs.Solved.{IsSolved};
-ghost use Rattle.type_derive.specs.Numbers as number;
+ghost use Rattle.sts_scope.specs.Numbers as number;
 ghost use Rattle.type_derive.specs.Programs.{◌before◌};
-ghost use Rattle.type_check.specs.Building.{numbering_of};
+ghost use Rattle.typed_numbers.specs.Building.{numbering_of};
 ghost use Rattle.type_check.specs.Sites.{IsPlan, naming};
 ghost use Rattle.type_check.specs.Wholes as w;
 ghost use Rattle.type_check.specs.Wholes.{Adds};
@@ -18,10 +18,7 @@ ghost use Rattle.type_check.specs.Wholes.{Adds};
 use crate::build_classes::{add_class, class_entries, global_types};
 use crate::build_functions::add_function;
 use crate::build_globals::build_main;
-use crate::build_handlers::{one_more, routine_handlers, statement_handlers};
 use crate::build_initials::add_statement;
-use crate::build_names::names_of;
-use crate::build_numbers::numbering;
 use crate::build_parts::{Next, Whole, further, globals_in};
 use crate::build_places::{Builder, Plan};
 use crate::gathered::Gathered;
@@ -30,6 +27,7 @@ use sts_base::{NoMemory, Seq, Tables};
 use sts_scope::Declared;
 use sts_syntax::{Body, Item, Member, Stmt, Ty, Typed, TypedBody, Unit};
 use type_derive::kind_at;
+use typed_numbers::{names_of, numbering, one_more, routine_handlers, statement_handlers};
 
 /// A part of the library: a function of it, and those that stand in it; other parts add none.
 fn add_library_item(

@@ -8,7 +8,6 @@ ghost use Rattle.type_check.specs.Sites.{IsPlan};
 ghost use Rattle.type_check.specs.Wholes as w;
 
 use crate::build_functions::{Function, add};
-use crate::build_handlers::one_more;
 use crate::build_nodes::noted;
 use crate::build_places::{Builder, Noted, Plan, Site};
 use crate::build_statements::build_body;
@@ -16,6 +15,7 @@ use crate::gathered::Gathered;
 use sts_base::{NoMemory, Seq};
 use sts_scope::Kind;
 use sts_syntax::{Body, Expr, Node, Ty, TypedBody, TypedNode};
+use typed_numbers::one_more;
 
 /// A handler's function, those that stand in it, and the number behind them.
 #[derive(Drop)]

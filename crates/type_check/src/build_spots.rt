@@ -1,18 +1,18 @@
 // Numbers of fields, slots and globals, and where the values of names are.
 ghost use Rattle.std.specs.Prelude.{◌≡◌, IfOk, get_or, unwrap_or, Some};
 ghost use Rattle.sts_syntax.specs.declared.typed.Spot.TheVariants as spot;
-ghost use Rattle.type_derive.specs.Numbers as number;
+ghost use Rattle.sts_scope.specs.Numbers as number;
 ghost use Rattle.type_check.specs.Sites as s;
 ghost use Rattle.type_check.specs.Sites.{IsPlan};
 
 use crate::build_classes::names_at;
-use crate::build_names::place_among;
 use crate::build_nodes::or_nothing;
 use crate::build_places::{Plan, Site};
 use sts_base::NoMemory;
 use sts_scope::{Found, Kind, Part};
 use sts_syntax::Spot;
 use type_derive::{class_of, part_of};
+use typed_numbers::place_among;
 
 /// The number of a class's field of a name. A class that isn't there has none.
 #[tactic(auto, using(crate::proofs::Classes::names_there, crate::proofs::Classes::names_are))]

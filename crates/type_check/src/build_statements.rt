@@ -87,6 +87,137 @@ fn build_turns(
     Ok(Turns { test, step, body })
 }
 
+/// `if`
+#[cycle(build)]
+#[tactic(auto, unfolding(crate::specs::Sites::statement_made, crate::specs::Sites::value_made))]
+fn build_if(
+    plan: &Plan,
+    site: &mut Site,
+    builder: &mut Builder,
+    a: &Stmt,
+) -> Result<TypedStmt, NoMemory>
+    requires { IsPlan plan.now }
+    ensures built { IfOk result (λ r. IsBuilt builder.old builder.new (s.statement_made plan.now (s.site site.old) (statement a.now)) (typed_statement r)) }
+    ensures site { OnOk result (s.site site.new ≡ s.behind plan.now builder.old.local (s.site site.old) (statement a.now)) }
+{
+    match &a.form {
+        Form::If(test, a, other) => {
+            let test = build_tree(plan, site, builder, None, test)?;
+            let (test, a) = beside(test.tree, build_branch(plan, site, builder, a))?;
+            match other {
+                None => Ok(TypedStmt::If(test, a, None)),
+                Some(b) => {
+                    let ((test, a), b) = beside((test, a), build_branch(plan, site, builder, b))?;
+                    Ok(TypedStmt::If(test, a, Some(b)))
+                }
+            }
+        }
+        _ => Err(NoMemory),
+    }
+}
+
+/// `while`, and `do` with it
+#[cycle(build)]
+#[tactic(auto, unfolding(crate::specs::Sites::statement_made, crate::specs::Sites::value_made))]
+fn build_while(
+    plan: &Plan,
+    site: &mut Site,
+    builder: &mut Builder,
+    a: &Stmt,
+) -> Result<TypedStmt, NoMemory>
+    requires { IsPlan plan.now }
+    ensures built { IfOk result (λ r. IsBuilt builder.old builder.new (s.statement_made plan.now (s.site site.old) (statement a.now)) (typed_statement r)) }
+    ensures site { OnOk result (s.site site.new ≡ s.behind plan.now builder.old.local (s.site site.old) (statement a.now)) }
+{
+    match &a.form {
+        Form::While(test, a) => {
+            let test = build_tree(plan, site, builder, None, test)?;
+            let (test, a) = beside(test.tree, build_branch(plan, site, builder, a))?;
+            Ok(TypedStmt::While(test, a))
+        }
+        Form::DoWhile(a, test) => {
+            let a = build_branch(plan, site, builder, a)?;
+            let (a, test) = beside(a, build_tree(plan, site, builder, None, test))?;
+            Ok(TypedStmt::DoWhile(a, test.tree))
+        }
+        _ => Err(NoMemory),
+    }
+}
+
+/// `for`
+#[cycle(build)]
+#[tactic(auto, unfolding(crate::specs::Sites::statement_made, crate::specs::Sites::value_made))]
+fn build_for(
+    plan: &Plan,
+    site: &mut Site,
+    builder: &mut Builder,
+    a: &Stmt,
+) -> Result<TypedStmt, NoMemory>
+    requires { IsPlan plan.now }
+    ensures built { IfOk result (λ r. IsBuilt builder.old builder.new (s.statement_made plan.now (s.site site.old) (statement a.now)) (typed_statement r)) }
+    ensures site { OnOk result (s.site site.new ≡ s.behind plan.now builder.old.local (s.site site.old) (statement a.now)) }
+{
+    match &a.form {
+        Form::For(first, _, _, _) => {
+            let around = begin(site);
+            match first {
+                None => {
+                    let turns = build_turns(plan, site, builder, a)?;
+                    end(site, around);
+                    Ok(TypedStmt::For(None, turns.test, turns.step, turns.body))
+                }
+                Some(first) => {
+                    let first = build_statement(plan, site, builder, first)?;
+                    let first = boxed(plan.alloc, first)?;
+                    let (first, turns) = beside(first, build_turns(plan, site, builder, a))?;
+                    end(site, around);
+                    Ok(TypedStmt::For(Some(first), turns.test, turns.step, turns.body))
+                }
+            }
+        }
+        _ => Err(NoMemory),
+    }
+}
+
+/// `for` through the items of an array
+#[cycle(build)]
+#[tactic(auto, unfolding(crate::specs::Sites::statement_made, crate::specs::Sites::value_made))]
+fn build_for_of(
+    plan: &Plan,
+    site: &mut Site,
+    builder: &mut Builder,
+    a: &Stmt,
+) -> Result<TypedStmt, NoMemory>
+    requires { IsPlan plan.now }
+    ensures built { IfOk result (λ r. IsBuilt builder.old builder.new (s.statement_made plan.now (s.site site.old) (statement a.now)) (typed_statement r)) }
+    ensures site { OnOk result (s.site site.new ≡ s.behind plan.now builder.old.local (s.site site.old) (statement a.now)) }
+{
+    match &a.form {
+        Form::ForOf {
+            fixed,
+            name,
+            list,
+            body,
+        } => {
+            let number = builder.local;
+            let list = build_tree(plan, site, builder, None, list)?;
+            let kind = items_of(list.kind);
+            let around = begin(site);
+            let (list, local) = beside(list.tree, add_loop(plan.alloc, builder, kind))?;
+            let (list, _known) = beside(list, declare_local(site, *name, kind, *fixed, number))?;
+            let (list, body) = beside(list, build_branch(plan, site, builder, body))?;
+            end(site, around);
+            Ok(TypedStmt::ForOf {
+                fixed: *fixed,
+                name: Spot::Local(local),
+                list,
+                body,
+            })
+        }
+        _ => Err(NoMemory),
+    }
+}
+
 /// A typed statement.
 #[cycle(build)]
 #[tactic(auto, unfolding(crate::specs::Sites::statement_made, crate::specs::Sites::value_made))]
@@ -114,65 +245,15 @@ pub fn build_statement(
                 each,
             })
         }
-        Form::If(test, a, other) => {
-            let test = build_tree(plan, site, builder, None, test)?;
-            let (test, a) = beside(test.tree, build_branch(plan, site, builder, a))?;
-            match other {
-                None => Ok(TypedStmt::If(test, a, None)),
-                Some(b) => {
-                    let ((test, a), b) = beside((test, a), build_branch(plan, site, builder, b))?;
-                    Ok(TypedStmt::If(test, a, Some(b)))
-                }
-            }
-        }
-        Form::While(test, a) => {
-            let test = build_tree(plan, site, builder, None, test)?;
-            let (test, a) = beside(test.tree, build_branch(plan, site, builder, a))?;
-            Ok(TypedStmt::While(test, a))
-        }
-        Form::DoWhile(a, test) => {
-            let a = build_branch(plan, site, builder, a)?;
-            let (a, test) = beside(a, build_tree(plan, site, builder, None, test))?;
-            Ok(TypedStmt::DoWhile(a, test.tree))
-        }
-        Form::For(first, _, _, _) => {
-            let around = begin(site);
-            match first {
-                None => {
-                    let turns = build_turns(plan, site, builder, a)?;
-                    end(site, around);
-                    Ok(TypedStmt::For(None, turns.test, turns.step, turns.body))
-                }
-                Some(first) => {
-                    let first = build_statement(plan, site, builder, first)?;
-                    let first = boxed(plan.alloc, first)?;
-                    let (first, turns) = beside(first, build_turns(plan, site, builder, a))?;
-                    end(site, around);
-                    Ok(TypedStmt::For(Some(first), turns.test, turns.step, turns.body))
-                }
-            }
-        }
+        Form::If(_, _, _) => build_if(plan, site, builder, a),
+        Form::While(_, _) | Form::DoWhile(_, _) => build_while(plan, site, builder, a),
+        Form::For(_, _, _, _) => build_for(plan, site, builder, a),
         Form::ForOf {
-            fixed,
-            name,
-            list,
-            body,
-        } => {
-            let number = builder.local;
-            let list = build_tree(plan, site, builder, None, list)?;
-            let kind = items_of(list.kind);
-            let around = begin(site);
-            let (list, local) = beside(list.tree, add_loop(plan.alloc, builder, kind))?;
-            let (list, _known) = beside(list, declare_local(site, *name, kind, *fixed, number))?;
-            let (list, body) = beside(list, build_branch(plan, site, builder, body))?;
-            end(site, around);
-            Ok(TypedStmt::ForOf {
-                fixed: *fixed,
-                name: Spot::Local(local),
-                list,
-                body,
-            })
-        }
+            fixed: _,
+            name: _,
+            list: _,
+            body: _,
+        } => build_for_of(plan, site, builder, a),
         Form::Return(value) => {
             let gives = site.scope.gives;
             let value = build_value(plan, site, builder, gives, value)?;

@@ -19,20 +19,21 @@ use crate::bounds::{
     bound, check_local, check_parameter_types, fits, is_boolean, is_list, is_nothing, kind_role,
     shape_role,
 };
-use crate::codes::why_this;
+use crate::build_scopes::handler_scope;
+use crate::context::Context;
 use crate::nodes::{
-    board_call_seen, bump_kind, call_seen, callee, is_called, is_served, items_seen, make_seen,
-    member_seen, name_seen, set_kind, settable, super_call_seen,
+    board_call_seen, bump_kind, call_seen, callee, is_called, is_served, items_seen, leaf_seen,
+    make_seen, member_seen, set_kind, settable, super_call_seen,
 };
 use crate::places::enter_loop;
+use crate::results::handler_result;
 use crate::seen::{Seen, always, own, plain};
-use crate::{Context, handler_result, handler_scope};
 use sts_base::{Code, Refused, Seq};
 use sts_scope::{Base, Kind, check_written, is_dollar, or_no_memory, unless};
 use sts_syntax::{Binding, BoardCall, BoardParameter, Body, Expr, Form, Node, Shape, Stmt};
 use type_derive::{
     Role, Scope, board_callee, both, chosen, constant, declare, enter, flat, indexed, is_alone,
-    is_given, leave, operated, prefixed, this_kind,
+    is_given, leave, operated, prefixed,
 };
 
 /// An expression: its first failure, else its type and what stands behind its dot.
@@ -52,14 +53,45 @@ pub fn expression(
     }
     let room = room - 1;
     let at = e.at;
-    let known = context.known;
     match &e.node {
-        Node::Num(_) => Ok(always(Base::Number)),
-        Node::Text(_) => Ok(always(Base::Text)),
-        Node::Truth(_) => Ok(always(Base::Boolean)),
-        Node::Null => Ok(always(Base::Null)),
-        Node::This => own(this_kind(scope.this), why_this(scope.this), at),
-        Node::Name(x) => name_seen(context, scope, role, *x, at),
+        Node::Num(_) | Node::Text(_) | Node::Truth(_) | Node::Null | Node::This | Node::Name(_) => {
+            leaf_seen(context, scope, role, e)
+        }
+        Node::Unary(_, _)
+        | Node::Binary(_, _, _)
+        | Node::Both(_, _)
+        | Node::Either(_, _)
+        | Node::Item(_, _) => operation(context, room, scope, role, e),
+        Node::Choice(_, _, _) => choice(context, room, scope, role, e),
+        Node::Set(_, _, _) => setting(context, room, scope, role, e),
+        Node::Bump {
+            target: _,
+            by: _,
+            after: _,
+        } => bumping(context, room, scope, role, e),
+        Node::Member(_, _) => member(context, room, scope, role, e),
+        Node::Items(all) => items(context, room, scope, role, all.as_slice(), at),
+        Node::Call(f, args) => call(context, room, scope, role, f, args.as_slice(), at),
+        Node::SuperCall(m, args) => super_call(context, room, scope, role, *m, args.as_slice(), at),
+        Node::Make(x, args) => make(context, room, scope, role, *x, args.as_slice(), at),
+        Node::Handler(_) => serving(context, room, scope, role, e),
+    }
+}
+
+/// An operator with one operand or two.
+#[cycle(walk)]
+fn operation(
+    context: &Context,
+    room: usize,
+    scope: &Scope,
+    role: Role,
+    e: &Expr,
+) -> Result<Seen, Refused>
+    ensures found { Finds result (c.fault context.now (place scope.now) role (tree e.now)) }
+    ensures seen { IfOk result (λ s. s ≡ c.seen_of context.now (place scope.now) role (tree e.now)) }
+{
+    let at = e.at;
+    match &e.node {
         Node::Unary(op, a) => {
             let s = expression(context, room, scope, Role::Free, a)?;
             own(prefixed(*op, s.kind), Code::Mismatch, at)
@@ -68,7 +100,7 @@ pub fn expression(
             let s = expression(context, room, scope, Role::Free, a)?;
             let u = expression(context, room, scope, Role::Free, b)?;
             own(
-                operated(known.classes.as_slice(), *op, s.kind, u.kind),
+                operated(context.known.classes.as_slice(), *op, s.kind, u.kind),
                 Code::Mismatch,
                 at,
             )
@@ -83,26 +115,85 @@ pub fn expression(
             let u = expression(context, room, scope, Role::Free, b)?;
             own(both(s.kind, u.kind), Code::Mismatch, at)
         }
+        Node::Item(a, i) => {
+            let s = expression(context, room, scope, Role::Free, a)?;
+            let u = expression(context, room, scope, Role::Free, i)?;
+            own(indexed(s.kind, u.kind), Code::Mismatch, at)
+        }
+        _ => Err(Refused::NoMemory),
+    }
+}
+
+/// A choice.
+#[cycle(walk)]
+fn choice(
+    context: &Context,
+    room: usize,
+    scope: &Scope,
+    role: Role,
+    e: &Expr,
+) -> Result<Seen, Refused>
+    ensures found { Finds result (c.fault context.now (place scope.now) role (tree e.now)) }
+    ensures seen { IfOk result (λ s. s ≡ c.seen_of context.now (place scope.now) role (tree e.now)) }
+{
+    let at = e.at;
+    match &e.node {
         Node::Choice(q, a, b) => {
             let v = expression(context, room, scope, Role::Free, q)?;
             let s = expression(context, room, scope, Role::Free, a)?;
             let u = expression(context, room, scope, Role::Free, b)?;
             own(
-                chosen(known.classes.as_slice(), v.kind, s.kind, u.kind),
+                chosen(context.known.classes.as_slice(), v.kind, s.kind, u.kind),
                 Code::Mismatch,
                 at,
             )
         }
+        _ => Err(Refused::NoMemory),
+    }
+}
+
+/// An assignment.
+#[cycle(walk)]
+fn setting(
+    context: &Context,
+    room: usize,
+    scope: &Scope,
+    role: Role,
+    e: &Expr,
+) -> Result<Seen, Refused>
+    ensures found { Finds result (c.fault context.now (place scope.now) role (tree e.now)) }
+    ensures seen { IfOk result (λ s. s ≡ c.seen_of context.now (place scope.now) role (tree e.now)) }
+{
+    let at = e.at;
+    match &e.node {
         Node::Set(op, x, a) => {
             let u = expression(context, room, scope, Role::Free, x)?;
             let s = expression(context, room, scope, Role::Given, a)?;
             let can = settable(context, scope, x, u.part);
             own(
-                set_kind(known.classes.as_slice(), *op, can, u.kind, s.kind),
+                set_kind(context.known.classes.as_slice(), *op, can, u.kind, s.kind),
                 Code::Mismatch,
                 at,
             )
         }
+        _ => Err(Refused::NoMemory),
+    }
+}
+
+/// `++` and `--`.
+#[cycle(walk)]
+fn bumping(
+    context: &Context,
+    room: usize,
+    scope: &Scope,
+    role: Role,
+    e: &Expr,
+) -> Result<Seen, Refused>
+    ensures found { Finds result (c.fault context.now (place scope.now) role (tree e.now)) }
+    ensures seen { IfOk result (λ s. s ≡ c.seen_of context.now (place scope.now) role (tree e.now)) }
+{
+    let at = e.at;
+    match &e.node {
         Node::Bump {
             target,
             by: _,
@@ -112,31 +203,59 @@ pub fn expression(
             let can = settable(context, scope, target, u.part);
             own(bump_kind(can, u.kind), Code::Mismatch, at)
         }
+        _ => Err(Refused::NoMemory),
+    }
+}
+
+/// What stands behind a dot.
+#[cycle(walk)]
+fn member(
+    context: &Context,
+    room: usize,
+    scope: &Scope,
+    role: Role,
+    e: &Expr,
+) -> Result<Seen, Refused>
+    ensures found { Finds result (c.fault context.now (place scope.now) role (tree e.now)) }
+    ensures seen { IfOk result (λ s. s ≡ c.seen_of context.now (place scope.now) role (tree e.now)) }
+{
+    let at = e.at;
+    match &e.node {
         Node::Member(a, m) => {
-            if constant(context.tables, known, scope, a, *m).is_some() {
+            if constant(context.tables, context.known, scope, a, *m).is_some() {
                 return Ok(always(Base::Number));
             }
-            if board_callee(context.tables, known, scope, e).is_some() {
+            if board_callee(context.tables, context.known, scope, e).is_some() {
                 unless(is_called(role), Code::BadHandler, at)?;
                 return Ok(plain(None));
             }
             let s = expression(context, room, scope, Role::Free, a)?;
             member_seen(context, role, s.kind, *m, at)
         }
-        Node::Item(a, i) => {
-            let s = expression(context, room, scope, Role::Free, a)?;
-            let u = expression(context, room, scope, Role::Free, i)?;
-            own(indexed(s.kind, u.kind), Code::Mismatch, at)
-        }
-        Node::Items(all) => items(context, room, scope, role, all.as_slice(), at),
-        Node::Call(f, args) => call(context, room, scope, role, f, args.as_slice(), at),
-        Node::SuperCall(m, args) => super_call(context, room, scope, role, *m, args.as_slice(), at),
-        Node::Make(x, args) => make(context, room, scope, role, *x, args.as_slice(), at),
+        _ => Err(Refused::NoMemory),
+    }
+}
+
+/// A function expression, where it stands.
+#[cycle(walk)]
+fn serving(
+    context: &Context,
+    room: usize,
+    scope: &Scope,
+    role: Role,
+    e: &Expr,
+) -> Result<Seen, Refused>
+    ensures found { Finds result (c.fault context.now (place scope.now) role (tree e.now)) }
+    ensures seen { IfOk result (λ s. s ≡ c.seen_of context.now (place scope.now) role (tree e.now)) }
+{
+    let at = e.at;
+    match &e.node {
         Node::Handler(body) => {
             handler(context, room, scope, body)?;
             unless(is_served(role), Code::BadHandler, at)?;
             Ok(plain(None))
         }
+        _ => Err(Refused::NoMemory),
     }
 }
 
@@ -375,23 +494,8 @@ pub fn statement(context: &Context, room: usize, scope: &mut Scope, s: &Stmt) ->
         Form::Let { fixed, each } => {
             declarations_fault(context, room, scope, *fixed, each.as_slice())
         }
-        Form::If(test, a, other) => {
-            let s = expression(context, room, scope, Role::Free, test)?;
-            nested(context, room, scope, a)?;
-            if let Some(b) = other {
-                nested(context, room, scope, b)?;
-            }
-            unless(is_boolean(s.kind), Code::Mismatch, at)
-        }
-        Form::While(test, a) => {
-            let s = expression(context, room, scope, Role::Free, test)?;
-            nested(context, room, scope, a)?;
-            unless(is_boolean(s.kind), Code::Mismatch, at)
-        }
-        Form::DoWhile(a, test) => {
-            nested(context, room, scope, a)?;
-            let s = expression(context, room, scope, Role::Free, test)?;
-            unless(is_boolean(s.kind), Code::Mismatch, at)
+        Form::If(_, _, _) | Form::While(_, _) | Form::DoWhile(_, _) => {
+            tested(context, room, scope, s)
         }
         Form::For(first, test, step, a) => {
             for_loop(context, room, scope, first, test, step, a, at)
@@ -413,6 +517,36 @@ pub fn statement(context: &Context, room: usize, scope: &mut Scope, s: &Stmt) ->
             Ok(())
         }
         Form::Empty => Ok(()),
+    }
+}
+
+/// `if`, and loops with nothing but a test.
+#[cycle(walk)]
+fn tested(context: &Context, room: usize, scope: &mut Scope, s: &Stmt) -> Result<(), Refused>
+    ensures found { Finds result (c.statement_fault context.now (place scope.old) (statement s.now)) }
+    ensures place { OnOk result (place scope.new ≡ c.after context.now (place scope.old) (statement s.now)) }
+{
+    let at = s.at;
+    match &s.form {
+        Form::If(test, a, other) => {
+            let s = expression(context, room, scope, Role::Free, test)?;
+            nested(context, room, scope, a)?;
+            if let Some(b) = other {
+                nested(context, room, scope, b)?;
+            }
+            unless(is_boolean(s.kind), Code::Mismatch, at)
+        }
+        Form::While(test, a) => {
+            let s = expression(context, room, scope, Role::Free, test)?;
+            nested(context, room, scope, a)?;
+            unless(is_boolean(s.kind), Code::Mismatch, at)
+        }
+        Form::DoWhile(a, test) => {
+            nested(context, room, scope, a)?;
+            let s = expression(context, room, scope, Role::Free, test)?;
+            unless(is_boolean(s.kind), Code::Mismatch, at)
+        }
+        _ => Err(Refused::NoMemory),
     }
 }
 

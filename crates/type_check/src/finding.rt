@@ -4,7 +4,7 @@ ghost use Rattle.sts_scope.specs.Faults.{Finds};
 ghost use Rattle.sts_scope.specs.Values.{value_at};
 ghost use Rattle.type_check.specs.Texts.{type_failure};
 
-use crate::Context;
+use crate::context::Context;
 use crate::overrides::check_all_overrides;
 use crate::passes::check_nodes;
 use std::alloc::Global;

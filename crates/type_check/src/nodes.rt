@@ -12,20 +12,21 @@ ghost use Rattle.type_derive.specs.Scopes.{place};
 ghost use Rattle.type_derive.specs.Shown.{shown, all_shown};
 ghost use Rattle.type_derive.specs.Typing as typing;
 ghost use Rattle.type_derive.specs.Typing.{◌>>=◌ as bind};
+ghost use Rattle.type_check.specs.Contexts as c;
 ghost use Rattle.type_check.specs.Naming.{naming};
 ghost use Rattle.type_check.specs.Seen.{plain, part_at, member, kinds_given, listed_kind, called_kind, own_called_kind, super_callee, board_kind_of};
 
-use crate::Context;
 use crate::arguments::{are_given, call_type, items_kind, lacks_handler};
-use crate::codes::{why_call, why_make, why_name, why_part, why_super};
-use crate::seen::{Seen, own, plain};
+use crate::codes::{why_call, why_make, why_name, why_part, why_super, why_this};
+use crate::context::Context;
+use crate::seen::{Seen, always, own, plain};
 use sts_base::{Code, Refused};
-use sts_scope::{ClassHead, Found, Kind, Part, or_no_memory, unless};
+use sts_scope::{Base, ClassHead, Found, Kind, Part, or_no_memory, unless};
 use sts_syntax::{BoardCall, Expr, Node};
 use type_derive::{
     Called, Role, Scope, assign, board_kind, constant, counted, gives_of, made, name_fixed,
     name_found, name_kind, named_callee, part_callee, part_kind, part_of, part_settable,
-    super_method,
+    super_method, this_kind,
 };
 
 /// Whether it is the place of what is called.
@@ -83,6 +84,23 @@ pub fn name_seen(
         Ok(plain(kind))
     } else {
         own(kind, why_name(found), at)
+    }
+}
+
+/// An expression that has no parts.
+pub fn leaf_seen(context: &Context, scope: &Scope, role: Role, e: &Expr) -> Result<Seen, Refused>
+    ensures found { Finds result (c.fault context.now (place scope.now) role (tree e.now)) }
+    ensures seen { IfOk result (λ s. s ≡ c.seen_of context.now (place scope.now) role (tree e.now)) }
+{
+    let at = e.at;
+    match &e.node {
+        Node::Num(_) => Ok(always(Base::Number)),
+        Node::Text(_) => Ok(always(Base::Text)),
+        Node::Truth(_) => Ok(always(Base::Boolean)),
+        Node::Null => Ok(always(Base::Null)),
+        Node::This => own(this_kind(scope.this), why_this(scope.this), at),
+        Node::Name(x) => name_seen(context, scope, role, *x, at),
+        _ => Err(Refused::NoMemory),
     }
 }
 

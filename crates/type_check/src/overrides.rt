@@ -12,9 +12,9 @@ ghost use Rattle.type_derive.specs.Passes as pass;
 ghost use Rattle.type_check.specs.Naming.{naming};
 ghost use Rattle.type_check.specs.Texts.{override_fault};
 
-use crate::Context;
+use crate::context::Context;
 use sts_base::{Code, Refused};
-use sts_scope::{Kind, Known, inherited, unless};
+use sts_scope::{Kind, Known, unless};
 use sts_syntax::{Body, Form, Item, Member, Stmt};
 use type_derive::{kind_at, same, takes_at};
 
@@ -62,7 +62,7 @@ fn agrees(known: &Known, d: usize, base: Option<usize>) -> bool
 fn check_method(known: &Known, c: u32, d: usize, x: u32, body: &Body) -> Result<(), Refused>
     ensures { Finds result (failure.unless (pass.agrees known.now d (look.inherited known.now.entries known.now.classes c x)) code.Mismatch (heading.routine_at (routine body.now))) }
 {
-    let base = inherited(known.entries.as_slice(), known.classes.as_slice(), c, x);
+    let base = known.entries.inherited(known.classes.as_slice(), c, x);
     let at = body.at;
     unless(agrees(known, d, base), Code::Mismatch, at)
 }

@@ -15,9 +15,11 @@ ghost use Rattle.type_check.specs.Texts.{member_nodes, super_fault, unmade_fault
 
 use crate::arguments::all_go;
 use crate::bounds::bound;
+use crate::build_scopes::{outer_scope, routine_scope};
+use crate::context::Context;
 use crate::fault::{initial, kinds_of, statement, statements};
+use crate::heads::head_of;
 use crate::overrides::{behind_member, class_behind, further, globals_in};
-use crate::{Context, head_of, outer_scope, routine_scope};
 use sts_base::{Code, Refused};
 use sts_scope::{Base, ClassHead, Kind, This, check_written, or_no_memory, unless};
 use sts_syntax::{Binding, Body, Expr, Form, Item, Member, Stmt};

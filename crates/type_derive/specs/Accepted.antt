@@ -12,9 +12,9 @@ use Rattle.sts_scope.specs.Scopes.{all_names, all_entries, all_classes, library_
 use Rattle.type_derive.specs.Derived.{Source, sources_from, rule, IsLeast}
 use Rattle.type_derive.specs.Passes.{all_overrides, nodes_fault}
 use Rattle.type_derive.specs.Limits.{limits_fault}
-use Rattle.type_derive.specs.Handlers.{all_routines}
+use Rattle.sts_scope.specs.Handlers.{all_routines}
 use Rattle.type_derive.specs.Making.{Made}
-use Rattle.type_derive.specs.Numbers.{numbering}
+use Rattle.sts_scope.specs.Numbers.{numbering}
 use Rattle.type_derive.specs.Programs.{items_made, library_made, class_entries, global_types}
 
 -- what is known of a library and a text, with this table of types

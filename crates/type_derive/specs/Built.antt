@@ -29,7 +29,7 @@ use Rattle.type_derive.specs.Typing.{finds, constant_of, board_callee, super_met
 use Rattle.type_derive.specs.Returns.{bound, after, looped, items_of}
 use Rattle.type_derive.specs.Nodes.{kind_role, handler_place}
 use Rattle.type_derive.specs.Making.{Made, Making, pure, ◌>=>◌, a_local}
-use Rattle.type_derive.specs.Numbers.{Numbering, global_number, field_names, slot_names, place_among, routine_number}
+use Rattle.sts_scope.specs.Numbers.{Numbering, global_number, field_names, slot_names, place_among, routine_number}
 
 -- where something stands, and where the values of the names in scope are
 pub record Site : Type 0 where

@@ -11,8 +11,6 @@ pub mod Growth
 pub mod Nodes
 pub mod Passes
 pub mod Making
-pub mod Handlers
-pub mod Numbers
 pub mod Built
 pub mod Programs
 pub mod Limits

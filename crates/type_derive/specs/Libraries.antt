@@ -19,7 +19,7 @@ use Rattle.sts_scope.specs.Rules.{kind_at}
 use Rattle.sts_scope.specs.Scopes.{all_names}
 use Rattle.type_derive.specs.Returns.{parameter_locals, within}
 use Rattle.type_derive.specs.Nodes.{statements_fault}
-use Rattle.type_derive.specs.Numbers.{numbering}
+use Rattle.sts_scope.specs.Numbers.{numbering}
 use Rattle.type_derive.specs.Formed.{IsFormedProgram}
 use Rattle.type_derive.specs.Programs.{library_made}
 use Rattle.type_derive.specs.Accepted.{known}

@@ -22,9 +22,9 @@ use Rattle.sts_scope.specs.Lookup.{base_of, member_number}
 use Rattle.sts_scope.specs.Places.{outside}
 use Rattle.sts_scope.specs.Rules.{kind_at, maker_takes_of}
 use Rattle.type_derive.specs.Returns.{parameter_locals, within}
-use Rattle.type_derive.specs.Handlers.{unwritten, item_routines, declared_handlers, routine_handlers}
+use Rattle.sts_scope.specs.Handlers.{unwritten, item_routines, declared_handlers, routine_handlers}
 use Rattle.type_derive.specs.Making.{Made, Making, pure, ◌>=>◌}
-use Rattle.type_derive.specs.Numbers.{Numbering, global_number, field_names, slot_names, place_among, routine_number, maker_number}
+use Rattle.sts_scope.specs.Numbers.{Numbering, global_number, field_names, slot_names, place_among, routine_number, maker_number}
 use Rattle.type_derive.specs.Built.{Site, kind_or_nothing, routine, made_first, made_given, made_statement, made_statements}
 
 -- so many numbered parameters, from one on

@@ -13,7 +13,7 @@ use Rattle.sts_syntax.specs.WellTypedPrograms.{IsWellTyped, IsWithinLimits, IsCl
 use Rattle.sts_scope.specs.declared.kinds.Kind.{Kind}
 use Rattle.type_derive.specs.Accepted.{AreDerived, IsAccepted, typed}
 use Rattle.type_derive.specs.Formed.{IsFormedProgram}
-use Rattle.type_derive.specs.Limits.{routine_fits, class_fits, program_fits}
+use Rattle.typed_limits.specs.Limits.{routine_fits, class_fits, program_fits}
 use Rattle.type_derive.specs.Libraries.{IsLibrary}
 use Rattle.typed_laws.proofs.OneNode.{both_true}
 use Rattle.typed_laws.proofs.Typed.{unless_true}

@@ -35,9 +35,9 @@ use Rattle.type_derive.specs.Derived.{Source, member_sources, follows, declared_
 use Rattle.type_derive.specs.Nodes.{faults, statements_fault, initial_fault, own_bound}
 use Rattle.type_derive.specs.Passes.{field_fault, body_fault, made_fault, own_super_call, constructor_fault, members_nodes}
 use Rattle.type_derive.specs.Formed.{AreFormedMembers, AreFormedIn}
-use Rattle.type_derive.specs.Handlers.{handlers_of, routine_handlers, declared_handlers, statements_handlers, members_routines, unwritten}
+use Rattle.sts_scope.specs.Handlers.{handlers_of, routine_handlers, declared_handlers, statements_handlers, members_routines, unwritten}
 use Rattle.type_derive.specs.Making.{pure, ◌>=>◌}
-use Rattle.type_derive.specs.Numbers.{Numbering, field_names, slot_names, place_among, member_numbers, maker_number, maker_from, routine_number}
+use Rattle.sts_scope.specs.Numbers.{Numbering, field_names, slot_names, place_among, member_numbers, maker_number, maker_from, routine_number}
 use Rattle.type_derive.specs.Built.{Site, made_given, made_statements}
 use Rattle.type_derive.specs.Programs.{site, method_made, initial_made, set_field, initials, super_called, passed_on, passes_on, made_statements_of, constructor_made, constructor_unwritten, unwritten_made, members_made, class_made, class_entry, ◌before◌}
 use Rattle.typed_laws.specs.Stands.{IsProper}

@@ -28,9 +28,9 @@ use Rattle.type_derive.specs.declared.roles.Role.TheVariants.{Free, Given, Calle
 use Rattle.type_derive.specs.Typing.{Callee, space, constant_of, board_callee, callee_of, super_method, type_of, types_of, are_given, is_handler, is_drawing, spelling, finds, given_to}
 use Rattle.type_derive.specs.Returns.{is_alone, bound, after, after_first, looped, items_of}
 use Rattle.type_derive.specs.Nodes.{fault, faults, handler_fault, own_member, own_called, own_super, own_board, is_called, is_served, kind_role, initial_fault, optional_fault, test_fault, declaration_fault, declarations_fault, statement_fault, first_fault, statements_fault, own_local, own_bound, is_list}
-use Rattle.type_derive.specs.Handlers.{handlers, handlers_of, optional_handlers, declarations_handlers, statement_handlers, first_handlers, statements_handlers}
+use Rattle.sts_scope.specs.Handlers.{handlers, handlers_of, optional_handlers, declarations_handlers, statement_handlers, first_handlers, statements_handlers}
 use Rattle.type_derive.specs.Making.{Made, Making, pure, ◌>=>◌, a_local}
-use Rattle.type_derive.specs.Numbers.{Numbering, routine_number}
+use Rattle.sts_scope.specs.Numbers.{Numbering, routine_number}
 use Rattle.type_derive.specs.Built.{Site, in_block, amiss, made_tree, made_given, made_items, made_asked, made_call, made_first, made_optional, made_value, made_locals, made_local, made_statement, made_opening, made_statements, noted, type_in, part_in, class_in, member_read, part_target, routine_of, class_found, call_takes, board_target, asked_given, drawing, argument_made, next_given, later_given, behind_statement, first_site, in_handler_site, kind_or_nothing}
 use Rattle.typed_laws.specs.Laws.{IsRead}
 use Rattle.typed_laws.proofs.OneNode.{both_true}

@@ -24,9 +24,9 @@ use Rattle.type_derive.specs.Returns.{parameter_locals, within}
 use Rattle.type_derive.specs.Derived.{item_sources, main_sources, member_sources, global_sources}
 use Rattle.type_derive.specs.Nodes.{faults, statements_fault, initial_fault, own_bound}
 use Rattle.type_derive.specs.Passes.{field_fault, globals_fault, main_fault, body_fault, made_fault, own_super_call, constructor_fault, members_nodes}
-use Rattle.type_derive.specs.Handlers.{handlers_of, optional_handlers, routine_handlers, declared_handlers, declarations_handlers, statement_handlers, statements_handlers, members_routines, unwritten}
+use Rattle.sts_scope.specs.Handlers.{handlers_of, optional_handlers, routine_handlers, declared_handlers, declarations_handlers, statement_handlers, statements_handlers, members_routines, unwritten}
 use Rattle.type_derive.specs.Making.{pure, ◌>=>◌}
-use Rattle.type_derive.specs.Numbers.{Numbering, global_number, item_numbers, main_numbers, member_numbers, global_places}
+use Rattle.sts_scope.specs.Numbers.{Numbering, global_number, item_numbers, main_numbers, member_numbers, global_places}
 use Rattle.type_derive.specs.Built.{Site, made_given, made_first, made_statements}
 use Rattle.type_derive.specs.Programs.{site, function_made, method_made, initial_made, initials, made_statements_of, constructor_made, unwritten_made, members_made, class_made, global_made, globals_made, main_made, super_called, ◌before◌}
 use Rattle.typed_laws.proofs.Typed.{last, first}

@@ -16,8 +16,8 @@ use Rattle.sts_scope.specs.Entries.{Naming, classes_in, item_entries, heads_of, 
 use Rattle.sts_scope.specs.Rules.{kind_at, maker_takes_of}
 use Rattle.sts_scope.specs.Rules as rules
 use Rattle.type_derive.specs.Passes.{field_fault, body_fault, members_nodes, item_nodes, nodes_fault}
-use Rattle.type_derive.specs.Handlers.{routine_handlers, declared_handlers, statement_handlers, members_routines, unwritten, item_routines}
-use Rattle.type_derive.specs.Numbers.{Numbering, maker_from, makers_from}
+use Rattle.sts_scope.specs.Handlers.{routine_handlers, declared_handlers, statement_handlers, members_routines, unwritten, item_routines}
+use Rattle.sts_scope.specs.Numbers.{Numbering, maker_from, makers_from}
 use Rattle.type_derive.specs.Programs.{function_made, method_made, initial_made, initials, constructor_made, unwritten_made, members_made, class_made, main_made, items_made}
 use Rattle.typed_laws.proofs.Typed.{last, first}
 use Rattle.typed_laws.proofs.Makings.{Placed, placed_left}

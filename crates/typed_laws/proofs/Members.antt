@@ -9,7 +9,7 @@ use Rattle.sts_scope.specs.declared.entries.Entry.{Entry}
 use Rattle.sts_scope.specs.declared.known.Known.{Known}
 use Rattle.sts_scope.specs.Bases.{above}
 use Rattle.sts_scope.specs.Lookup.{same_owner, declares, entry_number, is_second, base_of, member_from, member_number, inherited, sort_of, is_field, inherits_field}
-use Rattle.type_derive.specs.Numbers.{is_method, own_names, is_listed, added, names_from}
+use Rattle.sts_scope.specs.Numbers.{is_method, own_names, is_listed, added, names_from}
 use Rattle.typed_laws.proofs.OneNode.{either_true, both_true}
 use Rattle.typed_laws.proofs.Searching.{position_is, position_first, not_some, added_left, added_cases, added_right, or_right}
 

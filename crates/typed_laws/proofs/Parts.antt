@@ -36,9 +36,9 @@ use Rattle.type_derive.specs.Derived.{Source, Stated, item_sources, main_sources
 use Rattle.type_derive.specs.Nodes.{initial_fault, own_bound}
 use Rattle.type_derive.specs.Passes.{field_fault, globals_fault, main_fault, item_nodes, nodes_fault}
 use Rattle.type_derive.specs.Formed.{IsFormedDeclaration, IsFormedProgram, IsFormedIn, AreFormedDeclarations}
-use Rattle.type_derive.specs.Handlers.{optional_handlers, declarations_handlers, statement_handlers, statements_handlers, unwritten, members_routines, item_routines, all_routines}
+use Rattle.sts_scope.specs.Handlers.{optional_handlers, declarations_handlers, statement_handlers, statements_handlers, unwritten, members_routines, item_routines, all_routines}
 use Rattle.type_derive.specs.Making.{Made as Made', pure, ◌>=>◌}
-use Rattle.type_derive.specs.Numbers.{Numbering, global_number, item_numbers, numbers_from, member_numbers, item_makers, makers_from, maker_from}
+use Rattle.sts_scope.specs.Numbers.{Numbering, global_number, item_numbers, numbers_from, member_numbers, item_makers, makers_from, maker_from}
 use Rattle.type_derive.specs.Built.{Site, made_first}
 use Rattle.type_derive.specs.Programs.{function_made, class_made, initials, global_made, globals_made, main_made, items_made}
 use Rattle.typed_laws.specs.Stands.{Stands}

@@ -26,9 +26,9 @@ use Rattle.sts_scope.specs.Rules.{local_kind}
 use Rattle.type_derive.specs.Typing.{give_value}
 use Rattle.type_derive.specs.Returns.{parameter_locals, within}
 use Rattle.type_derive.specs.Nodes.{statements_fault}
-use Rattle.type_derive.specs.Handlers.{statements_handlers}
+use Rattle.sts_scope.specs.Handlers.{statements_handlers}
 use Rattle.type_derive.specs.Formed.{AreFormedIn}
-use Rattle.type_derive.specs.Numbers.{Numbering, maker_number}
+use Rattle.sts_scope.specs.Numbers.{Numbering, maker_number}
 use Rattle.type_derive.specs.Built.{Site, made_statements}
 use Rattle.type_derive.specs.Programs.{site, parameter_spots, class_entries}
 use Rattle.typed_laws.specs.Stands.{IsProper, Stands}

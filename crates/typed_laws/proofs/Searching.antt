@@ -3,7 +3,7 @@ use Rattle.std.proofs.Common.{◌≡◌, ℕ, zero, suc, ◌+◌, ◌<◌, ◌==
 use Rattle.std.specs.Prelude.{slice_get, is_some, unwrap_or, map, filter, ◌⊎◌}
 use Rattle.std.specs.List.{position_from, list_any}
 use Rattle.sts_syntax.specs.TypeRules.{entry}
-use Rattle.type_derive.specs.Numbers.{is_listed, added, place_among}
+use Rattle.sts_scope.specs.Numbers.{is_listed, added, place_among}
 use Rattle.typed_laws.proofs.OneNode.{either_true}
 
 pub entry_get : {A : Type 0} (xs : List A) (i : ℕ) → entry xs i ≡ slice_get xs i

@@ -43,9 +43,9 @@ use Rattle.type_derive.specs.declared.roles.Role.TheVariants.{Free, Given, Calle
 use Rattle.type_derive.specs.Typing.{◌>>=◌, Callee, callee, board_kind, space, space_of, finds, constant_of, board_callee, named_callee, part_callee, callee_of, super_method, made, called, given_to, type_of, types_of, are_given, settable, is_handler, is_drawing, spelling, give_value, gives_value, text_at}
 use Rattle.type_derive.specs.Returns.{is_alone, bound, declared, all_declared, after, after_first, items_of, looped}
 use Rattle.type_derive.specs.Nodes.{kind_role, is_called, fault, faults, is_list, initial_fault, optional_fault, test_fault, declaration_fault, declarations_fault, statement_fault, first_fault, statements_fault, own_local, own_bound, own_member, own_called, own_super, own_make, own_board, fits}
-use Rattle.type_derive.specs.Handlers.{handlers, handlers_of, optional_handlers, declarations_handlers, statement_handlers, first_handlers, statements_handlers}
+use Rattle.sts_scope.specs.Handlers.{handlers, handlers_of, optional_handlers, declarations_handlers, statement_handlers, first_handlers, statements_handlers}
 use Rattle.type_derive.specs.Making.{Making, pure, ◌>=>◌, a_local}
-use Rattle.type_derive.specs.Numbers.{Numbering, field_names, slot_names, place_among, routine_number}
+use Rattle.sts_scope.specs.Numbers.{Numbering, field_names, slot_names, place_among, routine_number}
 use Rattle.type_derive.specs.Built.{Site, in_block, amiss, spots_from, in_handler_site, behind_statement, first_site, made_first, made_optional, made_value, made_locals, made_local, made_statement, made_opening, made_statements, made_tree, made_given, made_items, made_asked, made_call, noted, type_in, part_in, class_in, member_read, part_target, part_takes, routine_of, routine_takes, class_found, call_takes, spot_of, board_target, plain_handler, drawing, argument_made}
 use Rattle.type_derive.specs.Formed.{IsFormed, AreFormed, MayBeFormed, AreFormedDeclarations, IsFormedIn, IsFormedFirst, AreFormedIn}
 use Rattle.typed_laws.specs.Stands.{is_proper_base, IsProper, EachProper, Stands}

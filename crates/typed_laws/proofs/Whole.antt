@@ -28,9 +28,9 @@ use Rattle.type_derive.specs.Derived.{Source, item_sources, sources_from, follow
 use Rattle.type_derive.specs.Nodes.{statements_fault}
 use Rattle.type_derive.specs.Passes.{all_overrides, item_nodes, nodes_fault}
 use Rattle.type_derive.specs.Formed.{IsFormedProgram}
-use Rattle.type_derive.specs.Handlers.{statements_handlers, item_routines, all_routines}
+use Rattle.sts_scope.specs.Handlers.{statements_handlers, item_routines, all_routines}
 use Rattle.type_derive.specs.Making.{Made as Made'}
-use Rattle.type_derive.specs.Numbers.{Numbering, numbering, numbers_from, makers_from, item_numbers}
+use Rattle.sts_scope.specs.Numbers.{Numbering, numbering, numbers_from, makers_from, item_numbers}
 use Rattle.type_derive.specs.Programs.{function_made, class_made, main_made, items_made, library_made}
 use Rattle.type_derive.specs.Limits.{limits_fault}
 use Rattle.type_derive.specs.Accepted.{known, all_sources, AreDerived, main_routine, typed, type_refusal, refusal}

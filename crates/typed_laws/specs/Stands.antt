@@ -20,7 +20,7 @@ use Rattle.sts_scope.specs.Lookup.{base_of, sort_of}
 use Rattle.sts_scope.specs.Rules.{class_part, kind_at, takes_at, maker_takes_of}
 use Rattle.type_derive.specs.Typing.{super_method}
 use Rattle.type_derive.specs.Libraries.{taken}
-use Rattle.type_derive.specs.Numbers.{Numbering, global_number, field_names, slot_names, place_among, routine_number}
+use Rattle.sts_scope.specs.Numbers.{Numbering, global_number, field_names, slot_names, place_among, routine_number}
 
 -- a type that values have: `[]` alone has none
 abbrev pub is_proper_base : Base → Bool

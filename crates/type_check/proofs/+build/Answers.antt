@@ -19,7 +19,7 @@ use Rattle.type_derive.specs.Built as b
 use Rattle.type_derive.specs.Making.{Making, pure, ◌>=>◌, a_local}
 use Rattle.type_derive.specs.Returns as derive
 use Rattle.type_derive.specs.Scopes.{place}
-use Rattle.type_check.specs.Building.{numbering_of}
+use Rattle.typed_numbers.specs.Building.{numbering_of}
 use Rattle.type_check.specs.Calls as call
 use Rattle.type_check.specs.Sites as s
 use Rattle.type_check.specs.Steps as steps
@@ -28,7 +28,7 @@ use Rattle.type_check.specs.Steps.{IsBuilt}
 use Rattle.type_check.proofs.Blocks.{Grown, grown_not, grown_is, grown_further, grown_block, grown_behind, site_closed, site_is, site_of}
 use Rattle.type_check.proofs.GivenTrees.{arguments_begin, arguments_step, arguments_end}
 use Rattle.type_check.proofs.Passed.{head_built, none_built}
-use Rattle.type_check.proofs.Listed.{block_is, let_is, items_is, make_is, super_call_is, call_is}
+use Rattle.typed_numbers.proofs.Listed.{block_is, let_is, items_is, make_is, super_call_is, call_is}
 use Rattle.type_check.proofs.Forms.{if_only_is, if_else_is, while_is, do_while_is, for_is, for_first_is, for_of_is, return_is, plain_is, of_two, of_three, optional_is, turns_is, three_locals, from_ok}
 use Rattle.type_check.proofs.Pieces.{then, stays, last, via, drop_all}
 use Rattle.sts_scope.specs.Entries.{written_kind}
@@ -180,9 +180,9 @@ build_statements::build_statement-returns-in_ok-each-in-Let-clause-site t c =
     c.in_ok-each-in-Let.ensures.site ∙ ap (λ (xs : List Binding). s.behind p m S (u.Let 0 fixed (declarations xs))) c.as_slice-in-Let.ensures
     ∙ sym (ap (s.behind p m S) (let_is c.args.a.now fixed c.in-Let.each c.in-Let.is))
 
-pub build_statements::build_statement-returns-in-None-clause-built : goal.build_statements::build_statement-returns-in-None-clause-built
+pub build_statements::build_if-returns-in-None-clause-built : goal.build_statements::build_if-returns-in-None-clause-built
 unfolding s.statement_made s.tree_made
-build_statements::build_statement-returns-in-None-clause-built t c =
+build_statements::build_if-returns-in-None-clause-built t c =
     let p = c.args.plan.now in
     let S = s.site c.args.site.now in
     let b0 = c.args.builder.now in
@@ -200,9 +200,9 @@ build_statements::build_statement-returns-in-None-clause-built t c =
     (sym (ap (s.statement_made p S) is)) (sym (ap (λ (z : TypedExpr). e.IfOnly (typed_tree z) x) c.in_ok-test-in-If-2.ensures.kept))
     (of_two b0 b1 b2 (s.tree_made p S None (tree c.in-If.test)) body (λ y z. e.IfOnly y z) q x (h.made, (h.locals, (h.routines, (h.local, h.function)))) branch)
 
-pub build_statements::build_statement-returns-in_ok-test-in-Some-clause-built : goal.build_statements::build_statement-returns-in_ok-test-in-Some-clause-built
+pub build_statements::build_if-returns-in_ok-test-in-Some-clause-built : goal.build_statements::build_if-returns-in_ok-test-in-Some-clause-built
 unfolding s.statement_made s.tree_made
-build_statements::build_statement-returns-in_ok-test-in-Some-clause-built t c =
+build_statements::build_if-returns-in_ok-test-in-Some-clause-built t c =
     let p = c.args.plan.now in
     let S = s.site c.args.site.now in
     let b0 = c.args.builder.now in
@@ -232,29 +232,29 @@ build_statements::build_statement-returns-in_ok-test-in-Some-clause-built t c =
     (sym (ap (s.statement_made p S) is)) (sym (ap (λ z. e.IfElse (typed_tree z) (typed_statement c.in_ok-test-in-Some.a.value) y) k1 ∙ ap (λ z. e.IfElse q (typed_statement z.value) y) k2))
     (of_three b0 b1 b2 b3 (s.tree_made p S None (tree c.in-If.test)) body other (λ k l m. e.IfElse k l m) q x y (h.made, (h.locals, (h.routines, (h.local, h.function)))) branch third)
 
-pub build_statements::build_statement-returns-in_ok-test-in-While-2-clause-built : goal.build_statements::build_statement-returns-in_ok-test-in-While-2-clause-built
+pub build_statements::build_while-returns-in_ok-test-in-While-2-clause-built : goal.build_statements::build_while-returns-in_ok-test-in-While-2-clause-built
 unfolding s.statement_made s.tree_made
-build_statements::build_statement-returns-in_ok-test-in-While-2-clause-built t c =
+build_statements::build_while-returns-in_ok-test-in-While-2-clause-built t c =
     let p = c.args.plan.now in
     let S = s.site c.args.site.now in
     let b0 = c.args.builder.now in
     let a = c.args.a.now in
-    let b1 = c.build_tree-in-While.new.builder in
-    let b2 = c.build_branch-in-While.new.builder in
+    let b1 = c.build_tree.new.builder in
+    let b2 = c.build_branch.new.builder in
     let h = c.in_ok-test-in-While.ensures in
     let q = typed_tree c.in_ok-test-in-While.test.tree in
     let x = typed_statement c.in_ok-test-in-While-2.a.value in
     let body = s.statement_made p (b.in_block S) (statement c.in-While.a.value) in
-    let branch : IsBuilt b1 b2 body x = via b1 b2 (s.statement_made p (b.in_block S) (statement c.deref-in-While.result.now)) body x x (ap (λ (z : Stmt). s.statement_made p (b.in_block S) (statement z)) c.deref-in-While.ensures) refl
-    (from_ok c.build_branch-in-While.result c.in_ok-test-in-While-2.a (λ r. IsBuilt b1 b2 (s.statement_made p (b.in_block S) (statement c.deref-in-While.result.now)) (typed_statement r.value)) c.in_ok-test-in-While-2.ensures.other c.build_branch-in-While.ensures.built) in
+    let branch : IsBuilt b1 b2 body x = via b1 b2 (s.statement_made p (b.in_block S) (statement c.deref.result.now)) body x x (ap (λ (z : Stmt). s.statement_made p (b.in_block S) (statement z)) c.deref.ensures) refl
+    (from_ok c.build_branch.result c.in_ok-test-in-While-2.a (λ r. IsBuilt b1 b2 (s.statement_made p (b.in_block S) (statement c.deref.result.now)) (typed_statement r.value)) c.in_ok-test-in-While-2.ensures.other c.build_branch.ensures.built) in
     let is = while_is a c.in-While.test c.in-While.a c.in-While.is in
     via b0 b2 (s.statement_made p S (u.While a.at (tree c.in-While.test) (statement c.in-While.a.value))) (s.statement_made p S (statement a)) (e.While q x) (e.While (typed_tree c.in_ok-test-in-While-2.test) x)
     (sym (ap (s.statement_made p S) is)) (sym (ap (λ (z : TypedExpr). e.While (typed_tree z) x) c.in_ok-test-in-While-2.ensures.kept))
     (of_two b0 b1 b2 (s.tree_made p S None (tree c.in-While.test)) body (λ y z. e.While y z) q x (h.made, (h.locals, (h.routines, (h.local, h.function)))) branch)
 
-pub build_statements::build_statement-returns-in_ok-a-in-DoWhile-2-clause-built : goal.build_statements::build_statement-returns-in_ok-a-in-DoWhile-2-clause-built
+pub build_statements::build_while-returns-in_ok-a-in-DoWhile-2-clause-built : goal.build_statements::build_while-returns-in_ok-a-in-DoWhile-2-clause-built
 unfolding s.statement_made s.tree_made
-build_statements::build_statement-returns-in_ok-a-in-DoWhile-2-clause-built t c =
+build_statements::build_while-returns-in_ok-a-in-DoWhile-2-clause-built t c =
     let p = c.args.plan.now in
     let S = s.site c.args.site.now in
     let b0 = c.args.builder.now in
@@ -288,9 +288,9 @@ build_statements::build_statement-returns-in_ok-a-in-DoWhile-2-clause-built t c 
     (sym (ap (s.statement_made p S) is)) (sym (ap (λ z. e.DoWhile (typed_statement z.value) q) c.in_ok-a-in-DoWhile-2.ensures.kept))
     (of_two b0 b1 b2 body f (λ y z. e.DoWhile y z) x q branch (via b1 b2 f0 f q q (ap (λ z. s.tree_made p z None (tree c.in-DoWhile.test)) c.in_ok-a-in-DoWhile.ensures.site) refl tests))
 
-pub build_statements::build_statement-returns-in_ok-turns-in-None-first-clause-built : goal.build_statements::build_statement-returns-in_ok-turns-in-None-first-clause-built
+pub build_statements::build_for-returns-in_ok-turns-in-None-clause-built : goal.build_statements::build_for-returns-in_ok-turns-in-None-clause-built
 unfolding s.statement_made steps.turns_of s.optional_made
-build_statements::build_statement-returns-in_ok-turns-in-None-first-clause-built t c =
+build_statements::build_for-returns-in_ok-turns-in-None-clause-built t c =
     let p = c.args.plan.now in
     let S = s.site c.args.site.now in
     let b0 = c.args.builder.now in
@@ -298,97 +298,97 @@ build_statements::build_statement-returns-in_ok-turns-in-None-first-clause-built
     let b1 = c.build_turns.new.builder in
     let t1 = optional_expression c.in-For.field-1 in
     let t2 = optional_expression c.in-For.field-2 in
-    let st = s.site c.begin-around-in-For.new.site in
-    let r = c.in_ok-turns-in-None-first.turns in
+    let st = s.site c.begin-around.new.site in
+    let r = c.in_ok-turns-in-None.turns in
     let y = e.For e.omitted (optional_typed_tree r.test) (optional_typed_tree r.step) (typed_statement r.body.value) in
-    let is = for_is a c.in-For.field-1 c.in-For.field-2 c.in-For.field-3 (c.in-For.is ∙ ap (λ o. form.For o c.in-For.field-1 c.in-For.field-2 c.in-For.field-3) c.in-None-first.is) in
+    let is = for_is a c.in-For.field-1 c.in-For.field-2 c.in-For.field-3 (c.in-For.is ∙ ap (λ o. form.For o c.in-For.field-1 c.in-For.field-2 c.in-For.field-3) c.in-None.is) in
     let A = statement c.in-For.field-3.value in
     let turns : IsBuilt b0 b1 (steps.turns_of p (b.in_block S) e.omitted t1 t2 A) y =
     via b0 b1 (steps.turns_made p st e.omitted (statement a)) (steps.turns_of p (b.in_block S) e.omitted t1 t2 A) y y
-    (ap (λ z. steps.turns_made p z e.omitted (statement a)) c.begin-around-in-For.ensures.site
-    ∙ turns_is p (b.in_block S) e.omitted a None c.in-For.field-1 c.in-For.field-2 c.in-For.field-3 (c.in-For.is ∙ ap (λ o. form.For o c.in-For.field-1 c.in-For.field-2 c.in-For.field-3) c.in-None-first.is))
-    refl (c.in_ok-turns-in-None-first.ensures.built e.omitted) in
+    (ap (λ z. steps.turns_made p z e.omitted (statement a)) c.begin-around.ensures.site
+    ∙ turns_is p (b.in_block S) e.omitted a None c.in-For.field-1 c.in-For.field-2 c.in-For.field-3 (c.in-For.is ∙ ap (λ o. form.For o c.in-For.field-1 c.in-For.field-2 c.in-For.field-3) c.in-None.is))
+    refl (c.in_ok-turns-in-None.ensures.built e.omitted) in
     via b0 b1 (s.statement_made p S (u.For a.at u.omitted t1 t2 A)) (s.statement_made p S (statement a)) y y (sym (ap (s.statement_made p S) is)) refl
     (then b0 b0 b1 (pure e.omitted) (λ f. steps.turns_of p (b.in_block S) f t1 t2 A) e.omitted y (stays b0 e.omitted) turns)
 
-pub build_statements::build_statement-returns-in_ok-first-in-Some-first-3-clause-built : goal.build_statements::build_statement-returns-in_ok-first-in-Some-first-3-clause-built
+pub build_statements::build_for-returns-in_ok-first-in-Some-3-clause-built : goal.build_statements::build_for-returns-in_ok-first-in-Some-3-clause-built
 unfolding s.statement_made steps.turns_of s.optional_made
-build_statements::build_statement-returns-in_ok-first-in-Some-first-3-clause-built t c =
+build_statements::build_for-returns-in_ok-first-in-Some-3-clause-built t c =
     let p = c.args.plan.now in
     let S = s.site c.args.site.now in
     let b0 = c.args.builder.now in
     let a = c.args.a.now in
     let b1 = c.build_statement.new.builder in
-    let b2 = c.build_turns-in-Some-first.new.builder in
+    let b2 = c.build_turns-in-Some.new.builder in
     let t1 = optional_expression c.in-For.field-1 in
     let t2 = optional_expression c.in-For.field-2 in
     let I = b.in_block S in
-    let B = s.site c.begin-around-in-For.new.site in
+    let B = s.site c.begin-around.new.site in
     let inside = s.site c.build_statement.new.site in
-    let F = statement c.in-Some-first.first.value in
+    let F = statement c.in-Some.first.value in
     let A = statement c.in-For.field-3.value in
-    let F1 = statement c.deref-in-Some-first.result.now in
-    let eF : F1 ≡ F = ap statement c.deref-in-Some-first.ensures in
-    let isF = c.in-For.is ∙ ap (λ o. form.For o c.in-For.field-1 c.in-For.field-2 c.in-For.field-3) c.in-Some-first.is in
-    let eB = c.begin-around-in-For.ensures.site in
-    let fx = typed_statement c.in_ok-first-in-Some-first.first in
-    let r = c.in_ok-first-in-Some-first-3.turns in
+    let F1 = statement c.deref.result.now in
+    let eF : F1 ≡ F = ap statement c.deref.ensures in
+    let isF = c.in-For.is ∙ ap (λ o. form.For o c.in-For.field-1 c.in-For.field-2 c.in-For.field-3) c.in-Some.is in
+    let eB = c.begin-around.ensures.site in
+    let fx = typed_statement c.in_ok-first-in-Some.first in
+    let r = c.in_ok-first-in-Some-3.turns in
     let y = e.For (e.written fx) (optional_typed_tree r.test) (optional_typed_tree r.step) (typed_statement r.body.value) in
     let made1 : IsBuilt b0 b1 (s.statement_made p I F) fx =
-    via b0 b1 (s.statement_made p B F1) (s.statement_made p I F) fx fx (ap (λ z. s.statement_made p z F1) eB ∙ ap (λ z. s.statement_made p I z) eF) refl c.in_ok-first-in-Some-first.ensures.built in
-    let eI : inside ≡ s.behind p b0.local I F = c.in_ok-first-in-Some-first.ensures.site ∙ ap (λ z. s.behind p b0.local z F1) eB ∙ ap (λ z. s.behind p b0.local I z) eF in
+    via b0 b1 (s.statement_made p B F1) (s.statement_made p I F) fx fx (ap (λ z. s.statement_made p z F1) eB ∙ ap (λ z. s.statement_made p I z) eF) refl c.in_ok-first-in-Some.ensures.built in
+    let eI : inside ≡ s.behind p b0.local I F = c.in_ok-first-in-Some.ensures.site ∙ ap (λ z. s.behind p b0.local z F1) eB ∙ ap (λ z. s.behind p b0.local I z) eF in
     let turns1 : IsBuilt b1 b2 (steps.turns_made p inside (e.written fx) (statement a)) y =
-    from_ok c.build_turns-in-Some-first.result r (λ k. (f : e.OptionalTypedStatement) → IsBuilt b1 b2 (steps.turns_made p inside f (statement a)) (e.For f (optional_typed_tree k.test) (optional_typed_tree k.step) (typed_statement k.body.value)))
-    c.in_ok-first-in-Some-first-3.ensures.other c.build_turns-in-Some-first.ensures.built (e.written fx) in
+    from_ok c.build_turns-in-Some.result r (λ k. (f : e.OptionalTypedStatement) → IsBuilt b1 b2 (steps.turns_made p inside f (statement a)) (e.For f (optional_typed_tree k.test) (optional_typed_tree k.step) (typed_statement k.body.value)))
+    c.in_ok-first-in-Some-3.ensures.other c.build_turns-in-Some.ensures.built (e.written fx) in
     let turns2 : IsBuilt b1 b2 (steps.turns_of p (s.behind p b0.local I F) (e.written fx) t1 t2 A) y =
     via b1 b2 (steps.turns_made p inside (e.written fx) (statement a)) (steps.turns_of p (s.behind p b0.local I F) (e.written fx) t1 t2 A) y y
-    (ap (λ z. steps.turns_made p z (e.written fx) (statement a)) eI ∙ turns_is p (s.behind p b0.local I F) (e.written fx) a (Some c.in-Some-first.first) c.in-For.field-1 c.in-For.field-2 c.in-For.field-3 isF) refl turns1 in
+    (ap (λ z. steps.turns_made p z (e.written fx) (statement a)) eI ∙ turns_is p (s.behind p b0.local I F) (e.written fx) a (Some c.in-Some.first) c.in-For.field-1 c.in-For.field-2 c.in-For.field-3 isF) refl turns1 in
     let opening : IsBuilt b0 b1 (s.statement_made p I F >=> λ x. pure (e.written x)) (e.written fx) = last b0 b1 (s.statement_made p I F) (λ x. e.written x) fx made1 in
     let all : IsBuilt b0 b2 (s.statement_made p S (u.For a.at (u.written F) t1 t2 A)) y =
     then b0 b1 b2 (s.statement_made p I F >=> λ x. pure (e.written x)) (λ f. steps.turns_of p (s.behind p b0.local I F) f t1 t2 A) (e.written fx) y opening turns2 in
-    let is = for_first_is a c.in-Some-first.first c.in-For.field-1 c.in-For.field-2 c.in-For.field-3 (c.in-For.is ∙ ap (λ o. form.For o c.in-For.field-1 c.in-For.field-2 c.in-For.field-3) c.in-Some-first.is) in
-    let kept = ap (λ z. typed_statement z.value) c.in_ok-first-in-Some-first-3.ensures.kept ∙ ap typed_statement c.in_ok-first-in-Some-first-2.ensures in
+    let is = for_first_is a c.in-Some.first c.in-For.field-1 c.in-For.field-2 c.in-For.field-3 (c.in-For.is ∙ ap (λ o. form.For o c.in-For.field-1 c.in-For.field-2 c.in-For.field-3) c.in-Some.is) in
+    let kept = ap (λ z. typed_statement z.value) c.in_ok-first-in-Some-3.ensures.kept ∙ ap typed_statement c.in_ok-first-in-Some-2.ensures in
     via b0 b2 (s.statement_made p S (u.For a.at (u.written F) t1 t2 A)) (s.statement_made p S (statement a)) y
-    (e.For (e.written (typed_statement c.in_ok-first-in-Some-first-3.first.value)) (optional_typed_tree r.test) (optional_typed_tree r.step) (typed_statement r.body.value))
+    (e.For (e.written (typed_statement c.in_ok-first-in-Some-3.first.value)) (optional_typed_tree r.test) (optional_typed_tree r.step) (typed_statement r.body.value))
     (sym (ap (s.statement_made p S) is)) (sym (ap (λ z. e.For (e.written z) (optional_typed_tree r.test) (optional_typed_tree r.step) (typed_statement r.body.value)) kept)) all
 
-pub build_statements::build_statement-returns-in_ok-first-in-Some-first-3-clause-site : goal.build_statements::build_statement-returns-in_ok-first-in-Some-first-3-clause-site
-build_statements::build_statement-returns-in_ok-first-in-Some-first-3-clause-site t c =
+pub build_statements::build_for-returns-in_ok-first-in-Some-3-clause-site : goal.build_statements::build_for-returns-in_ok-first-in-Some-3-clause-site
+build_statements::build_for-returns-in_ok-first-in-Some-3-clause-site t c =
     let p = c.args.plan.now in
     let S = s.site c.args.site.now in
     let b0 = c.args.builder.now in
     let a = c.args.a.now in
     let m = b0.local in
-    let B = s.site c.begin-around-in-For.new.site in
+    let B = s.site c.begin-around.new.site in
     let Q = s.site c.build_statement.new.site in
-    let R = s.site c.build_turns-in-Some-first.new.site in
-    let Z = s.site c.end-in-Some-first.new.site in
-    let F1 = statement c.deref-in-Some-first.result.now in
-    let r = c.in_ok-first-in-Some-first-3.turns in
-    let same : R ≡ Q = from_ok c.build_turns-in-Some-first.result r (λ k. R ≡ Q) c.in_ok-first-in-Some-first-3.ensures.other c.build_turns-in-Some-first.ensures.site in
-    let G : Grown S R = grown_is S Q R (grown_further S B Q (grown_is S (b.in_block S) B (grown_block S) c.begin-around-in-For.ensures.site)
-    (grown_is B (s.behind p m B F1) Q (grown_behind p.tables.now (s.naming p) p.known.now (numbering_of p.numbers.now) m B F1) c.in_ok-first-in-Some-first.ensures.site)) same in
-    let around = c.begin-around-in-For.result in
-    let is = for_first_is a c.in-Some-first.first c.in-For.field-1 c.in-For.field-2 c.in-For.field-3 (c.in-For.is ∙ ap (λ o. form.For o c.in-For.field-1 c.in-For.field-2 c.in-For.field-3) c.in-Some-first.is) in
-    site_closed S R Z around.scope.locals around.scope.block around.spots G c.end-in-Some-first.ensures.place c.end-in-Some-first.ensures.spots
-    c.begin-around-in-For.ensures.locals c.begin-around-in-For.ensures.block c.begin-around-in-For.ensures.spots
+    let R = s.site c.build_turns-in-Some.new.site in
+    let Z = s.site c.end-in-Some.new.site in
+    let F1 = statement c.deref.result.now in
+    let r = c.in_ok-first-in-Some-3.turns in
+    let same : R ≡ Q = from_ok c.build_turns-in-Some.result r (λ k. R ≡ Q) c.in_ok-first-in-Some-3.ensures.other c.build_turns-in-Some.ensures.site in
+    let G : Grown S R = grown_is S Q R (grown_further S B Q (grown_is S (b.in_block S) B (grown_block S) c.begin-around.ensures.site)
+    (grown_is B (s.behind p m B F1) Q (grown_behind p.tables.now (s.naming p) p.known.now (numbering_of p.numbers.now) m B F1) c.in_ok-first-in-Some.ensures.site)) same in
+    let around = c.begin-around.result in
+    let is = for_first_is a c.in-Some.first c.in-For.field-1 c.in-For.field-2 c.in-For.field-3 (c.in-For.is ∙ ap (λ o. form.For o c.in-For.field-1 c.in-For.field-2 c.in-For.field-3) c.in-Some.is) in
+    site_closed S R Z around.scope.locals around.scope.block around.spots G c.end-in-Some.ensures.place c.end-in-Some.ensures.spots
+    c.begin-around.ensures.locals c.begin-around.ensures.block c.begin-around.ensures.spots
     ∙ site_is S.place S.place S.spots (S.spots ++ []) refl (sym (append-nil S.spots)) ∙ sym (ap (s.behind p m S) is)
 
-pub build_statements::build_statement-returns-in_ok-list-in-ForOf-4-clause-built : goal.build_statements::build_statement-returns-in_ok-list-in-ForOf-4-clause-built
+pub build_statements::build_for_of-returns-in_ok-list-in-ForOf-4-clause-built : goal.build_statements::build_for_of-returns-in_ok-list-in-ForOf-4-clause-built
 unfolding s.statement_made s.tree_made s.tree_kind
-build_statements::build_statement-returns-in_ok-list-in-ForOf-4-clause-built t c =
+build_statements::build_for_of-returns-in_ok-list-in-ForOf-4-clause-built t c =
     let p = c.args.plan.now in
     let S = s.site c.args.site.now in
     let b0 = c.args.builder.now in
     let a = c.args.a.now in
-    let b1 = c.build_tree-in-ForOf.new.builder in
+    let b1 = c.build_tree.new.builder in
     let b2 = c.add_loop.new.builder in
-    let b3 = c.build_branch-in-ForOf.new.builder in
+    let b3 = c.build_branch.new.builder in
     let fixed = c.in-ForOf.fixed in
     let x = c.in-ForOf.name in
     let L = tree c.in-ForOf.list in
     let A = statement c.in-ForOf.body.value in
-    let A1 = statement c.deref-in-ForOf.result.now in
+    let A1 = statement c.deref.result.now in
     let h = c.in_ok-list-in-ForOf.ensures in
     let l = typed_tree c.in_ok-list-in-ForOf.list.tree in
     let y = typed_statement c.in_ok-list-in-ForOf-4.body.value in
@@ -406,21 +406,21 @@ build_statements::build_statement-returns-in_ok-list-in-ForOf-4-clause-built t c
     let hr : typed_routines b2.routines ≡ typed_routines b1.routines = ap typed_routines (from_ok Ra i (λ z. b2.routines ≡ b1.routines) o2 c.add_loop.ensures.routines) in
     let hm : b2.local ≡ b1.local + 3 = from_ok Ra i (λ z. b2.local ≡ b1.local + 3) o2 c.add_loop.ensures.local in
     let hf : b2.function ≡ b1.function = from_ok Ra i (λ z. b2.function ≡ b1.function) o2 c.add_loop.ensures.function in
-    let B = s.site c.begin-around-in-ForOf.new.site in
+    let B = s.site c.begin-around.new.site in
     let D = s.site c.declare_local.new.site in
     let o3 = c.in_ok-list-in-ForOf-3.ensures.other in
     let known = c.in_ok-list-in-ForOf-3._known in
     let P : D.place ≡ with B.place x kind fixed = from_ok c.declare_local.result known (λ z. D.place ≡ with B.place x kind fixed) o3 c.declare_local.ensures.place in
     let Q : D.spots ≡ B.spots ++ Local b0.local ∷ [] = from_ok c.declare_local.result known (λ z. D.spots ≡ B.spots ++ Local b0.local ∷ []) o3 c.declare_local.ensures.spots in
-    let eB = c.begin-around-in-ForOf.ensures.site in
+    let eB = c.begin-around.ensures.site in
     let inside = site_of (inner (derive.looped p.tables.now (s.naming p) p.known.now S.place fixed x L)) (S.spots ++ Local b0.local ∷ []) in
     let P2 = P ∙ ap (λ k. with B.place x k fixed) ek ∙ ap (λ (z : b.Site). with z.place x items fixed) eB in
     let Q2 = Q ∙ ap (λ (z : b.Site). z.spots ++ Local b0.local ∷ []) eB in
     let eD : b.in_block D ≡ inside = ap b.in_block (site_is D.place (derive.looped p.tables.now (s.naming p) p.known.now S.place fixed x L) D.spots (S.spots ++ Local b0.local ∷ []) P2 Q2) in
     let body1 : IsBuilt b2 b3 (s.statement_made p (b.in_block D) A1) y =
-    from_ok c.build_branch-in-ForOf.result c.in_ok-list-in-ForOf-4.body (λ r. IsBuilt b2 b3 (s.statement_made p (b.in_block D) A1) (typed_statement r.value)) c.in_ok-list-in-ForOf-4.ensures.other c.build_branch-in-ForOf.ensures.built in
+    from_ok c.build_branch.result c.in_ok-list-in-ForOf-4.body (λ r. IsBuilt b2 b3 (s.statement_made p (b.in_block D) A1) (typed_statement r.value)) c.in_ok-list-in-ForOf-4.ensures.other c.build_branch.ensures.built in
     let body : IsBuilt b2 b3 (s.statement_made p inside A) y =
-    via b2 b3 (s.statement_made p (b.in_block D) A1) (s.statement_made p inside A) y y (ap (λ z. s.statement_made p z A1) eD ∙ ap (λ (z : Stmt). s.statement_made p inside (statement z)) c.deref-in-ForOf.ensures) refl body1 in
+    via b2 b3 (s.statement_made p (b.in_block D) A1) (s.statement_made p inside A) y y (ap (λ z. s.statement_made p z A1) eD ∙ ap (λ (z : Stmt). s.statement_made p inside (statement z)) c.deref.ensures) refl body1 in
     let z0 = e.ForOf fixed (Local b1.local) l y in
     let tail : e.TypedTree → Making e.TypedStatement =
     λ k. a_local w (λ i. i) >=> λ i. a_local (v.ListOf w) (λ j. j) >=> λ j. a_local v.Number (λ j. j) >=> λ j. s.statement_made p inside A >=> λ q. pure (e.ForOf fixed (Local i) k q) in
@@ -454,7 +454,7 @@ build_statements::build_statement-returns-in_ok-e-in-Plain-clause-built t c =
     let S = s.site c.args.site.now in
     let b0 = c.args.builder.now in
     let a = c.args.a.now in
-    let b1 = c.build_tree-in-Plain.new.builder in
+    let b1 = c.build_tree.new.builder in
     let v = tree c.in-Plain.e in
     let r = typed_tree c.in_ok-e-in-Plain.e.tree in
     let h = c.in_ok-e-in-Plain.ensures in

@@ -2,7 +2,7 @@ use Rattle.std.proofs.Common.{◌≡◌, ◌+◌, ◌++◌, drop, length}
 use Rattle.sts_syntax.specs.Programs.{class_members}
 use Rattle.sts_syntax.specs.TypedViews.{typed_routines}
 use Rattle.sts_scope.specs.Entries as entry
-use Rattle.type_derive.specs.Handlers as h
+use Rattle.sts_scope.specs.Handlers as h
 use Rattle.type_check.specs.Sites.{naming}
 use Rattle.type_check.specs.Wholes as w
 use Rattle.type_check.proofs.build_classes.add_members.Given as goal

@@ -1,6 +1,6 @@
 use Rattle.std.proofs.Common.{◌≡◌, ℕ, List, length, map, ap, ◌∙◌}
 use Rattle.sts_scope.specs.Lookup.{is_field}
-use Rattle.type_derive.specs.Numbers.{is_method}
+use Rattle.sts_scope.specs.Numbers.{is_method}
 use Rattle.type_check.specs.Wholes as w
 use Rattle.type_check.proofs.Classes.{entry_made, names_there, names_are}
 use Rattle.type_check.proofs.build_classes.class_entry.Goals as goal

@@ -6,7 +6,7 @@ use Rattle.sts_scope.specs.declared.kinds.Kind.{Kind}
 use Rattle.type_check.specs.declared.build_heads.Head.TheVariants as head
 use Rattle.type_check.specs.Calls as call
 use Rattle.type_check.specs.Sites as s
-use Rattle.type_check.proofs.Listed.{items_is}
+use Rattle.typed_numbers.proofs.Listed.{items_is}
 use Rattle.type_check.proofs.build_heads.head_of.Goals as goal
 
 pub returns-in_ok-kind-in-Items-clause-head : goal.returns-in_ok-kind-in-Items-clause-head

@@ -7,7 +7,7 @@ use Rattle.sts_syntax.specs.TypedViews.{typed_program}
 use Rattle.type_derive.specs.Accepted.{typed}
 use Rattle.type_derive.specs.Solved.{IsSolved}
 use Rattle.type_check.specs.Checking.{Refuses}
-use Rattle.type_check.proofs.Checked.{heading_refused, found_refused, limits_refused, accepted}
+use Rattle.type_check.proofs.Checked.{heading_refused, found_refused, counts_refused, limits_refused, accepted}
 use Rattle.type_check.proofs.checking.check.Goals as goal
 
 pub returns-in_err-declared-clause-refused : goal.returns-in_err-declared-clause-refused
@@ -30,6 +30,18 @@ returns-in_err-find_failure-clause-refused c =
     rw (why.1) (subst (λ (w : Refused). Refuses w tables library text) (sym (why.2))
     (found_refused tables library text c.solve.new.declared s c.in_err-find_failure.field-0.0
     c.in_ok-declared.ensures.found c.in_err-find_failure.ensures))
+
+pub returns-in_err-check_counts-clause-refused : goal.returns-in_err-check_counts-clause-refused
+returns-in_err-check_counts-clause-refused c =
+    let tables = c.args.tables.now in
+    let library = program c.args.library.now in
+    let text = program c.args.text.now in
+    let why = err_from_is_err_and c.from_residual-in_err-check_counts.result c.from_residual-in_err-check_counts.ensures.1 in
+    let s : IsSolved tables library text c.solve.new.declared =
+    subst (λ r. OnOk r (IsSolved tables library text c.solve.new.declared)) c.in_ok-or_no_memory.ensures.ok c.solve.ensures in
+    rw (why.1) (subst (λ (w : Refused). Refuses w tables library text) (sym (why.2))
+    (counts_refused tables library text c.solve.new.declared s c.in_ok-declared.ensures.found c.in_ok-find_failure.ensures
+    c.in_err-check_counts.field-0.0 c.in_err-check_counts.ensures))
 
 pub returns-in_err-check_limits-clause-refused : goal.returns-in_err-check_limits-clause-refused
 returns-in_err-check_limits-clause-refused c =

@@ -23,8 +23,8 @@ use Rattle.type_check.proofs.Found.{part_kind, part_fault, found_one, found_two,
 use Rattle.type_check.proofs.Steps.{return_is, statements_kept, extends_after, for_is, for_of_step, returned_step, returned_found, first_extends}
 use Rattle.type_check.proofs.fault.+walk.Goals as goal
 
-pub expression-returns-in_ok-u-in-Binary-clause-found : goal.expression-returns-in_ok-u-in-Binary-clause-found
-expression-returns-in_ok-u-in-Binary-clause-found t c =
+pub operation-returns-in_ok-u-in-Binary-clause-found : goal.operation-returns-in_ok-u-in-Binary-clause-found
+operation-returns-in_ok-u-in-Binary-clause-found t c =
     let z = c.args.context.now in
     let t' = z.tables.now in
     let k = z.known.now in
@@ -39,8 +39,8 @@ expression-returns-in_ok-u-in-Binary-clause-found t c =
     let is = ap (fault z p c.args.role) (ap (node_tree at) c.in-Binary.is) in
     found_two z p c.args.role (tree c.args.e.now) (fault z p Free (tree y0)) (fault z p Free (tree y1)) c.operated.result (type_of t' k p c.args.role (Binary at c.in-Binary.op (tree y0) (tree y1))) at c.own-in-Binary.result is h0 h1 (c.operated.ensures ∙ ap (λ cs. c.in_ok-s-in-Binary.s.kind >>= λ v. c.in_ok-u-in-Binary.u.kind >>= λ w. operate cs c.in-Binary.op v w) c.as_slice.ensures ∙ ap (λ q. q >>= λ v. c.in_ok-u-in-Binary.u.kind >>= λ w. operate k.classes c.in-Binary.op v w) k0 ∙ ap (λ q. type_of t' k p Free (tree y0) >>= λ v. q >>= λ w. operate k.classes c.in-Binary.op v w) k1) c.own-in-Binary.ensures.found
 
-pub expression-returns-in_ok-u-in-Both-clause-found : goal.expression-returns-in_ok-u-in-Both-clause-found
-expression-returns-in_ok-u-in-Both-clause-found t c =
+pub operation-returns-in_ok-u-in-Both-clause-found : goal.operation-returns-in_ok-u-in-Both-clause-found
+operation-returns-in_ok-u-in-Both-clause-found t c =
     let z = c.args.context.now in
     let t' = z.tables.now in
     let k = z.known.now in
@@ -55,8 +55,8 @@ expression-returns-in_ok-u-in-Both-clause-found t c =
     let is = ap (fault z p c.args.role) (ap (node_tree at) c.in-Both.is) in
     found_two z p c.args.role (tree c.args.e.now) (fault z p Free (tree y0)) (fault z p Free (tree y1)) c.both.result (type_of t' k p c.args.role (Both at (tree y0) (tree y1))) at c.own-in-Both.result is h0 h1 (c.both.ensures ∙ ap (λ q. q >>= λ v. c.in_ok-u-in-Both.u.kind >>= λ w. joined v w) k0 ∙ ap (λ q. type_of t' k p Free (tree y0) >>= λ v. q >>= λ w. joined v w) k1) c.own-in-Both.ensures.found
 
-pub expression-returns-in_ok-u-in-Either-clause-found : goal.expression-returns-in_ok-u-in-Either-clause-found
-expression-returns-in_ok-u-in-Either-clause-found t c =
+pub operation-returns-in_ok-u-in-Either-clause-found : goal.operation-returns-in_ok-u-in-Either-clause-found
+operation-returns-in_ok-u-in-Either-clause-found t c =
     let z = c.args.context.now in
     let t' = z.tables.now in
     let k = z.known.now in
@@ -71,56 +71,56 @@ expression-returns-in_ok-u-in-Either-clause-found t c =
     let is = ap (fault z p c.args.role) (ap (node_tree at) c.in-Either.is) in
     found_two z p c.args.role (tree c.args.e.now) (fault z p Free (tree y0)) (fault z p Free (tree y1)) c.both-in-Either.result (type_of t' k p c.args.role (Either at (tree y0) (tree y1))) at c.own-in-Either.result is h0 h1 (c.both-in-Either.ensures ∙ ap (λ q. q >>= λ v. c.in_ok-u-in-Either.u.kind >>= λ w. joined v w) k0 ∙ ap (λ q. type_of t' k p Free (tree y0) >>= λ v. q >>= λ w. joined v w) k1) c.own-in-Either.ensures.found
 
-pub expression-returns-in_ok-u-in-Choice-clause-found : goal.expression-returns-in_ok-u-in-Choice-clause-found
-expression-returns-in_ok-u-in-Choice-clause-found t c =
+pub choice-returns-in_ok-u-in-Choice-clause-found : goal.choice-returns-in_ok-u-in-Choice-clause-found
+choice-returns-in_ok-u-in-Choice-clause-found t c =
     let z = c.args.context.now in
     let t' = z.tables.now in
     let k = z.known.now in
     let p = place c.args.scope.now in
     let at = c.args.e.now.at in
     let y0 = c.in-Choice.q.value in
-    let h0 = part_fault z p Free c.deref-in-Choice.result.now y0 c.in_ok-v-in-Choice.ensures.found c.deref-in-Choice.ensures in
-    let k0 = part_kind z p Free c.in_ok-v-in-Choice.v c.deref-in-Choice.result.now y0 c.in_ok-v-in-Choice.ensures.seen c.deref-in-Choice.ensures in
+    let h0 = part_fault z p Free c.deref.result.now y0 c.in_ok-v-in-Choice.ensures.found c.deref.ensures in
+    let k0 = part_kind z p Free c.in_ok-v-in-Choice.v c.deref.result.now y0 c.in_ok-v-in-Choice.ensures.seen c.deref.ensures in
     let y1 = c.in-Choice.a.value in
-    let h1 = part_fault z p Free c.deref-in-Choice-2.result.now y1 c.in_ok-s-in-Choice.ensures.found c.deref-in-Choice-2.ensures in
-    let k1 = part_kind z p Free c.in_ok-s-in-Choice.s c.deref-in-Choice-2.result.now y1 c.in_ok-s-in-Choice.ensures.seen c.deref-in-Choice-2.ensures in
+    let h1 = part_fault z p Free c.deref-in-Choice.result.now y1 c.in_ok-s-in-Choice.ensures.found c.deref-in-Choice.ensures in
+    let k1 = part_kind z p Free c.in_ok-s-in-Choice.s c.deref-in-Choice.result.now y1 c.in_ok-s-in-Choice.ensures.seen c.deref-in-Choice.ensures in
     let y2 = c.in-Choice.b.value in
-    let h2 = part_fault z p Free c.deref-in-Choice-3.result.now y2 c.in_ok-u-in-Choice.ensures.found c.deref-in-Choice-3.ensures in
-    let k2 = part_kind z p Free c.in_ok-u-in-Choice.u c.deref-in-Choice-3.result.now y2 c.in_ok-u-in-Choice.ensures.seen c.deref-in-Choice-3.ensures in
+    let h2 = part_fault z p Free c.deref-in-Choice-2.result.now y2 c.in_ok-u-in-Choice.ensures.found c.deref-in-Choice-2.ensures in
+    let k2 = part_kind z p Free c.in_ok-u-in-Choice.u c.deref-in-Choice-2.result.now y2 c.in_ok-u-in-Choice.ensures.seen c.deref-in-Choice-2.ensures in
     let is = ap (fault z p c.args.role) (ap (node_tree at) c.in-Choice.is) in
-    found_three z p c.args.role (tree c.args.e.now) (fault z p Free (tree y0)) (fault z p Free (tree y1)) (fault z p Free (tree y2)) c.chosen.result (type_of t' k p c.args.role (Choice at (tree y0) (tree y1) (tree y2))) at c.own-in-Choice.result is h0 h1 h2 (c.chosen.ensures ∙ ap (λ cs. c.in_ok-v-in-Choice.v.kind >>= λ o. c.in_ok-s-in-Choice.s.kind >>= λ v. c.in_ok-u-in-Choice.u.kind >>= λ w. choose cs o v w) c.as_slice-in-Choice.ensures ∙ ap (λ q. q >>= λ o. c.in_ok-s-in-Choice.s.kind >>= λ v. c.in_ok-u-in-Choice.u.kind >>= λ w. choose k.classes o v w) k0 ∙ ap (λ q. type_of t' k p Free (tree y0) >>= λ o. q >>= λ v. c.in_ok-u-in-Choice.u.kind >>= λ w. choose k.classes o v w) k1 ∙ ap (λ q. type_of t' k p Free (tree y0) >>= λ o. type_of t' k p Free (tree y1) >>= λ v. q >>= λ w. choose k.classes o v w) k2) c.own-in-Choice.ensures.found
+    found_three z p c.args.role (tree c.args.e.now) (fault z p Free (tree y0)) (fault z p Free (tree y1)) (fault z p Free (tree y2)) c.chosen.result (type_of t' k p c.args.role (Choice at (tree y0) (tree y1) (tree y2))) at c.own.result is h0 h1 h2 (c.chosen.ensures ∙ ap (λ cs. c.in_ok-v-in-Choice.v.kind >>= λ o. c.in_ok-s-in-Choice.s.kind >>= λ v. c.in_ok-u-in-Choice.u.kind >>= λ w. choose cs o v w) c.as_slice.ensures ∙ ap (λ q. q >>= λ o. c.in_ok-s-in-Choice.s.kind >>= λ v. c.in_ok-u-in-Choice.u.kind >>= λ w. choose k.classes o v w) k0 ∙ ap (λ q. type_of t' k p Free (tree y0) >>= λ o. q >>= λ v. c.in_ok-u-in-Choice.u.kind >>= λ w. choose k.classes o v w) k1 ∙ ap (λ q. type_of t' k p Free (tree y0) >>= λ o. type_of t' k p Free (tree y1) >>= λ v. q >>= λ w. choose k.classes o v w) k2) c.own.ensures.found
 
-pub expression-returns-in_ok-s-in-Set-clause-found : goal.expression-returns-in_ok-s-in-Set-clause-found
-expression-returns-in_ok-s-in-Set-clause-found t c =
+pub setting-returns-in_ok-s-in-Set-clause-found : goal.setting-returns-in_ok-s-in-Set-clause-found
+setting-returns-in_ok-s-in-Set-clause-found t c =
     let z = c.args.context.now in
     let t' = z.tables.now in
     let k = z.known.now in
     let p = place c.args.scope.now in
     let at = c.args.e.now.at in
     let y0 = c.in-Set.x.value in
-    let h0 = part_fault z p Free c.deref-in-Set.result.now y0 c.in_ok-u-in-Set.ensures.found c.deref-in-Set.ensures in
-    let k0 = part_kind z p Free c.in_ok-u-in-Set.u c.deref-in-Set.result.now y0 c.in_ok-u-in-Set.ensures.seen c.deref-in-Set.ensures in
+    let h0 = part_fault z p Free c.deref.result.now y0 c.in_ok-u-in-Set.ensures.found c.deref.ensures in
+    let k0 = part_kind z p Free c.in_ok-u-in-Set.u c.deref.result.now y0 c.in_ok-u-in-Set.ensures.seen c.deref.ensures in
     let y1 = c.in-Set.a.value in
-    let h1 = part_fault z p Given c.deref-in-Set-2.result.now y1 c.in_ok-s-in-Set.ensures.found c.deref-in-Set-2.ensures in
-    let k1 = part_kind z p Given c.in_ok-s-in-Set.s c.deref-in-Set-2.result.now y1 c.in_ok-s-in-Set.ensures.seen c.deref-in-Set-2.ensures in
+    let h1 = part_fault z p Given c.deref-in-Set.result.now y1 c.in_ok-s-in-Set.ensures.found c.deref-in-Set.ensures in
+    let k1 = part_kind z p Given c.in_ok-s-in-Set.s c.deref-in-Set.result.now y1 c.in_ok-s-in-Set.ensures.seen c.deref-in-Set.ensures in
     let is = ap (fault z p c.args.role) (ap (node_tree at) c.in-Set.is) in
-    found_two z p c.args.role (tree c.args.e.now) (fault z p Free (tree y0)) (fault z p Given (tree y1)) c.set_kind.result (type_of t' k p c.args.role (Set at c.in-Set.op (tree y0) (tree y1))) at c.own-in-Set.result is h0 h1 (c.set_kind.ensures ∙ ap (λ cs. c.in_ok-u-in-Set.u.kind >>= λ v. c.in_ok-s-in-Set.s.kind >>= λ w. if c.settable-can.result then assign cs c.in-Set.op v w else None) c.as_slice-in-Set.ensures ∙ ap (λ b. c.in_ok-u-in-Set.u.kind >>= λ v. c.in_ok-s-in-Set.s.kind >>= λ w. if b then assign k.classes c.in-Set.op v w else None) (c.settable-can.ensures ∙ ap (λ q. settable t' k p (tree q)) c.deref-in-Set-3.ensures) ∙ ap (λ q. q >>= λ v. c.in_ok-s-in-Set.s.kind >>= λ w. if settable t' k p (tree y0) then assign k.classes c.in-Set.op v w else None) k0 ∙ ap (λ q. type_of t' k p Free (tree y0) >>= λ v. q >>= λ w. if settable t' k p (tree y0) then assign k.classes c.in-Set.op v w else None) k1) c.own-in-Set.ensures.found
+    found_two z p c.args.role (tree c.args.e.now) (fault z p Free (tree y0)) (fault z p Given (tree y1)) c.set_kind.result (type_of t' k p c.args.role (Set at c.in-Set.op (tree y0) (tree y1))) at c.own.result is h0 h1 (c.set_kind.ensures ∙ ap (λ cs. c.in_ok-u-in-Set.u.kind >>= λ v. c.in_ok-s-in-Set.s.kind >>= λ w. if c.settable-can.result then assign cs c.in-Set.op v w else None) c.as_slice.ensures ∙ ap (λ b. c.in_ok-u-in-Set.u.kind >>= λ v. c.in_ok-s-in-Set.s.kind >>= λ w. if b then assign k.classes c.in-Set.op v w else None) (c.settable-can.ensures ∙ ap (λ q. settable t' k p (tree q)) c.deref-in-Set-2.ensures) ∙ ap (λ q. q >>= λ v. c.in_ok-s-in-Set.s.kind >>= λ w. if settable t' k p (tree y0) then assign k.classes c.in-Set.op v w else None) k0 ∙ ap (λ q. type_of t' k p Free (tree y0) >>= λ v. q >>= λ w. if settable t' k p (tree y0) then assign k.classes c.in-Set.op v w else None) k1) c.own.ensures.found
 
-pub expression-returns-in_ok-u-in-Bump-clause-found : goal.expression-returns-in_ok-u-in-Bump-clause-found
-expression-returns-in_ok-u-in-Bump-clause-found t c =
+pub bumping-returns-in_ok-u-in-Bump-clause-found : goal.bumping-returns-in_ok-u-in-Bump-clause-found
+bumping-returns-in_ok-u-in-Bump-clause-found t c =
     let z = c.args.context.now in
     let t' = z.tables.now in
     let k = z.known.now in
     let p = place c.args.scope.now in
     let at = c.args.e.now.at in
     let y0 = c.in-Bump.target.value in
-    let h0 = part_fault z p Free c.deref-in-Bump.result.now y0 c.in_ok-u-in-Bump.ensures.found c.deref-in-Bump.ensures in
-    let k0 = part_kind z p Free c.in_ok-u-in-Bump.u c.deref-in-Bump.result.now y0 c.in_ok-u-in-Bump.ensures.seen c.deref-in-Bump.ensures in
+    let h0 = part_fault z p Free c.deref.result.now y0 c.in_ok-u-in-Bump.ensures.found c.deref.ensures in
+    let k0 = part_kind z p Free c.in_ok-u-in-Bump.u c.deref.result.now y0 c.in_ok-u-in-Bump.ensures.seen c.deref.ensures in
     let is = ap (fault z p c.args.role) (ap (node_tree at) c.in-Bump.is) in
-    found_one z p c.args.role (tree c.args.e.now) (fault z p Free (tree y0)) c.bump_kind.result (type_of t' k p c.args.role (Bump at (tree y0) c.in-Bump.by c.in-Bump.after)) at c.own-in-Bump.result is h0 (c.bump_kind.ensures ∙ ap (λ b. c.in_ok-u-in-Bump.u.kind >>= λ v. if b then counted v else None) (c.settable-can-in-Bump.ensures ∙ ap (λ q. settable t' k p (tree q)) c.deref-in-Bump-2.ensures) ∙ ap (λ q. q >>= λ v. if settable t' k p (tree y0) then counted v else None) k0) c.own-in-Bump.ensures.found
+    found_one z p c.args.role (tree c.args.e.now) (fault z p Free (tree y0)) c.bump_kind.result (type_of t' k p c.args.role (Bump at (tree y0) c.in-Bump.by c.in-Bump.after)) at c.own.result is h0 (c.bump_kind.ensures ∙ ap (λ b. c.in_ok-u-in-Bump.u.kind >>= λ v. if b then counted v else None) (c.settable-can.ensures ∙ ap (λ q. settable t' k p (tree q)) c.deref-in-Bump.ensures) ∙ ap (λ q. q >>= λ v. if settable t' k p (tree y0) then counted v else None) k0) c.own.ensures.found
 
-pub expression-returns-in_ok-u-in-Item-clause-found : goal.expression-returns-in_ok-u-in-Item-clause-found
-expression-returns-in_ok-u-in-Item-clause-found t c =
+pub operation-returns-in_ok-u-in-Item-clause-found : goal.operation-returns-in_ok-u-in-Item-clause-found
+operation-returns-in_ok-u-in-Item-clause-found t c =
     let z = c.args.context.now in
     let t' = z.tables.now in
     let k = z.known.now in
@@ -135,8 +135,8 @@ expression-returns-in_ok-u-in-Item-clause-found t c =
     let is = ap (fault z p c.args.role) (ap (node_tree at) c.in-Item.is) in
     found_two z p c.args.role (tree c.args.e.now) (fault z p Free (tree y0)) (fault z p Free (tree y1)) c.indexed.result (type_of t' k p c.args.role (Item at (tree y0) (tree y1))) at c.own-in-Item.result is h0 h1 (c.indexed.ensures ∙ ap (λ q. q >>= λ v. c.in_ok-u-in-Item.u.kind >>= λ w. element v w) k0 ∙ ap (λ q. type_of t' k p Free (tree y0) >>= λ v. q >>= λ w. element v w) k1) c.own-in-Item.ensures.found
 
-pub expression-returns-then-is_some-2-clause-seen : goal.expression-returns-then-is_some-2-clause-seen
-expression-returns-then-is_some-2-clause-seen t c =
+pub member-returns-then-is_some-2-clause-seen : goal.member-returns-then-is_some-2-clause-seen
+member-returns-then-is_some-2-clause-seen t c =
     let z = c.args.context.now in
     let t' = z.tables.now in
     let k = z.known.now in
@@ -145,12 +145,12 @@ expression-returns-then-is_some-2-clause-seen t c =
     let a = tree c.in-Member.a.value in
     let m = c.in-Member.m in
     let is = ap (node_tree at) c.in-Member.is in
-    let hc : constant_of t' k p a m ≡ None = none_if _ _ (c.is_some.ensures ∙ ap is_some (c.constant.ensures ∙ ap (λ q. constant_of t' k p (tree q) m) c.deref-in-Member.ensures)) c.if-is_some.false in
+    let hc : constant_of t' k p a m ≡ None = none_if _ _ (c.is_some.ensures ∙ ap is_some (c.constant.ensures ∙ ap (λ q. constant_of t' k p (tree q) m) c.deref.ensures)) c.if-is_some.false in
     let hb : is_some (board_callee t' k p (Member at a m)) ≡ true = ap is_some (sym (c.board_callee.ensures ∙ ap (board_callee t' k p) is)) ∙ sym c.is_some-in-Member.ensures ∙ c.if-is_some-2.true in
     member_board z p c.args.role at m a c.plain.result c.plain.ensures hc (untyped t' k p at m a hb) ∙ ap (seen_of z p c.args.role) (sym is)
 
-pub expression-returns-in_ok-s-in-Member-clause-found : goal.expression-returns-in_ok-s-in-Member-clause-found
-expression-returns-in_ok-s-in-Member-clause-found t c =
+pub member-returns-in_ok-s-in-Member-clause-found : goal.member-returns-in_ok-s-in-Member-clause-found
+member-returns-in_ok-s-in-Member-clause-found t c =
     let z = c.args.context.now in
     let t' = z.tables.now in
     let k = z.known.now in
@@ -159,12 +159,12 @@ expression-returns-in_ok-s-in-Member-clause-found t c =
     let y = c.in-Member.a.value in
     let m = c.in-Member.m in
     let is = ap (node_tree at) c.in-Member.is in
-    let hc : constant_of t' k p (tree y) m ≡ None = none_if _ _ (c.is_some.ensures ∙ ap is_some (c.constant.ensures ∙ ap (λ q. constant_of t' k p (tree q) m) c.deref-in-Member.ensures)) c.if-is_some.false in
+    let hc : constant_of t' k p (tree y) m ≡ None = none_if _ _ (c.is_some.ensures ∙ ap is_some (c.constant.ensures ∙ ap (λ q. constant_of t' k p (tree q) m) c.deref.ensures)) c.if-is_some.false in
     let hb : board_callee t' k p (Member at (tree y) m) ≡ None = none_if _ _ (c.is_some-in-Member.ensures ∙ ap is_some (c.board_callee.ensures ∙ ap (board_callee t' k p) is)) c.if-is_some-2.false in
     subst (λ x. Finds c.member_seen.result (fault z p c.args.role x)) (sym is)
     (member_found z p c.args.role at m (tree y) c.in_ok-s-in-Member.s.kind c.member_seen.result hc hb
-    (part_fault z p Free c.deref-in-Member-2.result.now y c.in_ok-s-in-Member.ensures.found c.deref-in-Member-2.ensures)
-    (part_kind z p Free c.in_ok-s-in-Member.s c.deref-in-Member-2.result.now y c.in_ok-s-in-Member.ensures.seen c.deref-in-Member-2.ensures) c.member_seen.ensures.found)
+    (part_fault z p Free c.deref-in-Member.result.now y c.in_ok-s-in-Member.ensures.found c.deref-in-Member.ensures)
+    (part_kind z p Free c.in_ok-s-in-Member.s c.deref-in-Member.result.now y c.in_ok-s-in-Member.ensures.seen c.deref-in-Member.ensures) c.member_seen.ensures.found)
 
 pub expression-returns-in-Items-clause-found : goal.expression-returns-in-Items-clause-found
 expression-returns-in-Items-clause-found t c =
@@ -173,7 +173,7 @@ expression-returns-in-Items-clause-found t c =
     let k = z.known.now in
     let p = place c.args.scope.now in
     let at = c.args.e.now.at in
-    let is = items_is c.args.e.now c.in-Items.all c.in-Items.is ∙ ap (λ xs. Items at (trees xs)) (sym c.as_slice-in-Items.ensures) in
+    let is = items_is c.args.e.now c.in-Items.all c.in-Items.is ∙ ap (λ xs. Items at (trees xs)) (sym c.as_slice.ensures) in
     subst (λ x. Finds c.items.result (fault z p c.args.role x)) (sym is) c.items.ensures.found
 
 pub expression-returns-in-Items-clause-seen : goal.expression-returns-in-Items-clause-seen
@@ -183,7 +183,7 @@ expression-returns-in-Items-clause-seen t c =
     let k = z.known.now in
     let p = place c.args.scope.now in
     let at = c.args.e.now.at in
-    let is = items_is c.args.e.now c.in-Items.all c.in-Items.is ∙ ap (λ xs. Items at (trees xs)) (sym c.as_slice-in-Items.ensures) in
+    let is = items_is c.args.e.now c.in-Items.all c.in-Items.is ∙ ap (λ xs. Items at (trees xs)) (sym c.as_slice.ensures) in
     subst (λ x. IfOk c.items.result (λ s. s ≡ seen_of z p c.args.role x)) (sym is) c.items.ensures.seen
 
 pub expression-returns-in-Call-clause-found : goal.expression-returns-in-Call-clause-found
@@ -193,7 +193,7 @@ expression-returns-in-Call-clause-found t c =
     let k = z.known.now in
     let p = place c.args.scope.now in
     let at = c.args.e.now.at in
-    let is = call_is c.args.e.now c.in-Call.f c.in-Call.args c.in-Call.is ∙ ap (λ xs. Call at (tree c.in-Call.f.value) (trees xs)) (sym c.as_slice-in-Call.ensures) ∙ ap (λ g. Call at (tree g) (trees c.as_slice-in-Call.result.now)) (sym c.deref-in-Call.ensures) in
+    let is = call_is c.args.e.now c.in-Call.f c.in-Call.args c.in-Call.is ∙ ap (λ xs. Call at (tree c.in-Call.f.value) (trees xs)) (sym c.as_slice-in-Call.ensures) ∙ ap (λ g. Call at (tree g) (trees c.as_slice-in-Call.result.now)) (sym c.deref.ensures) in
     subst (λ x. Finds c.call.result (fault z p c.args.role x)) (sym is) c.call.ensures.found
 
 pub expression-returns-in-Call-clause-seen : goal.expression-returns-in-Call-clause-seen
@@ -203,7 +203,7 @@ expression-returns-in-Call-clause-seen t c =
     let k = z.known.now in
     let p = place c.args.scope.now in
     let at = c.args.e.now.at in
-    let is = call_is c.args.e.now c.in-Call.f c.in-Call.args c.in-Call.is ∙ ap (λ xs. Call at (tree c.in-Call.f.value) (trees xs)) (sym c.as_slice-in-Call.ensures) ∙ ap (λ g. Call at (tree g) (trees c.as_slice-in-Call.result.now)) (sym c.deref-in-Call.ensures) in
+    let is = call_is c.args.e.now c.in-Call.f c.in-Call.args c.in-Call.is ∙ ap (λ xs. Call at (tree c.in-Call.f.value) (trees xs)) (sym c.as_slice-in-Call.ensures) ∙ ap (λ g. Call at (tree g) (trees c.as_slice-in-Call.result.now)) (sym c.deref.ensures) in
     subst (λ x. IfOk c.call.result (λ s. s ≡ seen_of z p c.args.role x)) (sym is) c.call.ensures.seen
 
 pub expression-returns-in-SuperCall-clause-found : goal.expression-returns-in-SuperCall-clause-found
@@ -426,7 +426,7 @@ statement-returns-in-For-clause-found t c =
     let p = place c.args.scope.now in
     let s = c.args.s.now in
     subst (Finds c.for_loop.result)
-    (ap (λ y. statement_fault z p (For s.at (optional_boxed c.in-For.first) (optional_expression c.in-For.test) (optional_expression c.in-For.step) (statement y))) c.deref-in-For.ensures
+    (ap (λ y. statement_fault z p (For s.at (optional_boxed c.in-For.first) (optional_expression c.in-For.test) (optional_expression c.in-For.step) (statement y))) c.deref.ensures
     ∙ sym (ap (statement_fault z p) (for_is s c.in-For.first c.in-For.test c.in-For.step c.in-For.a c.in-For.is))) c.for_loop.ensures.found
 
 pub for_loop-returns-clause-place : goal.for_loop-returns-clause-place
@@ -475,8 +475,8 @@ returned-returns-in_err-s t c =
     let p = place c.args.scope.now in
     subst (Finds c.from_residual.result) (sym (returned_step z p c.args.at (tree c.args.e.now) c.kind_role.result c.kind_role.ensures)) (grind (arith, common_steps))
 
-pub statement-returns-in-Some-value-clause-found : goal.statement-returns-in-Some-value-clause-found
-statement-returns-in-Some-value-clause-found t c =
+pub statement-returns-in-Some-clause-found : goal.statement-returns-in-Some-clause-found
+statement-returns-in-Some-clause-found t c =
     let z = c.args.context.now in
     let p = place c.args.scope.now in
-    subst (λ x. Finds c.returned.result (statement_fault z p x)) (sym (return_is c.args.s.now c.in-Return.value _ c.in-Return.is c.in-Some-value.is)) c.returned.ensures
+    subst (λ x. Finds c.returned.result (statement_fault z p x)) (sym (return_is c.args.s.now c.in-Return.value _ c.in-Return.is c.in-Some.is)) c.returned.ensures

@@ -79,3 +79,24 @@ decreases-declaration_fault l = 8 * l.room + 2
 
 abbrev pub decreases-declarations_fault : goal.decreases-declarations_fault
 decreases-declarations_fault l = 8 * l.room + 3
+
+abbrev pub decreases-operation : goal.decreases-operation
+decreases-operation l = 8 * l.room + 1
+
+abbrev pub decreases-choice : goal.decreases-choice
+decreases-choice l = 8 * l.room + 1
+
+abbrev pub decreases-setting : goal.decreases-setting
+decreases-setting l = 8 * l.room + 1
+
+abbrev pub decreases-bumping : goal.decreases-bumping
+decreases-bumping l = 8 * l.room + 1
+
+abbrev pub decreases-member : goal.decreases-member
+decreases-member l = 8 * l.room + 1
+
+abbrev pub decreases-serving : goal.decreases-serving
+decreases-serving l = 8 * l.room + 3
+
+abbrev pub decreases-tested : goal.decreases-tested
+decreases-tested l = 8 * l.room + 2

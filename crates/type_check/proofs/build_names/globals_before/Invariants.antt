@@ -1,7 +1,0 @@
-use Rattle.std.proofs.Common.{◌≡◌, ◌++◌, drop}
-use Rattle.type_check.specs.Building.{globals_from}
-use Rattle.type_check.proofs.build_names.globals_before.Given as goal
-
--- what is counted, and what is left to count, is the whole
-abbrev pub invariant-loop-entry : goal.invariant-loop-entry
-invariant-loop-entry l = l.all ++ globals_from l.count (drop l.entry-index l.entries) ≡ globals_from 0 l.entries

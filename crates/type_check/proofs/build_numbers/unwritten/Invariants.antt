@@ -1,7 +1,0 @@
-use Rattle.std.proofs.Common.{◌≡◌, drop}
-use Rattle.sts_syntax.specs.Programs.{class_members}
-use Rattle.type_derive.specs.Handlers as h
-use Rattle.type_check.proofs.build_numbers.unwritten.Given as goal
-
-abbrev pub invariant-loop-member : goal.invariant-loop-member
-invariant-loop-member l = h.unwritten (class_members (drop l.member-index l.members)) ≡ h.unwritten (class_members l.members)

@@ -1,0 +1,3 @@
+mod Lengths
+pub mod Noting
+mod Behind
