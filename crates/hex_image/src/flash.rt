@@ -19,7 +19,7 @@ pub const FLASH: usize = 262_144;
 pub const EMPTY: u8 = 0xFF;
 
 /// What offsets are counted from.
-#[derive(Clone, Copy, Debug, PartialEq, Eq)]
+#[derive(Clone, Copy)]
 pub enum Base {
     /// No base record came yet.
     Zero,

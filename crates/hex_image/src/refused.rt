@@ -4,7 +4,7 @@ use std::alloc::AllocError;
 use sts_base::NoMemory;
 
 /// The rule that a text breaks first.
-#[derive(Clone, Copy, Debug, PartialEq, Eq)]
+#[derive(Clone, Copy)]
 pub enum HexCode {
     /// A line is no record: it has no colon, a character that is no hexadecimal digit, an odd count of digits, or
     /// a length that disagrees; or a record's type wants another length of data.
@@ -44,7 +44,7 @@ impl HexCode {
 }
 
 /// Why `read_hex` gave no image.
-#[derive(Clone, Copy, Debug, PartialEq, Eq)]
+#[derive(Clone, Copy)]
 pub enum HexRefused {
     /// The text spells no image; the code is that of the first rule that it breaks.
     Image(HexCode),

@@ -21,7 +21,8 @@ use Rattle.lowered_code.specs.Fine.{IsFine}
 use Rattle.lowered_code.proofs.Entries.{entry_within}
 use Rattle.lowered_code.proofs.Lengths.{two_bare, statements_length}
 use Rattle.lowered_code.proofs.Typed.{Within, within_front, within_back, within_self, within_each, base_is_maker, well_typed_fine}
-use Rattle.lowered_code.proofs.Formed.{AllOk, both_ok, statements_ok, bare_ok, super_ok, behind_low}
+use Rattle.lowered_code.proofs.FormedOps.{AllOk, both_ok}
+use Rattle.lowered_code.proofs.Formed.{statements_ok, bare_ok, super_ok, behind_low}
 use Rattle.lowered_code.proofs.Handlers.{one_below, low_routines}
 use Rattle.lowered_code.proofs.Outgoing.{low_statements, low_each, many}
 
