@@ -1,0 +1,19 @@
+#!/bin/sh
+# Lets each call that can fail do so in turn, in some runs of the program sts as rt ci builds it (checks/faults.py). Without it or a C compiler the check is skipped (status 77).
+# usage: checks/faults.sh [STS [TOOL_ROWS]]
+set -eu
+top=$(cd "$(dirname "$0")/.." && pwd)
+program=${1:-$top/crates/sts/out/sts}
+rows=${2:-}
+[ -x "$program" ] || {
+    echo "faults: $program is not built"
+    exit 77
+}
+command -v cc >/dev/null || {
+    echo 'faults: there is no C compiler'
+    exit 77
+}
+folder=$(mktemp -d)
+trap 'rm -rf "$folder"' EXIT
+cc -O2 -fno-builtin -shared -fPIC "$top/checks/faults.c" -o "$folder/faults.so"
+python3 "$top/checks/faults.py" "$folder/faults.so" "$program" ${rows:+"$rows"}
