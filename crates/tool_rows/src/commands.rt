@@ -9,7 +9,7 @@ use std::io::Write;
 use sts_base::{NoMemory, Seq};
 use tool_io::{Folder, MemoryFolder, MemorySink, Sink, SureFolder, SureSink};
 
-/// The calls of `fetch` and `put` that are to fail, the words, and the text of the file that they name.
+/// The calls of `fetch` and `put` that are to fail, the words, and the text of the file f; the file s is no script.
 type Row = (u64, u64, &'static [&'static str], &'static str);
 
 const SUM: &str = "serial.writeNumber(2147483647 + 1)";
@@ -31,7 +31,7 @@ pub fn words_of(alloc: Global, words: &[&str]) -> io::Result<Vec<String>> {
 }
 
 /// The status of the top call with these words, and no devices.
-fn call<F: Folder, K: Sink>(
+pub fn call<F: Folder, K: Sink>(
     alloc: Global,
     words: &[&str],
     folder: &mut F,
@@ -42,7 +42,7 @@ fn call<F: Folder, K: Sink>(
     Ok(sts_main(alloc, words.as_slice(), folder, out, &mut plugs))
 }
 
-/// A folder with that text as its one file, whose fetch of that number is to fail.
+/// A folder with that text as its file f, whose fetch of that number is to fail.
 pub fn folder(alloc: Global, failing: u64, text: &str) -> Result<MemoryFolder, NoMemory> {
     let mut fetches = Seq::new(alloc);
     fetches.push(failing)?;
@@ -64,6 +64,7 @@ pub fn sink(alloc: Global, failing: u64, room: usize) -> Result<MemorySink, NoMe
 fn show_row<W: Write>(alloc: Global, out: &mut W, row: &Row, room: usize) -> io::Result<()> {
     let (fetch, put, words, text) = *row;
     let mut folder = folder(alloc, fetch, text).map_err(wanting)?;
+    folder.add(alloc, "s", b"[").map_err(wanting)?;
     let mut sink = sink(alloc, put, room).map_err(wanting)?;
     let status = call(alloc, words, &mut folder, &mut sink)?;
     write!(out, "{status} |")?;
@@ -71,11 +72,14 @@ fn show_row<W: Write>(alloc: Global, out: &mut W, row: &Row, room: usize) -> io:
     out.write_all(b"|\n")
 }
 
-const ROWS: [Row; 39] = [
+const ROWS: [Row; 42] = [
     (0, 0, &["run", "f"], SUM),
     (1, 0, &["run", "f"], SUM),
     (0, 1, &["run", "f"], SUM),
     (0, 2, &["run", "f"], SUM),
+    (1, 0, &["run", "f", "s"], SUM),
+    (2, 0, &["run", "f", "s"], SUM),
+    (3, 0, &["run", "f", "s"], SUM),
     (0, 0, &["run", "g"], SUM),
     (0, 0, &["fly"], SUM),
     (1, 0, &["fly"], SUM),

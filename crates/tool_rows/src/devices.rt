@@ -23,20 +23,20 @@ const QUIET: &str = "{\"end\":9,\"events\":[]}";
 /// The put and the display's write that are to fail, and the script.
 type Row = (u64, u64, &'static str);
 
-/// A device with room for four words, whose write of that number is to fail.
-fn device(alloc: Global, failing: u64) -> Result<MemoryDevice, NoMemory> {
+/// A device with room for so many words, whose write of that number is to fail.
+pub fn device(alloc: Global, room: usize, failing: u64) -> Result<MemoryDevice, NoMemory> {
     let mut writes = Seq::new(alloc);
     writes.push(failing)?;
-    MemoryDevice::new(alloc, 4, writes)
+    MemoryDevice::new(alloc, room, writes)
 }
 
-/// Writes what a device tells of its words, each behind its moment.
-fn show_place<W: Write>(out: &mut W, place: &Option<Box<dyn Device>>) -> io::Result<()> {
+/// Writes what a device tells of its first twenty words, each behind its moment.
+pub fn show_place<W: Write>(out: &mut W, place: &Option<Box<dyn Device>>) -> io::Result<()> {
     match place {
         None => out.write_all(b" none"),
         Some(device) => {
             out.write_all(b" log")?;
-            for at in 0..4usize {
+            for at in 0..20usize {
                 if let Some((now, word)) = device.logged(at) {
                     write!(out, " {now}:{word}")?;
                 }
@@ -79,8 +79,8 @@ fn show_row<W: Write>(
     row: &Row,
 ) -> io::Result<()> {
     let (put, write, script) = *row;
-    let display = device(alloc, write).map_err(wanting)?;
-    let serial = device(alloc, 0).map_err(wanting)?;
+    let display = device(alloc, 4, write).map_err(wanting)?;
+    let serial = device(alloc, 4, 0).map_err(wanting)?;
     let mut plugs: Vec<Option<Box<dyn Device>>> = Vec::new(alloc);
     plugs.push(Some(Box::new(alloc, display)?))?;
     plugs.push(Some(Box::new(alloc, serial)?))?;
