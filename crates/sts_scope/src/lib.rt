@@ -12,6 +12,7 @@ mod kinds;
 mod known;
 mod lookup;
 mod names;
+mod numbers;
 mod resolution;
 mod rows;
 mod symbol_table;

@@ -1,13 +1,12 @@
 // Declarations, which are found by their owners and names.
-ghost use Rattle.std.specs.Prelude.{◌≡◌, [], ◌∷◌, ◌++◌, ◌<◌, ◌^◌, length, slice_get, OnOk, OnErr, OnSome};
+ghost use Rattle.std.specs.Prelude.{◌≡◌, [], ◌∷◌, ◌++◌, ◌<◌, length, slice_get, OnOk, OnErr, OnSome};
 ghost use Rattle.std.specs.Option.{option_copied};
 ghost use Rattle.sts_scope.specs.Lookup as look;
-ghost use Rattle.sts_scope.specs.Symbols.{key, Notes};
 
 use crate::lookup::{base_of, is_field, sort_of};
+use crate::numbers::Numbers;
 use crate::{ClassHead, Entry, Owner};
 use std::alloc::Global;
-use std::collections::BTreeMap;
 use std::marker::Model;
 use sts_base::NoMemory;
 
@@ -15,8 +14,8 @@ use sts_base::NoMemory;
 #[derive(Drop)]
 pub struct SymbolTable {
     entries: Vec<Entry>,
-    /// the number of the first declaration of each name of each owner, by the name's key
-    numbers: BTreeMap<u128, usize>,
+    /// the number of the first declaration of each name of each owner
+    numbers: Numbers,
 }
 
 impl Model for SymbolTable {
@@ -31,31 +30,6 @@ impl Model for SymbolTable {
     ghost invariant = { λ table. IsIndexed table.numbers table.entries.items };
 }
 
-/// The key of a name of an owner.
-fn key(owner: Owner, x: u32) -> u128
-    ensures value { result ≡ key owner x }
-    ensures name { x < 2 ^ 32 }
-{
-    match owner {
-        Owner::Whole => u128::from(x),
-        Owner::Class(c) => (u128::from(c) + 1) * 4_294_967_296 + u128::from(x),
-    }
-}
-
-/// Notes a number at a key, unless one is kept there. After `NoMemory` nothing is noted.
-fn note(numbers: &mut BTreeMap<u128, usize>, key: u128, d: usize) -> Result<(), NoMemory>
-    ensures ok { OnOk result (Notes numbers.old numbers.new key d) }
-    ensures err { OnErr result (numbers.new.entries ≡ numbers.old.entries) }
-{
-    if numbers.contains_key(&key) {
-        return Ok(());
-    }
-    match numbers.insert(key, d) {
-        Ok(_) => Ok(()),
-        Err(_) => Err(NoMemory),
-    }
-}
-
 impl SymbolTable {
     /// No declarations.
     pub fn new(alloc: Global) -> SymbolTable
@@ -63,7 +37,7 @@ impl SymbolTable {
     {
         SymbolTable {
             entries: Vec::new(alloc),
-            numbers: BTreeMap::new(alloc),
+            numbers: Numbers::new(alloc),
         }
     }
 
@@ -94,13 +68,14 @@ impl SymbolTable {
         ensures ok { OnOk result (self.new ≡ self.old ++ entry ∷ []) }
         ensures err { OnErr result (self.new ≡ self.old) }
     {
-        let place = key(entry.owner, entry.name);
+        let owner = entry.owner;
+        let name = entry.name;
         let d = self.entries.len();
         match self.entries.push(entry) {
             Ok(()) => {}
             Err(_) => return Err(NoMemory),
         }
-        match note(&mut self.numbers, place, d) {
+        match self.numbers.note(owner, name, d) {
             Ok(()) => Ok(()),
             Err(NoMemory) => {
                 self.entries.pop();
@@ -113,10 +88,7 @@ impl SymbolTable {
     pub fn number(&self, owner: Owner, x: u32) -> Option<usize>
         ensures { result ≡ look.entry_number self.now owner x }
     {
-        match self.numbers.get(&key(owner, x)) {
-            None => None,
-            Some(d) => Some(*d),
-        }
+        self.numbers.get(owner, x)
     }
 
     /// Whether a declaration of a name of an owner stands before the d-th one.
