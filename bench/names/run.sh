@@ -1,6 +1,6 @@
 #!/bin/sh
 # Times of `check` of texts of 16, 32 and 64 KB with as many declarations or uses of names as fit, the least of RUNS runs each (3 if not given), in milliseconds, and the
-# last over the middle one: 2 is linear, 4 quadratic. What takes more than 20 s is cut off. The verdict on the longest text stands behind: most pass a counted limit, which is asked last.
+# last over the middle one: 2 is linear, 4 quadratic. What takes more than 20 s of the processor is cut off. The verdict on the longest text stands behind: most pass a counted limit, which is asked last.
 # usage: bench/names/run.sh [RUNS]
 set -eu
 top=$(cd "$(dirname "$0")/../.." && pwd)
@@ -93,17 +93,17 @@ def seconds(path):
     least = None
     for _ in range(runs):
         before = resource.getrusage(resource.RUSAGE_CHILDREN)
-        try:
-            verdict = subprocess.run([program, "check", path], capture_output=True, timeout=20).stdout.decode().strip()
-        except subprocess.TimeoutExpired:
+        ended = subprocess.run([program, "check", path], capture_output=True, preexec_fn=lambda: resource.setrlimit(resource.RLIMIT_CPU, (20, 20)))
+        if ended.returncode < 0:
             return None, "cut off"
+        verdict = ended.stdout.decode().strip()
         after = resource.getrusage(resource.RUSAGE_CHILDREN)
         took = after.ru_utime - before.ru_utime + after.ru_stime - before.ru_stime
         least = took if least is None else min(least, took)
     return least, verdict
 
 
-print(f"{'text':48}{'16 KB':>9}{'32 KB':>9}{'64 KB':>9}   grows")
+print(f"{'text':46}{'16 KB':>10}{'32 KB':>10}{'64 KB':>10}   grows")
 for kind, make in kinds.items():
     times = []
     for size in (16384, 32768, 65536):
@@ -116,7 +116,7 @@ for kind, make in kinds.items():
         times.append(took)
         if took is None:
             break
-    shown = "".join(f"{'over 20 s' if t is None else format(t * 1000, '.1f'):>9}" for t in times)
+    shown = "".join(f"{'over 20 s' if t is None else format(t * 1000, '.1f'):>10}" for t in times)
     grows = f"{times[2] / times[1]:8.1f}" if len(times) == 3 and times[2] is not None and times[1] > 0 else " " * 8
-    print(f"{kind:48}{shown:27}{grows}   {verdict}", flush=True)
+    print(f"{kind:46}{shown:30}{grows}   {verdict}", flush=True)
 PYTHON
