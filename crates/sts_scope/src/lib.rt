@@ -26,7 +26,7 @@ pub use faults::{or_no_memory, unless};
 pub use heading_checks::check_written;
 pub use kinds::{Base, Kind};
 pub use known::{Found, Known, Local, Part, This};
-pub use lookup::{entry_number, inherited, is_dollar, member_number, sort_of};
+pub use lookup::{is_dollar, sort_of};
 pub use resolution::{Scopes, headings, resolve};
 pub use rows::{rows_of_bases, rows_of_headings, rows_of_names};
 pub use symbol_table::SymbolTable;

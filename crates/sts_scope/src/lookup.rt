@@ -4,7 +4,7 @@ ghost use Rattle.sts_scope.specs.Lookup as look;
 ghost use Rattle.sts_scope.specs.Bases.{is_endless};
 ghost use Rattle.sts_scope.specs.Globals.{is_dollar};
 
-use crate::{ClassHead, Entry, Owner, Sort};
+use crate::{ClassHead, Entry, Sort};
 use sts_base::Tables;
 
 /// Whether a name begins with `$`.
@@ -20,35 +20,6 @@ pub fn is_dollar(tables: &Tables, x: u32) -> bool
     }
 }
 
-fn same_owner(a: Owner, b: Owner) -> bool
-    ensures { result ≡ look.same_owner a b }
-{
-    match (a, b) {
-        (Owner::Whole, Owner::Whole) => true,
-        (Owner::Whole, Owner::Class(_)) => false,
-        (Owner::Class(_), Owner::Whole) => false,
-        (Owner::Class(c), Owner::Class(d)) => c == d,
-    }
-}
-
-fn declares(owner: Owner, x: u32, e: &Entry) -> bool
-    ensures { result ≡ look.declares owner x e.now }
-{
-    same_owner(e.owner, owner) && e.name == x
-}
-
-/// The number of the first declaration of a name of an owner.
-pub fn entry_number(entries: &[Entry], owner: Owner, x: u32) -> Option<usize>
-    ensures { result ≡ look.entry_number entries.now owner x }
-{
-    for (i, e) in entries.iter().enumerate() {
-        if declares(owner, x, e) {
-            return Some(i);
-        }
-    }
-    None
-}
-
 /// The base of a class.
 pub fn base_of(classes: &[ClassHead], c: usize) -> Option<u32>
     ensures { result ≡ look.base_of classes.now c }
@@ -56,33 +27,6 @@ pub fn base_of(classes: &[ClassHead], c: usize) -> Option<u32>
     match classes.get(c) {
         None => None,
         Some(class) => class.base,
-    }
-}
-
-/// The member of a name of a class: its own one, else that of the nearest base that has one.
-pub fn member_number(entries: &[Entry], classes: &[ClassHead], c: u32, x: u32) -> Option<usize>
-    ensures { result ≡ look.member_number entries.now classes.now c x }
-{
-    let mut at = c;
-    for _ in 0..classes.len() {
-        if let Some(d) = entry_number(entries, Owner::Class(at), x) {
-            return Some(d);
-        }
-        match base_of(classes, at as usize) {
-            None => return None,
-            Some(b) => at = b,
-        }
-    }
-    None
-}
-
-/// The member of a name that a class has from its bases.
-pub fn inherited(entries: &[Entry], classes: &[ClassHead], c: u32, x: u32) -> Option<usize>
-    ensures { result ≡ look.inherited entries.now classes.now c x }
-{
-    match base_of(classes, c as usize) {
-        None => None,
-        Some(b) => member_number(entries, classes, b, x),
     }
 }
 
