@@ -125,8 +125,9 @@ pub fn place(
 pub fn image_of(alloc: Global, flash: &[Option<u8>]) -> Result<Vec<u8>, AllocError>
     ensures { IfOk result (λ v. v.items ≡ map (λ cell. unwrap_or cell 0xFF) flash.now) }
 {
-    flash
-        .iter()
-        .map(|cell| cell.unwrap_or(EMPTY))
-        .collect(alloc)
+    let mut image = Vec::with_capacity(alloc, flash.len())?;
+    for cell in flash {
+        image.push(cell.unwrap_or(EMPTY))?;
+    }
+    Ok(image)
 }

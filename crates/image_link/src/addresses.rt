@@ -73,28 +73,29 @@ fn place(alloc: Global, lengths: &[Option<usize>], end: &mut u32) -> Result<Seq<
 fn code_lengths(alloc: Global, laid: &[Laid]) -> Result<Vec<Option<usize>>, NoMemory>
     ensures { IfOk result (λ lengths. lengths.items ≡ code_lengths laid.now) }
 {
-    match laid
-        .iter()
-        .map(|code| Some(code.bytes.len()))
-        .collect(alloc)
-    {
-        Ok(lengths) => Ok(lengths),
-        Err(_) => Err(NoMemory),
+    let mut lengths = Vec::new(alloc);
+    for code in laid {
+        if lengths.push(Some(code.bytes.len())).is_err() {
+            return Err(NoMemory);
+        }
     }
+    Ok(lengths)
 }
 
 /// How many bytes the classes' tables have.
 fn class_lengths(alloc: Global, classes: &[FlatClass]) -> Result<Vec<Option<usize>>, NoMemory>
     ensures { IfOk result (λ lengths. lengths.items ≡ class_lengths classes.now) }
 {
-    match classes
-        .iter()
-        .map(|class| Some(4 + 4 * class.slots.as_slice().len()))
-        .collect(alloc)
-    {
-        Ok(lengths) => Ok(lengths),
-        Err(_) => Err(NoMemory),
+    let mut lengths = Vec::new(alloc);
+    for class in classes {
+        if lengths
+            .push(Some(4 + 4 * class.slots.as_slice().len()))
+            .is_err()
+        {
+            return Err(NoMemory);
+        }
     }
+    Ok(lengths)
 }
 
 /// How many bytes the texts have that are marked, which are those that laid code names.

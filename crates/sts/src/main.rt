@@ -16,7 +16,15 @@ const NO_MEMORY: u8 = 30;
 /// The words behind the program's name, or none where some word isn't text. Nothing where there is no memory for them.
 fn words_given(rt: &HostRuntime) -> Option<Vec<String>> {
     match env::args(rt) {
-        Ok(words) => words.skip(1).collect(rt.alloc()).ok(),
+        Ok(given) => {
+            let mut words = Vec::new(rt.alloc());
+            for word in given.skip(1) {
+                if words.push(word).is_err() {
+                    return None;
+                }
+            }
+            Some(words)
+        }
         Err(error) if error.kind() == ErrorKind::OutOfMemory => None,
         Err(_) => Some(Vec::new(rt.alloc())),
     }
