@@ -1,14 +1,9 @@
 -- Flat code follows the source, word by word.
-use Rattle.std.proofs.Common.{◌≡◌, ◌≢◌, ℕ, zero, suc, ◌+◌, ◌-◌, ◌<◌, ◌≤◌, ◌⊎◌, inl, inr, ⊎_elim, List, [], ◌∷◌, length, map, min, Option, Some, None, Bool, true, false, refl, sym, ap, ◌∙◌, subst, arith}
-use Rattle.std.specs.Prelude.{ℤ, pos, negsuc, ◌+ℤ◌, if◌then◌else◌, nat_lt, nat_eq, ◌==◌, int_lt}
-use Rattle.std.specs.Int.{int_wrap, w32}
-use Rattle.std.proofs.lemmas.Int.{ints, int_wrap-add_left}
-use Rattle.std.proofs.lemmas.Bool.{lt-ltb, le-ltb}
-use Rattle.std.proofs.lemmas.Bool.Decides.{eqb_tells}
-use Rattle.board_world.specs.Limits.{arena_limit, depth_limit}
-use Rattle.board_world.specs.Panics.{depth_panic, index_panic}
+use Rattle.std.proofs.Common.{◌≡◌, ◌≢◌, ℕ, suc, ◌+◌, ◌-◌, ◌<◌, ◌≤◌, ◌⊎◌, inl, inr, ⊎_elim, List, [], ◌∷◌, length, map, min, Option, Some, None, Bool, true, false, refl, sym, ap, ◌∙◌, subst, arith}
+use Rattle.std.specs.Prelude.{ℤ, ◌+ℤ◌, if◌then◌else◌, ◌==◌}
+use Rattle.board_world.specs.Limits.{arena_limit}
 use Rattle.board_world.specs.Observations.{ByteList}
-use Rattle.board_world.specs.Kinds.{Turn, Goes, Takes, Panics}
+use Rattle.board_world.specs.Kinds.{Turn, Goes, Takes}
 use Rattle.board_world.specs.Requests.{asked}
 use Rattle.board_world.specs.declared.requests.Request.{Request}
 use Rattle.board_world.specs.Sound.{NoFault}
@@ -17,99 +12,35 @@ use Rattle.flat_ir.specs.declared.ops.Op.TheVariants as o
 use Rattle.flat_ir.specs.declared.ops.FlatClass.{FlatClass}
 use Rattle.sts_syntax.specs.declared.typed.Spot.{Spot}
 use Rattle.sts_syntax.specs.declared.typed.Spot.TheVariants.{Param, Local, Global}
-use Rattle.sts_syntax.specs.TypedTrees.{TypedStatement, TypedRoutine, ClassEntry, TypedProgram}
+use Rattle.sts_syntax.specs.TypedTrees.{ClassEntry, TypedProgram}
 use Rattle.sts_syntax.specs.Measures.{object_words, array_words}
 use Rattle.sts_syntax.specs.TypeRules.{entry, IsOneOf, IsOne}
 use Rattle.sts_syntax.specs.WellTypedPrograms.{is_maker}
-use Rattle.sts_meaning.specs.Values.{truth, Value, Whole, Object, Text, Code, default, Outcome, Gives, Breaks, Stuck, then_gives, there, whole, to_int32, applied, negated, bumped, Bumped, decided, map_of, with_entry}
-use Rattle.sts_meaning.specs.Heaps.{Heap, Fields, with_cell, write_global, object_at, read_field, write_field, read_item, write_item, length_at, pushed, popped, next_item, next_at, array_at, item_at, found, numbered, Row, RowOf}
+use Rattle.sts_meaning.specs.Values.{Value, Whole, Object, Text, Code, default, Outcome, Gives, Breaks, Stuck, then_gives, there, to_int32, applied, negated, bumped, Bumped, decided, with_entry}
+use Rattle.sts_meaning.specs.Heaps.{Heap, Fields, with_cell, write_global, object_at, read_field, write_field, read_item, write_item, length_at, pushed, popped}
 use Rattle.sts_meaning.specs.Services.{requested}
 use Rattle.sts_meaning.specs.Todo.{Todo, Put, Get, Store, Drop, Unary, Apply, Choose, Both, Either, Read, Peek, Write, At, PeekAt, SetAt, Bump, BumpField, BumpAt, Measure, Push, Pop, Open, Append, New, Build, Invoke, Send, Ask, Repeat, Again, Each, Leave, Give, Round, Amiss, runs}
-use Rattle.sts_meaning.specs.Frames.{Names, Frame, Activity, Starts, Runs, after, grown, taken, named, with_local, with_param, stored, defaults, as_many, first, answered, round}
+use Rattle.sts_meaning.specs.Frames.{Names, Frame, Activity, Starts, Runs, after, grown, taken, named, with_local, with_param, stored, defaults, first, answered, round}
 use Rattle.sts_meaning.specs.Steps as source
 use Rattle.sts_implements.specs.Forgotten.{FlatHeap, forget, Agree}
-use Rattle.sts_implements.proofs.Laws.{after_matches, agree_then, agree_same, IsForgotten, ArePushed, ArePopped, AreRows, array_agrees, object_agrees, read_field_agrees, write_field_agrees, read_item_agrees, write_item_agrees, pushed_agrees, popped_agrees, length_agrees, new_agrees, open_agrees, write_global_agrees}
-use Rattle.flat_meaning.specs.Operators.{prefixed_by, answers, zeros, exactly}
-use Rattle.flat_meaning.specs.Frames.{FlatFrame, FlatActivity, Enters, Stands, entered, words, result_of, depth_of}
+use Rattle.sts_implements.proofs.Laws.{after_matches, agree_then, agree_same, IsForgotten, ArePushed, ArePopped, object_agrees, read_field_agrees, write_field_agrees, read_item_agrees, write_item_agrees, pushed_agrees, popped_agrees, length_agrees, new_agrees, open_agrees, write_global_agrees}
+use Rattle.flat_meaning.specs.Operators.{prefixed_by, answers, zeros}
+use Rattle.flat_meaning.specs.Frames.{FlatFrame, FlatActivity, Enters, Stands, words, result_of, depth_of}
 use Rattle.flat_meaning.specs.Steps as flat
-use Rattle.sts_lower.specs.Sizes.{ToName, ToField, ToItem, bump_size, item_size}
+use Rattle.sts_lower.specs.Sizes.{ToName, ToField, ToItem, bump_size}
 use Rattle.sts_lower.specs.Code.{bump_code, get_op, set_op, bump_op, unbump_op, bumped_op, maker_of, span}
-use Rattle.sts_lower.specs.Lowered.{lowered, lowered_routine, repeating, repeated_in_program, repeating_function, repeating_ops, flat_class, flat_classes}
+use Rattle.sts_lower.specs.Lowered.{lowered, repeating, repeated_in_program, flat_class, flat_classes}
 use Rattle.lowered_code.specs.Fine.{IsThere, IsFine}
-use Rattle.lower_simulation.specs.Places.{Marks, Marked, IsAbove, IsProper, AllAmong, HasAt, each_code}
+use Rattle.lower_simulation.specs.Places.{Marks, Marked, IsAbove, IsProper, AllAmong, HasAt}
 use Rattle.lower_simulation.specs.Tied.{Shows, CodeTied, fetched, LiesIn, NearIn, FrameTied, FrameWaits, AllWait, Tied}
 use Rattle.lower_simulation.specs.Limits.{limit, IsLight}
-use Rattle.lower_simulation.proofs.Requests.{plain_2}
-use Rattle.lower_simulation.proofs.Statements.{statement_at, turn_at, each_at, body_at}
-use Rattle.lower_simulation.proofs.Temporaries.{entry_same, entry_other, shows_rest, shows_above, shows_put, shows_param, shows_local, Taking, takes, marked, map_past}
-use Rattle.lower_simulation.proofs.Functions.{maker_is, classes_agree, zeros_are, as_many_is, as_many_long, has_all, routine_there, repeating_there, routine_words, repeating_frames}
-use Rattle.lowered_code.proofs.Laws.{entry_within}
+use Rattle.lower_simulation.proofs.Statements.{statement_at, turn_at, each_at}
+use Rattle.lower_simulation.proofs.Temporaries.{entry_same, entry_other, shows_rest, shows_above, shows_put, shows_param, shows_local, Taking, takes, marked}
+use Rattle.lower_simulation.proofs.Functions.{maker_is, classes_agree, zeros_are}
 use Rattle.lower_simulation.proofs.Turns.{Match, going, asked_matches, grown_matches, Makes, within, same_turn, same_fault, last_op, then_ops, then_after}
-
--- a prefix operator of the source is one of flat code, where it has a meaning
-five : (v : Value) → negated 5 v ≡ Stuck
-five (Whole x) = refl
-five (Object x) = refl
-five (Text x) = refl
-five (Code x) = refl
-
-six : (v : Value) → negated 6 v ≡ Stuck
-six (Whole x) = refl
-six (Object x) = refl
-six (Text x) = refl
-six (Code x) = refl
-
-unary_is : (op : ℕ) (v : Value) → (negated op v ≡ Stuck) ⊎ (negated op v ≡ prefixed_by op v)
-unary_is op v =
-    ⊎_elim
-    (λ y. inl (subst (λ x. negated x v ≡ Stuck) (sym y.1) (five v)))
-    (λ y. ⊎_elim
-    (λ z. inl (subst (λ x. negated x v ≡ Stuck) (sym z.1) (six v)))
-    (λ z. inr (sym (ap (λ b. if b then then_gives (whole v) (λ x. Gives (Whole (to_int32 (x +ℤ pos 1)))) else if op == 6 then then_gives (whole v) (λ x. Gives (Whole (to_int32 (x +ℤ negsuc 0)))) else negated op v) y.0
-    ∙ ap (λ b. if b then then_gives (whole v) (λ x. Gives (Whole (to_int32 (x +ℤ negsuc 0)))) else negated op v) z.0)))
-    (eqb_tells op 6))
-    (eqb_tells op 5)
-
--- what comes of two operations one after the other
-after_then : {X Y A S : Type 0} (o : Outcome X) (g : X → Outcome Y) (F : Y → Turn A S) → after (then_gives o g) F ≡ after o (λ x. after (g x) F)
-after_then (Gives x) g F = refl
-after_then (Breaks c) g F = refl
-after_then Stuck g F = refl
-
--- a number that `++` or `--` makes, and the old one that is made of it
-bumps_to : (by z : ℤ) → IsOne by → prefixed_by (bump_op by) (Whole z) ≡ Gives (Whole (to_int32 (z +ℤ by)))
-bumps_to by z (inl e) = subst (λ x. prefixed_by (bump_op x) (Whole z) ≡ Gives (Whole (to_int32 (z +ℤ x)))) (sym e) refl
-bumps_to by z (inr e) = subst (λ x. prefixed_by (bump_op x) (Whole z) ≡ Gives (Whole (to_int32 (z +ℤ x)))) (sym e) refl
-
-back_up : (z : ℤ) → to_int32 (to_int32 (z +ℤ pos 1) +ℤ negsuc 0) ≡ to_int32 z
-back_up z = let e : z +ℤ pos 1 +ℤ negsuc 0 ≡ z = omega (arith, ints) in int_wrap-add_left w32 (z +ℤ pos 1) (negsuc 0) ∙ ap (int_wrap w32) e
-
-back_down : (z : ℤ) → to_int32 (to_int32 (z +ℤ negsuc 0) +ℤ pos 1) ≡ to_int32 z
-back_down z = let e : z +ℤ negsuc 0 +ℤ pos 1 ≡ z = omega (arith, ints) in int_wrap-add_left w32 (z +ℤ negsuc 0) (pos 1) ∙ ap (int_wrap w32) e
-
-unbumps_to : (by z : ℤ) → IsOne by → prefixed_by (unbump_op by) (Whole (to_int32 (z +ℤ by))) ≡ Gives (Whole (to_int32 z))
-unbumps_to by z (inl e) = subst (λ x. prefixed_by (unbump_op x) (Whole (to_int32 (z +ℤ x))) ≡ Gives (Whole (to_int32 z))) (sym e) (ap (λ x. Gives (Whole x)) (back_up z))
-unbumps_to by z (inr e) = subst (λ x. prefixed_by (unbump_op x) (Whole (to_int32 (z +ℤ x))) ≡ Gives (Whole (to_int32 z))) (sym e) (ap (λ x. Gives (Whole x)) (back_down z))
-
-below_true : (m l : ℕ) → m < l → int_lt (pos m) (pos l) ≡ true
-below_true m l lt = grind (arith, ints)
-
-below_false : (m l : ℕ) → l ≤ m → int_lt (pos m) (pos l) ≡ false
-below_false m l le = grind (arith, ints)
-
-negative_true : (m l : ℕ) → int_lt (negsuc m) (pos l) ≡ true
-negative_true m l = grind (arith, ints)
-
-agree_with : {X Y : Type 0} (R : X → Y → Type 0) (x : Outcome X) (y : Outcome Y) → Agree R x y → Agree (λ a b. R a b × (x ≡ Gives a) × (y ≡ Gives b)) x y
-agree_with R (Gives a) (Gives b) h = (h, refl, refl)
-agree_with R (Breaks c) (Breaks d) h = h
-agree_with R Stuck Stuck h = tt
-agree_with R _ _ h = absurd h
-
-entry_none : {X : Type 0} (xs : List X) (i : ℕ) → entry xs i ≡ None → length xs ≤ i
-entry_none [] i h = omega arith
-entry_none (x ∷ xs) zero h = cc h
-entry_none (x ∷ xs) (suc i) h = omega (arith, entry_none xs i h)
+use Rattle.lower_simulation.proofs.Operators.{unary_is, after_then, bumps_to, unbumps_to}
+use Rattle.lower_simulation.proofs.Starting.{called_matches, round_lies, starts_follow}
+use Rattle.lower_simulation.proofs.Items.{turn_follows}
 
 module _ (P : TypedProgram) (texts : List ByteList) (fine : IsFine P) (weight : FlatActivity → FlatHeap → ℕ) (light : IsLight (lowered P) weight) where
   abbrev M : ℕ → Heap → Turn Activity Heap → Turn FlatActivity FlatHeap → Type 0
@@ -121,61 +52,6 @@ module _ (P : TypedProgram) (texts : List ByteList) (fine : IsFine P) (weight : 
   abbrev fr : ℕ → ℕ → (ℕ → Value) → FlatFrame
   fr j place temps = record { function = j; place = place; temps = temps }
 
-  -- what a function does, from its beginning
-  entered_lies : (f : ℕ) (r : TypedRoutine) (at : entry P.functions f ≡ Some r) → LiesIn P texts f f (length r.params) (length r.locals) (source.body_of P texts f r) 0 []
-  entered_lies f r at =
-      body_at P.classes (length P.functions) (repeating P) (repeated_in_program P) (length r.params) (length r.locals) (fetched P texts f) (is_maker P.classes f) (fine.this f r at) r.all (fine.all f r at)
-      (has_all (entry (lowered P).functions f) (lowered_routine P f r) (routine_there P f r at))
-
-  entered_shows : (r : TypedRoutine) (args : List Value) → length args ≡ length r.params → Shows (length r.params) (length r.locals) (record { params = map_of args; locals = λ i. default }) [] [] (map_of args)
-  entered_shows r args e = record {
-    of_params = λ i lt. refl;
-    of_locals = λ i lt. map_past args (length r.params + i) (omega arith);
-    pending = tt;
-  }
-
-  -- a round of a function that `forever` starts
-  round_lies : (f j g : ℕ) → HasAt (fetched P texts j) 0 (repeating_ops g) → LiesIn P texts f j 0 0 (round g) 0 []
-  round_lies f j g has =
-      let last : LiesIn P texts f j 0 0 (Drop (Round g)) 3 (None ∷ []) = (refl, refl, refl, has.1.1.1.0, has) in
-      let ask : LiesIn P texts f j 0 0 (Ask 2 1 false (Drop (Round g))) 2 (None ∷ []) = ([], (None, refl), has.1.1.0, refl, refl, λ vs these rest marked e. plain_2 (length P.functions) these, inl last) in
-      let put : LiesIn P texts f j 0 0 (Drop (Put (Whole (pos 20)) (Ask 2 1 false (Drop (Round g))))) 1 (None ∷ []) = (has.1.0, inl ask) in
-      ([], refl, has.0, inl put)
-
-  -- a call
-  module _ (used : ℕ) (h : Heap) (base depth : ℕ) (waiting : List Frame) (waiting' : List FlatFrame) (wait : AllWait P texts waiting waiting') (deep : depth ≡ base + depth_of (lowered P) waiting') where
-    entering_matches : (a : Frame) (b : FlatFrame) → FrameTied P texts a b → M used h (source.entering P texts h base depth a waiting) (flat.entering (lowered P) texts (forget h) base waiting' b)
-    entering_matches a b tied =
-        let d : depth + source.words P texts a.function ≡ base + depth_of (lowered P) waiting' + words (lowered P) b.function = let w = tied.words in omega arith in
-        let whole : depth + source.words P texts a.function ≡ base + depth_of (lowered P) (b ∷ waiting') = let w = tied.words in omega arith in
-        let runs_on = Runs a waiting base (depth + source.words P texts a.function) in
-        let both : (c : Bool) → M used h (if c then Panics depth_panic else Goes runs_on h) (if c then Panics depth_panic else Goes (Stands b waiting' base) (forget h)) =
-        λ c. elim c as (λ c. M used h (if c then Panics depth_panic else Goes runs_on h) (if c then Panics depth_panic else Goes (Stands b waiting' base) (forget h)))
-        [ true ↦ refl | false ↦ going P texts weight light used h h (forget h) runs_on (Stands b waiting' base) refl (tied, wait, refl, whole) ] in
-        subst (λ n. M used h (source.entering P texts h base depth a waiting) (if nat_lt depth_limit n then Panics depth_panic else Goes (Stands b waiting' base) (forget h))) d
-        (both (nat_lt depth_limit (depth + source.words P texts a.function)))
-
-    args_match : (f : ℕ) (r : TypedRoutine) → entry P.functions f ≡ Some r → (args : List Value) (o : Outcome (Unit {0})) → as_many r.params args ≡ o
-        → M used h (after o (λ _. source.entering P texts h base depth (source.entered P texts f r args) waiting)) (after o (λ _. flat.entering (lowered P) texts (forget h) base waiting' (entered f args)))
-    args_match f r at args (Gives x) e =
-        entering_matches (source.entered P texts f r args) (entered f args)
-        (record { params = length r.params; locals = length r.locals; marks = []; words = routine_words P texts f r at; this = fine.this f r at; shows = entered_shows r args (as_many_long r.params args x e); near = inl (entered_lies f r at) })
-    args_match f r at args (Breaks c) e = refl
-    args_match f r at args Stuck e = (refl, refl)
-
-    routine_matches : (f : ℕ) (args : List Value) (o : Option TypedRoutine) → entry P.functions f ≡ o → NoFault (after (there o) (λ r. after (as_many r.params args) (λ _. source.entering P texts h base depth (source.entered P texts f r args) waiting)))
-        → M used h (after (there o) (λ r. after (as_many r.params args) (λ _. source.entering P texts h base depth (source.entered P texts f r args) waiting))) (flat.called (lowered P) texts (forget h) base waiting' f args)
-    routine_matches f args None at nf = absurd nf
-    routine_matches f args (Some r) at nf =
-        let source_turn = after (as_many r.params args) (λ _. source.entering P texts h base depth (source.entered P texts f r args) waiting) in
-        subst (λ x. M used h source_turn (after (there x) (λ r. after (exactly r.params args) (λ _. flat.entering (lowered P) texts (forget h) base waiting' (entered f args))))) (sym (routine_there P f r at))
-        (subst (λ x. M used h source_turn (after x (λ _. flat.entering (lowered P) texts (forget h) base waiting' (entered f args)))) (as_many_is r.params args)
-        (args_match f r at args (as_many r.params args) refl))
-
-    called_matches : (f : ℕ) (args : List Value) → NoFault (source.invoked P texts h base depth f args waiting) → M used h (source.invoked P texts h base depth f args waiting) (flat.called (lowered P) texts (forget h) base waiting' f args)
-    called_matches f args nf = routine_matches f args (entry P.functions f) refl nf
-
-  -- the frame that runs
   module _ (used : ℕ) (h : Heap) (f j : ℕ) (n : Names) (callers : List Frame) (waiting : List FlatFrame) (base depth params locals : ℕ) (deep : words (lowered P) j ≡ source.words P texts f)
       (wait : AllWait P texts callers waiting) (deepness : depth ≡ base + (words (lowered P) j + depth_of (lowered P) waiting)) (this : is_maker P.classes f ≡ true → 0 < params) where
     abbrev fetch : ℕ → Option Op
@@ -373,7 +249,7 @@ module _ (P : TypedProgram) (texts : List ByteList) (fine : IsFine P) (weight : 
         let frame : Frame = record { function = f; names = n; values = rest; todo = k } in
         let waits : FrameWaits P texts frame (fr j pc temps) = record { params = params; locals = locals; marks = q; words = deep; this = this; shows = shows; result = result; near = near } in
         subst (λ xs. M used h (source.invoked P texts h base depth g args (frame ∷ callers)) (flat.called (lowered P) texts (forget h) base (fr j pc temps ∷ waiting) g xs)) (sym same)
-        (called_matches used h base depth (frame ∷ callers) (fr j pc temps ∷ waiting) (waits, wait) deepness g args nf)
+        (called_matches P texts fine weight light used h base depth (frame ∷ callers) (fr j pc temps ∷ waiting) (waits, wait) deepness g args nf)
 
     -- the end of a function
     ended_matches : (v w : Value) → w ≡ v → (fs : List Frame) (bs : List FlatFrame) → AllWait P texts fs bs → depth ≡ base + (words (lowered P) j + depth_of (lowered P) bs)
@@ -461,166 +337,6 @@ module _ (P : TypedProgram) (texts : List ByteList) (fine : IsFine P) (weight : 
         by_found (Breaks c) (Breaks d) agree ok = agree
         by_found Stuck Stuck agree ok = (refl, refl)
         by_found _ _ agree ok = absurd agree
-
-    -- locals that are set in the other order
-    shows_names : (m m' : Names) (q : Marks) (vs : List Value) (temps : ℕ → Value) → ((i : ℕ) → m.params i ≡ m'.params i) → ((i : ℕ) → m.locals i ≡ m'.locals i) → Sh m q vs temps → Sh m' q vs temps
-    shows_names m m' q vs temps ep el shows = record { of_params = λ i lt. shows.of_params i lt ∙ ep i; of_locals = λ i lt. shows.of_locals i lt ∙ el i; pending = shows.pending }
-
-    swapped : (i k : ℕ) (v w : Value) (m : ℕ → Value) → i ≢ k → (x : ℕ) → with_entry k w (with_entry i v m) x ≡ with_entry i v (with_entry k w m) x
-    swapped i k v w m ne x =
-        ⊎_elim
-        (λ y. let e : with_entry k w (with_entry i v m) x ≡ w = ap (λ b. if b then w else with_entry i v m x) y.0 in
-        let d : x ≢ i = λ z. ne (sym z ∙ y.1) in
-        e ∙ sym (entry_other i x v (with_entry k w m) d ∙ ap (λ b. if b then w else m x) y.0))
-        (λ y. let e : with_entry k w (with_entry i v m) x ≡ with_entry i v m x = ap (λ b. if b then w else with_entry i v m x) y.0 in
-        let d : with_entry k w m x ≡ m x = ap (λ b. if b then w else m x) y.0 in
-        e ∙ sym (ap (λ z. if nat_eq x i then v else z) d))
-        (eqb_tells x k)
-
-    -- a turn of a loop over items, or its end
-    module _ (i : ℕ) (a : TypedStatement) (k : Todo) (vs : List Value) (pc next : ℕ) (temps : ℕ → Value) (shows : Sh n [] vs temps) (name : suc (suc i) < locals)
-        (has : HasAt fetch pc (each_code P.classes (length P.functions) (repeating P) (repeated_in_program P) params locals (fetched P texts j) (is_maker P.classes f) i a pc next))
-        (there : LiesIn P texts f j params locals k next []) (near : By (runs (is_maker P.classes f) a k (Each i a k) (Each i a k)) (pc + item_size) []) where
-      abbrev d : ℕ
-      d = params + locals + 0
-
-      abbrev tl : ℕ
-      tl = params + suc i
-
-      abbrev ti : ℕ
-      ti = params + suc (suc i)
-
-      abbrev list : Value
-      list = n.locals (suc i)
-
-      abbrev index : Value
-      index = n.locals (suc (suc i))
-
-      list_is : temps tl ≡ list
-      list_is = shows.of_locals (suc i) (omega arith)
-
-      index_is : temps ti ≡ index
-      index_is = shows.of_locals (suc (suc i)) name
-
-      abbrev goes_item : Option (ℕ × Value) → Turn Activity Heap
-      goes_item x = source.takes_item P texts h f n callers base depth i a vs k x
-
-      -- behind the first op the length is the first operand, and behind the second one whether the index is below it
-      abbrev first_temps : ℕ → ℕ → Value
-      first_temps l = with_entry d (Whole (pos l)) temps
-
-      abbrev second_temps : Value → ℕ → ℕ → Value
-      second_temps w l = with_entry d w (first_temps l)
-
-      kept : (w : Value) (l t : ℕ) → t < params + locals → second_temps w l t ≡ temps t
-      kept w l t lt = let ne : t ≢ d = λ e. omega arith in entry_other d t w (first_temps l) ne ∙ entry_other d t (Whole (pos l)) temps ne
-
-      shown : (w : Value) (l : ℕ) → Sh n [] vs (second_temps w l)
-      shown w l =
-          let le : params + locals + 0 ≤ d = omega arith in
-          shows_above params locals n [] vs (first_temps l) d w le (shows_above params locals n [] vs temps d (Whole (pos l)) le shows)
-
-      compared : (m : ℤ) (l : ℕ) (c : Bool) → index ≡ Whole m → int_lt m (pos l) ≡ c
-          → at_op (forget h) (pc + 1) (first_temps l) (o.Binary d 6 ti d) ≡ Goes (here (pc + 1 + 1) (second_temps (truth c) l)) (forget h)
-      compared m l c is lt =
-          let ne : ti ≢ d = λ e. omega arith in
-          ap (λ v. after (applied 6 v (first_temps l d)) (λ v. Goes (here (pc + 1 + 1) (second_temps v l)) (forget h))) (entry_other d ti (Whole (pos l)) temps ne ∙ index_is ∙ is)
-          ∙ ap (λ v. after (applied 6 (Whole m) v) (λ v. Goes (here (pc + 1 + 1) (second_temps v l)) (forget h))) (entry_same d (Whole (pos l)) temps)
-          ∙ ap (λ b. Goes (here (pc + 1 + 1) (second_temps (truth b) l)) (forget h)) lt
-
-      branched : (w : Value) (l : ℕ) (c : Bool) → decided w ≡ Gives c
-          → at_op (forget h) (pc + 1 + 1) (second_temps w l) (o.Branch d (pc + 1 + 1 + 1 + 1)) ≡ Goes (here (if c then pc + 1 + 1 + 1 + 1 else pc + 1 + 1 + 1) (second_temps w l)) (forget h)
-      branched w l c e =
-          ap (λ v. after (decided v) (λ b. Goes (here (if b then pc + 1 + 1 + 1 + 1 else pc + 1 + 1 + 1) (second_temps w l)) (forget h))) (entry_same d w (first_temps l))
-          ∙ ap (λ x. after x (λ b. Goes (here (if b then pc + 1 + 1 + 1 + 1 else pc + 1 + 1 + 1) (second_temps w l)) (forget h))) e
-
-      -- the end of the loop
-      loop_ends : (m l : ℕ) → index ≡ Whole (pos m) → l ≤ m → Mk 368 used h (Goes (now_with n vs k) h) (here (pc + 1) (first_temps l)) (forget h)
-      loop_ends m l is le =
-          let w = Whole (pos 0) in
-          then_ops P texts weight light 48 used h _ (fr j (pc + 1) (first_temps l)) waiting base (forget h) (o.Binary d 6 ti d) (here (pc + 1 + 1) (second_temps w l)) (forget h) has.1.0 (compared (pos m) l false is (below_false m l le))
-          (then_ops P texts weight light 24 used h _ (fr j (pc + 1 + 1) (second_temps w l)) waiting base (forget h) (o.Branch d (pc + 1 + 1 + 1 + 1)) (here (pc + 1 + 1 + 1) (second_temps w l)) (forget h) has.1.1.0 (branched w l false refl)
-          (last (Goes (now_with n vs k) h) (pc + 1 + 1 + 1) (second_temps w l) (forget h) (o.Jump next) has.1.1.1.0 (goes n [] vs k next (second_temps w l) h (forget h) refl (shown w l) (inl there))))
-
-      abbrev moved : ℕ → Value
-      moved m = Whole (to_int32 (pos m +ℤ pos 1))
-
-      abbrev item_temps : Value → ℕ → ℕ → Value
-      item_temps v l = with_entry (params + i) v (second_temps (Whole (pos 1)) l)
-
-      item_there : (m : ℤ) (l : ℕ) (x : Outcome Value) → index ≡ Whole m → int_lt m (pos l) ≡ true → read_item (forget h) list (Whole m) ≡ x → (u : Turn Activity Heap) (nn : ℕ)
-          → ((to_item : at_op (forget h) (pc + 1 + 1 + 1 + 1) (second_temps (Whole (pos 1)) l) (o.ItemGet (params + i) tl ti) ≡ after x (λ v. Goes (here (pc + 1 + 1 + 1 + 1 + 1) (item_temps v l)) (forget h)))
-          → Mk nn used h u (here (pc + 1 + 1 + 1 + 1) (second_temps (Whole (pos 1)) l)) (forget h))
-          → Mk (320 + (24 + nn)) used h u (here (pc + 1) (first_temps l)) (forget h)
-      item_there m l x is lt e u nn go =
-          let w = Whole (pos 1) in
-          let to_item : at_op (forget h) (pc + 1 + 1 + 1 + 1) (second_temps w l) (o.ItemGet (params + i) tl ti) ≡ after x (λ v. Goes (here (pc + 1 + 1 + 1 + 1 + 1) (item_temps v l)) (forget h)) =
-          ap (λ z. after (read_item (forget h) z (second_temps w l ti)) (λ v. Goes (here (pc + 1 + 1 + 1 + 1 + 1) (item_temps v l)) (forget h))) (kept w l tl (omega arith) ∙ list_is)
-          ∙ ap (λ z. after (read_item (forget h) list z) (λ v. Goes (here (pc + 1 + 1 + 1 + 1 + 1) (item_temps v l)) (forget h))) (kept w l ti (omega arith) ∙ index_is ∙ is)
-          ∙ ap (λ z. after z (λ v. Goes (here (pc + 1 + 1 + 1 + 1 + 1) (item_temps v l)) (forget h))) e in
-          then_ops P texts weight light (24 + nn) used h u (fr j (pc + 1) (first_temps l)) waiting base (forget h) (o.Binary d 6 ti d) (here (pc + 1 + 1) (second_temps w l)) (forget h) has.1.0 (compared m l true is lt)
-          (then_ops P texts weight light nn used h u (fr j (pc + 1 + 1) (second_temps w l)) waiting base (forget h) (o.Branch d (pc + 1 + 1 + 1 + 1)) (here (pc + 1 + 1 + 1 + 1) (second_temps w l)) (forget h) has.1.1.0 (branched w l true refl)
-          (go to_item))
-
-      -- the next item
-      loop_goes_on : (m l : ℕ) (v : Value) → index ≡ Whole (pos m) → m < l → read_item (forget h) list (Whole (pos m)) ≡ Gives v → Mk 432 used h (goes_item (Some (m, v))) (here (pc + 1) (first_temps l)) (forget h)
-      loop_goes_on m l v is lt e =
-          item_there (pos m) l (Gives v) is (below_true m l lt) e (goes_item (Some (m, v))) 88
-          (λ to_item.
-          let ne : ti ≢ params + i = λ e. omega arith in
-          let at_i : item_temps v l ti ≡ Whole (pos m) = entry_other (params + i) ti v (second_temps (Whole (pos 1)) l) ne ∙ kept (Whole (pos 1)) l ti (omega arith) ∙ index_is ∙ is in
-          let to_next : at_op (forget h) (pc + 1 + 1 + 1 + 1 + 1) (item_temps v l) (o.Unary ti 5 ti) ≡ Goes (here (pc + 1 + 1 + 1 + 1 + 1 + 1) (with_entry ti (moved m) (item_temps v l))) (forget h) =
-          ap (λ z. after (prefixed_by 5 z) (λ v'. Goes (here (pc + 1 + 1 + 1 + 1 + 1 + 1) (with_entry ti v' (item_temps v l))) (forget h))) at_i in
-          let names = with_local i v (with_local (suc (suc i)) (moved m) n) in
-          let one = shows_local params locals i n [] v vs (second_temps (Whole (pos 1)) l) (omega arith) (shown (Whole (pos 1)) l) in
-          let two = shows_local params locals (suc (suc i)) (with_local i v n) [] (moved m) vs (item_temps v l) name one in
-          let apart : i ≢ suc (suc i) = λ e. omega arith in
-          let swap : Sh names [] vs (with_entry ti (moved m) (item_temps v l)) = shows_names (with_local (suc (suc i)) (moved m) (with_local i v n)) names [] vs (with_entry ti (moved m) (item_temps v l)) (λ x. refl) (swapped i (suc (suc i)) v (moved m) n.locals apart) two in
-          let place : pc + item_size ≡ pc + 1 + 1 + 1 + 1 + 1 + 1 = omega arith in
-          let near' = subst (λ x. By (runs (is_maker P.classes f) a k (Each i a k) (Each i a k)) x []) place near in
-          then_ops P texts weight light 32 used h (goes_item (Some (m, v))) (fr j (pc + 1 + 1 + 1 + 1) (second_temps (Whole (pos 1)) l)) waiting base (forget h) (o.ItemGet (params + i) tl ti) (here (pc + 1 + 1 + 1 + 1 + 1) (item_temps v l)) (forget h) has.1.1.1.1.0 to_item
-          (last (goes_item (Some (m, v))) (pc + 1 + 1 + 1 + 1 + 1) (item_temps v l) (forget h) (o.Unary ti 5 ti) has.1.1.1.1.1.0
-          (subst (λ z. M used h (goes_item (Some (m, v))) z) (sym to_next)
-          (goes names [] vs (runs (is_maker P.classes f) a k (Each i a k) (Each i a k)) (pc + 1 + 1 + 1 + 1 + 1 + 1) (with_entry ti (moved m) (item_temps v l)) h (forget h) refl swap near'))))
-
-      -- an index before the first item
-      loop_breaks : (m l : ℕ) → index ≡ Whole (negsuc m) → read_item (forget h) list (Whole (negsuc m)) ≡ Breaks index_panic → Mk 432 used h (Panics index_panic) (here (pc + 1) (first_temps l)) (forget h)
-      loop_breaks m l is e =
-          wide 400 432 _ _ _ (omega arith)
-          (item_there (negsuc m) l (Breaks index_panic) is (negative_true m l) e (Panics index_panic) 56
-          (λ to_item. last (Panics index_panic) (pc + 1 + 1 + 1 + 1) (second_temps (Whole (pos 1)) l) (forget h) (o.ItemGet (params + i) tl ti) has.1.1.1.1.0 (subst (λ z. M used h (Panics index_panic) z) (sym to_item) refl)))
-
-      reads : (q : RowOf (Unit {0})) (ix : Value) → array_at (forget h) list ≡ Gives q → read_item (forget h) list ix ≡ then_gives (item_at q.items ix) (λ x. Gives x.1)
-      reads q ix e = ap (λ x. then_gives x (λ (r : RowOf (Unit {0})). then_gives (item_at r.items ix) (λ x. Gives x.1))) e
-
-      by_entry : (m : ℕ) (r : Row) (q : RowOf (Unit {0})) (x : Option Value) → index ≡ Whole (pos m) → r.items ≡ q.items → array_at (forget h) list ≡ Gives q → entry r.items m ≡ x
-          → Mk 432 used h (goes_item (numbered m x)) (here (pc + 1) (first_temps (length q.items))) (forget h)
-      by_entry m r q None is same at e =
-          let past : length q.items ≤ m = entry_none q.items m (ap (λ (vs : List Value). entry vs m) (sym same) ∙ e) in
-          wide 368 432 _ _ _ (omega arith) (loop_ends m (length q.items) is past)
-      by_entry m r q (Some v) is same at e =
-          let e' : entry q.items m ≡ Some v = ap (λ (vs : List Value). entry vs m) (sym same) ∙ e in
-          loop_goes_on m (length q.items) v is (entry_within q.items m v e') (reads q (Whole (pos m)) at ∙ ap (λ x. then_gives (found m x) (λ x. Gives x.1)) e')
-
-      by_index : (ix : Value) → index ≡ ix → (r : Row) (q : RowOf (Unit {0})) → r.items ≡ q.items → array_at (forget h) list ≡ Gives q → NoFault (after (next_at r.items ix) goes_item)
-          → Mk 432 used h (after (next_at r.items ix) goes_item) (here (pc + 1) (first_temps (length q.items))) (forget h)
-      by_index (Whole (pos m)) is r q same at nf = by_entry m r q (entry r.items m) is same at refl
-      by_index (Whole (negsuc m)) is r q same at nf = loop_breaks m (length q.items) is (reads q (Whole (negsuc m)) at)
-      by_index (Object x) is r q same at nf = absurd nf
-      by_index (Text x) is r q same at nf = absurd nf
-      by_index (Code x) is r q same at nf = absurd nf
-
-      turn_follows : NoFault (after (next_item h list index) goes_item) → Mk 464 used h (after (next_item h list index) goes_item) (here pc temps) (forget h)
-      turn_follows nf =
-          let split = after_then (array_at h list) (λ r. next_at r.items index) goes_item in
-          let whole_turn = after (array_at h list) (λ r. after (next_at r.items index) goes_item) in
-          let to : at_op (forget h) pc temps (o.Length d tl) ≡ after (array_at (forget h) list) (λ q. Goes (here (pc + 1) (first_temps (length q.items))) (forget h)) =
-          ap (λ z. after (length_at (forget h) z) (λ v. Goes (here (pc + 1) (with_entry d v temps)) (forget h))) list_is
-          ∙ after_then (array_at (forget h) list) (λ (q : RowOf (Unit {0})). Gives (Whole (pos (length q.items)))) (λ v. Goes (here (pc + 1) (with_entry d v temps)) (forget h)) in
-          same_turn P texts weight light 464 used h (after (next_item h list index) goes_item) whole_turn _ _ split
-          (then_after P texts weight light (λ r q. AreRows r q × (array_at h list ≡ Gives r) × (array_at (forget h) list ≡ Gives q)) 432 used h (array_at h list) (array_at (forget h) list) (λ r. after (next_at r.items index) goes_item)
-          (λ q. here (pc + 1) (first_temps (length q.items))) (λ q. forget h) (fr j pc temps) waiting base (forget h) (o.Length d tl) has.0 to (agree_with AreRows (array_at h list) (array_at (forget h) list) (array_agrees h list))
-          (same_fault P texts weight light _ whole_turn split nf) (λ r q e ok. by_index index refl r q e.0.items e.2 ok))
 
     -- `++` and `--` of a name
     bump_follows : (x : Spot) (by : ℤ) (late : Bool) (p : Marks) (vs : List Value) (k : Todo) (pc : ℕ) (temps : ℕ → Value) → HasAt fetch pc (bump_code P.classes (repeating P) params (params + locals) (ToName x) by late (length p))
@@ -951,13 +667,13 @@ module _ (P : TypedProgram) (texts : List ByteList) (fine : IsFine P) (weight : 
         let turn : LiesIn P texts f j params locals (Each i a k) pc [] = subst (λ q. LiesIn P texts f j params locals (Each i a k) pc q) lies.0 lies in
         let body = statement_at P.classes (length P.functions) (repeating P) (repeated_in_program P) params locals (fetched P texts j) (is_maker P.classes f) this a lies.2 in
         let near = each_at P.classes (length P.functions) (repeating P) (repeated_in_program P) params locals (fetched P texts j) (is_maker P.classes f) this i a body pc lies.3 k turn lies.4 lies.5 in
-        wide 464 488 _ _ _ (omega arith) (turn_follows i a k vs pc lies.3 temps shows' lies.1 lies.4 lies.5 near nf)
+        wide 464 488 _ _ _ (omega arith) (turn_follows P texts fine weight light used h f j n callers waiting base depth params locals deep wait deepness this i a k vs pc lies.3 temps shows' lies.1 lies.4 lies.5 near nf)
     act_follows (Leave to) p vs pc temps shows lies nf = alone (Leave to) vs pc temps (o.Jump lies.0) (omega arith) lies.1 (goes n p vs to lies.0 temps h (forget h) refl shows (inl lies.2))
     act_follows Give (m ∷ q) (v ∷ vs) pc temps shows lies nf =
         alone Give (v ∷ vs) pc temps (o.Return (params + locals + length q)) (omega arith) lies (ended_matches v (temps (params + locals + length q)) shows.pending.0 callers waiting wait deepness)
     act_follows (Round g) p vs pc temps shows lies nf =
         let back : LiesIn P texts f j params locals (round g) 0 [] =
-        subst (λ x. LiesIn P texts f j x locals (round g) 0 []) (sym lies.1) (subst (λ x. LiesIn P texts f j 0 x (round g) 0 []) (sym lies.2) (round_lies f j g lies.4)) in
+        subst (λ x. LiesIn P texts f j x locals (round g) 0 []) (sym lies.1) (subst (λ x. LiesIn P texts f j 0 x (round g) 0 []) (sym lies.2) (round_lies P texts fine weight light f j g lies.4)) in
         alone (Round g) vs pc temps (o.Jump 0) (omega arith) lies.3 (goes n [] vs (round g) 0 temps h (forget h) refl (subst (λ q. Sh n q vs temps) lies.0 shows) (inl back))
     act_follows Amiss p vs pc temps shows lies nf = absurd nf
     act_follows (Repeat k) (None ∷ q) vs pc temps shows lies nf = absurd lies
@@ -996,44 +712,6 @@ module _ (P : TypedProgram) (texts : List ByteList) (fine : IsFine P) (weight : 
     act_follows k (m ∷ (m' ∷ q)) (v ∷ []) pc temps shows lies nf = absurd shows.pending.2
     act_follows k (m ∷ (m' ∷ (m'' ∷ q))) (v ∷ (w ∷ [])) pc temps shows lies nf = absurd shows.pending.2.2
 
-  -- an activity that begins
-  repeats_follow : (used : ℕ) (h : Heap) (base g i : ℕ) → IsOneOf g (repeated_in_program P) → i ≡ repeating P g → (x : Option TypedRoutine) → NoFault (after (there x) (λ r. source.entering P texts h base base (source.entered_round P texts g) []))
-      → M used h (after (there x) (λ r. source.entering P texts h base base (source.entered_round P texts g) [])) (flat.called (lowered P) texts (forget h) base [] i [])
-  repeats_follow used h base g i among is None nf = absurd nf
-  repeats_follow used h base g i among is (Some r) nf =
-      let f = length P.functions + g in
-      let i' = repeating P g in
-      let there' = repeating_there P g among in
-      let names : Names = record { params = λ x. default; locals = λ x. default } in
-      let shows : Shows 0 0 names [] [] (map_of []) = record { of_params = λ x lt. refl; of_locals = λ x lt. refl; pending = tt } in
-      let lies = round_lies f i' g (has_all (entry (lowered P).functions i') (repeating_function g) there') in
-      let tied : FrameTied P texts (source.entered_round P texts g) (entered i' []) =
-      record { params = 0; locals = 0; marks = []; words = repeating_frames P texts g among; this = λ e. absurd (fine.makers g e); shows = shows; near = inl lies } in
-      let turn = source.entering P texts h base base (source.entered_round P texts g) [] in
-      let flat_turn = flat.entering (lowered P) texts (forget h) base [] (entered i' []) in
-      let bottom : base ≡ base + 0 = omega arith in
-      subst (λ y. M used h turn (flat.called (lowered P) texts (forget h) base [] y [])) (sym is)
-      (subst (λ z. M used h turn (after (there z) (λ r. after (exactly r.params []) (λ _. flat.entering (lowered P) texts (forget h) base [] (entered i' []))))) (sym there')
-      (entering_matches used h base base [] [] tt bottom (source.entered_round P texts g) (entered i' []) tied))
-
-  starts_follow : (used : ℕ) (h : Heap) (f i base : ℕ) → CodeTied P texts f i → NoFault (source.begun P texts h base base f) → M used h (source.begun P texts h base base f) (flat.called (lowered P) texts (forget h) base [] i [])
-  starts_follow used h f i base (inl code) nf =
-      let turn = source.invoked P texts h base base f [] [] in
-      let rest = after (there (entry P.functions (f - length P.functions))) (λ r. source.entering P texts h base base (source.entered_round P texts (f - length P.functions)) []) in
-      let is : source.begun P texts h base base f ≡ turn = ap (λ b. if b then turn else rest) (lt-ltb f (length P.functions) code.0) in
-      let bottom : base ≡ base + 0 = omega arith in
-      subst (λ u. M used h u (flat.called (lowered P) texts (forget h) base [] i [])) (sym is)
-      (subst (λ y. M used h turn (flat.called (lowered P) texts (forget h) base [] y [])) (sym code.1)
-      (called_matches used h base base [] [] tt bottom f [] (same_fault P texts weight light _ turn is nf)))
-  starts_follow used h f i base (inr code) nf =
-      let g = code.0 in
-      let rest : ℕ → Turn Activity Heap = λ x. after (there (entry P.functions x)) (λ r. source.entering P texts h base base (source.entered_round P texts x) []) in
-      let above : length P.functions ≤ f = let e = code.2 in omega arith in
-      let less : f - length P.functions ≡ g = let e = code.2 in omega arith in
-      let is : source.begun P texts h base base f ≡ rest g = ap (λ b. if b then source.invoked P texts h base base f [] [] else rest (f - length P.functions)) (le-ltb f (length P.functions) above) ∙ ap rest less in
-      subst (λ u. M used h u (flat.called (lowered P) texts (forget h) base [] i [])) (sym is)
-      (repeats_follow used h base g i code.1 code.3 (entry P.functions g) (same_fault P texts weight light _ (rest g) is nf))
-
   pub follows : (used : ℕ) (h : Heap) (t : FlatHeap) (a : Activity) (b : FlatActivity) → forget h ≡ t → Tied P texts a b → NoFault (source.step P texts a h) → Mk 512 used h (source.step P texts a h) b t
   follows used h t (Starts f base) (Enters i base') e tied nf =
       subst (λ x. Mk 512 used h (source.begun P texts h base base f) (Enters i base') x) e
@@ -1045,7 +723,7 @@ module _ (P : TypedProgram) (texts : List ByteList) (fine : IsFine P) (weight : 
         memory = forget h;
         path = (refl, refl, refl);
         little = omega (arith, light.enters i base (forget h));
-        match = starts_follow used h f i base tied.0 nf;
+        match = starts_follow P texts fine weight light used h f i base tied.0 nf;
       }))
   follows used h t (Runs a callers base depth) (Stands b waiting base') e tied nf =
       subst (λ x. Mk 512 used h turn (Stands b waiting base') x) e (subst (λ x. Mk 512 used h turn (Stands b waiting x) (forget h)) tied.2 (by_near tied.0.near))

@@ -5,6 +5,9 @@ mod Statements
 mod Temporaries
 mod Functions
 mod Turns
+mod Operators
+mod Starting
+mod Items
 mod Follows
 mod Whole
 mod Faults

@@ -4,6 +4,8 @@ pub mod Makings
 pub mod Names
 pub mod Sites
 pub mod Boards
+mod TreeFacts
+mod TreeParts
 pub mod Trees
 pub mod Counts
 pub mod Suffixes

@@ -1,0 +1,102 @@
+-- Types, faults and tests that the laws of trees speak of.
+use Rattle.std.proofs.Common.{◌≡◌, ℕ, zero, suc, ◌<◌, refl, sym, ap, ◌∙◌, Bool, true, false, ◌&&◌, Option, Some, None, List, [], ◌∷◌, length, arith, lt-ltb}
+use Rattle.std.specs.Prelude.{nat_lt, if◌then◌else◌, unwrap_or}
+use Rattle.sts_base.specs.declared.refused.Code.TheVariants.{BadHandler}
+use Rattle.sts_syntax.specs.Types as t
+use Rattle.sts_scope.specs.declared.kinds.Kind.{Kind}
+use Rattle.sts_scope.specs.declared.known.This.{This as Self}
+use Rattle.sts_scope.specs.declared.known.This.TheVariants as this
+use Rattle.sts_scope.specs.Kinds.{number, boolean, nothing, null, empty, same, is_array, takes_null, value_type}
+use Rattle.sts_scope.specs.Faults.{Fault, ◌then◌, unless, own}
+use Rattle.sts_scope.specs.Places.{hidden}
+use Rattle.sts_scope.specs.declared.known.Local.{Local as Scoped}
+use Rattle.sts_scope.specs.Rules.{none_taken, is_nothing, is_boolean, local_kind}
+use Rattle.type_derive.specs.Nodes.{kind_role, is_called, faults}
+use Rattle.type_derive.specs.Built.{noted}
+use Rattle.typed_laws.specs.Stands.{is_proper_base, IsProper}
+use Rattle.typed_laws.proofs.OneNode.{same_is, same_types}
+use Rattle.typed_laws.proofs.Typed.{last, first}
+use Rattle.typed_laws.proofs.Sites.{improper}
+
+-- a noted type
+pub noted_is : (o : Option Kind) (u : Kind) → o ≡ Some u → value_type (unwrap_or o nothing) ≡ value_type u
+noted_is o u h = ap (λ (x : Option Kind). value_type (unwrap_or x nothing)) h
+
+pub kind_is : (o : Option Kind) (u : Kind) → o ≡ Some u → unwrap_or o nothing ≡ u
+kind_is o u h = ap (λ (x : Option Kind). unwrap_or x nothing) h
+
+-- faults of parts
+pub parts2 : (A B C : Option Fault) → (A then B then C) ≡ None → (A ≡ None) × (B ≡ None) × (C ≡ None)
+parts2 A B C h = let r = last A (B then C) h in (first A (B then C) h, first B C r, last B C r)
+
+pub parts3 : (A B C D : Option Fault) → (A then B then C then D) ≡ None → (A ≡ None) × (B ≡ None) × (C ≡ None) × (D ≡ None)
+parts3 A B C D h = let r = last A (B then C then D) h in let (x, y, z) = parts2 B C D r in (first A (B then C then D) h, x, y, z)
+
+pub not_called : (g : Option Kind) (at : ℕ) → unless (is_called (kind_role g)) BadHandler at ≡ None → ⊥
+not_called None at h = cc
+not_called (Some v) at h = cc
+
+-- no operator takes `[]`
+and_false : (x : Bool) → (x && false) ≡ true → ⊥
+and_false true h = cc
+and_false false h = cc
+
+pub and_first : (x y : Bool) → (x && y) ≡ true → (x ≡ true → ⊥) → ⊥
+and_first true y h f = f refl
+and_first false y h f = cc
+
+pub empty_same : (v : Kind) → IsProper v → same v empty ≡ true → ⊥
+empty_same v p h = improper v (ap (λ (x : Kind). is_proper_base x.base) (same_is v empty h)) p
+
+pub empty_takes_null : takes_null empty ≡ true → ⊥
+unfolding takes_null is_array
+empty_takes_null h = cc
+
+pub empty_null : same empty null ≡ true → ⊥
+unfolding same
+empty_null h = cc
+
+pub empty_number : same empty number ≡ true → ⊥
+unfolding same
+empty_number h = cc
+
+pub settable_is : (x : Bool) (o : Option Kind) (u : Kind) → (if x then o else None) ≡ Some u → (x ≡ true) × (o ≡ Some u)
+settable_is true o u h = (refl, h)
+settable_is false o u h = cc
+
+pub nothing_is : (o : Option Kind) → is_nothing o ≡ true → (u : Kind) × (o ≡ Some u) × (value_type u ≡ t.Nothing)
+nothing_is None h = cc
+nothing_is (Some u) h = (u, refl, same_types u nothing h)
+
+pub none_is : (us : List Kind) → none_taken us ≡ true → us ≡ []
+none_is [] h = refl
+none_is (u ∷ us) h = cc
+
+pub test_is : (o : Option Kind) → is_boolean o ≡ true → (u : Kind) × (o ≡ Some u) × (value_type u ≡ t.Boolean)
+test_is None h = cc
+test_is (Some u) h = (u, refl, same_types u boolean h)
+
+pub not_below : (i j : ℕ) → i < j → nat_lt i j ≡ false → ⊥
+not_below i j h f = let q : true ≡ false = sym (lt-ltb i j h) ∙ f in cc
+
+-- in a handler nothing of its function is known but its own locals
+pub kind_within : (ls : List Scoped) (i : ℕ) (u : Kind) → local_kind ls i ≡ Some u → i < length ls
+kind_within [] i u h = cc
+kind_within (l ∷ ls) zero u h = omega arith
+kind_within (l ∷ ls) (suc i) u h = omega (arith, kind_within ls i u h)
+
+pub hidden_is : (self : Self) (i : ℕ) → hidden self ≡ this.Object i → ⊥
+hidden_is (this.Object j) i h = cc
+hidden_is (this.Hidden j) i h = cc
+hidden_is this.Nowhere i h = cc
+
+pub alone_is : (x : Bool) (o : Option Kind) (u : Kind) → (if x then None else o) ≡ Some u → (x ≡ false) × (o ≡ Some u)
+alone_is true o u h = cc
+alone_is false o u h = (refl, h)
+
+pub unless_waived : (x : Bool) (o : Option Fault) → x ≡ false → (if x then None else o) ≡ None → o ≡ None
+unless_waived true o q h = cc
+unless_waived false o q h = h
+
+pub parts4 : (A B C D E : Option Fault) → (A then B then C then D then E) ≡ None → (A ≡ None) × (B ≡ None) × (C ≡ None) × (D ≡ None) × (E ≡ None)
+parts4 A B C D E h = let r = last A (B then C then D then E) h in let (x, y, z, o) = parts3 B C D E r in (first A (B then C then D then E) h, x, y, z, o)
