@@ -7,8 +7,6 @@ device at that port, the output stays, and no byte follows. Calls that are inter
 `tool_rows` makes the top call over four devices in memory, each told a word before: where memory is refused it says that the call answered 30, that the sink took no more than that, and that the
 devices are as they were.
 
-A few allocations, each the room that std's `collect` asks for ahead, are done without: the run is then the whole one. They are counted, and there are at most three in a run.
-
 usage: faults.py LIBRARY STS [TOOL_ROWS]      LIBRARY is faults.c, compiled
 """
 import itertools
@@ -88,7 +86,7 @@ def calls():
 class Faults:
     def __init__(self, library, folder):
         self.library, self.folder, self.met = library, folder, os.path.join(folder, "met")
-        self.runs = self.without = self.wrong = 0
+        self.runs = self.wrong = 0
 
     def run(self, program, words, fault):
         """Runs a program with that fault, and gives the status, both outputs and whether the fault was met."""
@@ -112,18 +110,10 @@ class Faults:
 
     def memory(self, program, words, is_whole, is_refused):
         """Refuses each allocation in turn."""
-        without = []
-
-        def is_right(number, status, out, err):
-            if number and is_whole(status, out, err):
-                without.append(number)
-            return is_refused(status, out, err) or is_whole(status, out, err) if number else is_whole(status, out, err)
-
-        count = self.each(program, words, "memory", "fails", is_right)
-        self.without += len(without)
-        if not count or len(without) > 3:
+        count = self.each(program, words, "memory", "fails", lambda number, *came: (is_refused if number else is_whole)(*came))
+        if not count:
             self.wrong += 1
-            print(f"faults: {os.path.basename(program)} {words}: {count} allocations, of which {len(without)} are done without")
+            print(f"faults: {os.path.basename(program)} {words}: it asks for no memory")
         return count
 
 
@@ -183,7 +173,7 @@ def main():
             told.update(calls_fail(faults, program))
     for words, counts in told.items():
         print(f"faults: {words}: {counts[0]} allocations" + (f", {counts[1]} files opened, {counts[2]} reads, {counts[5]} writes and {counts[8]} to the serial port" if counts[1:] else ""))
-    print(f"faults: {faults.runs} runs, {faults.without} allocations done without, {faults.wrong} wrong")
+    print(f"faults: {faults.runs} runs, {faults.wrong} wrong")
     sys.exit(1 if faults.wrong else 0)
 
 
