@@ -54,13 +54,13 @@ fn show_run<W: Write>(
     text: &str,
     script: &str,
     put: u64,
-    plugs: &mut Vec<Option<Box<dyn Device>>>,
+    mut plugs: Vec<Option<Box<dyn Device>>>,
 ) -> io::Result<()> {
     let mut folder = folder(alloc, 0, text).map_err(wanting)?;
     folder.add(alloc, "s", script.as_bytes()).map_err(wanting)?;
     let mut sink = sink(alloc, put, 1000).map_err(wanting)?;
     let words = words_of(alloc, &[command, "f", "s"])?;
-    let status = sts_main(alloc, words.as_slice(), &mut folder, &mut sink, plugs);
+    let status = sts_main(alloc, words.as_slice(), &mut folder, &mut sink, &mut plugs);
     write!(out, "{status} |")?;
     out.write_all(sink.taken())?;
     out.write_all(b"|")?;
@@ -84,7 +84,7 @@ fn show_row<W: Write>(
     let mut plugs: Vec<Option<Box<dyn Device>>> = Vec::new(alloc);
     plugs.push(Some(Box::new(alloc, display)?))?;
     plugs.push(Some(Box::new(alloc, serial)?))?;
-    show_run(alloc, out, command, text, script, put, &mut plugs)?;
+    show_run(alloc, out, command, text, script, put, plugs)?;
     out.write_all(b"\n")
 }
 
@@ -105,7 +105,7 @@ fn show_copying<W: Write>(alloc: Global, out: &mut W, script: &str) -> io::Resul
     let display = CopyingDevice::new(copies.clone()?);
     let mut plugs: Vec<Option<Box<dyn Device>>> = Vec::new(alloc);
     plugs.push(Some(Box::new(alloc, display)?))?;
-    show_run(alloc, out, "run", TOGGLES, script, 0, &mut plugs)?;
+    show_run(alloc, out, "run", TOGGLES, script, 0, plugs)?;
     show_copies(out, &copies)
 }
 
