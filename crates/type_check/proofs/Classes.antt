@@ -1,5 +1,5 @@
 -- Classes and globals, one after another.
-use Rattle.std.proofs.Common.{◌≡◌, ℕ, zero, suc, ◌+◌, ◌<◌, List, [], ◌∷◌, ◌++◌, length, drop, drop-cons, add-one, map, get_or, Some, slice_get, refl, ap, sym, ◌∙◌, subst, append_assoc, Bool, true, false, arith}
+use Rattle.std.proofs.Common.{◌≡◌, ℕ, zero, suc, ◌+◌, ◌<◌, List, [], ◌∷◌, ◌++◌, length, drop, drop-cons, add-one, map, get_or, refl, ap, sym, ◌∙◌, subst, append_assoc, Bool, true, false, arith}
 use Rattle.sts_syntax.specs.declared.types.Ty.{Ty}
 use Rattle.sts_syntax.specs.declared.typed.TypedClass.{TypedClass}
 use Rattle.sts_syntax.specs.Types as value

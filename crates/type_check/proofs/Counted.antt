@@ -1,17 +1,16 @@
 -- A program within the counted limits declares no more than they allow.
-use Rattle.std.proofs.Common.{◌≡◌, ℕ, zero, suc, ◌+◌, ◌<◌, ◌&&◌, Bool, true, false, Option, Some, None, List, [], ◌∷◌, ◌++◌, length, map, refl, sym, ap, ◌∙◌, subst, arith}
+use Rattle.std.proofs.Common.{◌≡◌, ℕ, zero, suc, ◌+◌, ◌<◌, ◌&&◌, Bool, true, false, Option, Some, List, [], ◌∷◌, ◌++◌, length, map, refl, sym, ap, ◌∙◌, subst, arith}
 use Rattle.std.proofs.lemmas.List.{length-map}
 use Rattle.std.specs.Prelude.{nat_le}
 use Rattle.std.specs.List.{list_all}
 use Rattle.sts_base.specs.declared.tables.Tables.{Tables}
-use Rattle.sts_base.specs.declared.refused.Code.{Code}
 use Rattle.sts_base.specs.declared.refused.Code.TheVariants.{OverLimit}
 use Rattle.sts_scope.specs.declared.entries.Entry.{Entry}
 use Rattle.sts_scope.specs.declared.entries.Sort.{Sort}
 use Rattle.sts_scope.specs.declared.entries.ClassHead.{ClassHead}
 use Rattle.sts_scope.specs.declared.known.Known.{Known}
 use Rattle.sts_scope.specs.Entries.{Naming}
-use Rattle.sts_scope.specs.Faults.{Fault, unless, fault_at}
+use Rattle.sts_scope.specs.Faults.{Fault, unless}
 use Rattle.sts_scope.specs.Lookup.{is_field}
 use Rattle.sts_scope.specs.Numbers.{Numbering, is_method, names_from, field_names, slot_names}
 use Rattle.sts_scope.specs.Rules.{kind_at}

@@ -2,11 +2,9 @@
 use Rattle.std.proofs.Common.{◌≡◌, ℕ, ap, ◌∙◌}
 use Rattle.sts_syntax.specs.declared.trees.Binding.{Binding, out-Binding}
 use Rattle.sts_syntax.specs.declared.typed.Spot.TheVariants.{Global}
-use Rattle.sts_syntax.specs.TypedTrees.{TypedDeclaration}
 use Rattle.sts_syntax.specs.Views.{declaration, optional_annotation, optional_expression}
 use Rattle.sts_syntax.proofs.Laws.{declaration_parts}
 use Rattle.type_derive.specs.Built as b
-use Rattle.type_derive.specs.Making.{Made}
 use Rattle.type_check.specs.declared.build_places.Plan.{Plan}
 use Rattle.type_check.specs.Sites as s
 use Rattle.type_check.specs.Sites.{made_of}

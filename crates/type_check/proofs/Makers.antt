@@ -1,10 +1,7 @@
 -- Parameters that are passed on, one after another.
-use Rattle.std.proofs.Common.{◌≡◌, ℕ, zero, suc, ◌+◌, ◌<◌, ◌≤◌, List, [], ◌∷◌, ◌++◌, length, drop, drop-cons, add-one, get_or, refl, ap, sym, ◌∙◌, arith}
-use Rattle.sts_syntax.specs.declared.types.Ty.{Ty}
+use Rattle.std.proofs.Common.{◌≡◌, ℕ, zero, suc, ◌+◌, ◌<◌, ◌≤◌, List, [], ◌∷◌, ◌++◌, length, drop, add-one, get_or, refl, ap, sym, ◌∙◌, arith}
 use Rattle.sts_syntax.specs.declared.typed.TypedExpr.{TypedExpr}
 use Rattle.sts_syntax.specs.declared.typed.Spot.TheVariants.{Param}
-use Rattle.sts_syntax.specs.Types as value
-use Rattle.sts_syntax.specs.Types.{ValueType}
 use Rattle.sts_syntax.specs.TypedTrees as e
 use Rattle.sts_syntax.specs.TypedTrees.{TypedTrees}
 use Rattle.sts_syntax.specs.TypedViews.{typed_tree, typed_trees}

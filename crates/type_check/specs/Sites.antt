@@ -46,7 +46,7 @@ pub record IsPlan (p : Plan) : Type 0 where
   pub globals : p.names.now.globals ≡ globals_from 0 p.known.now.entries
 
 abbrev pub site : Site → b.Site
-site s = record { place = place s.scope; spots = s.spots.items }
+site s = record { place = place s.scope; spots = s.spots }
 
 abbrev pub role : Option Kind → Role
 role given = kind_role given

@@ -1,5 +1,5 @@
 // Blocks: what is declared in one is known to its end.
-ghost use Rattle.std.specs.Prelude.{◌≡◌, ◌++◌, ◌∷◌, [], length, take, IfOk, OnOk};
+ghost use Rattle.std.specs.Prelude.{◌≡◌, ◌+◌, ◌++◌, ◌∷◌, [], length, take, IfOk, OnOk};
 ghost use Rattle.sts_scope.specs.Places as name;
 ghost use Rattle.sts_syntax.specs.declared.typed.Spot.TheVariants.{Local};
 ghost use Rattle.type_derive.specs.Built.{in_block};
@@ -13,7 +13,6 @@ use crate::build_places::{Plan, Site};
 use crate::build_scopes::handler_scope;
 use crate::context::Context;
 use crate::results::handler_result;
-use std::alloc::Global;
 use sts_base::NoMemory;
 use sts_scope::Kind;
 use sts_syntax::{Body, Spot};
@@ -29,15 +28,12 @@ pub struct Around {
 
 /// What stands around here, where no block begins.
 pub fn mark(site: &Site) -> Around
-    ensures locals { result.scope.locals ≡ length (place site.now.scope).locals }
-    ensures block { result.scope.block ≡ (place site.now.scope).block }
-    ensures spots { result.spots ≡ length site.now.spots.items }
+    ensures locals { (place site.now.scope).floor + result.scope.locals ≡ length (place site.now.scope).locals }
+    ensures block { (place site.now.scope).floor + result.scope.block ≡ (place site.now.scope).block }
+    ensures spots { result.spots ≡ length site.now.spots }
 {
     Around {
-        scope: Mark {
-            locals: site.scope.locals.len(),
-            block: site.scope.block,
-        },
+        scope: site.scope.locals.mark(),
         spots: site.spots.len(),
     }
 }
@@ -45,9 +41,9 @@ pub fn mark(site: &Site) -> Around
 /// A block begins.
 pub fn begin(site: &mut Site) -> Around
     ensures site { s.site site.new ≡ in_block (s.site site.old) }
-    ensures locals { result.scope.locals ≡ length (place site.old.scope).locals }
-    ensures block { result.scope.block ≡ (place site.old.scope).block }
-    ensures spots { result.spots ≡ length site.old.spots.items }
+    ensures locals { (place site.old.scope).floor + result.scope.locals ≡ length (place site.old.scope).locals }
+    ensures block { (place site.old.scope).floor + result.scope.block ≡ (place site.old.scope).block }
+    ensures spots { result.spots ≡ length site.old.spots }
 {
     let spots = site.spots.len();
     let scope = enter(&mut site.scope);
@@ -57,7 +53,7 @@ pub fn begin(site: &mut Site) -> Around
 /// It ends: all is as it was around it.
 pub fn end(site: &mut Site, around: Around)
     ensures place { place site.new.scope ≡ left (place site.old.scope) around.scope.locals around.scope.block }
-    ensures spots { site.new.spots.items ≡ take around.spots site.old.spots.items }
+    ensures spots { site.new.spots ≡ take around.spots site.old.spots }
 {
     leave(&mut site.scope, around.scope);
     site.spots.truncate(around.spots);
@@ -72,39 +68,15 @@ pub fn declare_local(
     local: u32,
 ) -> Result<(), NoMemory>
     ensures place { OnOk result (place site.new.scope ≡ name.with (place site.old.scope) x kind fixed) }
-    ensures spots { OnOk result (site.new.spots.items ≡ site.old.spots.items ++ Local local ∷ []) }
+    ensures spots { OnOk result (site.new.spots ≡ site.old.spots ++ Local local ∷ []) }
 {
     declare(&mut site.scope, x, kind, fixed)?;
-    match site.spots.push(Spot::Local(local)) {
-        Ok(()) => Ok(()),
-        Err(_) => Err(NoMemory),
-    }
-}
-
-/// A further value of a local.
-fn add_spot(spots: &mut Vec<Spot>, spot: Spot) -> Result<(), NoMemory>
-    ensures { OnOk result (spots.new.items ≡ spots.old.items ++ spot ∷ []) }
-{
-    match spots.push(spot) {
-        Ok(()) => Ok(()),
-        Err(_) => Err(NoMemory),
-    }
-}
-
-/// The values of locals once more.
-fn copied(alloc: Global, spots: &[Spot]) -> Result<Vec<Spot>, NoMemory>
-    ensures { IfOk result (λ all. all.items ≡ spots.now) }
-{
-    let mut all = Vec::new(alloc);
-    for i in 0..spots.len() {
-        add_spot(&mut all, spots[i])?;
-    }
-    Ok(all)
+    site.spots.push(Spot::Local(local))
 }
 
 /// Where the statements of a handler begin.
 #[tactic(auto, using(sts_syntax::proofs::Laws::routine_parts))]
-pub fn handler_site(plan: &Plan, site: &Site, body: &Body) -> Result<Site, NoMemory>
+pub fn handler_site<'a>(plan: &Plan, site: &'a Site<'a>, body: &Body) -> Result<Site<'a>, NoMemory>
     ensures { IfOk result (λ r. s.site r ≡ steps.handler_site plan.now (s.site site.now) (routine body.now)) }
 {
     let context = Context {
@@ -120,6 +92,6 @@ pub fn handler_site(plan: &Plan, site: &Site, body: &Body) -> Result<Site, NoMem
         Err(_) => return Err(NoMemory),
     };
     let scope = handler_scope(&context, &site.scope, params, gives)?;
-    let spots = copied(plan.alloc, &site.spots)?;
+    let spots = site.spots.inside(plan.alloc)?;
     Ok(Site { scope, spots })
 }

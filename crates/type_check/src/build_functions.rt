@@ -5,7 +5,6 @@ ghost use Rattle.sts_syntax.specs.TypedViews.{typed_routine, typed_routines, typ
 ghost use Rattle.sts_syntax.specs.Views.{parameters, statements, routine};
 ghost use Rattle.sts_scope.specs.Kinds as kind;
 ghost use Rattle.sts_scope.specs.Entries.{parameter_kinds};
-ghost use Rattle.type_derive.specs.Returns.{parameter_locals};
 ghost use Rattle.type_derive.specs.Programs.{parameter_spots};
 ghost use Rattle.type_check.specs.Sites as s;
 ghost use Rattle.type_check.specs.Sites.{IsPlan, naming};
@@ -13,42 +12,23 @@ ghost use Rattle.type_check.specs.Wholes as w;
 
 use crate::build_nodes::noted_type;
 use crate::build_places::{Builder, Plan, Site};
+use crate::build_scopes::routine_scope;
 use crate::build_statements::build_statements;
 use crate::gathered::Gathered;
+use crate::spots::Spots;
 use sts_base::{NoMemory, Seq};
-use sts_scope::{Kind, Local, This, written_kind};
+use sts_scope::{Kind, This, written_kind};
 use sts_syntax::{Body, Param, Spot, Stmt, Ty, TypedBody, TypedStmt};
-use type_derive::Scope;
 use typed_numbers::one_more;
 
-/// The parameters of a function, as they are in scope.
-fn parameter_locals(plan: &Plan, params: &[Param]) -> Result<Vec<Local>, NoMemory>
-    ensures { IfOk result (λ all. all.items ≡ parameter_locals (naming plan.now) (parameters params.now)) }
-{
-    let mut all = Vec::new(plan.alloc);
-    for param in params {
-        let local = Local {
-            name: param.name,
-            kind: written_kind(plan.classes, &param.shape)?,
-            fixed: false,
-        };
-        if all.push(local).is_err() {
-            return Err(NoMemory);
-        }
-    }
-    Ok(all)
-}
-
 /// Where their values are, from a parameter on.
-fn parameter_spots(plan: &Plan, first: u32, params: &[Param]) -> Result<Vec<Spot>, NoMemory>
-    ensures { IfOk result (λ all. all.items ≡ parameter_spots first (parameters params.now)) }
+fn parameter_spots<'a>(plan: &Plan, first: u32, params: &[Param]) -> Result<Spots<'a>, NoMemory>
+    ensures { IfOk result (λ all. all ≡ parameter_spots first (parameters params.now)) }
 {
-    let mut all = Vec::new(plan.alloc);
+    let mut all = Spots::new(plan.alloc);
     let mut at = first;
     for _param in params {
-        if all.push(Spot::Param(at)).is_err() {
-            return Err(NoMemory);
-        }
+        all.push(Spot::Param(at))?;
         at = one_more(at)?;
     }
     Ok(all)
@@ -66,27 +46,18 @@ pub fn add_types(plan: &Plan, all: &mut Seq<Ty>, params: &[Param]) -> Result<(),
 }
 
 /// Where the statements of a function stand, whose parameters are numbered from one on.
-pub fn function_site(
+pub fn function_site<'a>(
     plan: &Plan,
     this: This,
     gives: Option<Kind>,
     library: bool,
     first: u32,
     params: &[Param],
-) -> Result<Site, NoMemory>
+) -> Result<Site<'a>, NoMemory>
     ensures { IfOk result (λ site. s.site site ≡ w.site_of plan.now this gives library first (parameters params.now)) }
 {
-    let locals = parameter_locals(plan, params)?;
+    let scope = routine_scope(plan.alloc, plan.classes, params, this, gives, library)?;
     let spots = parameter_spots(plan, first, params)?;
-    let block = locals.len();
-    let scope = Scope {
-        locals,
-        floor: 0,
-        block,
-        this,
-        gives,
-        library,
-    };
     Ok(Site { scope, spots })
 }
 

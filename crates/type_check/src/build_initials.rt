@@ -19,6 +19,7 @@ use crate::build_places::{Builder, Plan, Site};
 use crate::build_scopes::outer_scope;
 use crate::build_spots::field_number;
 use crate::gathered::Gathered;
+use crate::spots::Spots;
 use sts_base::{NoMemory, Seq};
 use sts_scope::{Kind, This};
 use sts_syntax::{Binding, Member, Ty, TypedBody, TypedExpr, TypedNode, TypedStmt};
@@ -32,12 +33,12 @@ pub struct Initial {
 }
 
 /// Outside all functions, where no local is in scope.
-pub fn outer_site(plan: &Plan, this: This) -> Site
+pub fn outer_site<'a>(plan: &Plan, this: This) -> Site<'a>
     ensures { s.site result ≡ w.outer_site this }
 {
     Site {
         scope: outer_scope(plan.alloc, this),
-        spots: Vec::new(plan.alloc),
+        spots: Spots::new(plan.alloc),
     }
 }
 

@@ -1,9 +1,10 @@
 // What is known where the parts of a program are built, and what is built.
 use crate::gathered::Gathered;
+use crate::spots::Spots;
 use std::alloc::Global;
 use sts_base::{Seq, Tables};
 use sts_scope::{ByNumber, Kind, Known};
-use sts_syntax::{Spot, Ty, TypedBody, TypedExpr};
+use sts_syntax::{Ty, TypedBody, TypedExpr};
 use type_derive::Scope;
 use typed_numbers::{Names, Numbers};
 
@@ -25,10 +26,10 @@ pub struct Plan<'a> {
 
 /// Where something stands, and where the values of the names in scope are.
 #[derive(Drop)]
-pub struct Site {
-    pub scope: Scope,
+pub struct Site<'a> {
+    pub scope: Scope<'a>,
     /// where the value of each local in scope is
-    pub spots: Vec<Spot>,
+    pub spots: Spots<'a>,
 }
 
 /// What is built of a function, and the functions that stand in it.

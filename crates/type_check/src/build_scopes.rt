@@ -13,17 +13,7 @@ use std::alloc::Global;
 use sts_base::NoMemory;
 use sts_scope::{ByNumber, Kind, Local, This, written_kind};
 use sts_syntax::Param;
-use type_derive::Scope;
-
-/// Adds a local.
-fn add(locals: &mut Vec<Local>, local: Local) -> Result<(), NoMemory>
-    ensures { OnOk result (locals.new.items ≡ locals.old.items ++ local ∷ []) }
-{
-    match locals.push(local) {
-        Ok(()) => Ok(()),
-        Err(_) => Err(NoMemory),
-    }
-}
+use type_derive::{Locals, Scope};
 
 /// `this` in a handler.
 fn hidden(this: This) -> This
@@ -36,91 +26,69 @@ fn hidden(this: This) -> This
     }
 }
 
-/// The same locals once more.
-fn copied(alloc: Global, locals: &[Local]) -> Result<Vec<Local>, NoMemory>
-    ensures { IfOk result (λ all. all.items ≡ locals.now) }
-{
-    let mut all = Vec::new(alloc);
-    for i in 0..locals.len() {
-        add(&mut all, locals[i])?;
-    }
-    Ok(all)
-}
-
 /// Adds parameters.
-fn add_parameters(
-    classes: &ByNumber,
-    locals: &mut Vec<Local>,
-    params: &[Param],
-) -> Result<(), NoMemory>
-    ensures { OnOk result (locals.new.items ≡ locals.old.items ++ parameter_locals (value_at classes.now.values.items) (parameters params.now)) }
+fn add_parameters(classes: &ByNumber, locals: &mut Locals, params: &[Param]) -> Result<(), NoMemory>
+    ensures { OnOk result (locals.new ≡ record locals.old { all = locals.old.all ++ parameter_locals (value_at classes.now.values.items) (parameters params.now) }) }
 {
     for i in 0..params.len() {
         let kind = written_kind(classes, &params[i].shape)?;
-        let local = Local {
+        locals.push(Local {
             name: params[i].name,
             kind,
             fixed: false,
-        };
-        add(locals, local)?;
+        })?;
     }
     Ok(())
 }
 
 /// Where a handler's statements begin, whose result is this.
-pub fn handler_scope(
+pub fn handler_scope<'a>(
     context: &Context,
-    scope: &Scope,
+    scope: &'a Scope<'a>,
     params: &[Param],
     gives: Option<Kind>,
-) -> Result<Scope, NoMemory>
+) -> Result<Scope<'a>, NoMemory>
     ensures { IfOk result (λ s. place s ≡ node.handler_within context.now.tables.now (naming context.now) context.now.known.now (place scope.now) (parameters params.now) gives) }
 {
-    let mut locals = copied(context.alloc, &scope.locals)?;
-    let floor = locals.len();
+    let mut locals = scope.locals.inside(context.alloc)?;
     add_parameters(context.classes, &mut locals, params)?;
-    let block = locals.len();
+    locals.enter();
     Ok(Scope {
         locals,
-        floor,
-        block,
         this: hidden(scope.this),
         gives,
         library: scope.library,
     })
 }
 
-/// Where the statements of a function of the text begin.
-pub fn routine_scope(
+/// Where the statements of a function begin.
+pub fn routine_scope<'a>(
     alloc: Global,
     classes: &ByNumber,
     params: &[Param],
     this: This,
     gives: Option<Kind>,
-) -> Result<Scope, NoMemory>
-    ensures { IfOk result (λ s. place s ≡ within (parameter_locals (value_at classes.now.values.items) (parameters params.now)) this gives false) }
+    library: bool,
+) -> Result<Scope<'a>, NoMemory>
+    ensures { IfOk result (λ s. place s ≡ within (parameter_locals (value_at classes.now.values.items) (parameters params.now)) this gives library) }
 {
-    let mut locals = Vec::new(alloc);
+    let mut locals = Locals::new(alloc);
     add_parameters(classes, &mut locals, params)?;
-    let block = locals.len();
+    locals.enter();
     Ok(Scope {
         locals,
-        floor: 0,
-        block,
         this,
         gives,
-        library: false,
+        library,
     })
 }
 
 /// Outside all functions of the text.
-pub fn outer_scope(alloc: Global, this: This) -> Scope
+pub fn outer_scope<'a>(alloc: Global, this: This) -> Scope<'a>
     ensures { place result ≡ name.outside this false None }
 {
     Scope {
-        locals: Vec::new(alloc),
-        floor: 0,
-        block: 0,
+        locals: Locals::new(alloc),
         this,
         gives: None,
         library: false,

@@ -57,7 +57,7 @@ fn local_spot(site: &Site, i: usize) -> Spot
     ensures { result ≡ get_or (s.site site.now).spots i (spot.Global 0) }
 {
     match site.spots.get(i) {
-        Some(at) => *at,
+        Some(at) => at,
         None => Spot::Global(0),
     }
 }

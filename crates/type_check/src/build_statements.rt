@@ -36,7 +36,7 @@ pub fn build_body(
     ensures local { OnOk result (builder.new.local ≡ builder.old.local + length (s.body_made plan.now (s.site site.now) (routine body.now) builder.old.local builder.old.function).locals) }
     ensures function { OnOk result (builder.new.function ≡ builder.old.function + length (s.body_made plan.now (s.site site.now) (routine body.now) builder.old.local builder.old.function).routines) }
 {
-    let mut inside = handler_site(plan, site, body)?;
+    let mut inside = handler_site(plan, &*site, body)?;
     build_statements(plan, &mut inside, builder, body.stmts.as_slice())
 }
 

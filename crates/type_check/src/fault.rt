@@ -433,7 +433,7 @@ fn handler(context: &Context, room: usize, scope: &Scope, body: &Body) -> Result
         &body.gives,
         body.stmts.as_slice(),
     )?;
-    let mut inside = or_no_memory(handler_scope(context, scope, body.params.as_slice(), gives))?;
+    let mut inside = or_no_memory(handler_scope(context, &*scope, body.params.as_slice(), gives))?;
     statements(context, room, &mut inside, body.stmts.as_slice())
 }
 

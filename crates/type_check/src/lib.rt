@@ -39,6 +39,7 @@ mod passes;
 mod places;
 mod results;
 mod seen;
+mod spots;
 
 pub use build_program::typed_of;
 pub use checking::check;

@@ -100,6 +100,7 @@ fn check_body(
         body.params.as_slice(),
         this,
         gives,
+        false,
     ))?;
     statements(context, ROOM, &mut scope, body.stmts.as_slice())
 }
@@ -179,6 +180,7 @@ fn check_derived(context: &Context, this: This, b: u32, body: &Body) -> Result<(
         body.params.as_slice(),
         this,
         Some(flat(Base::Nothing)),
+        false,
     ))?;
     let at = body.at;
     check_made(context, &mut scope, at, b, body.stmts.as_slice())

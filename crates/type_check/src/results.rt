@@ -22,7 +22,7 @@ fn first_returned(
 ) -> Result<Option<Option<Kind>>, NoMemory>
     ensures { IfOk result (λ r. r ≡ derive.all_returned context.now.tables.now (naming context.now) context.now.known.now (node.handler_within context.now.tables.now (naming context.now) context.now.known.now (place scope.now) (parameters params.now) None) (statements all.now)) }
 {
-    let mut inside = handler_scope(context, scope, params, None)?;
+    let mut inside = handler_scope(context, &*scope, params, None)?;
     let mut wanted = Wanted::nothing(context.alloc);
     returned_in_block(
         &mut wanted,

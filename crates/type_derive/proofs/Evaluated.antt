@@ -75,6 +75,14 @@ target_member t k p at m a s v part hn hs hp hv =
     settled None = refl
     settled (Some w) = refl
 
+-- a member that is read, which is no constant of the board
+pub read_member : (t : Tables) (k : Known) (p : Place) (r : Role) (at m : ℕ) (a : Tree) (s v : Option Kind) (part : Option Part) → constant_of t k p a m ≡ None → s ≡ type_of t k p Free a →
+    part ≡ (s >>= λ u. Some (part_of t.names k u m)) → v ≡ (part >>= λ q. part_kind k q) → v ≡ type_of t k p r (Member at a m)
+read_member t k p r at m a s v part hn hs hp hv =
+    hv ∙ ap (λ o. o >>= λ q. part_kind k q) (hp ∙ ap (λ o. o >>= λ u. Some (part_of t.names k u m)) hs)
+    ∙ bind_some (type_of t k p Free a) (λ u. part_of t.names k u m) (λ q. part_kind k q)
+    ∙ ap (λ o. elim o as (λ z. Option Kind) [ Some z ↦ Some number | None ↦ type_of t k p Free a >>= λ u. part_kind k (part_of t.names k u m) ]) (sym hn)
+
 and_false : (b : Bool) → false ≡ (b && false)
 and_false true = refl
 and_false false = refl

@@ -1,5 +1,6 @@
 pub mod Going
-pub mod Locals
+pub mod Layered
+pub mod Named
 pub mod Single
 pub mod Calling
 pub mod Opened

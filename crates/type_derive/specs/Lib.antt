@@ -1,3 +1,5 @@
+pub mod Lent
+pub mod Named
 pub mod Scopes
 pub mod Typing
 pub mod Returns

@@ -6,6 +6,8 @@ mod callees;
 mod drawings;
 mod evaluation;
 mod kinds;
+mod layers;
+mod locals;
 mod origins;
 mod parts;
 mod returns;
@@ -27,9 +29,11 @@ pub use callees::{
 pub use drawings::is_drawing;
 pub use evaluation::{part_behind, type_of};
 pub use kinds::{array, below, class_of, flat, goes, is_array, item, same, takes_null};
+pub use layers::Layers;
+pub use locals::{Locals, Mark};
 pub use parts::{assigned, both, bumped, chosen, indexed, listed, operated, prefixed};
 pub use returns::{
-    Mark, after, bound, declare, declare_all, enter, is_alone, items_of, leave, returned_in_block,
+    after, bound, declare, declare_all, enter, is_alone, items_of, leave, returned_in_block,
 };
 pub use roles::Role;
 pub use rules::{
@@ -37,8 +41,8 @@ pub use rules::{
     prefix,
 };
 pub use scopes::{
-    Scope, is_twice, kind_at, last_named, name_fixed, name_found, name_kind, part_kind, part_of,
-    part_settable, serves, this_kind,
+    Scope, is_twice, kind_at, name_fixed, name_found, name_kind, part_kind, part_of, part_settable,
+    serves, this_kind,
 };
 pub use solving::solve;
 pub use theorems::{derived_types_are_one, derived_types_exist, rules_grow, types_grow};

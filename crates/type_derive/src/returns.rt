@@ -1,5 +1,5 @@
 // What declarations make known, and the first value that a function returns.
-ghost use Rattle.std.specs.Prelude.{◌≡◌, ◌++◌, ◌∷◌, [], length, OnOk, IfOk};
+ghost use Rattle.std.specs.Prelude.{◌≡◌, ◌+◌, ◌++◌, ◌∷◌, [], length, OnOk, IfOk};
 ghost use Rattle.sts_syntax.specs.Views.{tree, declarations, statement, statements, optional_annotation, optional_expression, optional_written};
 ghost use Rattle.sts_syntax.specs.Trees as t;
 ghost use Rattle.sts_scope.specs.Places as name;
@@ -10,6 +10,7 @@ ghost use Rattle.type_derive.specs.Returns as given;
 
 use crate::evaluation::type_of;
 use crate::kinds::{is_array, item};
+use crate::locals::Mark;
 use crate::roles::Role;
 use crate::scopes::Scope;
 use crate::wanted::Wanted;
@@ -58,14 +59,11 @@ pub fn bound(
 pub fn declare(scope: &mut Scope, x: u32, kind: Option<Kind>, fixed: bool) -> Result<(), NoMemory>
     ensures { OnOk result (place scope.new ≡ name.with (place scope.old) x kind fixed) }
 {
-    match scope.locals.push(Local {
+    scope.locals.push(Local {
         name: x,
         kind,
         fixed,
-    }) {
-        Ok(()) => Ok(()),
-        Err(_) => Err(NoMemory),
-    }
+    })
 }
 
 /// A declared name is known from here on.
@@ -145,26 +143,14 @@ pub fn after(
     }
 }
 
-/// Where a block began: how many locals were in scope, and where the block around it begins.
-#[derive(Clone, Copy)]
-pub struct Mark {
-    /// how many locals were in scope
-    pub locals: usize,
-    /// those from here on are of the block around it
-    pub block: usize,
-}
-
 /// A block begins.
 pub fn enter(scope: &mut Scope) -> Mark
     ensures place { place scope.new ≡ name.inner (place scope.old) }
-    ensures locals { result.locals ≡ length (place scope.old).locals }
-    ensures block { result.block ≡ (place scope.old).block }
+    ensures locals { (place scope.old).floor + result.locals ≡ length (place scope.old).locals }
+    ensures block { (place scope.old).floor + result.block ≡ (place scope.old).block }
 {
-    let mark = Mark {
-        locals: scope.locals.len(),
-        block: scope.block,
-    };
-    scope.block = mark.locals;
+    let mark = scope.locals.mark();
+    scope.locals.enter();
     mark
 }
 
@@ -172,8 +158,7 @@ pub fn enter(scope: &mut Scope) -> Mark
 pub fn leave(scope: &mut Scope, mark: Mark)
     ensures { place scope.new ≡ left (place scope.old) mark.locals mark.block }
 {
-    scope.locals.truncate(mark.locals);
-    scope.block = mark.block;
+    scope.locals.leave(mark);
 }
 
 /// The type of the items that a loop goes through.

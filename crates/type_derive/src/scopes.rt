@@ -5,40 +5,21 @@ ghost use Rattle.sts_scope.specs.Rules as rule;
 ghost use Rattle.type_derive.specs.Scopes.{place};
 
 use crate::kinds::{class_of, flat, is_array, item, same};
+use crate::locals::Locals;
 use sts_base::Tables;
-use sts_scope::{
-    Base, Entry, Found, Kind, Known, Local, Owner, Part, Sort, This, is_dollar, sort_of,
-};
+use sts_scope::{Base, Entry, Found, Kind, Known, Owner, Part, Sort, This, is_dollar, sort_of};
 
 /// Where something stands.
 #[derive(Drop)]
-pub struct Scope {
-    /// the parameters and locals in scope, outermost first
-    pub locals: Vec<Local>,
-    /// those from here on are of this function
-    pub floor: usize,
-    /// those from here on are of this block
-    pub block: usize,
+pub struct Scope<'a> {
+    /// the parameters and locals in scope
+    pub locals: Locals<'a>,
     /// what `this` is
     pub this: This,
     /// what a `return` gives, where it is known
     pub gives: Option<Kind>,
     /// whether it is the library
     pub library: bool,
-}
-
-/// The last local of a name.
-pub fn last_named(locals: &[Local], x: u32) -> Option<usize>
-    ensures { result ≡ name.last_named locals.now x }
-{
-    let mut i = locals.len();
-    while i > 0 {
-        i -= 1;
-        if locals[i].name == x {
-            return Some(i);
-        }
-    }
-    None
 }
 
 fn entry_found(d: usize, sort: Sort) -> Found
@@ -72,6 +53,17 @@ fn global_named(known: &Known, library: bool, x: u32) -> Found
     }
 }
 
+/// The innermost local of a name, else the declaration of the whole text.
+#[tactic(auto, using(crate::proofs::Named::found_here, crate::proofs::Named::found_nowhere))]
+fn found_among(known: &Known, scope: &Scope, x: u32) -> Found
+    ensures { result ≡ name.found_among known.now (place scope.now) x (name.last_named (place scope.now).locals x) }
+{
+    match scope.locals.found(x) {
+        Some(found) => found,
+        None => global_named(known, scope.library, x),
+    }
+}
+
 /// What a name stands for.
 pub fn name_found(tables: &Tables, known: &Known, scope: &Scope, x: u32) -> Found
     ensures { result ≡ name.name_found tables.now.names known.now (place scope.now) x }
@@ -79,26 +71,14 @@ pub fn name_found(tables: &Tables, known: &Known, scope: &Scope, x: u32) -> Foun
     if !scope.library && is_dollar(tables, x) {
         return Found::Unknown;
     }
-    match last_named(&scope.locals, x) {
-        Some(i) => {
-            if i < scope.floor {
-                Found::Captured
-            } else {
-                Found::Local(i)
-            }
-        }
-        None => global_named(known, scope.library, x),
-    }
+    found_among(known, scope, x)
 }
 
 /// Whether a local of a name stands in the block.
 pub fn is_twice(scope: &Scope, x: u32) -> bool
     ensures { result ≡ name.is_twice (place scope.now) x }
 {
-    match last_named(&scope.locals, x) {
-        None => false,
-        Some(i) => scope.block <= i,
-    }
+    scope.locals.is_twice(x)
 }
 
 /// The type of a declaration.

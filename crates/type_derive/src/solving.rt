@@ -14,6 +14,7 @@ ghost use Rattle.type_derive.specs.Underway as way;
 ghost use Rattle.type_derive.specs.Underway.{Keeps};
 
 use crate::kinds::flat;
+use crate::locals::Locals;
 use crate::origins::{Origin, origins_of};
 use crate::returns::{bound, declare, returned_in_block};
 use crate::scopes::{Scope, kind_at};
@@ -24,13 +25,11 @@ use sts_scope::{Base, ByNumber, Declared, Kind, Known, Table, This, written_kind
 use sts_syntax::{Param, Unit};
 
 /// Outside all functions.
-fn outside(alloc: Global, this: This, library: bool) -> Scope
+fn outside<'a>(alloc: Global, this: This, library: bool) -> Scope<'a>
     ensures { place result ≡ name.outside this library None }
 {
     Scope {
-        locals: Vec::new(alloc),
-        floor: 0,
-        block: 0,
+        locals: Locals::new(alloc),
         this,
         gives: None,
         library,
@@ -38,13 +37,13 @@ fn outside(alloc: Global, this: This, library: bool) -> Scope
 }
 
 /// Where a function's statements begin.
-fn within(
+fn within<'a>(
     alloc: Global,
     classes: &ByNumber,
     params: &[Param],
     this: This,
     library: bool,
-) -> Result<Scope, NoMemory>
+) -> Result<Scope<'a>, NoMemory>
     ensures { IfOk result (λ scope. name.inner (place scope) ≡ given.within (given.parameter_locals (value_at classes.now.values.items) (parameters params.now)) this None library) }
 {
     let mut scope = outside(alloc, this, library);

@@ -1,8 +1,7 @@
-use Rattle.std.proofs.Common.{◌≡◌, ◌++◌, ◌∙◌, sym, ap, append-nil}
+use Rattle.std.proofs.Common.{◌++◌, ◌∙◌, sym, ap, append-nil}
 use Rattle.sts_syntax.specs.Types as value
 use Rattle.sts_scope.specs.Kinds as kind
 use Rattle.std.specs.Prelude.{unwrap_or}
-use Rattle.type_check.specs.Wholes as w
 use Rattle.type_check.proofs.Classes.{on_ok, global_added, one_false}
 use Rattle.type_check.proofs.build_classes.add_global.Goals as goal
 

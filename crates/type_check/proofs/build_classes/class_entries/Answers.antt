@@ -1,4 +1,4 @@
-use Rattle.std.proofs.Common.{◌≡◌, ap, ◌∙◌, arith}
+use Rattle.std.proofs.Common.{ap, ◌∙◌, arith}
 use Rattle.type_check.specs.Wholes as w
 use Rattle.type_check.proofs.Classes.{class_next}
 use Rattle.type_check.proofs.build_classes.class_entries.Goals as goal

@@ -1,4 +1,4 @@
-use Rattle.std.proofs.Common.{◌≡◌, ◌+◌, ◌<◌, ◌++◌, List, length, drop, get_or, ap, sym, ◌∙◌, subst, arith}
+use Rattle.std.proofs.Common.{◌≡◌, ◌<◌, List, length, get_or, sym, subst}
 use Rattle.sts_scope.specs.declared.entries.Entry.{Entry}
 use Rattle.type_check.proofs.Classes.{global_next}
 use Rattle.type_check.proofs.build_classes.global_types.Goals as goal

@@ -1,10 +1,9 @@
-use Rattle.std.proofs.Common.{◌≡◌, ◌++◌, List, [], ◌∷◌, ap, sym, ◌∙◌}
+use Rattle.std.proofs.Common.{◌++◌, List, [], ◌∷◌, ap, ◌∙◌}
 use Rattle.std.specs.Prelude.{false}
 use Rattle.sts_syntax.specs.declared.types.Ty.{Ty}
 use Rattle.sts_syntax.specs.declared.types.Ty.TheVariants as ty
 use Rattle.sts_syntax.specs.declared.trees.Param.{Param}
 use Rattle.sts_syntax.specs.Types as value
-use Rattle.sts_syntax.specs.TypedViews.{typed_routines}
 use Rattle.sts_syntax.specs.Views.{parameters, routine}
 use Rattle.sts_scope.specs.Kinds as kind
 use Rattle.sts_scope.specs.Entries.{parameter_kinds}

@@ -6,5 +6,5 @@ use Rattle.type_check.proofs.build_scopes.add_parameters.Given as goal
 
 abbrev pub invariant-loop-i : goal.invariant-loop-i
 invariant-loop-i l =
-    l.locals.items ++ parameter_locals (value_at l.classes.values.items) (parameters (drop l.i l.params))
-    ≡ l.fn.locals.items ++ parameter_locals (value_at l.classes.values.items) (parameters l.params)
+    record l.locals { all = l.locals.all ++ parameter_locals (value_at l.classes.values.items) (parameters (drop l.i l.params)) }
+    ≡ record l.fn.locals { all = l.fn.locals.all ++ parameter_locals (value_at l.classes.values.items) (parameters l.params) }

@@ -12,7 +12,7 @@ use Rattle.type_derive.specs.Shown.{goes_first, goes_some, row_shown, row_called
 use Rattle.type_derive.specs.Typing.{◌>>=◌, constant_of, board_callee, type_of, types_of, callee_of, settable, called, named_callee, part_callee, callee, super_method, made}
 use Rattle.type_derive.proofs.Calling.{name_is, member_is}
 use Rattle.type_derive.proofs.Opened.{call_is, super_call_is, make_is, items_is}
-use Rattle.type_derive.proofs.Evaluated.{moved, two, bind_some, bind_itself, none_if, set_type, target_member, go_kept, go_ends, all_kept, list_none, list_ends, board_kept, board_ends, call_board, call_other}
+use Rattle.type_derive.proofs.Evaluated.{moved, two, bind_some, bind_itself, none_if, set_type, target_member, read_member, go_kept, go_ends, all_kept, list_none, list_ends, board_kept, board_ends, call_board, call_other}
 use Rattle.type_derive.proofs.evaluation.+types.Goals as goal
 
 pub called_type-loop-i-preserved : goal.called_type-loop-i-preserved
@@ -187,6 +187,18 @@ type_of-returns-in_ok-s-in-Set t c =
     (c.assigned.ensures ∙ ap (λ cs. c.in_ok-u-in-Set.u >>= λ w. c.in_ok-s-in-Set.s >>= λ y. assign cs c.in-Set.op w y) c.as_slice-in-Set.ensures)
     ∙ set_type X b A (λ w y. assign k.classes c.in-Set.op w y)
     ∙ sym (ap (type_of s k p c.args.role) (ap (node_tree c.args.e.now.at) c.in-Set.is))
+
+pub type_of-returns-in_ok-note_part-in-Member : goal.type_of-returns-in_ok-note_part-in-Member
+type_of-returns-in_ok-note_part-in-Member t c =
+    let s = c.args.tables.now in
+    let k = c.args.known.now in
+    let p = place c.args.scope.now in
+    let a = c.in-Member.a in
+    let u = moved s k p Free c.deref-in-Member-2.result.now a.value c.in_ok-s-in-Member.s c.in_ok-s-in-Member.ensures c.deref-in-Member-2.ensures in
+    let hn : constant_of s k p (tree a.value) c.in-Member.m ≡ None =
+    sym (c.constant.ensures ∙ ap (λ z. constant_of s k p (tree z) c.in-Member.m) c.deref-in-Member.ensures) ∙ none_if c.constant.result c.is_some.result c.is_some.ensures c.if-is_some.false in
+    read_member s k p c.args.role c.args.e.now.at c.in-Member.m (tree a.value) c.in_ok-s-in-Member.s c.part_type.result c.part_behind-part.result hn u c.part_behind-part.ensures c.part_type.ensures
+    ∙ sym (ap (type_of s k p c.args.role) (member_is c.args.e.now a c.in-Member.m c.in-Member.is))
 
 pub type_of-returns-in_ok-u-in-Item : goal.type_of-returns-in_ok-u-in-Item
 type_of-returns-in_ok-u-in-Item t c =

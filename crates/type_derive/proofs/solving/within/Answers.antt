@@ -16,7 +16,7 @@ loop-i-preserved c =
     let p = place c.outside-scope.result in
     let d = c.in_ok-declare.ensures in
     record {
-      locals = locals_step f c.args.params.now c.loop-i.i c.index-params-i.result c.loop-i.scope.locals.items c.declare.new.scope.locals.items c.in_ok-kind.kind _
+      locals = locals_step f c.args.params.now c.loop-i.i c.index-params-i.result (place c.loop-i.scope).locals (place c.declare.new.scope).locals c.in_ok-kind.kind _
           lt c.index-params-i.is c.in_ok-kind.ensures (ap (λ (q : Place). q.locals) d) c.loop-i.invariant.locals;
       same = d ∙ ap {A = Place} (λ q. record q { locals = (with q c.index-params-i.result.name c.in_ok-kind.kind false).locals }) c.loop-i.invariant.same
           ∙ ap (λ ls. record p { locals = ls }) (sym (ap (λ (q : Place). q.locals) d));
@@ -25,7 +25,7 @@ loop-i-preserved c =
 pub returns : goal.returns
 returns c =
     let f = value_at c.args.classes.now.values.items in
-    let ls = c.loop-i.scope.locals.items in
+    let ls = (place c.loop-i.scope).locals in
     let ge : length c.args.params.now ≤ c.loop-i.i = omega arith in
     let all = sym (append-nil ls) ∙ ap (λ qs. ls ++ parameter_locals f (parameters qs)) (sym (drop_end c.args.params.now c.loop-i.i ge)) ∙ c.loop-i.invariant.locals in
     ap inner (c.loop-i.invariant.same ∙ ap {A = Place} (λ q. record q { locals = ls }) c.outside-scope.ensures ∙ ap (λ zs. record (outside c.args.this c.args.library None) { locals = zs }) all)

@@ -7,7 +7,7 @@ use Rattle.type_derive.proofs.solving.within.Given as goal
 
 abbrev pub invariant-loop-i : goal.invariant-loop-i
 invariant-loop-i l = record {
-  locals : l.scope.locals.items ++ given.parameter_locals (value_at l.classes.values.items) (parameters (drop l.i l.params))
+  locals : (place l.scope).locals ++ given.parameter_locals (value_at l.classes.values.items) (parameters (drop l.i l.params))
       ≡ given.parameter_locals (value_at l.classes.values.items) (parameters l.params);
-  same : place l.scope ≡ record (place l.initial.scope) { locals = l.scope.locals.items };
+  same : place l.scope ≡ record (place l.initial.scope) { locals = (place l.scope).locals };
 }
