@@ -77,6 +77,9 @@ kinds = {
     "locals, used": lambda s: halves(s, "function f(){", lambda i: f"let {name(i)}=1\n", nothing, lambda i: f"{name(i)}\n", "}"),
     "locals in blocks": lambda s: filled(s, "function f(){", lambda i: f"{{let {name(i)}=1}}\n", "}")[0],
     "locals around handlers": lambda s: halves(s, "function f(){", lambda i: f"let {name(i)}=1\n", nothing, lambda i: "control.inBackground(()=>{})\n", "}"),
+    "a global, used in handlers of handlers": lambda s: filled(
+        s, "let g=1\n" + "control.inBackground(()=>{let a=1;a\n" * 30, lambda i: "g\n", "})" * 30
+    )[0],
     "parameters": lambda s: filled(s, "function f(a:number", lambda i: f",{name(i)}:number", "){}")[0],
     "handlers": lambda s: filled(s, "", lambda i: f"control.onEvent({i % 30 + 1},{i},()=>{{}})\n")[0],
     "names that aren't known": lambda s: filled(s, "", lambda i: f"let {name(i)}=1\n", "zz9")[0],
