@@ -1,0 +1,8 @@
+//! Maps from numbers to numbers that are made one from another: a map goes on as it was when a further one is made from it.
+#![tactic(auto)]
+
+mod maps;
+#[cfg(test)]
+mod tests;
+
+pub use maps::{MadeMaps, Node};
