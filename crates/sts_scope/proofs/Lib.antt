@@ -6,3 +6,4 @@ pub mod SeenNames
 pub mod Parameters
 pub mod Refusals
 pub mod Symbols
+pub mod Longer

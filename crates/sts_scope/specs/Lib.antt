@@ -11,6 +11,7 @@ pub mod Rules
 pub mod Codes
 pub mod Values
 pub mod Symbols
+pub mod Lines
 pub mod Adding
 pub mod Seen
 pub mod Known

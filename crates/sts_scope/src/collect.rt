@@ -9,7 +9,7 @@ ghost use Rattle.sts_scope.specs.Known.{IsDeclared};
 
 use crate::build::{add_declared, add_entry, add_routine, number_classes, parameter_kinds};
 use crate::by_number::ByNumber;
-use crate::{ClassHead, Entry, Kind, Known, Owner, Sort, SymbolTable, Table};
+use crate::{ClassHead, Entry, Environment, Kind, Known, Owner, Sort, SymbolTable, Table};
 use std::alloc::Global;
 use sts_base::{NoMemory, Seq};
 use sts_syntax::{Binding, Body, Form, Item, Member, Stmt, Unit};
@@ -218,7 +218,7 @@ pub struct Declared {
     /// the numbers of the classes, by their names
     pub classes: ByNumber,
     /// all declarations, with the types that are written
-    pub known: Known,
+    pub known: Environment,
     /// how many classes are the library's
     pub first_class: u32,
 }
@@ -241,7 +241,7 @@ pub fn declarations_of(alloc: Global, library: &Unit, text: &Unit) -> Result<Dec
     add_items(alloc, &classes, &mut known, text.items.as_slice())?;
     Ok(Declared {
         classes,
-        known,
+        known: Environment::new(alloc, known)?,
         first_class: count,
     })
 }

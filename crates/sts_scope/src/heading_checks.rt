@@ -14,7 +14,7 @@ ghost use Rattle.sts_base.specs.declared.refused.Code.TheVariants as code;
 
 use crate::by_number::ByNumber;
 use crate::faults::unless;
-use crate::{Known, Owner};
+use crate::{Environment, Owner};
 use std::alloc::Global;
 use std::collections::BTreeSet;
 use sts_base::{Code, Refused};
@@ -95,25 +95,19 @@ fn check_routine(alloc: Global, classes: &ByNumber, body: &Body) -> Result<(), R
 #[tactic(auto, using(sts_syntax::proofs::Laws::declaration_parts))]
 fn check_field(
     classes: &ByNumber,
-    known: &Known,
+    known: &Environment,
     c: u32,
     d: usize,
     b: &Binding,
 ) -> Result<(), Refused>
     ensures { Finds result (heading.field_fault (value_at classes.now.values.items) known.now.entries known.now.classes c d (declaration b.now)) }
 {
-    let entries = &known.entries;
-    let heads = known.classes.as_slice();
     unless(
-        !entries.is_second(d, Owner::Class(c), b.name),
+        !known.entries().is_second(d, Owner::Class(c), b.name),
         Code::TwiceNamed,
         b.at,
     )?;
-    unless(
-        entries.inherited(heads, c, b.name).is_none(),
-        Code::TwiceNamed,
-        b.at,
-    )?;
+    unless(known.inherited(c, b.name).is_none(), Code::TwiceNamed, b.at)?;
     unless(
         b.shape.is_some() || b.first.is_some(),
         Code::NeedsType,
@@ -127,7 +121,7 @@ fn check_field(
 fn check_method(
     alloc: Global,
     classes: &ByNumber,
-    known: &Known,
+    known: &Environment,
     c: u32,
     d: usize,
     x: u32,
@@ -135,15 +129,13 @@ fn check_method(
 ) -> Result<(), Refused>
     ensures { Finds result (heading.method_fault (value_at classes.now.values.items) known.now.entries known.now.classes c d x (routine body.now)) }
 {
-    let entries = &known.entries;
-    let heads = known.classes.as_slice();
     let at = body.at;
     unless(
-        !entries.is_second(d, Owner::Class(c), x),
+        !known.entries().is_second(d, Owner::Class(c), x),
         Code::TwiceNamed,
         at,
     )?;
-    unless(!entries.inherits_field(heads, c, x), Code::TwiceNamed, at)?;
+    unless(!known.inherits_field(c, x), Code::TwiceNamed, at)?;
     check_routine(alloc, classes, body)
 }
 
@@ -177,7 +169,7 @@ fn check_constructor(
 fn check_member(
     alloc: Global,
     classes: &ByNumber,
-    known: &Known,
+    known: &Environment,
     c: u32,
     d: usize,
     made: bool,
@@ -217,7 +209,7 @@ fn is_constructor(member: &Member) -> bool
 fn check_members(
     alloc: Global,
     classes: &ByNumber,
-    known: &Known,
+    known: &Environment,
     c: u32,
     first: usize,
     members: &[Member],
@@ -263,7 +255,7 @@ fn globals_in(s: &Stmt) -> usize
 fn check_item(
     alloc: Global,
     classes: &ByNumber,
-    known: &Known,
+    known: &Environment,
     c: u32,
     d: usize,
     item: &Item,
@@ -315,7 +307,7 @@ fn class_behind(c: u32, item: &Item) -> Result<u32, Refused>
 pub fn check_headings(
     alloc: Global,
     classes: &ByNumber,
-    known: &Known,
+    known: &Environment,
     first_class: u32,
     first: usize,
     items: &[Item],

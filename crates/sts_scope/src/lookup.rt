@@ -2,9 +2,10 @@
 ghost use Rattle.std.specs.Prelude.{◌≡◌, length, take};
 ghost use Rattle.sts_scope.specs.Lookup as look;
 ghost use Rattle.sts_scope.specs.Bases.{is_endless};
+ghost use Rattle.sts_scope.specs.Rules as rule;
 ghost use Rattle.sts_scope.specs.Globals.{is_dollar};
 
-use crate::{ClassHead, Entry, Sort};
+use crate::{ClassHead, Entry, Kind, Sort};
 use sts_base::Tables;
 
 /// Whether a name begins with `$`.
@@ -66,4 +67,42 @@ pub fn is_endless(classes: &[ClassHead], c: usize) -> bool
         }
     }
     true
+}
+
+/// Whether a class is another, or one of its bases is, up to so many.
+#[tactic(auto, unfolding(crate::specs::Rules::reaches))]
+pub fn reaches(classes: &[ClassHead], m: u32, n: u32) -> bool
+    ensures { result ≡ rule.reaches classes.now (length classes.now) m n }
+{
+    let mut at = m;
+    for _ in 0..classes.len() {
+        if at == n {
+            return true;
+        }
+        match base_of(classes, at as usize) {
+            None => return false,
+            Some(b) => at = b,
+        }
+    }
+    at == n
+}
+
+/// What the nearest written constructor of a class takes.
+pub fn maker_takes(classes: &[ClassHead], c: u32) -> &[Kind]
+    ensures { result.now ≡ rule.maker_takes_of classes.now c }
+{
+    let mut at = c;
+    for _ in 0..classes.len() {
+        match classes.get(at as usize) {
+            None => return &[],
+            Some(class) => match &class.takes {
+                Some(takes) => return takes.as_slice(),
+                None => match class.base {
+                    None => return &[],
+                    Some(b) => at = b,
+                },
+            },
+        }
+    }
+    &[]
 }

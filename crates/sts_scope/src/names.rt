@@ -9,8 +9,8 @@ ghost use Rattle.sts_scope.specs.Bases.{base_fault, bases_fault, chain_fault, ch
 
 use crate::by_number::ByNumber;
 use crate::faults::{or_no_memory, unless};
-use crate::lookup::{is_dollar, is_endless};
-use crate::{ClassHead, Entry, Known, Owner};
+use crate::lookup::is_dollar;
+use crate::{ClassHead, Entry, Environment, Owner};
 use std::alloc::Global;
 use sts_base::{Code, Refused, Tables};
 
@@ -39,16 +39,16 @@ fn check_name(tables: &Tables, seen: &ByNumber, e: &Entry) -> Result<(), Refused
 }
 
 /// All declared names of the text, behind those of the library.
-pub fn check_names(alloc: Global, tables: &Tables, known: &Known) -> Result<(), Refused>
+pub fn check_names(alloc: Global, tables: &Tables, known: &Environment) -> Result<(), Refused>
     requires { known.now.library ≤ length known.now.entries }
     ensures { Finds result (names_fault tables.now.names known.now.entries known.now.library (drop known.now.library known.now.entries)) }
 {
     let mut seen = ByNumber::new(alloc);
-    let entries = known.entries.as_slice();
-    for d in 0..known.library {
+    let entries = known.entries().as_slice();
+    for d in 0..known.library() {
         note(&mut seen, &entries[d])?;
     }
-    for d in known.library..entries.len() {
+    for d in known.library()..entries.len() {
         check_name(tables, &seen, &entries[d])?;
         note(&mut seen, &entries[d])?;
     }
@@ -77,12 +77,13 @@ pub fn check_bases(classes: &[ClassHead], from: usize) -> Result<(), Refused>
 }
 
 /// No chain of bases comes back, of the classes from one on.
-pub fn check_chains(classes: &[ClassHead], from: usize) -> Result<(), Refused>
-    requires { from ≤ length classes.now }
-    ensures { Finds result (chains_fault classes.now from (drop from classes.now)) }
+pub fn check_chains(known: &Environment, from: usize) -> Result<(), Refused>
+    requires { from ≤ length known.now.classes }
+    ensures { Finds result (chains_fault known.now.classes from (drop from known.now.classes)) }
 {
+    let classes = known.classes();
     for c in from..classes.len() {
-        unless(!is_endless(classes, c), Code::ClassCycle, classes[c].at)?;
+        unless(!known.is_endless(c), Code::ClassCycle, classes[c].at)?;
     }
     Ok(())
 }

@@ -49,14 +49,14 @@ fn check_all(
     let known = &declared.known;
     let first = declared.first_class;
     check_names(alloc, tables, known)?;
-    check_bases(known.classes.as_slice(), first as usize)?;
-    check_chains(known.classes.as_slice(), first as usize)?;
+    check_bases(known.classes(), first as usize)?;
+    check_chains(known, first as usize)?;
     check_headings(
         alloc,
         &declared.classes,
         known,
         first,
-        known.library,
+        known.library(),
         text.items.as_slice(),
     )
 }
@@ -142,5 +142,5 @@ pub fn resolve(
     ensures names { IfOk result (λ s. AreScopes (scope.all_entries (program library.now) (program text.now)) s) }
 {
     let declared = headings(alloc, library, text, tables)?;
-    or_no_memory(scopes_of(alloc, declared.known.entries.as_slice()))
+    or_no_memory(scopes_of(alloc, declared.known.entries().as_slice()))
 }

@@ -1,11 +1,15 @@
 // Declarations, which are found by their owners and names.
-ghost use Rattle.std.specs.Prelude.{◌≡◌, [], ◌∷◌, ◌++◌, ◌<◌, length, slice_get, OnOk, OnErr, OnSome};
+ghost use Rattle.std.specs.Prelude.{◌≡◌, ℕ, IfOk, [], ◌∷◌, ◌++◌, ◌<◌, length, slice_get, OnOk, OnErr, OnSome};
 ghost use Rattle.std.specs.Option.{option_copied};
+ghost use Rattle.made_maps.specs.Nodes.{IsWithin, Stays, found};
+ghost use Rattle.sts_scope.specs.declared.entries.Owner.TheVariants as o;
+ghost use Rattle.sts_scope.specs.Values.{or_else};
 ghost use Rattle.sts_scope.specs.Lookup as look;
 
-use crate::lookup::{base_of, is_field, sort_of};
+use crate::lookup::base_of;
 use crate::numbers::Numbers;
 use crate::{ClassHead, Entry, Owner};
+use made_maps::MadeMaps;
 use std::alloc::Global;
 use std::marker::Model;
 use sts_base::NoMemory;
@@ -102,6 +106,22 @@ impl SymbolTable {
         }
     }
 
+    /// Puts the members of the class c over those of its base.
+    #[tactic(auto, using(crate::proofs::Longer::own_put))]
+    pub fn put_members(
+        &self,
+        maps: &mut MadeMaps,
+        c: u32,
+        base: Option<usize>,
+    ) -> Result<Option<usize>, NoMemory>
+        requires { IsWithin maps.old base }
+        ensures stays { Stays maps.old maps.new }
+        ensures within { IfOk result (λ made. IsWithin maps.new made) }
+        ensures made { IfOk result (λ made. (x : ℕ) → found maps.new made x ≡ or_else (look.entry_number self.now (o.Class c) x) (found maps.old base x)) }
+    {
+        self.numbers.put_members(maps, c, base)
+    }
+
     /// The member of a name of a class: its own one, else that of the nearest base that has one.
     pub fn member(&self, classes: &[ClassHead], c: u32, x: u32) -> Option<usize>
         ensures { result ≡ look.member_number self.now classes.now c x }
@@ -117,25 +137,5 @@ impl SymbolTable {
             }
         }
         None
-    }
-
-    /// The member of a name that a class has from its bases.
-    pub fn inherited(&self, classes: &[ClassHead], c: u32, x: u32) -> Option<usize>
-        ensures { result ≡ look.inherited self.now classes.now c x }
-    {
-        match base_of(classes, c as usize) {
-            None => None,
-            Some(b) => self.member(classes, b, x),
-        }
-    }
-
-    /// Whether a class has a field of a name from its bases.
-    pub fn inherits_field(&self, classes: &[ClassHead], c: u32, x: u32) -> bool
-        ensures { result ≡ look.inherits_field self.now classes.now c x }
-    {
-        match self.inherited(classes, c, x) {
-            None => false,
-            Some(d) => is_field(sort_of(self.as_slice(), d)),
-        }
     }
 }

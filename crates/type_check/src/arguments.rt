@@ -11,7 +11,7 @@ ghost use Rattle.type_check.specs.Seen.{fit_all, fit_one, listed_kind, called_ki
 
 use crate::context::Context;
 use sts_base::NoMemory;
-use sts_scope::{Base, ClassHead, Kind, Known};
+use sts_scope::{Base, Environment, Kind};
 use sts_syntax::{BoardParameter, Expr, Node};
 use type_derive::{
     Called, Scope, flat, gives_of, goes_some, is_drawing, listed, name_found, serves,
@@ -19,14 +19,14 @@ use type_derive::{
 };
 
 /// Whether values of types go where types are given, each to each; one without a type doesn't.
-pub fn all_go(classes: &[ClassHead], ss: &[Option<Kind>], ts: &[Kind]) -> bool
-    ensures { result ≡ fit_all classes.now ss.now ts.now }
+pub fn all_go(known: &Environment, ss: &[Option<Kind>], ts: &[Kind]) -> bool
+    ensures { result ≡ fit_all known.now.classes ss.now ts.now }
 {
     if ss.len() != ts.len() {
         return false;
     }
     for i in 0..ss.len() {
-        if !goes_some(classes, ss[i], ts[i]) {
+        if !goes_some(known, ss[i], ts[i]) {
             return false;
         }
     }
@@ -34,11 +34,11 @@ pub fn all_go(classes: &[ClassHead], ss: &[Option<Kind>], ts: &[Kind]) -> bool
 }
 
 /// Whether values of types all go to one; one without a type doesn't.
-fn all_go_to(classes: &[ClassHead], t: Kind, ss: &[Option<Kind>]) -> bool
-    ensures { result ≡ fit_one classes.now t ss.now }
+fn all_go_to(known: &Environment, t: Kind, ss: &[Option<Kind>]) -> bool
+    ensures { result ≡ fit_one known.now.classes t ss.now }
 {
     for i in 0..ss.len() {
-        if !goes_some(classes, ss[i], t) {
+        if !goes_some(known, ss[i], t) {
             return false;
         }
     }
@@ -47,16 +47,16 @@ fn all_go_to(classes: &[ClassHead], t: Kind, ss: &[Option<Kind>]) -> bool
 
 /// The type of a list literal, by its first item's type and those of the others.
 pub fn items_kind(
-    classes: &[ClassHead],
+    known: &Environment,
     t: Option<Kind>,
     ss: &[Option<Kind>],
 ) -> Result<Option<Kind>, NoMemory>
-    ensures { IfOk result (λ u. u ≡ listed_kind classes.now t ss.now) }
+    ensures { IfOk result (λ u. u ≡ listed_kind known.now.classes t ss.now) }
 {
     match t {
         None => Ok(None),
         Some(s) => {
-            if all_go_to(classes, s, ss) {
+            if all_go_to(known, s, ss) {
                 listed(t)
             } else {
                 Ok(None)
@@ -66,10 +66,10 @@ pub fn items_kind(
 }
 
 /// The type of a call with arguments of some types.
-pub fn call_type(known: &Known, called: &Called, ss: &[Option<Kind>]) -> Option<Kind>
+pub fn call_type(known: &Environment, called: &Called, ss: &[Option<Kind>]) -> Option<Kind>
     ensures { result ≡ called_kind known.now.classes (Some (shown known.now called.now)) ss.now }
 {
-    if all_go(known.classes.as_slice(), ss, takes_of(known, called)) {
+    if all_go(known, ss, takes_of(known, called)) {
         gives_of(known, *called)
     } else {
         None
@@ -130,12 +130,8 @@ fn fits_place(
     ensures { result ≡ fits_place context.now.tables.now context.now.known.now (place scope.now) (board_parameter to) kind (tree a.now) }
 {
     match to {
-        BoardParameter::Number => goes_some(
-            context.known.classes.as_slice(),
-            kind,
-            flat(Base::Number),
-        ),
-        BoardParameter::Text => goes_some(context.known.classes.as_slice(), kind, flat(Base::Text)),
+        BoardParameter::Number => goes_some(context.known, kind, flat(Base::Number)),
+        BoardParameter::Text => goes_some(context.known, kind, flat(Base::Text)),
         BoardParameter::Handler => is_handler(context, scope, a),
         BoardParameter::Drawing => is_drawing(context.tables, a),
     }

@@ -14,7 +14,7 @@ ghost use Rattle.type_check.specs.Naming.{naming};
 use crate::context::Context;
 use sts_base::{Code, Refused};
 use sts_scope::{
-    Base, ByNumber, Kind, Known, check_written, is_dollar, kind_of, or_no_memory, unless,
+    Base, ByNumber, Environment, Kind, check_written, is_dollar, kind_of, or_no_memory, unless,
 };
 use sts_syntax::{Param, Shape};
 use type_derive::{Role, Scope, flat, goes, is_array, is_twice, same};
@@ -80,11 +80,11 @@ pub fn shape_role(shape: &Option<Shape>) -> Role
 }
 
 /// Whether a value goes where a type is given, both of which are known.
-pub fn fits(known: &Known, s: Option<Kind>, t: Option<Kind>) -> bool
+pub fn fits(known: &Environment, s: Option<Kind>, t: Option<Kind>) -> bool
     ensures { result ≡ node.fits known.now s t }
 {
     match (s, t) {
-        (Some(s), Some(t)) => goes(known.classes.as_slice(), s, t),
+        (Some(s), Some(t)) => goes(known, s, t),
         (Some(_), None) => false,
         (None, _) => false,
     }

@@ -52,7 +52,7 @@ fn member(plan: &Plan, class: u32, name: u32) -> Option<usize>
     ensures { result ≡ look.member_number plan.now.known.now.entries plan.now.known.now.classes class name }
 {
     let known = plan.known;
-    known.entries.member(known.classes.as_slice(), class, name)
+    known.member(class, name)
 }
 
 /// The type of a class's member of a name.
@@ -127,7 +127,7 @@ pub fn class_entries(plan: &Plan) -> Result<Seq<TypedClass>, NoMemory>
     ensures { IfOk result (λ all. view.class_entries all ≡ w.class_entries plan.now 0 plan.now.known.now.classes) }
 {
     let mut all = Seq::new(plan.alloc);
-    for class in 0..plan.known.classes.len() {
+    for class in 0..plan.known.classes().len() {
         let Ok(class) = u32::try_from(class) else {
             return Err(NoMemory);
         };
@@ -151,7 +151,7 @@ fn add_global(plan: &Plan, all: &mut Seq<Ty>, d: usize, entry: &Entry) -> Result
 pub fn global_types(plan: &Plan) -> Result<Seq<Ty>, NoMemory>
     ensures { IfOk result (λ all. value.value_types all ≡ w.global_types plan.now 0 plan.now.known.now.entries) }
 {
-    let entries = plan.known.entries.as_slice();
+    let entries = plan.known.entries().as_slice();
     let mut all = Seq::new(plan.alloc);
     for (d, entry) in entries.iter().enumerate() {
         add_global(plan, &mut all, d, entry)?;

@@ -18,7 +18,7 @@ use crate::build_spots::{class_behind, part_behind, slot_number};
 use sts_base::{NoMemory, Seq};
 use sts_scope::{Base, Found, Kind, Part};
 use sts_syntax::{BoardAction, BoardCall, Callee, Expr, Node, Ty, TypedExpr, TypedNode};
-use type_derive::{board_callee, flat, maker_takes, name_found, super_method, takes_at};
+use type_derive::{board_callee, flat, name_found, super_method, takes_at};
 
 /// What a node with a list is.
 #[derive(Clone, Copy)]
@@ -123,7 +123,7 @@ pub fn takes_of<'a>(plan: &'a Plan, head: &'a Head) -> Takes<'a>
 {
     match head {
         Head::Items(kind) => Takes::Alike(*kind),
-        Head::Make(class) => Takes::Given(maker_takes(plan.known.classes.as_slice(), *class)),
+        Head::Make(class) => Takes::Given(plan.known.maker_takes(*class)),
         Head::Super(d) => Takes::Given(takes_at(plan.known, *d)),
         Head::Board(call) => Takes::Asked(call.takes()),
         Head::Named(found) => Takes::Given(routine_takes(plan, *found)),

@@ -26,7 +26,7 @@ use std::alloc::Global;
 use sts_base::{NoMemory, Seq};
 use sts_scope::{Base, Kind, This};
 use sts_syntax::{Body, Expr, Param, Spot, Stmt, Ty, TypedBody, TypedExpr, TypedNode, TypedStmt};
-use type_derive::{flat, maker_takes};
+use type_derive::flat;
 use typed_numbers::{base_of, one_more};
 
 /// Parameters of some types that are passed on, from one on.
@@ -103,7 +103,7 @@ fn build_headed(
     requires { IsPlan plan.now }
     ensures { IfOk result (λ r. IsBuilt builder.old builder.new (w.headed_made plan.now (s.site site.old) base (w.initials_of plan.now parts.now) (trees args.now) (statements rest.now)) (typed_statements r)) }
 {
-    let takes = maker_takes(plan.known.classes.as_slice(), base);
+    let takes = plan.known.maker_takes(base);
     let args = build_given(plan, site, builder, takes, args)?;
     let mut made = Seq::new(plan.alloc);
     add_statement(&mut made, super_called(plan, base, args))?;
@@ -279,7 +279,7 @@ fn unwritten_constructor(plan: &Plan, parts: &ClassParts) -> Result<TypedBody, N
     ensures { IfOk result (λ r. typed_routine r ≡ w.constructor_unwritten plan.now parts.now.class (w.initials_of plan.now parts.now)) }
 {
     let class = parts.class;
-    let takes = maker_takes(plan.known.classes.as_slice(), class);
+    let takes = plan.known.maker_takes(class);
     let mut params = types_of_this(plan.alloc, class)?;
     add_kinds(plan.alloc, &mut params, takes)?;
     let mut stmts = Seq::new(plan.alloc);

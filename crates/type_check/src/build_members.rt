@@ -187,8 +187,7 @@ pub fn build_choice(
         Node::Choice(_, _, _) => {
             let three = build_three(plan, site, builder, e)?;
             let (test, parts) = (three.test, three.parts);
-            let classes = plan.known.classes.as_slice();
-            let kind = chosen(classes, test.kind, parts.first.kind, parts.second.kind);
+            let kind = chosen(plan.known, test.kind, parts.first.kind, parts.second.kind);
             let ty = noted_type(plan.alloc, kind)?;
             Ok(noted(
                 ty,

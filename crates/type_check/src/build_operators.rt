@@ -100,12 +100,7 @@ pub fn build_operation(
     match &e.node {
         Node::Binary(op, _, _) => {
             let parts = build_two(plan, site, builder, e)?;
-            let kind = operated(
-                known.classes.as_slice(),
-                *op,
-                parts.first.kind,
-                parts.second.kind,
-            );
+            let kind = operated(known, *op, parts.first.kind, parts.second.kind);
             let ty = noted_type(plan.alloc, kind)?;
             Ok(noted(
                 ty,

@@ -3,7 +3,7 @@ use crate::gathered::Gathered;
 use crate::spots::Spots;
 use std::alloc::Global;
 use sts_base::{Seq, Tables};
-use sts_scope::{ByNumber, Kind, Known};
+use sts_scope::{ByNumber, Environment, Kind};
 use sts_syntax::{Ty, TypedBody, TypedExpr};
 use type_derive::Scope;
 use typed_numbers::{Names, Numbers};
@@ -17,7 +17,7 @@ pub struct Plan<'a> {
     /// the numbers of the classes, by their names
     pub classes: &'a ByNumber,
     /// all declarations with their types
-    pub known: &'a Known,
+    pub known: &'a Environment,
     /// the numbers of functions
     pub numbers: &'a Numbers,
     /// the names of fields and slots, and the numbers of globals

@@ -214,7 +214,7 @@ fn build_whole(
         stmts: Seq::new(plan.alloc),
         builder,
         class: first_class,
-        declaration: plan.known.library,
+        declaration: plan.known.library(),
     };
     add_items(plan, &mut whole, text)?;
     Ok(whole)

@@ -20,7 +20,7 @@ pub fn field_number(plan: &Plan, class: u32, name: u32) -> Result<u32, NoMemory>
     requires { IsPlan plan.now }
     ensures { IfOk result (λ n. n ≡ number.place_among (number.field_names plan.now.known.now class) name) }
 {
-    if (class as usize) < plan.known.classes.len() {
+    if (class as usize) < plan.known.classes().len() {
         place_among(names_at(&plan.names.fields, class), name)
     } else {
         Err(NoMemory)
@@ -33,7 +33,7 @@ pub fn slot_number(plan: &Plan, class: u32, name: u32) -> Result<u32, NoMemory>
     requires { IsPlan plan.now }
     ensures { IfOk result (λ n. n ≡ number.place_among (number.slot_names plan.now.known.now class) name) }
 {
-    if (class as usize) < plan.known.classes.len() {
+    if (class as usize) < plan.known.classes().len() {
         place_among(names_at(&plan.names.slots, class), name)
     } else {
         Err(NoMemory)

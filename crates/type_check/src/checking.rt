@@ -13,7 +13,7 @@ use crate::build_program::typed_of;
 use crate::finding::find_failure;
 use std::alloc::Global;
 use sts_base::{Code, Refused, Tables};
-use sts_scope::{Known, headings, or_no_memory, unless};
+use sts_scope::{Environment, headings, or_no_memory, unless};
 use sts_syntax::{Typed, Unit};
 use type_derive::solve;
 use typed_limits::program_fits;
@@ -28,7 +28,7 @@ fn check_limits(alloc: Global, typed: &Typed, tables: &Tables) -> Result<(), Ref
 }
 
 /// The counted limits that declarations alone tell, before anything is built of them.
-fn check_counts(alloc: Global, known: &Known) -> Result<(), Refused>
+fn check_counts(alloc: Global, known: &Environment) -> Result<(), Refused>
     ensures { Finds result (unless (counts_fit known.now) OverLimit 0) }
 {
     let fits = or_no_memory(counts_fit(alloc, known))?;

@@ -1,7 +1,7 @@
 // What is known where the nodes of a text are gone through.
 use std::alloc::Global;
 use sts_base::Tables;
-use sts_scope::{ByNumber, Known};
+use sts_scope::{ByNumber, Environment};
 
 /// What is known of a library and a text, wherever a node stands.
 #[derive(Clone, Copy)]
@@ -12,5 +12,5 @@ pub struct Context<'a> {
     /// the numbers of the classes, by their names
     pub classes: &'a ByNumber,
     /// all declarations, with their types where they are known
-    pub known: &'a Known,
+    pub known: &'a Environment,
 }

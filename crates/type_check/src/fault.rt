@@ -100,7 +100,7 @@ fn operation(
             let s = expression(context, room, scope, Role::Free, a)?;
             let u = expression(context, room, scope, Role::Free, b)?;
             own(
-                operated(context.known.classes.as_slice(), *op, s.kind, u.kind),
+                operated(context.known, *op, s.kind, u.kind),
                 Code::Mismatch,
                 at,
             )
@@ -143,7 +143,7 @@ fn choice(
             let s = expression(context, room, scope, Role::Free, a)?;
             let u = expression(context, room, scope, Role::Free, b)?;
             own(
-                chosen(context.known.classes.as_slice(), v.kind, s.kind, u.kind),
+                chosen(context.known, v.kind, s.kind, u.kind),
                 Code::Mismatch,
                 at,
             )
@@ -171,7 +171,7 @@ fn setting(
             let s = expression(context, room, scope, Role::Given, a)?;
             let can = settable(context, scope, x, u.part);
             own(
-                set_kind(context.known.classes.as_slice(), *op, can, u.kind, s.kind),
+                set_kind(context.known, *op, can, u.kind, s.kind),
                 Code::Mismatch,
                 at,
             )

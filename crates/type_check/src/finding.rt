@@ -27,7 +27,7 @@ pub fn find_failure(
         classes: &declared.classes,
         known: &declared.known,
     };
-    let first = declared.known.library;
+    let first = declared.known.library();
     check_all_overrides(&context, declared.first_class, first, text.items.as_slice())?;
     check_nodes(&context, declared.first_class, first, text.items.as_slice())
 }

@@ -21,7 +21,7 @@ use crate::codes::{why_call, why_make, why_name, why_part, why_super, why_this};
 use crate::context::Context;
 use crate::seen::{Seen, always, own, plain};
 use sts_base::{Code, Refused};
-use sts_scope::{Base, ClassHead, Found, Kind, Part, or_no_memory, unless};
+use sts_scope::{Base, Environment, Found, Kind, Part, or_no_memory, unless};
 use sts_syntax::{BoardCall, Expr, Node};
 use type_derive::{
     Called, Role, Scope, assign, board_kind, constant, counted, gives_of, made, name_fixed,
@@ -195,16 +195,16 @@ pub fn settable(context: &Context, scope: &Scope, x: &Expr, part: Option<Part>) 
 
 /// The type of an assignment to a target, where it may be set.
 pub fn set_kind(
-    classes: &[ClassHead],
+    known: &Environment,
     op: Option<u8>,
     can: bool,
     t: Option<Kind>,
     s: Option<Kind>,
 ) -> Option<Kind>
-    ensures { result ≡ bind t (λ u. bind s (λ v. if can then rule.assign classes.now op u v else None)) }
+    ensures { result ≡ bind t (λ u. bind s (λ v. if can then rule.assign known.now.classes op u v else None)) }
 {
     match (t, s) {
-        (Some(t), Some(s)) => { if can { assign(classes, op, t, s) } else { None } }
+        (Some(t), Some(s)) => { if can { assign(known, op, t, s) } else { None } }
         (Some(_), None) => None,
         (None, _) => None,
     }
@@ -328,6 +328,6 @@ pub fn items_seen(
     ensures found { Finds result (failure.own (listed_kind context.now.known.now.classes t kinds.now) code.Mismatch at) }
     ensures seen { IfOk result (λ s. s ≡ plain (listed_kind context.now.known.now.classes t kinds.now)) }
 {
-    let kind = or_no_memory(items_kind(context.known.classes.as_slice(), t, kinds))?;
+    let kind = or_no_memory(items_kind(context.known, t, kinds))?;
     own(kind, Code::Mismatch, at)
 }

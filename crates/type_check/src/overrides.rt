@@ -14,7 +14,7 @@ ghost use Rattle.type_check.specs.Texts.{override_fault};
 
 use crate::context::Context;
 use sts_base::{Code, Refused};
-use sts_scope::{Kind, Known, unless};
+use sts_scope::{Environment, Kind, unless};
 use sts_syntax::{Body, Form, Item, Member, Stmt};
 use type_derive::{kind_at, same, takes_at};
 
@@ -45,7 +45,7 @@ fn same_result(s: Option<Kind>, t: Option<Kind>) -> bool
 }
 
 /// Whether a method agrees with the one of a base that it stands in for.
-fn agrees(known: &Known, d: usize, base: Option<usize>) -> bool
+fn agrees(known: &Environment, d: usize, base: Option<usize>) -> bool
     ensures { result ≡ pass.agrees known.now d base }
 {
     match base {
@@ -59,16 +59,16 @@ fn agrees(known: &Known, d: usize, base: Option<usize>) -> bool
 
 /// A method against the nearest one of its name in its bases.
 #[tactic(auto, using(crate::proofs::Texts::routine_place))]
-fn check_method(known: &Known, c: u32, d: usize, x: u32, body: &Body) -> Result<(), Refused>
+fn check_method(known: &Environment, c: u32, d: usize, x: u32, body: &Body) -> Result<(), Refused>
     ensures { Finds result (failure.unless (pass.agrees known.now d (look.inherited known.now.entries known.now.classes c x)) code.Mismatch (heading.routine_at (routine body.now))) }
 {
-    let base = known.entries.inherited(known.classes.as_slice(), c, x);
+    let base = known.inherited(c, x);
     let at = body.at;
     unless(agrees(known, d, base), Code::Mismatch, at)
 }
 
 /// A member against its class's bases.
-fn check_override(known: &Known, c: u32, d: usize, member: &Member) -> Result<(), Refused>
+fn check_override(known: &Environment, c: u32, d: usize, member: &Member) -> Result<(), Refused>
     ensures { Finds result (override_fault known.now c d (class_member member.now)) }
 {
     match member {

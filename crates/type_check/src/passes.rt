@@ -23,7 +23,7 @@ use crate::overrides::{behind_member, class_behind, further, globals_in};
 use sts_base::{Code, Refused};
 use sts_scope::{Base, ClassHead, Kind, This, check_written, or_no_memory, unless};
 use sts_syntax::{Binding, Body, Expr, Form, Item, Member, Stmt};
-use type_derive::{Scope, flat, kind_at, maker_takes};
+use type_derive::{Scope, flat, kind_at};
 
 /// How many nodes may stand in one another. A text's tree has at most 256; there is no stack for many more.
 const ROOM: usize = 1000;
@@ -116,9 +116,9 @@ fn check_super(
     ensures { Finds result (super_fault context.now.tables.now (naming context.now) context.now.known.now (place scope.now) at b (trees args.now)) }
 {
     let kinds = kinds_of(context, ROOM, scope, None, 0, args)?;
-    let classes = context.known.classes.as_slice();
+    let known = context.known;
     unless(
-        all_go(classes, kinds.as_slice(), maker_takes(classes, b)),
+        all_go(known, kinds.as_slice(), known.maker_takes(b)),
         Code::Mismatch,
         at,
     )
@@ -200,7 +200,7 @@ fn base_of(classes: &[ClassHead], c: u32) -> Option<u32>
 fn check_constructor(context: &Context, c: u32, body: &Body) -> Result<(), Refused>
     ensures { Finds result (pass.constructor_fault context.now.tables.now (naming context.now) context.now.known.now (this.Object c) (look.base_of context.now.known.now.classes c) (routine body.now)) }
 {
-    match base_of(context.known.classes.as_slice(), c) {
+    match base_of(context.known.classes(), c) {
         None => check_body(context, This::Object(c), Some(flat(Base::Nothing)), body),
         Some(b) => check_derived(context, This::Object(c), b, body),
     }

@@ -1,6 +1,5 @@
--- What is called: the nearest written constructor, methods of bases, and calls of the board.
-use Rattle.std.proofs.Common.{◌≡◌, ℕ, suc, Some, None, List, [], sym, ap, ◌∙◌}
-use Rattle.std.specs.Prelude.{slice_get}
+-- What is called: methods of bases, and calls of the board.
+use Rattle.std.proofs.Common.{◌≡◌, ℕ, Some, sym, ap}
 use Rattle.sts_base.specs.declared.tables.Tables.{Tables}
 use Rattle.std.specs.declared.alloc.Global.{Global}
 use Rattle.std.specs.declared.boxed.Box.{Box}
@@ -9,12 +8,10 @@ use Rattle.sts_syntax.specs.declared.trees.Node.TheVariants as n
 use Rattle.sts_syntax.specs.BoardTable.{call_named}
 use Rattle.sts_syntax.specs.Trees.{Tree, Name, Member}
 use Rattle.sts_syntax.specs.Views.{tree, node_tree}
-use Rattle.sts_scope.specs.declared.entries.ClassHead.{ClassHead}
 use Rattle.sts_scope.specs.declared.known.Known.{Known}
 use Rattle.sts_scope.specs.declared.known.This.TheVariants as this
 use Rattle.sts_scope.specs.Places.{Place}
 use Rattle.sts_scope.specs.Lookup.{inherited}
-use Rattle.sts_scope.specs.Rules.{maker_from}
 use Rattle.type_derive.specs.Typing.{◌>>=◌, spelling, space, board_callee, method_of, super_method}
 
 pub name_is : (e : Expr) (x : ℕ) → e.node ≡ n.Name x → tree e ≡ Name e.at x
@@ -22,14 +19,6 @@ name_is e x is = ap (node_tree e.at) is
 
 pub member_is : (e : Expr) (a : Box Expr Global) (m : ℕ) → e.node ≡ n.Member a m → tree e ≡ Member e.at (tree a.value) m
 member_is e a m is = ap (node_tree e.at) is
-
-pub maker_step : (classes : List ClassHead) (m n c b : ℕ) (class : ClassHead) → m ≡ suc n → slice_get classes c ≡ Some class → class.takes ≡ None → class.base ≡ Some b →
-    maker_from classes n b ≡ maker_from classes m c
-maker_step classes m n c b class e h takes base =
-    sym (ap (λ j. maker_from classes j c) e
-    ∙ ap (λ o. elim o [ None ↦ [] | Some class ↦ elim class.takes [ Some takes ↦ takes | None ↦ elim class.base [ None ↦ [] | Some b ↦ maker_from classes n b ] ] ]) h
-    ∙ ap (λ o. elim o [ Some takes ↦ takes | None ↦ elim class.base [ None ↦ [] | Some b ↦ maker_from classes n b ] ]) takes
-    ∙ ap (λ o. elim o [ None ↦ [] | Some b ↦ maker_from classes n b ]) base)
 
 pub method_found : (t : Tables) (k : Known) (c m d : ℕ) → inherited k.entries k.classes c m ≡ Some d → super_method t k (this.Object c) m ≡ method_of t k (Some d)
 method_found t k c m d h = ap (method_of t k) h

@@ -13,7 +13,7 @@ use crate::roles::Role;
 use crate::scopes::{Scope, name_found, serves};
 use crate::wanted::Wanted;
 use sts_base::{NoMemory, Tables};
-use sts_scope::{Base, ClassHead, Kind, Known};
+use sts_scope::{Base, Environment, Kind};
 use sts_syntax::{BoardParameter, Body, Expr, Form, Node, Stmt, Ty};
 
 /// Whether a place gives a type.
@@ -53,7 +53,12 @@ pub struct BoardTakes {
 }
 
 /// What the call of the board takes and gives that is called, if it is one.
-pub fn board_takes(tables: &Tables, known: &Known, scope: &Scope, f: &Expr) -> Option<BoardTakes>
+pub fn board_takes(
+    tables: &Tables,
+    known: &Environment,
+    scope: &Scope,
+    f: &Expr,
+) -> Option<BoardTakes>
     ensures { option_map row_shown result ≡ option_map row_called (typing.board_callee tables.now known.now (place scope.now) (tree f.now)) }
 {
     match board_callee(tables, known, scope, f) {
@@ -118,22 +123,22 @@ pub fn serves_itself(body: &Body) -> bool
 }
 
 /// Whether a value goes where a type is given; without a type itself it doesn't.
-pub fn goes_some(classes: &[ClassHead], s: Option<Kind>, t: Kind) -> bool
-    ensures { result ≡ goes_some classes.now s t }
+pub fn goes_some(known: &Environment, s: Option<Kind>, t: Kind) -> bool
+    ensures { result ≡ goes_some known.now.classes s t }
 {
     match s {
         None => false,
-        Some(s) => goes(classes, s, t),
+        Some(s) => goes(known, s, t),
     }
 }
 
 /// Whether it goes where the i-th of some types is given.
-pub fn goes_at(classes: &[ClassHead], s: Option<Kind>, ts: &[Kind], i: usize) -> bool
-    ensures { result ≡ goes_first classes.now s (drop i ts.now) }
+pub fn goes_at(known: &Environment, s: Option<Kind>, ts: &[Kind], i: usize) -> bool
+    ensures { result ≡ goes_first known.now.classes s (drop i ts.now) }
 {
     match ts.get(i) {
         None => false,
-        Some(t) => goes_some(classes, s, *t),
+        Some(t) => goes_some(known, s, *t),
     }
 }
 
@@ -141,7 +146,7 @@ pub fn goes_at(classes: &[ClassHead], s: Option<Kind>, ts: &[Kind], i: usize) ->
 pub fn is_handler(
     wanted: &mut Wanted,
     tables: &Tables,
-    known: &Known,
+    known: &Environment,
     scope: &Scope,
     e: &Expr,
 ) -> Result<bool, NoMemory>

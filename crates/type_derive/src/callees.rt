@@ -12,7 +12,7 @@ ghost use Rattle.type_derive.specs.Shown.{shown, all_shown};
 use crate::kinds::flat;
 use crate::scopes::{Scope, kind_at, name_found};
 use sts_base::Tables;
-use sts_scope::{Base, ClassHead, Found, Kind, Known, Part, Sort, This, sort_of};
+use sts_scope::{Base, Environment, Found, Kind, Part, Sort, This, sort_of};
 use sts_syntax::{BoardCall, Expr, Node, board_call, board_constant};
 
 /// What is called, but for calls of the board.
@@ -29,49 +29,29 @@ pub enum Called {
 }
 
 /// What a function or method takes.
-pub fn takes_at(known: &Known, d: usize) -> &[Kind]
+pub fn takes_at(known: &Environment, d: usize) -> &[Kind]
     ensures { result.now ≡ rule.takes_at known.now.entries d }
 {
-    match known.entries.get(d) {
+    match known.entries().get(d) {
         None => &[],
         Some(e) => e.takes.as_slice(),
     }
 }
 
-/// What the nearest written constructor of a class takes.
-pub fn maker_takes(classes: &[ClassHead], c: u32) -> &[Kind]
-    ensures { result.now ≡ rule.maker_takes_of classes.now c }
-{
-    let mut at = c;
-    for _ in 0..classes.len() {
-        match classes.get(at as usize) {
-            None => return &[],
-            Some(class) => match &class.takes {
-                Some(takes) => return takes.as_slice(),
-                None => match class.base {
-                    None => return &[],
-                    Some(b) => at = b,
-                },
-            },
-        }
-    }
-    &[]
-}
-
 /// What is taken of what is called.
-pub fn takes_of<'a>(known: &'a Known, called: &'a Called) -> &'a [Kind]
+pub fn takes_of<'a>(known: &'a Environment, called: &'a Called) -> &'a [Kind]
     ensures { result.now ≡ (shown known.now called.now).takes }
 {
     match called {
         Called::Routine(d) => takes_at(known, *d),
         Called::Push(t) => std::slice::from_ref(t),
         Called::Pop(_) => &[],
-        Called::Maker(c) => maker_takes(known.classes.as_slice(), *c),
+        Called::Maker(c) => known.maker_takes(*c),
     }
 }
 
 /// What it gives.
-pub fn gives_of(known: &Known, called: Called) -> Option<Kind>
+pub fn gives_of(known: &Environment, called: Called) -> Option<Kind>
     ensures { result ≡ (shown known.now called).gives }
 {
     match called {
@@ -134,10 +114,10 @@ pub fn routine(d: Option<usize>) -> Option<Called>
     }
 }
 
-fn method_of(known: &Known, d: usize) -> Option<usize>
+fn method_of(known: &Environment, d: usize) -> Option<usize>
     ensures { (tables : _) → result ≡ typing.method_of tables known.now (Some d) }
 {
-    match sort_of(known.entries.as_slice(), d) {
+    match sort_of(known.entries().as_slice(), d) {
         Some(Sort::Method) => Some(d),
         Some(Sort::Field) => None,
         Some(Sort::Function) => None,
@@ -148,12 +128,12 @@ fn method_of(known: &Known, d: usize) -> Option<usize>
 }
 
 /// The method of a base that `super.m` is.
-pub fn super_method(known: &Known, this: This, m: u32) -> Option<usize>
+pub fn super_method(known: &Environment, this: This, m: u32) -> Option<usize>
     ensures { (tables : _) → result ≡ typing.super_method tables known.now this m }
 {
     match this {
         This::Object(c) => {
-            match known.entries.inherited(known.classes.as_slice(), c, m) {
+            match known.inherited(c, m) {
                 None => None,
                 Some(d) => method_of(known, d),
             }
@@ -174,7 +154,7 @@ pub fn spelling(tables: &Tables, x: u32) -> &[u8]
 }
 
 /// The name in front of a dot that may name a part of the board's interface.
-fn space(tables: &Tables, known: &Known, scope: &Scope, e: &Expr) -> Option<u32>
+fn space(tables: &Tables, known: &Environment, scope: &Scope, e: &Expr) -> Option<u32>
     ensures { option_map (typing.spelling tables.now) result ≡ typing.space tables.now known.now (place scope.now) (tree e.now) }
 {
     match &e.node {
@@ -191,7 +171,13 @@ fn space(tables: &Tables, known: &Known, scope: &Scope, e: &Expr) -> Option<u32>
 }
 
 /// The value of a constant of the board.
-pub fn constant(tables: &Tables, known: &Known, scope: &Scope, a: &Expr, m: u32) -> Option<i32>
+pub fn constant(
+    tables: &Tables,
+    known: &Environment,
+    scope: &Scope,
+    a: &Expr,
+    m: u32,
+) -> Option<i32>
     ensures { result ≡ typing.constant_of tables.now known.now (place scope.now) (tree a.now) m }
 {
     match space(tables, known, scope, a) {
@@ -213,7 +199,12 @@ fn own_call(tables: &Tables, library: bool, name: Option<u32>) -> Option<BoardCa
 }
 
 /// The call of the board that is called.
-pub fn board_callee(tables: &Tables, known: &Known, scope: &Scope, f: &Expr) -> Option<BoardCall>
+pub fn board_callee(
+    tables: &Tables,
+    known: &Environment,
+    scope: &Scope,
+    f: &Expr,
+) -> Option<BoardCall>
     ensures { result ≡ typing.board_callee tables.now known.now (place scope.now) (tree f.now) }
 {
     match &f.node {

@@ -25,11 +25,11 @@ use crate::scopes::{
 };
 use crate::wanted::Wanted;
 use sts_base::{NoMemory, Seq, Tables};
-use sts_scope::{Base, Kind, Known, Part};
+use sts_scope::{Base, Environment, Kind, Part};
 use sts_syntax::{BoardParameter, Expr, Node};
 
 /// What stands behind the dot of what has a type.
-pub fn part_behind(tables: &Tables, known: &Known, t: Option<Kind>, m: u32) -> Option<Part>
+pub fn part_behind(tables: &Tables, known: &Environment, t: Option<Kind>, m: u32) -> Option<Part>
     ensures { result ≡ bind t (λ t. Some (rule.part_of tables.now.names known.now t m)) }
 {
     match t {
@@ -39,7 +39,7 @@ pub fn part_behind(tables: &Tables, known: &Known, t: Option<Kind>, m: u32) -> O
 }
 
 /// The type of a member that is read.
-fn part_type(known: &Known, part: Option<Part>) -> Option<Kind>
+fn part_type(known: &Environment, part: Option<Part>) -> Option<Kind>
     ensures { result ≡ bind part (λ part. rule.part_kind known.now part) }
 {
     match part {
@@ -49,7 +49,7 @@ fn part_type(known: &Known, part: Option<Part>) -> Option<Kind>
 }
 
 /// The type of a member that may be set.
-fn part_target(known: &Known, part: Option<Part>) -> Option<Kind>
+fn part_target(known: &Environment, part: Option<Part>) -> Option<Kind>
     ensures { result ≡ bind part (λ part. bind (rule.part_kind known.now part) (λ u. if rule.part_settable part then Some u else None)) }
 {
     match part {
@@ -81,7 +81,7 @@ fn both_hold(a: bool, b: bool) -> bool
 }
 
 /// What is given by what is called with arguments that fit, or don't.
-fn given_where(known: &Known, called: Called, fits: bool) -> Option<Kind>
+fn given_where(known: &Environment, called: Called, fits: bool) -> Option<Kind>
     ensures { result ≡ if fits then (shown known.now called).gives else None }
 {
     if fits { gives_of(known, called) } else { None }
@@ -116,7 +116,7 @@ fn parameter_at(takes: &[BoardParameter], i: usize) -> Option<BoardParameter>
 pub fn type_of(
     wanted: &mut Wanted,
     tables: &Tables,
-    known: &Known,
+    known: &Environment,
     scope: &Scope,
     role: Role,
     e: &Expr,
@@ -141,7 +141,7 @@ pub fn type_of(
         Node::Binary(op, a, b) => {
             let s = type_of(wanted, tables, known, scope, Role::Free, a)?;
             let u = type_of(wanted, tables, known, scope, Role::Free, b)?;
-            Ok(operated(known.classes.as_slice(), *op, s, u))
+            Ok(operated(known, *op, s, u))
         }
         Node::Both(a, b) => {
             let s = type_of(wanted, tables, known, scope, Role::Free, a)?;
@@ -157,12 +157,12 @@ pub fn type_of(
             let v = type_of(wanted, tables, known, scope, Role::Free, q)?;
             let s = type_of(wanted, tables, known, scope, Role::Free, a)?;
             let u = type_of(wanted, tables, known, scope, Role::Free, b)?;
-            Ok(chosen(known.classes.as_slice(), v, s, u))
+            Ok(chosen(known, v, s, u))
         }
         Node::Set(op, x, a) => {
             let u = target_type(wanted, tables, known, scope, x)?;
             let s = type_of(wanted, tables, known, scope, Role::Given, a)?;
-            Ok(assigned(known.classes.as_slice(), *op, u, s))
+            Ok(assigned(known, *op, u, s))
         }
         Node::Bump {
             target,
@@ -216,7 +216,7 @@ pub fn type_of(
 fn target_type(
     wanted: &mut Wanted,
     tables: &Tables,
-    known: &Known,
+    known: &Environment,
     scope: &Scope,
     x: &Expr,
 ) -> Result<Option<Kind>, NoMemory>
@@ -254,7 +254,7 @@ fn target_type(
 fn list_type(
     wanted: &mut Wanted,
     tables: &Tables,
-    known: &Known,
+    known: &Environment,
     scope: &Scope,
     role: Role,
     at: u32,
@@ -276,7 +276,7 @@ fn list_type(
                 let mut fits = true;
                 for i in 1..all.len() {
                     let u = type_of(wanted, tables, known, scope, Role::Given, &all[i])?;
-                    let goes = goes_some(known.classes.as_slice(), u, s);
+                    let goes = goes_some(known, u, s);
                     fits = both_hold(fits, goes);
                 }
                 listed_where(s, fits)
@@ -290,7 +290,7 @@ fn list_type(
 fn callee(
     wanted: &mut Wanted,
     tables: &Tables,
-    known: &Known,
+    known: &Environment,
     scope: &Scope,
     f: &Expr,
 ) -> Result<Option<Called>, NoMemory>
@@ -317,7 +317,7 @@ fn callee(
 fn called_type(
     wanted: &mut Wanted,
     tables: &Tables,
-    known: &Known,
+    known: &Environment,
     scope: &Scope,
     called: Option<Called>,
     args: &[Expr],
@@ -331,7 +331,7 @@ fn called_type(
             let mut fits = true;
             for i in 0..args.len() {
                 let u = type_of(wanted, tables, known, scope, Role::Given, &args[i])?;
-                let goes = goes_at(known.classes.as_slice(), u, takes, i);
+                let goes = goes_at(known, u, takes, i);
                 fits = both_hold(fits, goes);
             }
             let all = both_hold(fits, takes.len() <= args.len());
@@ -345,7 +345,7 @@ fn called_type(
 fn fits_board(
     wanted: &mut Wanted,
     tables: &Tables,
-    known: &Known,
+    known: &Environment,
     scope: &Scope,
     to: Option<BoardParameter>,
     a: &Expr,
@@ -360,7 +360,7 @@ fn fits_board(
         Some(BoardParameter::Text) => flat(Base::Text),
     };
     let s = type_of(wanted, tables, known, scope, Role::Given, a)?;
-    Ok(goes_some(known.classes.as_slice(), s, kind))
+    Ok(goes_some(known, s, kind))
 }
 
 /// The type of a call of the board, if it is one.
@@ -368,7 +368,7 @@ fn fits_board(
 fn board_type(
     wanted: &mut Wanted,
     tables: &Tables,
-    known: &Known,
+    known: &Environment,
     scope: &Scope,
     row: Option<BoardTakes>,
     args: &Seq<Expr>,

@@ -2,10 +2,9 @@
 ghost use Rattle.std.specs.Prelude.{◌≡◌, ◌<◌, ◌+◌, length, IfOk, IfErr};
 ghost use Rattle.sts_scope.specs.Kinds as kind;
 ghost use Rattle.sts_scope.specs.Rules as rule;
-ghost use Rattle.sts_scope.specs.Lookup as look;
 
 use sts_base::Refused;
-use sts_scope::{Base, ClassHead, Kind};
+use sts_scope::{Base, Environment, Kind};
 
 /// A type without `[]`.
 pub fn flat(base: Base) -> Kind
@@ -97,55 +96,27 @@ pub fn array(t: Kind) -> Result<Kind, Refused>
     }
 }
 
-/// The base of a class.
-fn base_of(classes: &[ClassHead], c: u32) -> Option<u32>
-    ensures { result ≡ look.base_of classes.now c }
-{
-    match classes.get(c as usize) {
-        None => None,
-        Some(class) => class.base,
-    }
-}
-
-/// Whether a class is another, or one of its bases is, up to so many.
-#[tactic(auto, unfolding(sts_scope::specs::Rules::reaches))]
-fn reaches(classes: &[ClassHead], m: u32, n: u32) -> bool
-    ensures { result ≡ rule.reaches classes.now (length classes.now) m n }
-{
-    let mut at = m;
-    for _ in 0..classes.len() {
-        if at == n {
-            return true;
-        }
-        match base_of(classes, at) {
-            None => return false,
-            Some(b) => at = b,
-        }
-    }
-    at == n
-}
-
 /// Whether two types are classes of which the second is the first or a base of it.
 #[tactic(auto, unfolding(sts_scope::specs::Rules::below))]
-pub fn below(classes: &[ClassHead], s: Kind, t: Kind) -> bool
-    ensures { result ≡ rule.below classes.now s t }
+pub fn below(known: &Environment, s: Kind, t: Kind) -> bool
+    ensures { result ≡ rule.below known.now.classes s t }
 {
     match class_of(s) {
         None => false,
         Some(m) => match class_of(t) {
             None => false,
-            Some(n) => reaches(classes, m, n),
+            Some(n) => known.reaches(m, n),
         },
     }
 }
 
 /// Whether a value of the first type goes where the second is given.
 #[tactic(auto, unfolding(sts_scope::specs::Rules::goes))]
-pub fn goes(classes: &[ClassHead], s: Kind, t: Kind) -> bool
-    ensures { result ≡ rule.goes classes.now s t }
+pub fn goes(known: &Environment, s: Kind, t: Kind) -> bool
+    ensures { result ≡ rule.goes known.now.classes s t }
 {
     same(s, t)
-        || below(classes, s, t)
+        || below(known, s, t)
         || (same(s, flat(Base::Null)) && takes_null(t))
         || (same(s, flat(Base::Empty)) && is_array(t))
 }

@@ -23,8 +23,8 @@ pub use boards::{
     is_handler, serves_itself,
 };
 pub use callees::{
-    Called, board_callee, constant, gives_of, made, maker_takes, named_callee, part_callee,
-    routine, spelling, super_method, takes_at, takes_of,
+    Called, board_callee, constant, gives_of, made, named_callee, part_callee, routine, spelling,
+    super_method, takes_at, takes_of,
 };
 pub use drawings::is_drawing;
 pub use evaluation::{part_behind, type_of};

@@ -7,7 +7,7 @@ ghost use Rattle.type_derive.specs.Typing.{◌>>=◌ as bind};
 use crate::kinds::array;
 use crate::rules::{assign, choose, counted, element, joined, operate, prefix};
 use sts_base::NoMemory;
-use sts_scope::{ClassHead, Kind};
+use sts_scope::{Environment, Kind};
 
 pub fn prefixed(op: u8, s: Option<Kind>) -> Option<Kind>
     ensures { result ≡ bind s (λ s. rule.prefix op s) }
@@ -18,11 +18,11 @@ pub fn prefixed(op: u8, s: Option<Kind>) -> Option<Kind>
     }
 }
 
-pub fn operated(classes: &[ClassHead], op: u8, s: Option<Kind>, t: Option<Kind>) -> Option<Kind>
-    ensures { result ≡ bind s (λ s. bind t (λ t. rule.operate classes.now op s t)) }
+pub fn operated(known: &Environment, op: u8, s: Option<Kind>, t: Option<Kind>) -> Option<Kind>
+    ensures { result ≡ bind s (λ s. bind t (λ t. rule.operate known.now.classes op s t)) }
 {
     match (s, t) {
-        (Some(s), Some(t)) => operate(classes, op, s, t),
+        (Some(s), Some(t)) => operate(known, op, s, t),
         (Some(_), None) => None,
         (None, _) => None,
     }
@@ -39,15 +39,15 @@ pub fn both(s: Option<Kind>, t: Option<Kind>) -> Option<Kind>
 }
 
 pub fn chosen(
-    classes: &[ClassHead],
+    known: &Environment,
     q: Option<Kind>,
     s: Option<Kind>,
     t: Option<Kind>,
 ) -> Option<Kind>
-    ensures { result ≡ bind q (λ q. bind s (λ s. bind t (λ t. rule.choose classes.now q s t))) }
+    ensures { result ≡ bind q (λ q. bind s (λ s. bind t (λ t. rule.choose known.now.classes q s t))) }
 {
     match (q, s, t) {
-        (Some(q), Some(s), Some(t)) => choose(classes, q, s, t),
+        (Some(q), Some(s), Some(t)) => choose(known, q, s, t),
         (Some(_), Some(_), None) => None,
         (Some(_), None, _) => None,
         (None, _, _) => None,
@@ -56,15 +56,15 @@ pub fn chosen(
 
 /// An assignment to a target of a type, where it may be set.
 pub fn assigned(
-    classes: &[ClassHead],
+    known: &Environment,
     op: Option<u8>,
     t: Option<Kind>,
     s: Option<Kind>,
 ) -> Option<Kind>
-    ensures { result ≡ bind t (λ t. bind s (λ s. rule.assign classes.now op t s)) }
+    ensures { result ≡ bind t (λ t. bind s (λ s. rule.assign known.now.classes op t s)) }
 {
     match (t, s) {
-        (Some(t), Some(s)) => assign(classes, op, t, s),
+        (Some(t), Some(s)) => assign(known, op, t, s),
         (Some(_), None) => None,
         (None, _) => None,
     }

@@ -15,7 +15,7 @@ use crate::roles::Role;
 use crate::scopes::Scope;
 use crate::wanted::Wanted;
 use sts_base::{NoMemory, Tables};
-use sts_scope::{ByNumber, Kind, Known, Local, kind_of};
+use sts_scope::{ByNumber, Environment, Kind, Local, kind_of};
 use sts_syntax::{Binding, Expr, Form, Node, Shape, Stmt};
 
 /// Whether an initialiser gives no type to what it stands at: `null` or `[]`.
@@ -34,7 +34,7 @@ pub fn bound(
     wanted: &mut Wanted,
     classes: &ByNumber,
     tables: &Tables,
-    known: &Known,
+    known: &Environment,
     scope: &Scope,
     shape: &Option<Shape>,
     first: &Option<Expr>,
@@ -72,7 +72,7 @@ fn declare_binding(
     wanted: &mut Wanted,
     classes: &ByNumber,
     tables: &Tables,
-    known: &Known,
+    known: &Environment,
     scope: &mut Scope,
     fixed: bool,
     b: &Binding,
@@ -88,7 +88,7 @@ pub fn declare_all(
     wanted: &mut Wanted,
     classes: &ByNumber,
     tables: &Tables,
-    known: &Known,
+    known: &Environment,
     scope: &mut Scope,
     fixed: bool,
     each: &[Binding],
@@ -106,7 +106,7 @@ pub fn after(
     wanted: &mut Wanted,
     classes: &ByNumber,
     tables: &Tables,
-    known: &Known,
+    known: &Environment,
     scope: &mut Scope,
     s: &Stmt,
 ) -> Result<(), NoMemory>
@@ -177,7 +177,7 @@ fn returned(
     wanted: &mut Wanted,
     classes: &ByNumber,
     tables: &Tables,
-    known: &Known,
+    known: &Environment,
     scope: &mut Scope,
     s: &Stmt,
 ) -> Result<Option<Option<Kind>>, NoMemory>
@@ -258,7 +258,7 @@ fn returned_in_branch(
     wanted: &mut Wanted,
     classes: &ByNumber,
     tables: &Tables,
-    known: &Known,
+    known: &Environment,
     scope: &mut Scope,
     s: &Stmt,
 ) -> Result<Option<Option<Kind>>, NoMemory>
@@ -277,7 +277,7 @@ pub fn returned_in_block(
     wanted: &mut Wanted,
     classes: &ByNumber,
     tables: &Tables,
-    known: &Known,
+    known: &Environment,
     scope: &mut Scope,
     all: &[Stmt],
 ) -> Result<Option<Option<Kind>>, NoMemory>

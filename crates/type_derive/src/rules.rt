@@ -5,18 +5,18 @@ ghost use Rattle.sts_scope.specs.Rules as rule;
 
 use crate::kinds::{array, below, flat, goes, is_array, item, same, takes_null};
 use sts_base::Refused;
-use sts_scope::{Base, ClassHead, Kind};
+use sts_scope::{Base, Environment, Kind};
 
 /// Whether values of types go where types are given, each to each.
 #[tactic(auto, unfolding(sts_scope::specs::Rules::all_go))]
-pub fn all_go(classes: &[ClassHead], ss: &[Kind], ts: &[Kind]) -> bool
-    ensures { result ≡ rule.all_go classes.now ss.now ts.now }
+pub fn all_go(known: &Environment, ss: &[Kind], ts: &[Kind]) -> bool
+    ensures { result ≡ rule.all_go known.now.classes ss.now ts.now }
 {
     if ss.len() != ts.len() {
         return false;
     }
     for i in 0..ss.len() {
-        if !goes(classes, ss[i], ts[i]) {
+        if !goes(known, ss[i], ts[i]) {
             return false;
         }
     }
@@ -25,11 +25,11 @@ pub fn all_go(classes: &[ClassHead], ss: &[Kind], ts: &[Kind]) -> bool
 
 /// Whether values of types all go to one.
 #[tactic(auto, unfolding(sts_scope::specs::Rules::all_go_to))]
-pub fn all_go_to(classes: &[ClassHead], t: Kind, ss: &[Kind]) -> bool
-    ensures { result ≡ rule.all_go_to classes.now t ss.now }
+pub fn all_go_to(known: &Environment, t: Kind, ss: &[Kind]) -> bool
+    ensures { result ≡ rule.all_go_to known.now.classes t ss.now }
 {
     for i in 0..ss.len() {
-        if !goes(classes, ss[i], t) {
+        if !goes(known, ss[i], t) {
             return false;
         }
     }
@@ -38,12 +38,12 @@ pub fn all_go_to(classes: &[ClassHead], t: Kind, ss: &[Kind]) -> bool
 
 /// What `==` takes.
 #[tactic(auto, unfolding(sts_scope::specs::Rules::comparable))]
-fn comparable(classes: &[ClassHead], s: Kind, t: Kind) -> bool
-    ensures { result ≡ rule.comparable classes.now s t }
+fn comparable(known: &Environment, s: Kind, t: Kind) -> bool
+    ensures { result ≡ rule.comparable known.now.classes s t }
 {
     (same(s, t) && !same(s, flat(Base::Nothing)))
-        || below(classes, s, t)
-        || below(classes, t, s)
+        || below(known, s, t)
+        || below(known, t, s)
         || (same(s, flat(Base::Null)) && takes_null(t))
         || (same(t, flat(Base::Null)) && takes_null(s))
 }
@@ -78,11 +78,11 @@ fn is_order(op: u8) -> bool
 
 /// An operator between two operands.
 #[tactic(auto, unfolding(sts_scope::specs::Rules::operate))]
-pub fn operate(classes: &[ClassHead], op: u8, s: Kind, t: Kind) -> Option<Kind>
-    ensures { result ≡ rule.operate classes.now op s t }
+pub fn operate(known: &Environment, op: u8, s: Kind, t: Kind) -> Option<Kind>
+    ensures { result ≡ rule.operate known.now.classes op s t }
 {
     if is_equality(op) {
-        return if comparable(classes, s, t) {
+        return if comparable(known, s, t) {
             Some(flat(Base::Boolean))
         } else {
             None
@@ -134,13 +134,13 @@ pub fn joined(s: Kind, t: Kind) -> Option<Kind>
 
 /// The type of which two types' values are.
 #[tactic(auto, unfolding(sts_scope::specs::Rules::common))]
-fn common(classes: &[ClassHead], s: Kind, t: Kind) -> Option<Kind>
-    ensures { result ≡ rule.common classes.now s t }
+fn common(known: &Environment, s: Kind, t: Kind) -> Option<Kind>
+    ensures { result ≡ rule.common known.now.classes s t }
 {
     let null = flat(Base::Null);
-    if same(s, t) || below(classes, t, s) || (same(t, null) && takes_null(s)) {
+    if same(s, t) || below(known, t, s) || (same(t, null) && takes_null(s)) {
         Some(s)
-    } else if below(classes, s, t) || (same(s, null) && takes_null(t)) {
+    } else if below(known, s, t) || (same(s, null) && takes_null(t)) {
         Some(t)
     } else {
         None
@@ -149,11 +149,11 @@ fn common(classes: &[ClassHead], s: Kind, t: Kind) -> Option<Kind>
 
 /// `?:`.
 #[tactic(auto, unfolding(sts_scope::specs::Rules::choose))]
-pub fn choose(classes: &[ClassHead], q: Kind, s: Kind, t: Kind) -> Option<Kind>
-    ensures { result ≡ rule.choose classes.now q s t }
+pub fn choose(known: &Environment, q: Kind, s: Kind, t: Kind) -> Option<Kind>
+    ensures { result ≡ rule.choose known.now.classes q s t }
 {
     if same(q, flat(Base::Boolean)) {
-        common(classes, s, t)
+        common(known, s, t)
     } else {
         None
     }
@@ -161,12 +161,12 @@ pub fn choose(classes: &[ClassHead], q: Kind, s: Kind, t: Kind) -> Option<Kind>
 
 /// An assignment to a target of the first type.
 #[tactic(auto, unfolding(sts_scope::specs::Rules::assign))]
-pub fn assign(classes: &[ClassHead], op: Option<u8>, t: Kind, s: Kind) -> Option<Kind>
-    ensures { result ≡ rule.assign classes.now op t s }
+pub fn assign(known: &Environment, op: Option<u8>, t: Kind, s: Kind) -> Option<Kind>
+    ensures { result ≡ rule.assign known.now.classes op t s }
 {
     match op {
-        None => { if goes(classes, s, t) { Some(t) } else { None } }
-        Some(op) => match operate(classes, op, t, s) {
+        None => { if goes(known, s, t) { Some(t) } else { None } }
+        Some(op) => match operate(known, op, t, s) {
             None => None,
             Some(u) => { if same(u, t) { Some(t) } else { None } }
         },
@@ -199,11 +199,11 @@ pub fn element(a: Kind, i: Kind) -> Option<Kind>
 
 /// A list literal, by its first item's type and those of the others.
 #[tactic(auto, unfolding(sts_scope::specs::Rules::items_type))]
-pub fn items_type(classes: &[ClassHead], t: Kind, ts: &[Kind]) -> Result<Option<Kind>, Refused>
-    ensures ok { IfOk result (λ u. u ≡ rule.items_type classes.now t ts.now) }
+pub fn items_type(known: &Environment, t: Kind, ts: &[Kind]) -> Result<Option<Kind>, Refused>
+    ensures ok { IfOk result (λ u. u ≡ rule.items_type known.now.classes t ts.now) }
     ensures err { IfErr result (λ e. e ≡ Refused.NoMemory) }
 {
-    if all_go_to(classes, t, ts) {
+    if all_go_to(known, t, ts) {
         let u = array(t)?;
         Ok(Some(u))
     } else {
@@ -214,14 +214,14 @@ pub fn items_type(classes: &[ClassHead], t: Kind, ts: &[Kind]) -> Result<Option<
 /// A call with arguments of some types.
 #[tactic(auto, unfolding(sts_scope::specs::Rules::call_kind))]
 pub fn call_kind(
-    classes: &[ClassHead],
+    known: &Environment,
     takes: &[Kind],
     gives: Option<Kind>,
     ts: &[Kind],
 ) -> Option<Kind>
-    ensures { result ≡ rule.call_kind classes.now takes.now gives ts.now }
+    ensures { result ≡ rule.call_kind known.now.classes takes.now gives ts.now }
 {
-    if all_go(classes, ts, takes) {
+    if all_go(known, ts, takes) {
         gives
     } else {
         None

@@ -7,7 +7,9 @@ ghost use Rattle.type_derive.specs.Scopes.{place};
 use crate::kinds::{class_of, flat, is_array, item, same};
 use crate::locals::Locals;
 use sts_base::Tables;
-use sts_scope::{Base, Entry, Found, Kind, Known, Owner, Part, Sort, This, is_dollar, sort_of};
+use sts_scope::{
+    Base, Entry, Environment, Found, Kind, Owner, Part, Sort, This, is_dollar, sort_of,
+};
 
 /// Where something stands.
 #[derive(Drop)]
@@ -35,16 +37,16 @@ fn entry_found(d: usize, sort: Sort) -> Found
 }
 
 /// The declaration of the whole text of a name.
-fn global_named(known: &Known, library: bool, x: u32) -> Found
+fn global_named(known: &Environment, library: bool, x: u32) -> Found
     ensures { result ≡ name.global_named known.now library x }
 {
-    match known.entries.number(Owner::Whole, x) {
+    match known.entries().number(Owner::Whole, x) {
         None => Found::Unknown,
         Some(d) => {
-            if library && known.library <= d {
+            if library && known.library() <= d {
                 Found::Unknown
             } else {
-                match sort_of(known.entries.as_slice(), d) {
+                match sort_of(known.entries().as_slice(), d) {
                     None => Found::Unknown,
                     Some(sort) => entry_found(d, sort),
                 }
@@ -55,7 +57,7 @@ fn global_named(known: &Known, library: bool, x: u32) -> Found
 
 /// The innermost local of a name, else the declaration of the whole text.
 #[tactic(auto, using(crate::proofs::Named::found_here, crate::proofs::Named::found_nowhere))]
-fn found_among(known: &Known, scope: &Scope, x: u32) -> Found
+fn found_among(known: &Environment, scope: &Scope, x: u32) -> Found
     ensures { result ≡ name.found_among known.now (place scope.now) x (name.last_named (place scope.now).locals x) }
 {
     match scope.locals.found(x) {
@@ -65,7 +67,7 @@ fn found_among(known: &Known, scope: &Scope, x: u32) -> Found
 }
 
 /// What a name stands for.
-pub fn name_found(tables: &Tables, known: &Known, scope: &Scope, x: u32) -> Found
+pub fn name_found(tables: &Tables, known: &Environment, scope: &Scope, x: u32) -> Found
     ensures { result ≡ name.name_found tables.now.names known.now (place scope.now) x }
 {
     if !scope.library && is_dollar(tables, x) {
@@ -82,17 +84,17 @@ pub fn is_twice(scope: &Scope, x: u32) -> bool
 }
 
 /// The type of a declaration.
-pub fn kind_at(known: &Known, d: usize) -> Option<Kind>
+pub fn kind_at(known: &Environment, d: usize) -> Option<Kind>
     ensures { result ≡ rule.kind_at known.now d }
 {
-    match known.kinds.get(d) {
+    match known.kinds().get(d) {
         None => None,
         Some(kind) => *kind,
     }
 }
 
 /// The type of a name.
-pub fn name_kind(known: &Known, scope: &Scope, found: Found) -> Option<Kind>
+pub fn name_kind(known: &Environment, scope: &Scope, found: Found) -> Option<Kind>
     ensures { result ≡ rule.name_kind known.now (place scope.now) found }
 {
     match found {
@@ -133,7 +135,7 @@ fn sort_fixed(sort: Option<Sort>) -> bool
 }
 
 /// Whether a name is `const`.
-pub fn name_fixed(known: &Known, scope: &Scope, found: Found) -> bool
+pub fn name_fixed(known: &Environment, scope: &Scope, found: Found) -> bool
     ensures { result ≡ rule.name_fixed known.now (place scope.now) found }
 {
     match found {
@@ -141,7 +143,7 @@ pub fn name_fixed(known: &Known, scope: &Scope, found: Found) -> bool
             None => false,
             Some(l) => l.fixed,
         },
-        Found::Global(d) => sort_fixed(sort_of(known.entries.as_slice(), d)),
+        Found::Global(d) => sort_fixed(sort_of(known.entries().as_slice(), d)),
         Found::Captured => false,
         Found::Function(_) => false,
         Found::Class(_) => false,
@@ -188,21 +190,21 @@ fn member_part(d: usize, sort: Option<Sort>) -> Part
     }
 }
 
-fn class_part(known: &Known, class: Option<u32>, m: u32) -> Part
+fn class_part(known: &Environment, class: Option<u32>, m: u32) -> Part
     ensures { result ≡ rule.class_part known.now class m }
 {
     match class {
         None => Part::Missing,
-        Some(c) => match known.entries.member(known.classes.as_slice(), c, m) {
+        Some(c) => match known.member(c, m) {
             None => Part::Missing,
-            Some(d) => member_part(d, sort_of(known.entries.as_slice(), d)),
+            Some(d) => member_part(d, sort_of(known.entries().as_slice(), d)),
         },
     }
 }
 
 /// What stands behind the dot of a value of a type.
 #[tactic(auto, unfolding(sts_scope::specs::Rules::part_of))]
-pub fn part_of(tables: &Tables, known: &Known, t: Kind, m: u32) -> Part
+pub fn part_of(tables: &Tables, known: &Environment, t: Kind, m: u32) -> Part
     ensures { result ≡ rule.part_of tables.now.names known.now t m }
 {
     if is_array(t) {
@@ -213,7 +215,7 @@ pub fn part_of(tables: &Tables, known: &Known, t: Kind, m: u32) -> Part
 }
 
 /// The type of a member that is read.
-pub fn part_kind(known: &Known, part: Part) -> Option<Kind>
+pub fn part_kind(known: &Environment, part: Part) -> Option<Kind>
     ensures { result ≡ rule.part_kind known.now part }
 {
     match part {
@@ -254,12 +256,12 @@ fn takes_nothing(entries: &[Entry], d: usize) -> bool
 
 /// Whether a name is that of a function without parameters and without a value.
 #[tactic(auto, unfolding(sts_scope::specs::Rules::serves))]
-pub fn serves(known: &Known, found: Found) -> bool
+pub fn serves(known: &Environment, found: Found) -> bool
     ensures { result ≡ rule.serves known.now found }
 {
     match found {
         Found::Function(d) => {
-            takes_nothing(known.entries.as_slice(), d)
+            takes_nothing(known.entries().as_slice(), d)
                 && match kind_at(known, d) {
                     None => false,
                     Some(t) => same(t, flat(Base::Nothing)),

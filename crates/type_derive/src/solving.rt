@@ -21,7 +21,7 @@ use crate::scopes::{Scope, kind_at};
 use crate::wanted::Wanted;
 use std::alloc::Global;
 use sts_base::{NoMemory, Tables};
-use sts_scope::{Base, ByNumber, Declared, Kind, Known, Table, This, written_kind};
+use sts_scope::{Base, ByNumber, Declared, Environment, Kind, Table, This, written_kind};
 use sts_syntax::{Param, Unit};
 
 /// Outside all functions.
@@ -71,7 +71,7 @@ fn follow(
     wanted: &mut Wanted,
     classes: &ByNumber,
     tables: &Tables,
-    known: &Known,
+    known: &Environment,
     library: bool,
     origin: &Origin,
 ) -> Result<Option<Kind>, NoMemory>
@@ -97,7 +97,7 @@ fn derive(
     wanted: &mut Wanted,
     classes: &ByNumber,
     tables: &Tables,
-    known: &Known,
+    known: &Environment,
     origins: &[Origin],
     d: usize,
 ) -> Result<Option<Kind>, NoMemory>
@@ -110,7 +110,7 @@ fn derive(
             classes,
             tables,
             known,
-            d < known.library,
+            d < known.library(),
             &origins[d],
         )
     } else {
@@ -124,7 +124,7 @@ fn advance(
     wanted: &mut Wanted,
     classes: &ByNumber,
     tables: &Tables,
-    known: &mut Known,
+    known: &mut Environment,
     origins: &[Origin],
     d: usize,
 ) -> Result<bool, NoMemory>
@@ -140,7 +140,7 @@ fn advance(
     match derive(alloc, wanted, classes, tables, known, origins, d)? {
         None => Ok(false),
         Some(kind) => {
-            known.kinds.set(d, Some(kind));
+            known.set_kind(d, Some(kind));
             Ok(true)
         }
     }
@@ -158,7 +158,7 @@ fn round(
     wanted: &mut Wanted,
     classes: &ByNumber,
     tables: &Tables,
-    known: &mut Known,
+    known: &mut Environment,
     origins: &[Origin],
 ) -> Result<bool, NoMemory>
     requires { way.IsUnderway (derived.rule tables.now (value_at classes.now.values.items) known.old (sources origins.now)) known.old.kinds }
@@ -167,7 +167,7 @@ fn round(
     ensures same { OnOk result (Keeps known.old known.new) }
 {
     let mut said = false;
-    for d in 0..known.kinds.len() {
+    for d in 0..known.kinds().len() {
         let now = advance(alloc, wanted, classes, tables, known, origins, d)?;
         said = either(said, now);
     }
@@ -180,7 +180,7 @@ fn rounds(
     wanted: &mut Wanted,
     classes: &ByNumber,
     tables: &Tables,
-    known: &mut Known,
+    known: &mut Environment,
     origins: &[Origin],
 ) -> Result<(), NoMemory>
     requires { way.IsUnderway (derived.rule tables.now (value_at classes.now.values.items) known.old (sources origins.now)) known.old.kinds }
@@ -198,7 +198,7 @@ fn step(
     wanted: &mut Wanted,
     classes: &ByNumber,
     tables: &Tables,
-    known: &mut Known,
+    known: &mut Environment,
     origins: &[Origin],
     next: usize,
 ) -> Result<usize, NoMemory>
@@ -211,7 +211,7 @@ fn step(
         None => wanted.go_on(next),
         Some(d) => {
             let pending = wanted.pending();
-            if d < known.kinds.len() {
+            if d < known.kinds().len() {
                 wanted.begin(d);
                 let said = advance(alloc, wanted, classes, tables, known, origins, d)?;
                 wanted.answer(d, said)?;
@@ -230,7 +230,7 @@ fn in_order(
     wanted: &mut Wanted,
     classes: &ByNumber,
     tables: &Tables,
-    known: &mut Known,
+    known: &mut Environment,
     origins: &[Origin],
 ) -> Result<(), NoMemory>
     requires { way.IsUnderway (derived.rule tables.now (value_at classes.now.values.items) known.old (sources origins.now)) known.old.kinds }
@@ -266,16 +266,16 @@ fn derive_all(
     alloc: Global,
     classes: &ByNumber,
     tables: &Tables,
-    known: &mut Known,
+    known: &mut Environment,
     origins: &[Origin],
 ) -> Result<(), NoMemory>
     ensures least { OnOk result (derived.IsLeast (derived.rule tables.now (value_at classes.now.values.items) known.old (sources origins.now)) known.new.kinds) }
     ensures len { OnOk result (length known.new.kinds ≡ length known.old.entries) }
     ensures same { OnOk result (Keeps known.old known.new) }
 {
-    let count = known.entries.len();
+    let count = known.entries().len();
     let kinds = blank(alloc, count)?;
-    known.kinds = kinds;
+    known.set_kinds(kinds);
     let mut wanted = Wanted::of(alloc, count)?;
     in_order(alloc, &mut wanted, classes, tables, known, origins)?;
     rounds(alloc, &mut wanted, classes, tables, known, origins)?;

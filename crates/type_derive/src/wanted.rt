@@ -3,7 +3,7 @@ use crate::callees::Called;
 use crate::scopes::kind_at;
 use std::alloc::Global;
 use sts_base::NoMemory;
-use sts_scope::{Found, Known, Part};
+use sts_scope::{Environment, Found, Part};
 
 /// Declarations whose types were asked for and aren't known. Each is derived when it is asked for, and again when a type on which it waited is known.
 #[derive(Drop)]
@@ -76,7 +76,7 @@ impl Wanted {
     }
 
     /// Notes a declaration whose type isn't known.
-    pub fn note(&mut self, known: &Known, d: usize) -> Result<(), NoMemory> {
+    pub fn note(&mut self, known: &Environment, d: usize) -> Result<(), NoMemory> {
         match kind_at(known, d) {
             None => {
                 if d < self.asked.len() && self.asked[d] {
@@ -90,7 +90,7 @@ impl Wanted {
     }
 
     /// Notes what a name stands for.
-    pub fn note_found(&mut self, known: &Known, found: Found) -> Result<(), NoMemory> {
+    pub fn note_found(&mut self, known: &Environment, found: Found) -> Result<(), NoMemory> {
         match found {
             Found::Global(d) => self.note(known, d),
             Found::Function(d) => self.note(known, d),
@@ -102,7 +102,7 @@ impl Wanted {
     }
 
     /// Notes what stands behind a dot.
-    pub fn note_part(&mut self, known: &Known, part: Option<Part>) -> Result<(), NoMemory> {
+    pub fn note_part(&mut self, known: &Environment, part: Option<Part>) -> Result<(), NoMemory> {
         match part {
             Some(Part::Field(d)) => self.note(known, d),
             Some(Part::Method(d)) => self.note(known, d),
@@ -115,7 +115,11 @@ impl Wanted {
     }
 
     /// Notes what is called.
-    pub fn note_called(&mut self, known: &Known, called: Option<Called>) -> Result<(), NoMemory> {
+    pub fn note_called(
+        &mut self,
+        known: &Environment,
+        called: Option<Called>,
+    ) -> Result<(), NoMemory> {
         match called {
             Some(Called::Routine(d)) => self.note(known, d),
             Some(Called::Push(_)) => Ok(()),

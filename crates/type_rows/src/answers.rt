@@ -23,7 +23,7 @@ fn write_types(alloc: Global, line: &mut String, text: &Read) -> Result<(), Allo
         Err(refused) => write_refusal(line, refused),
         Ok(declared) => {
             line.push_str(" ")?;
-            for d in 0..declared.known.entries.len() {
+            for d in 0..declared.known.entries().len() {
                 write_declared(line, &text.tables, &declared.known, d)?;
             }
             line.push_str("\n")
@@ -38,8 +38,8 @@ fn write_counts(alloc: Global, line: &mut String, text: &Read) -> Result<(), All
         Ok(declared) => {
             let mut typed: usize = 0;
             let mut untyped: usize = 0;
-            for d in 0..declared.known.entries.len() {
-                match declared.known.kinds.get(d) {
+            for d in 0..declared.known.entries().len() {
+                match declared.known.kinds().get(d) {
                     Some(Some(_)) => typed = typed.saturating_add(1),
                     _ => untyped = untyped.saturating_add(1),
                 }

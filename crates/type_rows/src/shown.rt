@@ -2,7 +2,7 @@
 
 use std::alloc::AllocError;
 use sts_base::{Refused, Tables};
-use sts_scope::{Base, Kind, Known};
+use sts_scope::{Base, Environment, Kind};
 
 /// The bytes of a name.
 pub fn write_name(line: &mut String, tables: &Tables, x: u32) -> Result<(), AllocError> {
@@ -37,10 +37,10 @@ fn write_kind(line: &mut String, kind: Kind) -> Result<(), AllocError> {
 pub fn write_declared(
     line: &mut String,
     tables: &Tables,
-    known: &Known,
+    known: &Environment,
     d: usize,
 ) -> Result<(), AllocError> {
-    match known.entries.get(d) {
+    match known.entries().get(d) {
         None => line.push_str(" ?")?,
         Some(e) => {
             line.push_str(" ")?;
@@ -48,7 +48,7 @@ pub fn write_declared(
         }
     }
     line.push_str(": ")?;
-    match known.kinds.get(d) {
+    match known.kinds().get(d) {
         Some(Some(kind)) => write_kind(line, *kind),
         Some(None) => line.push_str("-"),
         None => line.push_str("?"),

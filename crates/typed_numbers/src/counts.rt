@@ -8,7 +8,7 @@ use crate::handler_counts::one_more;
 use crate::member_names::{is_global, names_of};
 use std::alloc::Global;
 use sts_base::{NoMemory, Seq};
-use sts_scope::{Entry, Known};
+use sts_scope::{Entry, Environment};
 
 /// How many globals are declared.
 fn global_count(entries: &[Entry]) -> Result<u32, NoMemory>
@@ -36,13 +36,13 @@ fn are_short(lists: &[Seq<u32>]) -> bool
 }
 
 /// Whether a program declares at most 64 classes and 256 globals, and no class has more than 30 fields or 30 slots, those of its bases included.
-pub fn counts_fit(alloc: Global, known: &Known) -> Result<bool, NoMemory>
+pub fn counts_fit(alloc: Global, known: &Environment) -> Result<bool, NoMemory>
     ensures { IfOk result (λ fits. fits ≡ count.counts_fit known.now) }
 {
-    if known.classes.len() > 64 {
+    if known.classes().len() > 64 {
         return Ok(false);
     }
-    if global_count(known.entries.as_slice())? > 256 {
+    if global_count(known.entries().as_slice())? > 256 {
         return Ok(false);
     }
     let names = names_of(alloc, known)?;

@@ -9,7 +9,7 @@ ghost use Rattle.typed_numbers.specs.Building.{picks, chain_from, names_upto, gl
 use crate::handler_counts::one_more;
 use std::alloc::Global;
 use sts_base::{NoMemory, Seq};
-use sts_scope::{Entry, Known, Owner, Sort};
+use sts_scope::{Entry, Environment, Owner, Sort};
 
 /// What of a class has numbers.
 #[derive(Clone, Copy)]
@@ -89,22 +89,22 @@ fn copied(alloc: Global, names: &[u32]) -> Result<Seq<u32>, NoMemory>
 }
 
 /// The base of a class.
-pub fn base_of(known: &Known, class: u32) -> Option<u32>
+pub fn base_of(known: &Environment, class: u32) -> Option<u32>
     ensures { result ≡ look.base_of known.now.classes class }
 {
-    match known.classes.get(class as usize) {
+    match known.classes().get(class as usize) {
         None => None,
         Some(head) => head.base,
     }
 }
 
 /// A class and its bases, the nearest first.
-fn chain(alloc: Global, known: &Known, class: u32) -> Result<Seq<u32>, NoMemory>
+fn chain(alloc: Global, known: &Environment, class: u32) -> Result<Seq<u32>, NoMemory>
     ensures { IfOk result (λ all. all ≡ chain_from known.now (length known.now.classes) class) }
 {
     let mut all = Seq::new(alloc);
     let mut at = Some(class);
-    for _ in 0..known.classes.len() {
+    for _ in 0..known.classes().len() {
         let Some(class) = at else {
             break;
         };
@@ -119,7 +119,7 @@ fn chain(alloc: Global, known: &Known, class: u32) -> Result<Seq<u32>, NoMemory>
 fn member_names(
     alloc: Global,
     which: Members,
-    known: &Known,
+    known: &Environment,
     class: u32,
 ) -> Result<Seq<u32>, NoMemory>
     ensures { IfOk result (λ names. names ≡ number.names_from (picks which) known.now (length known.now.classes) class) }
@@ -129,18 +129,18 @@ fn member_names(
     let mut names = Seq::new(alloc);
     for i in 0..classes.len() {
         let nearer = classes[classes.len() - 1 - i];
-        let own = own_names(alloc, which, known.entries.as_slice(), nearer)?;
+        let own = own_names(alloc, which, known.entries().as_slice(), nearer)?;
         names = with_new(alloc, names.as_slice(), own.as_slice())?;
     }
     Ok(names)
 }
 
 /// The names of each class's fields or methods.
-fn all_names(alloc: Global, which: Members, known: &Known) -> Result<Seq<Seq<u32>>, NoMemory>
+fn all_names(alloc: Global, which: Members, known: &Environment) -> Result<Seq<Seq<u32>>, NoMemory>
     ensures { IfOk result (λ all. all ≡ names_upto (picks which) known.now (length known.now.classes)) }
 {
     let mut all = Seq::new(alloc);
-    for class in 0..known.classes.len() {
+    for class in 0..known.classes().len() {
         let Ok(class) = u32::try_from(class) else {
             return Err(NoMemory);
         };
@@ -182,7 +182,7 @@ pub struct Names {
 }
 
 /// The names of members, and the numbers of globals, of a whole program.
-pub fn names_of(alloc: Global, known: &Known) -> Result<Names, NoMemory>
+pub fn names_of(alloc: Global, known: &Environment) -> Result<Names, NoMemory>
     ensures fields { IfOk result (λ names. names.fields ≡ names_upto look.is_field known.now (length known.now.classes)) }
     ensures slots { IfOk result (λ names. names.slots ≡ names_upto number.is_method known.now (length known.now.classes)) }
     ensures globals { IfOk result (λ names. names.globals ≡ globals_from 0 known.now.entries) }
@@ -190,7 +190,7 @@ pub fn names_of(alloc: Global, known: &Known) -> Result<Names, NoMemory>
     Ok(Names {
         fields: all_names(alloc, Members::Fields, known)?,
         slots: all_names(alloc, Members::Methods, known)?,
-        globals: globals_before(alloc, known.entries.as_slice())?,
+        globals: globals_before(alloc, known.entries().as_slice())?,
     })
 }
 

@@ -1,4 +1,4 @@
-use Rattle.std.proofs.Common.{◌==◌, ◌+◌, length, ap, subst, [], ◌∙◌, refl}
+use Rattle.std.proofs.Common.{◌==◌, ◌+◌, length, sym, ap, subst, [], ◌∙◌, refl}
 use Rattle.sts_syntax.specs.Programs.{program, top_levels}
 use Rattle.std.specs.List.{position_from}
 use Rattle.std.specs.Prelude.{List}
@@ -32,14 +32,16 @@ returns c =
     (subst (A k0 k1) c.as_slice-3.ensures c.in_ok-add_items.ensures)
     (record { entries = refl; classes = refl; kinds = refl; counted = c.len.ensures })
     (subst (A k2 k3) c.as_slice-4.ensures c.in_ok-add_items-2.ensures) in
+    let known = c.in_ok-new.field-0 in
+    let v : IsWhole lib txt known = subst (IsWhole lib txt) (sym c.in_ok-new.ensures) w in
     let n = c.in_ok-count.ensures.count ∙ ap (λ is. 0 + length (entry.class_names (top_levels is))) c.as_slice.ensures in
     record {
       names = h;
-      entries = w.entries;
-      classes = w.classes;
-      kinds = w.kinds;
-      counted = w.library_is;
+      entries = v.entries;
+      classes = v.classes;
+      kinds = v.kinds;
+      counted = v.library_is;
       first_class = first_is lib txt c.in_ok-count.count n;
-      library_within = library_within lib txt k3 w;
-      classes_within = classes_within lib txt k3 c.in_ok-count.count w n;
+      library_within = library_within lib txt known v;
+      classes_within = classes_within lib txt known c.in_ok-count.count v n;
     }

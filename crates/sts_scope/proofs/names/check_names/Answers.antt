@@ -1,11 +1,11 @@
-use Rattle.std.proofs.Common.{◌<◌, length, arith, ap}
+use Rattle.std.proofs.Common.{◌<◌, length, arith, ap, ◌∙◌}
 use Rattle.sts_scope.proofs.SeenNames.{seen_step, found_step}
 use Rattle.sts_scope.proofs.names.check_names.Goals as goal
 
 pub loop-d-preserved : goal.loop-d-preserved
 loop-d-preserved c =
     let es = c.as_slice-entries.result.now in
-    let lt : c.loop-d.d < length es = omega (arith, ap length c.as_slice-entries.ensures) in
+    let lt : c.loop-d.d < length es = omega (arith, ap length (c.as_slice-entries.ensures ∙ c.entries.ensures), c.library-d-end.ensures) in
     record { seen = seen_step c.loop-d.seen.values.items c.note.new.seen.values.items es c.loop-d.d c.index-entries-d.result lt c.index-entries-d.is c.loop-d.invariant.seen c.in_ok-note.ensures.ok }
 
 pub loop-d-2-preserved : goal.loop-d-2-preserved

@@ -2,4 +2,4 @@ use Rattle.type_check.proofs.Taking.{unequal}
 use Rattle.type_check.proofs.arguments.all_go.Goals as goal
 
 pub returns-then-ss-ts : goal.returns-then-ss-ts
-returns-then-ss-ts c = unequal c.args.classes.now c.args.ss.now c.args.ts.now c.if-ss-ts.true
+returns-then-ss-ts c = unequal c.args.known.now.classes c.args.ss.now c.args.ts.now c.if-ss-ts.true

@@ -37,7 +37,7 @@ operation-returns-in_ok-u-in-Binary-clause-found t c =
     let h1 = part_fault z p Free c.deref-in-Binary-2.result.now y1 c.in_ok-u-in-Binary.ensures.found c.deref-in-Binary-2.ensures in
     let k1 = part_kind z p Free c.in_ok-u-in-Binary.u c.deref-in-Binary-2.result.now y1 c.in_ok-u-in-Binary.ensures.seen c.deref-in-Binary-2.ensures in
     let is = ap (fault z p c.args.role) (ap (node_tree at) c.in-Binary.is) in
-    found_two z p c.args.role (tree c.args.e.now) (fault z p Free (tree y0)) (fault z p Free (tree y1)) c.operated.result (type_of t' k p c.args.role (Binary at c.in-Binary.op (tree y0) (tree y1))) at c.own-in-Binary.result is h0 h1 (c.operated.ensures ∙ ap (λ cs. c.in_ok-s-in-Binary.s.kind >>= λ v. c.in_ok-u-in-Binary.u.kind >>= λ w. operate cs c.in-Binary.op v w) c.as_slice.ensures ∙ ap (λ q. q >>= λ v. c.in_ok-u-in-Binary.u.kind >>= λ w. operate k.classes c.in-Binary.op v w) k0 ∙ ap (λ q. type_of t' k p Free (tree y0) >>= λ v. q >>= λ w. operate k.classes c.in-Binary.op v w) k1) c.own-in-Binary.ensures.found
+    found_two z p c.args.role (tree c.args.e.now) (fault z p Free (tree y0)) (fault z p Free (tree y1)) c.operated.result (type_of t' k p c.args.role (Binary at c.in-Binary.op (tree y0) (tree y1))) at c.own-in-Binary.result is h0 h1 (c.operated.ensures ∙ ap (λ q. q >>= λ v. c.in_ok-u-in-Binary.u.kind >>= λ w. operate k.classes c.in-Binary.op v w) k0 ∙ ap (λ q. type_of t' k p Free (tree y0) >>= λ v. q >>= λ w. operate k.classes c.in-Binary.op v w) k1) c.own-in-Binary.ensures.found
 
 pub operation-returns-in_ok-u-in-Both-clause-found : goal.operation-returns-in_ok-u-in-Both-clause-found
 operation-returns-in_ok-u-in-Both-clause-found t c =
@@ -88,7 +88,7 @@ choice-returns-in_ok-u-in-Choice-clause-found t c =
     let h2 = part_fault z p Free c.deref-in-Choice-2.result.now y2 c.in_ok-u-in-Choice.ensures.found c.deref-in-Choice-2.ensures in
     let k2 = part_kind z p Free c.in_ok-u-in-Choice.u c.deref-in-Choice-2.result.now y2 c.in_ok-u-in-Choice.ensures.seen c.deref-in-Choice-2.ensures in
     let is = ap (fault z p c.args.role) (ap (node_tree at) c.in-Choice.is) in
-    found_three z p c.args.role (tree c.args.e.now) (fault z p Free (tree y0)) (fault z p Free (tree y1)) (fault z p Free (tree y2)) c.chosen.result (type_of t' k p c.args.role (Choice at (tree y0) (tree y1) (tree y2))) at c.own.result is h0 h1 h2 (c.chosen.ensures ∙ ap (λ cs. c.in_ok-v-in-Choice.v.kind >>= λ o. c.in_ok-s-in-Choice.s.kind >>= λ v. c.in_ok-u-in-Choice.u.kind >>= λ w. choose cs o v w) c.as_slice.ensures ∙ ap (λ q. q >>= λ o. c.in_ok-s-in-Choice.s.kind >>= λ v. c.in_ok-u-in-Choice.u.kind >>= λ w. choose k.classes o v w) k0 ∙ ap (λ q. type_of t' k p Free (tree y0) >>= λ o. q >>= λ v. c.in_ok-u-in-Choice.u.kind >>= λ w. choose k.classes o v w) k1 ∙ ap (λ q. type_of t' k p Free (tree y0) >>= λ o. type_of t' k p Free (tree y1) >>= λ v. q >>= λ w. choose k.classes o v w) k2) c.own.ensures.found
+    found_three z p c.args.role (tree c.args.e.now) (fault z p Free (tree y0)) (fault z p Free (tree y1)) (fault z p Free (tree y2)) c.chosen.result (type_of t' k p c.args.role (Choice at (tree y0) (tree y1) (tree y2))) at c.own.result is h0 h1 h2 (c.chosen.ensures ∙ ap (λ q. q >>= λ o. c.in_ok-s-in-Choice.s.kind >>= λ v. c.in_ok-u-in-Choice.u.kind >>= λ w. choose k.classes o v w) k0 ∙ ap (λ q. type_of t' k p Free (tree y0) >>= λ o. q >>= λ v. c.in_ok-u-in-Choice.u.kind >>= λ w. choose k.classes o v w) k1 ∙ ap (λ q. type_of t' k p Free (tree y0) >>= λ o. type_of t' k p Free (tree y1) >>= λ v. q >>= λ w. choose k.classes o v w) k2) c.own.ensures.found
 
 pub setting-returns-in_ok-s-in-Set-clause-found : goal.setting-returns-in_ok-s-in-Set-clause-found
 setting-returns-in_ok-s-in-Set-clause-found t c =
@@ -104,7 +104,7 @@ setting-returns-in_ok-s-in-Set-clause-found t c =
     let h1 = part_fault z p Given c.deref-in-Set.result.now y1 c.in_ok-s-in-Set.ensures.found c.deref-in-Set.ensures in
     let k1 = part_kind z p Given c.in_ok-s-in-Set.s c.deref-in-Set.result.now y1 c.in_ok-s-in-Set.ensures.seen c.deref-in-Set.ensures in
     let is = ap (fault z p c.args.role) (ap (node_tree at) c.in-Set.is) in
-    found_two z p c.args.role (tree c.args.e.now) (fault z p Free (tree y0)) (fault z p Given (tree y1)) c.set_kind.result (type_of t' k p c.args.role (Set at c.in-Set.op (tree y0) (tree y1))) at c.own.result is h0 h1 (c.set_kind.ensures ∙ ap (λ cs. c.in_ok-u-in-Set.u.kind >>= λ v. c.in_ok-s-in-Set.s.kind >>= λ w. if c.settable-can.result then assign cs c.in-Set.op v w else None) c.as_slice.ensures ∙ ap (λ b. c.in_ok-u-in-Set.u.kind >>= λ v. c.in_ok-s-in-Set.s.kind >>= λ w. if b then assign k.classes c.in-Set.op v w else None) (c.settable-can.ensures ∙ ap (λ q. settable t' k p (tree q)) c.deref-in-Set-2.ensures) ∙ ap (λ q. q >>= λ v. c.in_ok-s-in-Set.s.kind >>= λ w. if settable t' k p (tree y0) then assign k.classes c.in-Set.op v w else None) k0 ∙ ap (λ q. type_of t' k p Free (tree y0) >>= λ v. q >>= λ w. if settable t' k p (tree y0) then assign k.classes c.in-Set.op v w else None) k1) c.own.ensures.found
+    found_two z p c.args.role (tree c.args.e.now) (fault z p Free (tree y0)) (fault z p Given (tree y1)) c.set_kind.result (type_of t' k p c.args.role (Set at c.in-Set.op (tree y0) (tree y1))) at c.own.result is h0 h1 (c.set_kind.ensures ∙ ap (λ b. c.in_ok-u-in-Set.u.kind >>= λ v. c.in_ok-s-in-Set.s.kind >>= λ w. if b then assign k.classes c.in-Set.op v w else None) (c.settable-can.ensures ∙ ap (λ q. settable t' k p (tree q)) c.deref-in-Set-2.ensures) ∙ ap (λ q. q >>= λ v. c.in_ok-s-in-Set.s.kind >>= λ w. if settable t' k p (tree y0) then assign k.classes c.in-Set.op v w else None) k0 ∙ ap (λ q. type_of t' k p Free (tree y0) >>= λ v. q >>= λ w. if settable t' k p (tree y0) then assign k.classes c.in-Set.op v w else None) k1) c.own.ensures.found
 
 pub bumping-returns-in_ok-u-in-Bump-clause-found : goal.bumping-returns-in_ok-u-in-Bump-clause-found
 bumping-returns-in_ok-u-in-Bump-clause-found t c =

@@ -18,10 +18,9 @@ returns c =
     let args = trees c.args.args.now in
     let takes = maker_takes_of k.classes c.args.b in
     let kinds = c.as_slice.ensures ∙ c.in_ok-kinds.ensures.kinds in
-    let given = c.maker_takes.ensures ∙ ap (λ cs. maker_takes_of cs c.args.b) c.as_slice-classes.ensures in
+    let given = c.maker_takes.ensures in
     let go : c.all_go.result ≡ fit_all k.classes (kinds_given t k p [] args) takes =
-    c.all_go.ensures ∙ ap (λ cs. fit_all cs c.as_slice.result.now c.maker_takes.result.now) c.as_slice-classes.ensures
-    ∙ ap (λ os. fit_all k.classes os c.maker_takes.result.now) kinds ∙ ap (λ ts. fit_all k.classes (kinds_given t k p [] args) ts) given in
+    c.all_go.ensures ∙ ap (λ os. fit_all k.classes os c.maker_takes.result.now) kinds ∙ ap (λ ts. fit_all k.classes (kinds_given t k p [] args) ts) given in
     subst (Finds c.unless.result)
     (sym (super_is t (naming z) k p c.args.at c.args.b args
     ∙ ap (λ o. o then unless (fit_all k.classes (kinds_given t k p [] args) takes) Mismatch c.args.at) c.in_ok-kinds.ensures.found ∙ ap (λ y. unless y Mismatch c.args.at) (sym go)))

@@ -1,4 +1,4 @@
-use Rattle.std.proofs.Common.{◌≡◌, ◌<◌, ◌≤◌, length, drop, refl, sym, ap, ◌∙◌, subst, arith}
+use Rattle.std.proofs.Common.{◌≡◌, ◌<◌, ◌≤◌, length, refl, sym, ap, ◌∙◌, subst, arith}
 use Rattle.std.specs.Prelude.{Some, None, IfOk, if◌then◌else◌}
 use Rattle.std.specs.Option.{option_map}
 use Rattle.sts_syntax.specs.Trees.{SuperCall, Items}
@@ -8,7 +8,7 @@ use Rattle.sts_scope.specs.Places.{name_found}
 use Rattle.sts_scope.specs.Rules.{prefix, operate, joined, choose, assign, element, part_of, takes_at, kind_at}
 use Rattle.type_derive.specs.declared.roles.Role.TheVariants.{Free, Given}
 use Rattle.type_derive.specs.Scopes.{place}
-use Rattle.type_derive.specs.Shown.{goes_first, goes_some, row_shown, row_called, board_given}
+use Rattle.type_derive.specs.Shown.{row_shown, row_called, board_given}
 use Rattle.type_derive.specs.Typing.{◌>>=◌, constant_of, board_callee, type_of, types_of, callee_of, settable, called, named_callee, part_callee, callee, super_method, made}
 use Rattle.type_derive.proofs.Calling.{name_is, member_is}
 use Rattle.type_derive.proofs.Opened.{call_is, super_call_is, make_is, items_is}
@@ -19,7 +19,7 @@ pub called_type-loop-i-preserved : goal.called_type-loop-i-preserved
 called_type-loop-i-preserved t c =
     let k = c.args.known.now in
     let lt : c.loop-i.i < length c.args.args.now = omega arith in
-    let g = c.goes_at-goes.ensures ∙ ap (λ cs. goes_first cs c.in_ok-u-in-Some.u (drop c.loop-i.i c.takes_of-takes.result.now)) c.as_slice.ensures in
+    let g = c.goes_at-goes.ensures in
     go_kept c.args.tables.now k (place c.args.scope.now) c.args.args.now c.loop-i.i c.index-args-i.result c.in_ok-u-in-Some.u c.takes_of-takes.result.now
     c.loop-i.fits c.both_hold-fits.result c.goes_at-goes.result _ lt c.index-args-i.is c.in_ok-u-in-Some.ensures g c.both_hold-fits.ensures c.loop-i.invariant
 
@@ -64,7 +64,7 @@ board_type-returns-after-loop-i t c =
 pub list_type-loop-i-preserved : goal.list_type-loop-i-preserved
 list_type-loop-i-preserved t c =
     let lt : c.loop-i.i < length c.args.all.now = omega arith in
-    let g = c.goes_some-goes.ensures ∙ ap (λ cs. goes_some cs c.in_ok-u-in-Some.u c.in-Some.s) c.as_slice.ensures in
+    let g = c.goes_some-goes.ensures in
     all_kept c.args.tables.now c.args.known.now (place c.args.scope.now) c.args.all.now c.loop-i.i c.index-all-i.result c.in_ok-u-in-Some.u c.in-Some.s
     c.loop-i.fits c.both_hold-fits.result c.goes_some-goes.result _ lt c.index-all-i.is c.in_ok-u-in-Some.ensures g c.both_hold-fits.ensures c.loop-i.invariant
 
@@ -125,7 +125,7 @@ type_of-returns-in_ok-u-in-Binary t c =
     let hs = moved s k p Free c.deref-in-Binary.result.now a.value c.in_ok-s-in-Binary.s c.in_ok-s-in-Binary.ensures c.deref-in-Binary.ensures in
     let hu = moved s k p Free c.deref-in-Binary-2.result.now b.value c.in_ok-u-in-Binary.u c.in_ok-u-in-Binary.ensures c.deref-in-Binary-2.ensures in
     two c.in_ok-s-in-Binary.s (type_of s k p Free (tree a.value)) c.in_ok-u-in-Binary.u (type_of s k p Free (tree b.value)) c.operated.result (λ x y. operate k.classes c.in-Binary.op x y) hs hu
-    (c.operated.ensures ∙ ap (λ cs. c.in_ok-s-in-Binary.s >>= λ x. c.in_ok-u-in-Binary.u >>= λ y. operate cs c.in-Binary.op x y) c.as_slice.ensures)
+    c.operated.ensures
     ∙ sym (ap (type_of s k p c.args.role) (ap (node_tree c.args.e.now.at) c.in-Binary.is))
 
 pub type_of-returns-in_ok-u-in-Both : goal.type_of-returns-in_ok-u-in-Both
@@ -166,7 +166,7 @@ type_of-returns-in_ok-u-in-Choice t c =
     let hs = moved s k p Free c.deref-in-Choice-2.result.now a.value c.in_ok-s-in-Choice.s c.in_ok-s-in-Choice.ensures c.deref-in-Choice-2.ensures in
     let hu = moved s k p Free c.deref-in-Choice-3.result.now b.value c.in_ok-u-in-Choice.u c.in_ok-u-in-Choice.ensures c.deref-in-Choice-3.ensures in
     two c.in_ok-v-in-Choice.v (type_of s k p Free (tree q.value)) c.in_ok-s-in-Choice.s A c.chosen.result (λ v x. B >>= λ y. choose k.classes v x y) hv hs
-    (c.chosen.ensures ∙ ap (λ cs. c.in_ok-v-in-Choice.v >>= λ v. c.in_ok-s-in-Choice.s >>= λ x. c.in_ok-u-in-Choice.u >>= λ y. choose cs v x y) c.as_slice-in-Choice.ensures
+    (c.chosen.ensures
     ∙ ap (λ o. c.in_ok-v-in-Choice.v >>= λ v. c.in_ok-s-in-Choice.s >>= λ x. o >>= λ y. choose k.classes v x y) hu)
     ∙ sym (ap (type_of s k p c.args.role) (ap (node_tree c.args.e.now.at) c.in-Choice.is))
 
@@ -184,7 +184,7 @@ type_of-returns-in_ok-s-in-Set t c =
     let hu = c.in_ok-u-in-Set.ensures ∙ ap target c.deref-in-Set.ensures in
     let hs = moved s k p Given c.deref-in-Set-2.result.now a.value c.in_ok-s-in-Set.s c.in_ok-s-in-Set.ensures c.deref-in-Set-2.ensures in
     two c.in_ok-u-in-Set.u (X >>= λ w. if b then Some w else None) c.in_ok-s-in-Set.s A c.assigned.result (λ w y. assign k.classes c.in-Set.op w y) hu hs
-    (c.assigned.ensures ∙ ap (λ cs. c.in_ok-u-in-Set.u >>= λ w. c.in_ok-s-in-Set.s >>= λ y. assign cs c.in-Set.op w y) c.as_slice-in-Set.ensures)
+    c.assigned.ensures
     ∙ set_type X b A (λ w y. assign k.classes c.in-Set.op w y)
     ∙ sym (ap (type_of s k p c.args.role) (ap (node_tree c.args.e.now.at) c.in-Set.is))
 
@@ -215,7 +215,7 @@ type_of-returns-in_ok-u-in-Item t c =
 pub type_of-returns-in-Items : goal.type_of-returns-in-Items
 type_of-returns-in-Items t c =
     let e = c.args.e.now in
-    let is = ap (λ xs. Items e.at (trees xs)) c.as_slice-in-Items.ensures ∙ sym (items_is e c.in-Items.all c.in-Items.is) in
+    let is = ap (λ xs. Items e.at (trees xs)) c.as_slice.ensures ∙ sym (items_is e c.in-Items.all c.in-Items.is) in
     subst (λ x. IfOk c.list_type.result (λ u. u ≡ type_of c.args.tables.now c.args.known.now (place c.args.scope.now) c.args.role x)) is c.list_type.ensures
 
 pub type_of-returns-then-is_some-2 : goal.type_of-returns-then-is_some-2

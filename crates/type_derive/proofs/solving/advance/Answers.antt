@@ -1,5 +1,6 @@
-use Rattle.std.proofs.Common.{sym, ◌∙◌, subst}
+use Rattle.std.proofs.Common.{sym, ap, ◌∙◌, subst}
 use Rattle.std.specs.Prelude.{true}
+use Rattle.sts_scope.specs.declared.known.Known.{Known}
 use Rattle.sts_scope.specs.Values.{value_at}
 use Rattle.type_derive.specs.Derived.{rule}
 use Rattle.type_derive.specs.Origins.{sources}
@@ -16,5 +17,5 @@ returns-in-Some-clause-moves c =
     let k = c.args.known.now in
     let s = sources c.args.origins.now in
     let hollow = sym (c.kind_at.ensures ∙ known_at k c.args.d) ∙ none_if c.kind_at.result c.is_some.result c.is_some.ensures c.if-is_some.false in
-    subst (λ zs. Moves (rule t f k s) k.kinds zs true) (sym c.set.ensures)
+    subst (λ zs. Moves (rule t f k s) k.kinds zs true) (sym (ap (λ (z : Known). z.kinds) c.set_kind.ensures))
     (said_one (rule t f k s) k.kinds c.args.d c.in-Some.kind (monotone t f k s) c.requires.within hollow (sym c.in_ok-derive.ensures ∙ c.in-Some.is) c.requires.underway)

@@ -15,4 +15,4 @@ loop-i-preserved c =
     let names = names_along which k (drop (length classes - i) classes) in
     along_next which k classes i c.in_ok-names.names (omega arith)
     (c.in_ok-names.ensures ∙ (ap (λ (q : List ℕ). added q c.as_slice-in-loop-i-2.result.now) (c.as_slice-in-loop-i.ensures ∙ c.loop-i.invariant)
-    ∙ ap (λ (q : List ℕ). added names q) (c.as_slice-in-loop-i-2.ensures ∙ (c.in_ok-own.ensures ∙ ap (λ (es : List Entry). own_names which es nearer) c.as_slice.ensures))))
+    ∙ ap (λ (q : List ℕ). added names q) (c.as_slice-in-loop-i-2.ensures ∙ (c.in_ok-own.ensures ∙ ap (λ (es : List Entry). own_names which es nearer) (c.as_slice.ensures ∙ c.entries.ensures)))))

@@ -1,8 +1,8 @@
 use Rattle.std.proofs.Common.{◌≡◌, ◌+◌, ◌-◌, suc, length, ◌∙◌, refl, arith}
 use Rattle.std.proofs.lemmas.Option.{slice_get_read}
 use Rattle.std.specs.Prelude.{slice_get, Some}
-use Rattle.type_derive.proofs.Calling.{maker_step}
-use Rattle.type_derive.proofs.callees.maker_takes.Goals as goal
+use Rattle.sts_scope.proofs.Chains.{maker_step}
+use Rattle.sts_scope.proofs.lookup.maker_takes.Goals as goal
 
 pub loop-preserved : goal.loop-preserved
 loop-preserved c =

@@ -1,7 +1,7 @@
 use Rattle.std.proofs.Common.{◌≡◌, ◌-◌, ◌+◌, ◌==◌, suc, false, length, sym, ◌∙◌, arith}
 use Rattle.std.proofs.lemmas.Grind.{common_steps}
-use Rattle.type_derive.proofs.Going.{reaches_step}
-use Rattle.type_derive.proofs.kinds.reaches.Goals as goal
+use Rattle.sts_scope.proofs.Chains.{reaches_step}
+use Rattle.sts_scope.proofs.lookup.reaches.Goals as goal
 
 pub loop-preserved : goal.loop-preserved
 loop-preserved c =

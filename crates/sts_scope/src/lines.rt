@@ -1,0 +1,334 @@
+// The lines of classes: of each class itself, its base, the base's base, and so on.
+ghost use Rattle.std.specs.Prelude.{◌≡◌, ℕ, ◌+◌, ◌<◌, ◌≤◌, Some, None, length, IfOk, IfSome};
+ghost use Rattle.std.specs.BTreeMap.{get};
+ghost use Rattle.std.specs.Ordering.{nat_cmp};
+ghost use Rattle.made_maps.specs.Nodes.{IsWithin, Stays, found};
+ghost use Rattle.sts_scope.specs.Values.{or_else};
+ghost use Rattle.sts_scope.specs.Lookup as look;
+ghost use Rattle.sts_scope.specs.Bases.{is_endless};
+ghost use Rattle.sts_scope.specs.Rules as rule;
+ghost use Rattle.sts_scope.specs.Lines as lines;
+ghost use Rattle.sts_scope.specs.Lines.{IsLine, AreLines};
+
+use crate::lookup::{base_of, is_endless, maker_takes, reaches};
+use crate::{ClassHead, Kind, SymbolTable, Table};
+use made_maps::MadeMaps;
+use std::alloc::Global;
+use std::collections::BTreeMap;
+use sts_base::NoMemory;
+
+/// What is known of the line of a class, by maps.
+#[derive(Clone, Copy)]
+pub struct Line {
+    /// how many classes stand on it
+    pub len: usize,
+    /// the map of the numbers of these classes
+    pub classes: Option<usize>,
+    /// the map of the members' declarations, by their names: of each name that of the nearest class
+    pub members: Option<usize>,
+    /// the nearest class that has a written constructor
+    pub maker: Option<u32>,
+}
+
+/// Puts the members of a class over those of its base.
+pub fn put_members(
+    maps: &mut MadeMaps,
+    own: &BTreeMap<u32, usize>,
+    base: Option<usize>,
+) -> Result<Option<usize>, NoMemory>
+    requires { IsWithin maps.old base }
+    ensures stays { Stays maps.old maps.new }
+    ensures within { IfOk result (λ made. IsWithin maps.new made) }
+    ensures made { IfOk result (λ made. (x : ℕ) → found maps.new made x ≡ or_else (get nat_cmp own.now x) (found maps.old base x)) }
+{
+    let mut made = base;
+    for (x, d) in own.iter().rev() {
+        made = Some(maps.make(made, *x, *d)?);
+    }
+    Ok(made)
+}
+
+/// The line of a class, where it is known.
+fn line_at(all: &Table<Option<Line>>, c: usize) -> Option<Line>
+    ensures { result ≡ lines.at all.now c }
+{
+    match all.get(c) {
+        None => None,
+        Some(line) => *line,
+    }
+}
+
+/// The line of a class's base, where it is known; that of no base is empty.
+fn line_above(all: &Table<Option<Line>>, base: Option<u32>) -> Option<Line>
+    ensures { result ≡ lines.above all.now base }
+{
+    match base {
+        None => Some(Line {
+            len: 0,
+            classes: None,
+            members: None,
+            maker: None,
+        }),
+        Some(b) => line_at(all, b as usize),
+    }
+}
+
+/// The nearest class with a written constructor, where the base's is known.
+fn nearest_maker(class: &ClassHead, c: u32, above: Option<u32>) -> Option<u32>
+    ensures { result ≡ lines.nearest_maker class.now c above }
+{
+    match class.takes {
+        Some(_) => Some(c),
+        None => above,
+    }
+}
+
+/// The number behind this one, if memory could hold so many.
+fn following(n: usize) -> Result<usize, NoMemory>
+    ensures { IfOk result (λ m. m ≡ n + 1) }
+{
+    match n.checked_add(1) {
+        Some(m) => Ok(m),
+        None => Err(NoMemory),
+    }
+}
+
+/// The line of the class c, where that of its base is known.
+#[tactic(auto, using(crate::proofs::Longer::line_longer, crate::proofs::Longer::lines_stay))]
+fn longer(
+    maps: &mut MadeMaps,
+    entries: &SymbolTable,
+    classes: &[ClassHead],
+    c: u32,
+    above: Line,
+) -> Result<Line, NoMemory>
+    requires there { c < length classes.now }
+    requires above { IsLine entries.now classes.now maps.old (look.base_of classes.now c) above }
+    ensures stays { Stays maps.old maps.new }
+    ensures line { IfOk result (λ line. IsLine entries.now classes.now maps.new (Some c) line) }
+{
+    let len = following(above.len)?;
+    let all = maps.make(above.classes, c, 0)?;
+    let members = entries.put_members(maps, c, above.members)?;
+    let maker = nearest_maker(&classes[c as usize], c, above.maker);
+    Ok(Line {
+        len,
+        classes: Some(all),
+        members,
+        maker,
+    })
+}
+
+/// Notes the line of the class c, if that of its base is known.
+#[tactic(auto, using(crate::proofs::Longer::above_is, crate::proofs::Longer::lines_set, crate::proofs::Longer::lines_stay))]
+fn note_line(
+    maps: &mut MadeMaps,
+    all: &mut Table<Option<Line>>,
+    entries: &SymbolTable,
+    classes: &[ClassHead],
+    c: u32,
+) -> Result<(), NoMemory>
+    requires { AreLines entries.now classes.now maps.old all.old }
+    ensures { AreLines entries.now classes.now maps.new all.new }
+{
+    let at = c as usize;
+    if at >= classes.len() || at >= all.len() {
+        return Ok(());
+    }
+    if let Some(above) = line_above(all, base_of(classes, at)) {
+        let line = longer(maps, entries, classes, c, above)?;
+        all.set(at, Some(line));
+    }
+    Ok(())
+}
+
+/// So many lines, none of which is known.
+#[tactic(auto, using(crate::proofs::Longer::none_more))]
+fn no_lines(alloc: Global, count: usize) -> Result<Table<Option<Line>>, NoMemory>
+    ensures { IfOk result (λ all. (c : ℕ) → lines.at all c ≡ None) }
+{
+    let mut all = Table::new(alloc);
+    for _ in 0..count {
+        all.push(None)?;
+    }
+    Ok(all)
+}
+
+/// The class at a place and its bases that aren't seen yet, the nearest first.
+fn see(
+    seen: &mut [bool],
+    order: &mut Vec<u32>,
+    classes: &[ClassHead],
+    c: u32,
+) -> Result<(), NoMemory> {
+    let mut next = Some(c);
+    for _ in 0..classes.len() {
+        let Some(c) = next else {
+            break;
+        };
+        match seen.get_mut(c as usize) {
+            Some(seen) if !*seen => *seen = true,
+            _ => break,
+        }
+        match order.push(c) {
+            Ok(()) => {}
+            Err(_) => return Err(NoMemory),
+        }
+        next = base_of(classes, c as usize);
+    }
+    Ok(())
+}
+
+/// So many classes, none of which is seen.
+fn none_seen(alloc: Global, count: usize) -> Result<Vec<bool>, NoMemory> {
+    let mut seen = Vec::new(alloc);
+    for _ in 0..count {
+        match seen.push(false) {
+            Ok(()) => {}
+            Err(_) => return Err(NoMemory),
+        }
+    }
+    Ok(seen)
+}
+
+/// Notes the lines of some classes, the last one first.
+fn note_all(
+    maps: &mut MadeMaps,
+    all: &mut Table<Option<Line>>,
+    entries: &SymbolTable,
+    classes: &[ClassHead],
+    order: &mut Vec<u32>,
+) -> Result<(), NoMemory>
+    requires { AreLines entries.now classes.now maps.old all.old }
+    ensures { AreLines entries.now classes.now maps.new all.new }
+{
+    while let Some(c) = order.pop() {
+        note_line(maps, all, entries, classes, c)?;
+    }
+    Ok(())
+}
+
+/// The lines of all classes whose chains of bases end.
+///
+/// A base is noted before the classes over it, each class once. What is noted is right in any order; one whose base is noted later, or never, has no line.
+#[tactic(auto, using(crate::proofs::Longer::none_known))]
+pub fn lines_of(
+    alloc: Global,
+    maps: &mut MadeMaps,
+    entries: &SymbolTable,
+    classes: &[ClassHead],
+) -> Result<Table<Option<Line>>, NoMemory>
+    ensures { IfOk result (λ all. AreLines entries.now classes.now maps.new all) }
+{
+    let mut all = no_lines(alloc, classes.len())?;
+    let mut seen = none_seen(alloc, classes.len())?;
+    let mut order = Vec::new(alloc);
+    for c in 0..classes.len() {
+        match u32::try_from(c) {
+            Ok(c) => see(seen.as_mut_slice(), &mut order, classes, c)?,
+            Err(_) => return Err(NoMemory),
+        }
+        note_all(maps, &mut all, entries, classes, &mut order)?;
+    }
+    Ok(all)
+}
+
+/// The line of a class, where it is known and has at most so many classes.
+fn short_line(all: &Table<Option<Line>>, count: usize, c: usize) -> Option<Line>
+    ensures { IfSome result (λ line. (lines.at all.now c ≡ Some line) × (line.len ≤ count)) }
+{
+    match line_at(all, c) {
+        Some(line) if line.len <= count => Some(line),
+        _ => None,
+    }
+}
+
+/// The member of a name of a class: its own one, else that of the nearest base that has one.
+#[tactic(auto, using(crate::proofs::Longer::member_is))]
+pub fn member_of(
+    maps: &MadeMaps,
+    all: &Table<Option<Line>>,
+    entries: &SymbolTable,
+    classes: &[ClassHead],
+    c: u32,
+    x: u32,
+) -> Option<usize>
+    requires { AreLines entries.now classes.now maps.now all.now }
+    ensures { result ≡ look.member_number entries.now classes.now c x }
+{
+    match short_line(all, classes.len(), c as usize) {
+        Some(line) => maps.get(line.members, x),
+        None => entries.member(classes, c, x),
+    }
+}
+
+/// Whether a class is another, or one of its bases is.
+#[tactic(auto, using(crate::proofs::Longer::reached_is))]
+pub fn is_below(
+    maps: &MadeMaps,
+    all: &Table<Option<Line>>,
+    entries: &SymbolTable,
+    classes: &[ClassHead],
+    m: u32,
+    n: u32,
+) -> bool
+    requires { AreLines entries.now classes.now maps.now all.now }
+    ensures { result ≡ rule.reaches classes.now (length classes.now) m n }
+{
+    match short_line(all, classes.len(), m as usize) {
+        Some(line) => maps.get(line.classes, n).is_some(),
+        None => reaches(classes, m, n),
+    }
+}
+
+/// Whether the chain of a class's bases has no end.
+#[tactic(auto, using(crate::proofs::Longer::ends_is))]
+pub fn has_no_end(
+    maps: &MadeMaps,
+    all: &Table<Option<Line>>,
+    entries: &SymbolTable,
+    classes: &[ClassHead],
+    c: usize,
+) -> bool
+    requires { AreLines entries.now classes.now maps.now all.now }
+    ensures { result ≡ is_endless classes.now c }
+{
+    match short_line(all, classes.len(), c) {
+        Some(_) => false,
+        None => is_endless(classes, c),
+    }
+}
+
+/// What the written constructor of a class takes, if there is one.
+fn written_takes(classes: &[ClassHead], maker: Option<u32>) -> &[Kind]
+    ensures { result.now ≡ lines.takes_of classes.now maker }
+{
+    let Some(m) = maker else {
+        return &[];
+    };
+    match classes.get(m as usize) {
+        None => &[],
+        Some(class) => match &class.takes {
+            None => &[],
+            Some(takes) => takes.as_slice(),
+        },
+    }
+}
+
+/// What the nearest written constructor of a class takes.
+#[tactic(auto, using(crate::proofs::Longer::maker_is))]
+pub fn takes_of<'a>(
+    maps: &MadeMaps,
+    all: &Table<Option<Line>>,
+    entries: &SymbolTable,
+    classes: &'a [ClassHead],
+    c: u32,
+) -> &'a [Kind]
+    requires { AreLines entries.now classes.now maps.now all.now }
+    ensures { result.now ≡ rule.maker_takes_of classes.now c }
+{
+    match short_line(all, classes.len(), c as usize) {
+        Some(line) => written_takes(classes, line.maker),
+        None => maker_takes(classes, c),
+    }
+}
