@@ -73,6 +73,13 @@ kinds = {
     "a chain of classes, a field of the first used": lambda s: halves(
         s, "", lambda i: f"class {name(i)}{extends(i)}{{{'' if i else 'f=1'}}}\n", lambda n: f"let z:{name(max(n - 1, 0))}=null\n", lambda i: "z.f\n"
     ),
+    "a chain of classes, the last goes to the first": lambda s: halves(
+        s, "", lambda i: f"class {name(i)}{extends(i)}{{}}\n", lambda n: f"let y:{name(0)}=null\nlet z:{name(max(n - 1, 0))}=null\n", lambda i: "y=z\n"
+    ),
+    "a chain of classes, the first's constructor called": lambda s: halves(
+        s, "", lambda i: f"class {name(i)}{extends(i)}{{{'' if i else 'constructor(a:number){}'}}}\n", lambda n: f"let y:{name(0)}=null\n", lambda i: f"y=new {name(i)}(1)\n"
+    ),
+    "a chain of classes that comes back": lambda s: circle(s),
     "locals": lambda s: filled(s, "function f(){", lambda i: f"let {name(i)}=1\n", "}")[0],
     "locals, used": lambda s: halves(s, "function f(){", lambda i: f"let {name(i)}=1\n", nothing, lambda i: f"{name(i)}\n", "}"),
     "locals in blocks": lambda s: filled(s, "function f(){", lambda i: f"{{let {name(i)}=1}}\n", "}")[0],
@@ -89,6 +96,11 @@ kinds = {
 def chained(size, head):
     text, count = filled(size - 60, head, lambda i: f"function {name(i)}(){{return {name(i + 1)}()}}\n")
     return text + f"function {name(count)}(){{return {'h()' if head else '1'}}}\n"
+
+
+def circle(size):
+    text, count = filled(size - 60, "class q extends a0{}\n", lambda i: f"class {name(i)} extends {name(i + 1)}{{}}\n")
+    return text + f"class {name(count)} extends q{{}}\n"
 
 
 def seconds(path):
