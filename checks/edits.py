@@ -3,9 +3,9 @@
     checks/edits.sh [NAME..]
 
 An edit has lines 'file: PATH', 'old: TEXT' and 'new: TEXT', each old TEXT once in its file. Several edits are tried in one check where they stand in
-functions of different names. An edit is refused where a function of its name has no proof for a cause of its own. Where the cause is a call of
-another function without a proof, the edit waits for a later round; where its function is proved, or where it stands in no function, it is tried
-alone, and is refused where the crate isn't proved. The last line is 'N refused, M not'.
+functions of different names, one at most in each cycle of calls, of which the prover may fault any function. An edit is refused where a function of its
+name has no proof for a cause of its own. Where the cause is a call of another function without a proof, the edit waits for a later round; where its
+function is proved, or where it stands in no function, it is tried alone, and is refused where the crate isn't proved. The last line is 'N refused, M not'.
 """
 import collections
 import concurrent.futures
@@ -19,7 +19,7 @@ import threading
 
 TOP = os.path.dirname(os.path.dirname(os.path.abspath(__file__)))
 AT_ONCE = 8
-Edit = collections.namedtuple("Edit", "name pairs function")
+Edit = collections.namedtuple("Edit", "name pairs function cycle")
 printing = threading.Lock()
 
 
@@ -77,6 +77,16 @@ def function_of(folder, pairs):
     return names.pop() if len(names) == 1 else None
 
 
+def cycles(folder):
+    """Gives the cycle of calls that each function of one stands in, by the function's name."""
+    found = {}
+    for file in os.listdir(f"{folder}/src"):
+        with open(f"{folder}/src/{file}", encoding="utf-8") as it:
+            marked = re.findall(r"^ *#\[cycle\((\w+)\)\]\n(?: *(?:#\[|///).*\n)* *(?:pub(?:\(crate\))? )?fn (\w+)", it.read(), re.M)
+        found.update({name: cycle for cycle, name in marked})
+    return found
+
+
 def apply(folder, edits):
     """Applies the edits to the copy, and gives the texts from before, or None with the cause where one doesn't fit."""
     kept = {}
@@ -112,15 +122,15 @@ def check(folder):
 
 
 def take(waiting):
-    """Takes edits in functions of different names from the list, or one that is to be tried alone."""
-    batch, names = [], set()
+    """Takes edits in functions of different names and cycles from the list, or one that is to be tried alone."""
+    batch, taken = [], set()
     for edit in list(waiting):
         if edit.function is None and not batch:
             waiting.remove(edit)
             return [edit]
-        if edit.function is not None and edit.function not in names and len(batch) < AT_ONCE:
+        if edit.function is not None and not {edit.function, edit.cycle} & taken and len(batch) < AT_ONCE:
             batch.append(edit)
-            names.add(edit.function)
+            taken |= {edit.function, edit.cycle} - {None}
             waiting.remove(edit)
     return batch
 
@@ -163,10 +173,11 @@ def tried(name, all_, lines):
         copy = f"{room}/crates/{name}"
         if check(copy)[0] is not True:
             return len(files), [f"{name}: the crate itself is not proved"]
-        edits = []
+        edits, around = [], cycles(copy)
         for file in files:
             pairs = read(f"{folder}/edits/{file}")
-            edits.append(Edit(f"{name}/{file}", pairs, function_of(copy, pairs)))
+            function = function_of(copy, pairs)
+            edits.append(Edit(f"{name}/{file}", pairs, function, around.get(function)))
         wrong = verdicts(copy, edits)
     say(f"{name}: {len(files) - len(wrong)} of {len(files)} refused")
     return len(files), wrong
