@@ -13,9 +13,7 @@ pub mod Values
 pub mod Symbols
 pub mod Lines
 pub mod Adding
-pub mod Seen
 pub mod Known
-pub mod Lists
 pub mod Rows
 pub mod Handlers
 pub mod Numbers

@@ -1,4 +1,4 @@
-//! Names, bases and headings of a text: which declarations there are, what they are given, and the first failure.
+//! What a text declares by name, what a name stands for, and the type of a node from those of its parts.
 //! Definitions speak of trees without pointers, of the library's behind which the text's stand.
 #![tactic(auto)]
 
@@ -8,29 +8,31 @@ mod collect;
 mod entries;
 mod environment;
 mod faults;
-mod heading_checks;
+mod kind_rules;
 mod kinds;
 mod known;
 mod lines;
 mod lookup;
-mod names;
 mod numbers;
-mod resolution;
 mod rows;
+mod rules;
 mod symbol_table;
 mod table;
 
 pub use build::{kind_of, written_kind};
 pub use by_number::ByNumber;
-pub use collect::Declared;
+pub use collect::{Declared, declarations_of};
 pub use entries::{ClassHead, Entry, Owner, Sort};
 pub use environment::Environment;
 pub use faults::{or_no_memory, unless};
-pub use heading_checks::check_written;
+pub use kind_rules::{array, below, class_of, flat, goes, is_array, item, same, takes_null};
 pub use kinds::{Base, Kind};
 pub use known::{Found, Known, Local, Part, This};
 pub use lookup::{is_dollar, sort_of};
-pub use resolution::{Scopes, headings, resolve};
 pub use rows::{rows_of_bases, rows_of_headings, rows_of_names};
+pub use rules::{
+    all_go, all_go_to, assign, call_kind, choose, counted, element, items_type, joined, operate,
+    prefix,
+};
 pub use symbol_table::SymbolTable;
 pub use table::Table;

@@ -8,7 +8,7 @@ use Rattle.sts_syntax.specs.Programs.{Program}
 use Rattle.sts_grammar.specs.Deep.{NoneDeep}
 use Rattle.sts_grammar.specs.Texts.{source}
 use Rattle.sts_grammar.specs.Units.{IsProgram}
-use Rattle.type_check.specs.Checking as checking
+use Rattle.sts_whole.specs.Checking as checking
 use Rattle.sts_whole.specs.Accepting.{Reads, Refuses}
 
 pub program_refused : (why : Refused) (text : List ℕ) (tables : Tables) (library : Program) (tokens : List Token) (p : Program) → Reads text tables library tokens → NoneDeep tokens

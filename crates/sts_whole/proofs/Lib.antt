@@ -17,3 +17,13 @@ mod FailurePlaces
 mod PassPlaces
 mod TextPlaces
 pub mod PlaceLaws
+pub mod Checked
+pub mod ClassParts
+pub mod Classes
+pub mod Constructors
+pub mod Counted
+pub mod Globally
+pub mod Initials
+pub mod Items
+pub mod Mains
+pub mod Makers

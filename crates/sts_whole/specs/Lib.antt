@@ -6,3 +6,5 @@ pub mod Programs
 pub mod Accepting
 pub mod Buildable
 pub mod Laws
+pub mod Checking
+pub mod Wholes

@@ -4,13 +4,13 @@ ghost use Rattle.sts_syntax.specs.Programs.{program};
 ghost use Rattle.sts_syntax.specs.TypedViews.{typed_program};
 ghost use Rattle.sts_whole.specs.Accepting.{Reads, Accepts, Refuses};
 
+use crate::checking::check;
 use parse_unit::parse;
 use std::alloc::Global;
 use sts_base::{NoMemory, Refused, Seq, Tables};
 use sts_lexer::{Token, tokens};
 use sts_prelude::library;
 use sts_syntax::{Typed, Unit};
-use type_check::check;
 
 /// The typed program of tokens, behind the library.
 fn accept_tokens(

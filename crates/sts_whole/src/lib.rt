@@ -4,7 +4,14 @@
 mod accepted_programs;
 mod accepting;
 mod board;
+mod build_classes;
+mod build_globals;
+mod build_initials;
+mod build_makers;
+mod build_parts;
+mod build_program;
 mod building;
+mod checking;
 mod compiled;
 mod program;
 mod reaching;

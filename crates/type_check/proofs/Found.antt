@@ -25,9 +25,9 @@ use Rattle.sts_scope.proofs.Lists.{drop_at, drop_end}
 use Rattle.type_derive.specs.declared.roles.Role.{Role}
 use Rattle.type_derive.specs.declared.roles.Role.TheVariants.{Free, Called}
 use Rattle.type_derive.specs.Typing.{◌>>=◌, Callee, type_of, types_of, role_of, behind, finds, space_of, spelling, constant_of, board_callee, callee_of, called, made, super_method, are_given, board_kind}
-use Rattle.type_check.specs.declared.context.Context.{Context}
+use Rattle.type_derive.specs.declared.context.Context.{Context}
 use Rattle.type_check.specs.declared.seen.Seen.{Seen}
-use Rattle.type_check.specs.Naming.{naming}
+use Rattle.type_derive.specs.Naming.{naming}
 use Rattle.type_check.specs.Contexts.{fault, faults, kinds_of, seen_of}
 
 module _ (c : Context) (p : Place) where

@@ -25,10 +25,10 @@ use Rattle.type_derive.specs.Returns as derive
 use Rattle.type_derive.specs.Returns.{is_alone}
 use Rattle.type_derive.specs.Nodes as node
 use Rattle.type_derive.proofs.Moves.{stays, further, extends_to, after_extends}
-use Rattle.type_check.specs.declared.context.Context.{Context}
+use Rattle.type_derive.specs.declared.context.Context.{Context}
 use Rattle.type_check.specs.Bounds as bounds
 use Rattle.type_check.specs.Seen.{is_test, initial_kind}
-use Rattle.type_check.specs.Naming.{naming}
+use Rattle.type_derive.specs.Naming.{naming}
 use Rattle.type_check.specs.Contexts.{fault, after_first, statement_fault, statements_fault, declaration_fault, declarations_fault, declared, all_declared, after}
 
 module _ (c : Context) where

@@ -25,11 +25,11 @@ use Rattle.type_derive.specs.Shown.{typed_go}
 use Rattle.type_derive.specs.Typing.{types_of}
 use Rattle.type_derive.specs.Nodes.{faults, statements_fault}
 use Rattle.type_derive.specs.Passes.{same_kinds, overrides_fault, members_nodes, own_super_call, made_fault, field_fault}
-use Rattle.type_check.specs.declared.context.Context.{Context}
+use Rattle.type_derive.specs.declared.context.Context.{Context}
 use Rattle.type_check.specs.Bounds.{is_present, bound_fault}
-use Rattle.type_check.specs.Naming.{naming}
+use Rattle.type_derive.specs.Naming.{naming}
 use Rattle.type_check.specs.Contexts.{initial_fault}
-use Rattle.type_check.specs.Heads.{SuperHead, head_of}
+use Rattle.type_derive.specs.Heads.{SuperHead, head_of}
 use Rattle.type_check.specs.Seen.{fit_all, kinds_given, initial_kind}
 use Rattle.type_check.specs.Texts.{override_fault, member_nodes, super_fault, unmade_fault}
 use Rattle.type_check.proofs.Calls.{fits}

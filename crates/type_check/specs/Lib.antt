@@ -2,10 +2,3 @@ pub mod Contexts
 pub mod Seen
 pub mod Bounds
 pub mod Texts
-pub mod Checking
-pub mod Calls
-pub mod Naming
-pub mod Heads
-pub mod Sites
-pub mod Steps
-pub mod Wholes

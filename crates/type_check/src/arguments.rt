@@ -6,15 +6,14 @@ ghost use Rattle.type_derive.specs.Nodes as node;
 ghost use Rattle.type_derive.specs.Scopes.{place};
 ghost use Rattle.type_derive.specs.Shown.{shown};
 ghost use Rattle.type_derive.specs.Typing as typing;
-ghost use Rattle.type_check.specs.Naming.{naming};
+ghost use Rattle.type_derive.specs.Naming.{naming};
 ghost use Rattle.type_check.specs.Seen.{fit_all, fit_one, listed_kind, called_kind, kinds_given, lacks_here, fits_place};
 
-use crate::context::Context;
 use sts_base::NoMemory;
-use sts_scope::{Base, Environment, Kind};
+use sts_scope::{Base, Environment, Kind, flat};
 use sts_syntax::{BoardParameter, Expr, Node};
 use type_derive::{
-    Called, Scope, flat, gives_of, goes_some, is_drawing, listed, name_found, serves,
+    Called, Context, Scope, gives_of, goes_some, is_drawing, listed, name_found, serves,
     serves_itself, takes_of,
 };
 

@@ -9,15 +9,16 @@ ghost use Rattle.sts_scope.specs.Values.{value_at};
 ghost use Rattle.type_derive.specs.Nodes as node;
 ghost use Rattle.type_derive.specs.Scopes.{place};
 ghost use Rattle.type_check.specs.Bounds as bounds;
-ghost use Rattle.type_check.specs.Naming.{naming};
+ghost use Rattle.type_derive.specs.Naming.{naming};
 
-use crate::context::Context;
 use sts_base::{Code, Refused};
 use sts_scope::{
-    Base, ByNumber, Environment, Kind, check_written, is_dollar, kind_of, or_no_memory, unless,
+    Base, ByNumber, Environment, Kind, flat, goes, is_array, is_dollar, kind_of, or_no_memory,
+    same, unless,
 };
 use sts_syntax::{Param, Shape};
-use type_derive::{Role, Scope, flat, goes, is_array, is_twice, same};
+use text_headings::check_written;
+use type_derive::{Context, Role, Scope, is_twice};
 
 /// The types that are written at the parameters of a function expression.
 pub fn check_parameter_types(classes: &ByNumber, params: &[Param]) -> Result<(), Refused>

@@ -11,7 +11,7 @@ ghost use Rattle.type_derive.specs.Typing as typing;
 ghost use Rattle.sts_scope.specs.Kinds as kind;
 ghost use Rattle.type_check.specs.Bounds.{optional_boxed};
 ghost use Rattle.type_check.specs.Contexts as c;
-ghost use Rattle.type_check.specs.Naming.{naming};
+ghost use Rattle.type_derive.specs.Naming.{naming};
 ghost use Rattle.type_derive.specs.Moves.{Extends};
 ghost use Rattle.type_check.specs.Seen.{is_test, initial_kind};
 
@@ -19,21 +19,19 @@ use crate::bounds::{
     bound, check_local, check_parameter_types, fits, is_boolean, is_list, is_nothing, kind_role,
     shape_role,
 };
-use crate::build_scopes::handler_scope;
-use crate::context::Context;
 use crate::nodes::{
     board_call_seen, bump_kind, call_seen, callee, is_called, is_served, items_seen, leaf_seen,
     make_seen, member_seen, set_kind, settable, super_call_seen,
 };
 use crate::places::enter_loop;
-use crate::results::handler_result;
 use crate::seen::{Seen, always, own, plain};
 use sts_base::{Code, Refused, Seq};
-use sts_scope::{Base, Kind, check_written, is_dollar, or_no_memory, unless};
+use sts_scope::{Base, Kind, flat, is_dollar, or_no_memory, unless};
 use sts_syntax::{Binding, BoardCall, BoardParameter, Body, Expr, Form, Node, Shape, Stmt};
+use text_headings::check_written;
 use type_derive::{
-    Role, Scope, board_callee, both, chosen, constant, declare, enter, flat, indexed, is_alone,
-    is_given, leave, operated, prefixed,
+    Context, Role, Scope, board_callee, both, chosen, constant, declare, enter, handler_result,
+    handler_scope, indexed, is_alone, is_given, leave, operated, prefixed,
 };
 
 /// An expression: its first failure, else its type and what stands behind its dot.

@@ -4,13 +4,13 @@ ghost use Rattle.sts_scope.specs.Faults.{Finds};
 ghost use Rattle.sts_scope.specs.Values.{value_at};
 ghost use Rattle.type_check.specs.Texts.{type_failure};
 
-use crate::context::Context;
 use crate::overrides::check_all_overrides;
 use crate::passes::check_nodes;
 use std::alloc::Global;
 use sts_base::{Refused, Tables};
 use sts_scope::Declared;
 use sts_syntax::Unit;
+use type_derive::Context;
 
 /// The first failure of overriding methods, then of nodes.
 pub fn find_failure(

@@ -13,20 +13,19 @@ ghost use Rattle.type_derive.specs.Shown.{shown, all_shown};
 ghost use Rattle.type_derive.specs.Typing as typing;
 ghost use Rattle.type_derive.specs.Typing.{◌>>=◌ as bind};
 ghost use Rattle.type_check.specs.Contexts as c;
-ghost use Rattle.type_check.specs.Naming.{naming};
+ghost use Rattle.type_derive.specs.Naming.{naming};
 ghost use Rattle.type_check.specs.Seen.{plain, part_at, member, kinds_given, listed_kind, called_kind, own_called_kind, super_callee, board_kind_of};
 
 use crate::arguments::{are_given, call_type, items_kind, lacks_handler};
 use crate::codes::{why_call, why_make, why_name, why_part, why_super, why_this};
-use crate::context::Context;
 use crate::seen::{Seen, always, own, plain};
 use sts_base::{Code, Refused};
-use sts_scope::{Base, Environment, Found, Kind, Part, or_no_memory, unless};
+use sts_scope::{Base, Environment, Found, Kind, Part, assign, counted, or_no_memory, unless};
 use sts_syntax::{BoardCall, Expr, Node};
 use type_derive::{
-    Called, Role, Scope, assign, board_kind, constant, counted, gives_of, made, name_fixed,
-    name_found, name_kind, named_callee, part_callee, part_kind, part_of, part_settable,
-    super_method, this_kind,
+    Called, Context, Role, Scope, board_kind, constant, gives_of, made, name_fixed, name_found,
+    name_kind, named_callee, part_callee, part_kind, part_of, part_settable, super_method,
+    this_kind,
 };
 
 /// Whether it is the place of what is called.

@@ -9,14 +9,13 @@ ghost use Rattle.sts_scope.specs.Faults.{Finds};
 ghost use Rattle.sts_scope.specs.Headings as heading;
 ghost use Rattle.sts_scope.specs.Lookup as look;
 ghost use Rattle.type_derive.specs.Passes as pass;
-ghost use Rattle.type_check.specs.Naming.{naming};
+ghost use Rattle.type_derive.specs.Naming.{naming};
 ghost use Rattle.type_check.specs.Texts.{override_fault};
 
-use crate::context::Context;
 use sts_base::{Code, Refused};
-use sts_scope::{Environment, Kind, unless};
+use sts_scope::{Environment, Kind, same, unless};
 use sts_syntax::{Body, Form, Item, Member, Stmt};
-use type_derive::{kind_at, same, takes_at};
+use type_derive::{Context, kind_at, takes_at};
 
 /// Whether two lists of types are the same.
 fn same_kinds(ss: &[Kind], ts: &[Kind]) -> bool

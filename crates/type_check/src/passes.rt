@@ -10,20 +10,18 @@ ghost use Rattle.sts_scope.specs.declared.known.This.TheVariants as this;
 ghost use Rattle.type_derive.specs.Passes as pass;
 ghost use Rattle.type_derive.specs.Scopes.{place};
 ghost use Rattle.type_check.specs.Contexts as c;
-ghost use Rattle.type_check.specs.Naming.{naming};
+ghost use Rattle.type_derive.specs.Naming.{naming};
 ghost use Rattle.type_check.specs.Texts.{member_nodes, super_fault, unmade_fault};
 
 use crate::arguments::all_go;
 use crate::bounds::bound;
-use crate::build_scopes::{outer_scope, routine_scope};
-use crate::context::Context;
 use crate::fault::{initial, kinds_of, statement, statements};
-use crate::heads::head_of;
 use crate::overrides::{behind_member, class_behind, further, globals_in};
 use sts_base::{Code, Refused};
-use sts_scope::{Base, ClassHead, Kind, This, check_written, or_no_memory, unless};
+use sts_scope::{Base, ClassHead, Kind, This, flat, or_no_memory, unless};
 use sts_syntax::{Binding, Body, Expr, Form, Item, Member, Stmt};
-use type_derive::{Scope, flat, kind_at};
+use text_headings::check_written;
+use type_derive::{Context, Scope, head_of, kind_at, outer_scope, routine_scope};
 
 /// How many nodes may stand in one another. A text's tree has at most 256; there is no stack for many more.
 const ROOM: usize = 1000;

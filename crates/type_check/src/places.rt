@@ -5,8 +5,8 @@ ghost use Rattle.type_derive.specs.Scopes.{place};
 ghost use Rattle.type_check.specs.Bounds as bounds;
 
 use sts_base::Refused;
-use sts_scope::{Kind, or_no_memory};
-use type_derive::{Mark, Scope, declare, enter, is_array, item};
+use sts_scope::{Kind, is_array, item, or_no_memory};
+use type_derive::{Mark, Scope, declare, enter};
 
 /// Begins the body of a loop that goes through what has a type. Gives where the block around it begins.
 pub fn enter_loop(

@@ -6,8 +6,7 @@ ghost use Rattle.sts_scope.specs.Kinds as kind;
 ghost use Rattle.type_check.specs.Seen.{plain};
 
 use sts_base::{Code, Refused};
-use sts_scope::{Base, Kind, Part};
-use type_derive::flat;
+use sts_scope::{Base, Kind, Part, flat};
 
 /// What is seen of an expression that was gone through.
 #[derive(Clone, Copy)]

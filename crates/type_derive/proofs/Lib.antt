@@ -1,14 +1,9 @@
-pub mod Going
-pub mod Layered
 pub mod Named
 pub mod Single
 pub mod Calling
 pub mod Opened
 pub mod Evaluated
 pub mod Moves
-pub mod Gathered
-pub mod Ruled
-pub mod Least
 pub mod Grows
 pub mod ReturnsGrow
 pub mod Rounds

@@ -1,4 +1,3 @@
-pub mod Lent
 pub mod Named
 pub mod Scopes
 pub mod Typing
@@ -6,8 +5,6 @@ pub mod Returns
 pub mod Derived
 pub mod Shown
 pub mod Moves
-pub mod Origins
-pub mod Underway
 pub mod Laws
 pub mod Growth
 pub mod Nodes
@@ -20,3 +17,5 @@ pub mod Accepted
 pub mod Formed
 pub mod Libraries
 pub mod Solved
+pub mod Heads
+pub mod Naming

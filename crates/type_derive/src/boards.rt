@@ -8,12 +8,11 @@ ghost use Rattle.type_derive.specs.Shown.{goes_some, goes_first, row_shown, row_
 ghost use Rattle.type_derive.specs.Typing as typing;
 
 use crate::callees::board_callee;
-use crate::kinds::{flat, goes};
 use crate::roles::Role;
 use crate::scopes::{Scope, name_found, serves};
 use crate::wanted::Wanted;
 use sts_base::{NoMemory, Tables};
-use sts_scope::{Base, Environment, Kind};
+use sts_scope::{Base, Environment, Kind, flat, goes};
 use sts_syntax::{BoardParameter, Body, Expr, Form, Node, Stmt, Ty};
 
 /// Whether a place gives a type.

@@ -9,10 +9,9 @@ ghost use Rattle.type_derive.specs.Typing as typing;
 ghost use Rattle.type_derive.specs.Typing.{◌>>=◌ as bind};
 ghost use Rattle.type_derive.specs.Shown.{shown, all_shown};
 
-use crate::kinds::flat;
 use crate::scopes::{Scope, kind_at, name_found};
 use sts_base::Tables;
-use sts_scope::{Base, Environment, Found, Kind, Part, Sort, This, sort_of};
+use sts_scope::{Base, Environment, Found, Kind, Part, Sort, This, flat, sort_of};
 use sts_syntax::{BoardCall, Expr, Node, board_call, board_constant};
 
 /// What is called, but for calls of the board.

@@ -17,7 +17,6 @@ use crate::callees::{
     Called, constant, gives_of, made, named_callee, part_callee, routine, super_method, takes_of,
 };
 use crate::drawings::is_drawing;
-use crate::kinds::{flat, goes};
 use crate::parts::{assigned, both, bumped, chosen, indexed, listed, operated, prefixed};
 use crate::roles::Role;
 use crate::scopes::{
@@ -25,7 +24,7 @@ use crate::scopes::{
 };
 use crate::wanted::Wanted;
 use sts_base::{NoMemory, Seq, Tables};
-use sts_scope::{Base, Environment, Kind, Part};
+use sts_scope::{Base, Environment, Kind, Part, flat, goes};
 use sts_syntax::{BoardParameter, Expr, Node};
 
 /// What stands behind the dot of what has a type.

@@ -7,7 +7,7 @@ ghost use Rattle.std.specs.Option.{option_to_list};
 ghost use Rattle.sts_scope.specs.Places as name;
 ghost use Rattle.type_derive.specs.Named.{is_around, in_scope, OwnAreNamed};
 
-use crate::layers::Layers;
+use lent_lists::Layers;
 use std::alloc::Global;
 use std::collections::BTreeMap;
 use std::marker::Model;

@@ -4,10 +4,10 @@ ghost use Rattle.sts_scope.specs.Kinds as kind;
 ghost use Rattle.sts_scope.specs.Rules as rule;
 ghost use Rattle.type_derive.specs.Typing.{◌>>=◌ as bind};
 
-use crate::kinds::array;
-use crate::rules::{assign, choose, counted, element, joined, operate, prefix};
 use sts_base::NoMemory;
-use sts_scope::{Environment, Kind};
+use sts_scope::{
+    Environment, Kind, array, assign, choose, counted, element, joined, operate, prefix,
+};
 
 pub fn prefixed(op: u8, s: Option<Kind>) -> Option<Kind>
     ensures { result ≡ bind s (λ s. rule.prefix op s) }

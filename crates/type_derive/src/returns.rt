@@ -9,13 +9,12 @@ ghost use Rattle.type_derive.specs.Moves.{left};
 ghost use Rattle.type_derive.specs.Returns as given;
 
 use crate::evaluation::type_of;
-use crate::kinds::{is_array, item};
 use crate::locals::Mark;
 use crate::roles::Role;
 use crate::scopes::Scope;
 use crate::wanted::Wanted;
 use sts_base::{NoMemory, Tables};
-use sts_scope::{ByNumber, Environment, Kind, Local, kind_of};
+use sts_scope::{ByNumber, Environment, Kind, Local, is_array, item, kind_of};
 use sts_syntax::{Binding, Expr, Form, Node, Shape, Stmt};
 
 /// Whether an initialiser gives no type to what it stands at: `null` or `[]`.

@@ -4,11 +4,11 @@ ghost use Rattle.sts_scope.specs.Places as name;
 ghost use Rattle.sts_scope.specs.Rules as rule;
 ghost use Rattle.type_derive.specs.Scopes.{place};
 
-use crate::kinds::{class_of, flat, is_array, item, same};
 use crate::locals::Locals;
 use sts_base::Tables;
 use sts_scope::{
-    Base, Entry, Environment, Found, Kind, Owner, Part, Sort, This, is_dollar, sort_of,
+    Base, Entry, Environment, Found, Kind, Owner, Part, Sort, This, class_of, flat, is_array,
+    is_dollar, item, same, sort_of,
 };
 
 /// Where something stands.

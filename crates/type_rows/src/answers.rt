@@ -2,10 +2,11 @@
 
 use crate::reading::{Read, no_library, read_text};
 use crate::shown::{write_declared, write_name, write_refusal};
+use derived_types::solve;
 use std::alloc::{AllocError, Global};
 use sts_base::{NoMemory, Refused, Seq, Tables};
-use sts_scope::{Declared, Scopes, headings, resolve};
-use type_derive::solve;
+use sts_scope::Declared;
+use text_headings::{Scopes, headings, resolve};
 
 /// What a text declares, with all types derived.
 fn solved(alloc: Global, text: &Read) -> Result<Declared, Refused> {

@@ -1,7 +1,7 @@
 use Rattle.std.proofs.Common.{◌<◌, ◌≤◌, length, min, sym, ◌∙◌, arith}
 use Rattle.sts_syntax.specs.declared.board_rows.BoardParameter.TheVariants.{Number}
 use Rattle.type_derive.specs.Scopes.{place}
-use Rattle.type_check.specs.Naming.{naming}
+use Rattle.type_derive.specs.Naming.{naming}
 use Rattle.type_check.proofs.Taking.{lacks_found, lacks_missed, lacks_end}
 use Rattle.type_check.proofs.arguments.lacks_handler.Goals as goal
 

@@ -3,7 +3,7 @@ use Rattle.sts_syntax.specs.BoardViews.{board_parameter}
 use Rattle.sts_syntax.specs.Views.{trees}
 use Rattle.type_derive.specs.Nodes as node
 use Rattle.type_derive.specs.Scopes.{place}
-use Rattle.type_check.specs.Naming.{naming}
+use Rattle.type_derive.specs.Naming.{naming}
 use Rattle.type_check.proofs.arguments.lacks_handler.Given as goal
 
 abbrev pub invariant-loop-i : goal.invariant-loop-i

@@ -17,7 +17,7 @@ use Rattle.type_derive.proofs.Moves.{closed, extends_to, after_extends}
 use Rattle.type_derive.proofs.Opened.{block_is, call_is, super_call_is, make_is, items_is}
 use Rattle.type_check.specs.declared.seen.Seen.{Seen}
 use Rattle.type_check.specs.Bounds.{optional_boxed}
-use Rattle.type_check.specs.Naming.{naming}
+use Rattle.type_derive.specs.Naming.{naming}
 use Rattle.type_check.specs.Contexts.{fault, seen_of, taken, handler_fault, statement_fault, statements_fault, declarations_fault, all_declared, after}
 use Rattle.type_check.proofs.Found.{part_kind, part_fault, found_one, found_two, found_three, trees_first, args_step, args_kept, kinds_more, untyped, member_board, member_found, call_found, call_typed, make_found, make_typed, super_found, super_typed, items_found, items_typed}
 use Rattle.type_check.proofs.Steps.{return_is, statements_kept, extends_after, for_is, for_of_step, returned_step, returned_found, first_extends}

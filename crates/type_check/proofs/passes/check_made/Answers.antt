@@ -4,7 +4,7 @@ use Rattle.sts_syntax.specs.Views.{trees, statement, statements}
 use Rattle.sts_scope.specs.Faults.{Finds, ◌then◌}
 use Rattle.type_derive.specs.Passes.{made_fault}
 use Rattle.type_derive.specs.Scopes.{place}
-use Rattle.type_check.specs.Naming.{naming}
+use Rattle.type_derive.specs.Naming.{naming}
 use Rattle.type_check.specs.Contexts.{statements_fault}
 use Rattle.type_check.specs.Texts.{super_fault, unmade_fault}
 use Rattle.type_check.proofs.Texts.{made_without, made_with, statements_first, rest_is}

@@ -1,0 +1,7 @@
+//! The types of declarations whose type isn't written: the least table, in code.
+#![tactic(auto)]
+
+mod origins;
+mod solving;
+
+pub use solving::solve;

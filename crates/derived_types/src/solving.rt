@@ -1,0 +1,303 @@
+// The least table of types: each declaration that others ask for is derived before them, as far as there is an order, and then all are tried until nothing new is said.
+ghost use Rattle.std.specs.Prelude.{◌≡◌, ℕ, ◌≤◌, ◌<◌, None, length, true, false, ◌||◌, OnOk, IfOk};
+ghost use Rattle.sts_syntax.specs.Programs.{program};
+ghost use Rattle.sts_syntax.specs.Views.{parameters};
+ghost use Rattle.sts_scope.specs.Known.{IsDeclared};
+ghost use Rattle.sts_scope.specs.Places as name;
+ghost use Rattle.sts_scope.specs.Values.{value_at};
+ghost use Rattle.type_derive.specs.Derived as derived;
+ghost use Rattle.derived_types.specs.Origins.{source, sources};
+ghost use Rattle.type_derive.specs.Returns as given;
+ghost use Rattle.type_derive.specs.Scopes.{place};
+ghost use Rattle.type_derive.specs.Solved.{IsSolved};
+ghost use Rattle.derived_types.specs.Underway as way;
+ghost use Rattle.derived_types.specs.Underway.{Keeps};
+
+use crate::origins::{Origin, origins_of};
+use std::alloc::Global;
+use sts_base::{NoMemory, Tables};
+use sts_scope::{Base, ByNumber, Declared, Environment, Kind, Table, This, flat, written_kind};
+use sts_syntax::{Param, Unit};
+use type_derive::{Locals, Scope, Wanted, bound, declare, kind_at, returned_in_block};
+
+/// Outside all functions.
+fn outside<'a>(alloc: Global, this: This, library: bool) -> Scope<'a>
+    ensures { place result ≡ name.outside this library None }
+{
+    Scope {
+        locals: Locals::new(alloc),
+        this,
+        gives: None,
+        library,
+    }
+}
+
+/// Where a function's statements begin.
+fn within<'a>(
+    alloc: Global,
+    classes: &ByNumber,
+    params: &[Param],
+    this: This,
+    library: bool,
+) -> Result<Scope<'a>, NoMemory>
+    ensures { IfOk result (λ scope. name.inner (place scope) ≡ given.within (given.parameter_locals (value_at classes.now.values.items) (parameters params.now)) this None library) }
+{
+    let mut scope = outside(alloc, this, library);
+    for i in 0..params.len() {
+        let param = &params[i];
+        let kind = written_kind(classes, &param.shape)?;
+        declare(&mut scope, param.name, kind, false)?;
+    }
+    Ok(scope)
+}
+
+/// The result of a function by the first value that it returns: nothing where none is.
+fn answered(returned: Option<Option<Kind>>) -> Option<Kind>
+    ensures { (tables : _) → (names : _) → (known : _) → result ≡ given.answered tables names known returned }
+{
+    match returned {
+        None => Some(flat(Base::Nothing)),
+        Some(kind) => kind,
+    }
+}
+
+/// The type that follows from an origin.
+fn follow(
+    alloc: Global,
+    wanted: &mut Wanted,
+    classes: &ByNumber,
+    tables: &Tables,
+    known: &Environment,
+    library: bool,
+    origin: &Origin,
+) -> Result<Option<Kind>, NoMemory>
+    ensures { IfOk result (λ kind. kind ≡ derived.follows (value_at classes.now.values.items) tables.now known.now library (source origin.now)) }
+{
+    match origin {
+        Origin::Stated(kind) => Ok(*kind),
+        Origin::Initial(this, first) => {
+            let scope = outside(alloc, *this, library);
+            bound(wanted, classes, tables, known, &scope, &None, first)
+        }
+        Origin::Returns(this, params, all) => {
+            let mut scope = within(alloc, classes, params, *this, library)?;
+            let returned = returned_in_block(wanted, classes, tables, known, &mut scope, all)?;
+            Ok(answered(returned))
+        }
+    }
+}
+
+/// The type that the rule of a declaration gives.
+fn derive(
+    alloc: Global,
+    wanted: &mut Wanted,
+    classes: &ByNumber,
+    tables: &Tables,
+    known: &Environment,
+    origins: &[Origin],
+    d: usize,
+) -> Result<Option<Kind>, NoMemory>
+    ensures { IfOk result (λ kind. kind ≡ derived.rule tables.now (value_at classes.now.values.items) known.now (sources origins.now) known.now.kinds d) }
+{
+    if d < origins.len() {
+        follow(
+            alloc,
+            wanted,
+            classes,
+            tables,
+            known,
+            d < known.library(),
+            &origins[d],
+        )
+    } else {
+        Ok(None)
+    }
+}
+
+/// Derives a declaration that has no type. Whether something new was said.
+fn advance(
+    alloc: Global,
+    wanted: &mut Wanted,
+    classes: &ByNumber,
+    tables: &Tables,
+    known: &mut Environment,
+    origins: &[Origin],
+    d: usize,
+) -> Result<bool, NoMemory>
+    requires within { d < length known.old.kinds }
+    requires underway { way.IsUnderway (derived.rule tables.now (value_at classes.now.values.items) known.old (sources origins.now)) known.old.kinds }
+    ensures moves { IfOk result (λ said. way.Moves (derived.rule tables.now (value_at classes.now.values.items) known.old (sources origins.now)) known.old.kinds known.new.kinds said) }
+    ensures still { IfOk result (λ said. said ≡ false → derived.at known.old.kinds d ≡ None → derived.rule tables.now (value_at classes.now.values.items) known.old (sources origins.now) known.old.kinds d ≡ None) }
+    ensures same { OnOk result (Keeps known.old known.new) }
+{
+    if kind_at(known, d).is_some() {
+        return Ok(false);
+    }
+    match derive(alloc, wanted, classes, tables, known, origins, d)? {
+        None => Ok(false),
+        Some(kind) => {
+            known.set_kind(d, Some(kind));
+            Ok(true)
+        }
+    }
+}
+
+fn either(a: bool, b: bool) -> bool
+    ensures { result ≡ (a || b) }
+{
+    a || b
+}
+
+/// Tries all declarations. Whether something new was said.
+fn round(
+    alloc: Global,
+    wanted: &mut Wanted,
+    classes: &ByNumber,
+    tables: &Tables,
+    known: &mut Environment,
+    origins: &[Origin],
+) -> Result<bool, NoMemory>
+    requires { way.IsUnderway (derived.rule tables.now (value_at classes.now.values.items) known.old (sources origins.now)) known.old.kinds }
+    ensures moves { IfOk result (λ said. way.Moves (derived.rule tables.now (value_at classes.now.values.items) known.old (sources origins.now)) known.old.kinds known.new.kinds said) }
+    ensures still { IfOk result (λ said. said ≡ false → way.IsStill (derived.rule tables.now (value_at classes.now.values.items) known.old (sources origins.now)) known.new.kinds (length known.new.kinds)) }
+    ensures same { OnOk result (Keeps known.old known.new) }
+{
+    let mut said = false;
+    for d in 0..known.kinds().len() {
+        let now = advance(alloc, wanted, classes, tables, known, origins, d)?;
+        said = either(said, now);
+    }
+    Ok(said)
+}
+
+/// Tries all declarations until nothing new is said.
+fn rounds(
+    alloc: Global,
+    wanted: &mut Wanted,
+    classes: &ByNumber,
+    tables: &Tables,
+    known: &mut Environment,
+    origins: &[Origin],
+) -> Result<(), NoMemory>
+    requires { way.IsUnderway (derived.rule tables.now (value_at classes.now.values.items) known.old (sources origins.now)) known.old.kinds }
+    ensures least { OnOk result (derived.IsLeast (derived.rule tables.now (value_at classes.now.values.items) known.old (sources origins.now)) known.new.kinds) }
+    ensures len { OnOk result (length known.new.kinds ≡ length known.old.kinds) }
+    ensures same { OnOk result (Keeps known.old known.new) }
+{
+    while round(alloc, wanted, classes, tables, known, origins)? {}
+    Ok(())
+}
+
+/// Goes on with the declaration that was asked for last, else with one that waited for a type that is known now, else with the next one. The next one behind it.
+fn step(
+    alloc: Global,
+    wanted: &mut Wanted,
+    classes: &ByNumber,
+    tables: &Tables,
+    known: &mut Environment,
+    origins: &[Origin],
+    next: usize,
+) -> Result<usize, NoMemory>
+    requires { way.IsUnderway (derived.rule tables.now (value_at classes.now.values.items) known.old (sources origins.now)) known.old.kinds }
+    ensures underway { OnOk result (way.IsUnderway (derived.rule tables.now (value_at classes.now.values.items) known.old (sources origins.now)) known.new.kinds) }
+    ensures len { OnOk result (length known.new.kinds ≡ length known.old.kinds) }
+    ensures same { OnOk result (Keeps known.old known.new) }
+{
+    match wanted.last() {
+        None => wanted.go_on(next),
+        Some(d) => {
+            let pending = wanted.pending();
+            if d < known.kinds().len() {
+                wanted.begin(d);
+                let said = advance(alloc, wanted, classes, tables, known, origins, d)?;
+                wanted.answer(d, said)?;
+            }
+            if wanted.pending() == pending {
+                wanted.done();
+            }
+            Ok(next)
+        }
+    }
+}
+
+/// Derives declarations, those that others ask for before them.
+fn in_order(
+    alloc: Global,
+    wanted: &mut Wanted,
+    classes: &ByNumber,
+    tables: &Tables,
+    known: &mut Environment,
+    origins: &[Origin],
+) -> Result<(), NoMemory>
+    requires { way.IsUnderway (derived.rule tables.now (value_at classes.now.values.items) known.old (sources origins.now)) known.old.kinds }
+    ensures underway { OnOk result (way.IsUnderway (derived.rule tables.now (value_at classes.now.values.items) known.old (sources origins.now)) known.new.kinds) }
+    ensures len { OnOk result (length known.new.kinds ≡ length known.old.kinds) }
+    ensures same { OnOk result (Keeps known.old known.new) }
+{
+    // Each declaration is asked for once, and gone on with once more for each time that it asks for others or is woken: once for each that it waits for.
+    let mut next = 0;
+    for _ in 0..u64::MAX {
+        if wanted.is_over(next) {
+            break;
+        }
+        next = step(alloc, wanted, classes, tables, known, origins, next)?;
+    }
+    Ok(())
+}
+
+/// So many declarations without a type.
+fn blank(alloc: Global, count: usize) -> Result<Table<Option<Kind>>, NoMemory>
+    ensures none { IfOk result (λ kinds. (d : ℕ) → derived.at kinds d ≡ None) }
+    ensures len { IfOk result (λ kinds. length kinds ≡ count) }
+{
+    let mut kinds = Table::new(alloc);
+    for _ in 0..count {
+        kinds.push(None)?;
+    }
+    Ok(kinds)
+}
+
+/// Derives the types of all declarations from nothing.
+fn derive_all(
+    alloc: Global,
+    classes: &ByNumber,
+    tables: &Tables,
+    known: &mut Environment,
+    origins: &[Origin],
+) -> Result<(), NoMemory>
+    ensures least { OnOk result (derived.IsLeast (derived.rule tables.now (value_at classes.now.values.items) known.old (sources origins.now)) known.new.kinds) }
+    ensures len { OnOk result (length known.new.kinds ≡ length known.old.entries) }
+    ensures same { OnOk result (Keeps known.old known.new) }
+{
+    let count = known.entries().len();
+    let kinds = blank(alloc, count)?;
+    known.set_kinds(kinds);
+    let mut wanted = Wanted::of(alloc, count)?;
+    in_order(alloc, &mut wanted, classes, tables, known, origins)?;
+    rounds(alloc, &mut wanted, classes, tables, known, origins)?;
+    Ok(())
+}
+
+/// Derives the types of all declarations of a library and a text: the least table in which each has the type that its rule gives from the others'.
+///
+/// Want of memory is the only refusal. A declaration that asks for itself, by whatever way, has no type.
+pub fn solve(
+    alloc: Global,
+    library: &Unit,
+    text: &Unit,
+    tables: &Tables,
+    declared: &mut Declared,
+) -> Result<(), NoMemory>
+    requires { IsDeclared (program library.now) (program text.now) declared.old }
+    ensures { OnOk result (IsSolved tables.now (program library.now) (program text.now) declared.new) }
+{
+    let origins = origins_of(alloc, &declared.classes, library, text)?;
+    derive_all(
+        alloc,
+        &declared.classes,
+        tables,
+        &mut declared.known,
+        &origins,
+    )?;
+    Ok(())
+}

@@ -1,0 +1,35 @@
+-- Initialisers, one member after another.
+use Rattle.std.proofs.Common.{◌≡◌, ℕ, suc, ◌+◌, List, [], ◌∷◌, ◌++◌, length, refl, ap, ◌∙◌, arith}
+use Rattle.sts_syntax.specs.declared.trees.Binding.{Binding, out-Binding}
+use Rattle.sts_syntax.specs.declared.typed.TypedStmt.{TypedStmt}
+use Rattle.sts_syntax.specs.Programs.{ClassMember, Field, Method, Constructor}
+use Rattle.sts_syntax.specs.TypedViews.{typed_statement}
+use Rattle.sts_syntax.specs.Views.{declaration, optional_annotation, optional_expression}
+use Rattle.sts_syntax.proofs.Laws.{declaration_parts}
+use Rattle.sts_scope.specs.declared.known.This.TheVariants as this
+use Rattle.sts_scope.specs.Entries.{member_entry}
+use Rattle.sts_scope.specs.Handlers.{member_routines, declared_handlers, routine_handlers}
+use Rattle.typed_trees.specs.declared.build_places.Plan.{Plan}
+use Rattle.typed_trees.specs.Sites as s
+use Rattle.typed_trees.specs.Sites.{naming}
+use Rattle.sts_whole.specs.Wholes as w
+
+pub list_append : (xs : List TypedStmt) (x : TypedStmt) → w.typed_list (xs ++ x ∷ []) ≡ w.typed_list xs ++ typed_statement x ∷ []
+list_append [] x = refl
+list_append (y ∷ xs) x = ap (λ q. typed_statement y ∷ q) (list_append xs x)
+
+pub initial_is : (l : Plan) (c n : ℕ) (a : Binding) → w.initial_made l c n (declaration a)
+    ≡ s.first_made l (w.outer_site (this.Object c)) (optional_annotation (out-Binding a).shape) (optional_expression (out-Binding a).first) 0 n
+unfolding s.first_made
+initial_is l c n a = ap (λ q. w.initial_made l c n q) (declaration_parts a)
+
+pub initials_next : (l : Plan) (c n d : ℕ) (m : ClassMember) (rest : List ClassMember) → w.initials l c n d (m ∷ rest)
+    ≡ w.member_initials l c n d m ++ w.initials l c (n + member_routines m) (d + length (member_entry (naming l) c m)) rest
+initials_next l c n d (Field a) rest =
+    let e : suc d ≡ d + 1 = omega arith in ap (λ q. w.member_initials l c n d (Field a) ++ w.initials l c (n + declared_handlers a) q rest) e
+initials_next l c n d (Method x r) rest =
+    let e : suc d ≡ d + 1 = omega arith in let h : suc n + routine_handlers r ≡ n + suc (routine_handlers r) = omega arith in
+    ap (λ q. w.initials l c (suc n + routine_handlers r) q rest) e ∙ ap (λ q. w.initials l c q (d + 1) rest) h
+initials_next l c n d (Constructor r) rest =
+    let e : d ≡ d + 0 = omega arith in let h : suc n + routine_handlers r ≡ n + suc (routine_handlers r) = omega arith in
+    ap (λ q. w.initials l c (suc n + routine_handlers r) q rest) e ∙ ap (λ q. w.initials l c q (d + 0) rest) h

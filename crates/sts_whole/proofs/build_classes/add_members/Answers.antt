@@ -1,0 +1,22 @@
+use Rattle.std.proofs.Common.{◌+◌, ◌++◌, ◌<◌, drop, length, arith}
+use Rattle.sts_syntax.specs.Programs.{class_member, class_members}
+use Rattle.sts_syntax.specs.TypedViews.{typed_routines}
+use Rattle.typed_trees.specs.Sites.{naming}
+use Rattle.sts_whole.specs.Wholes as w
+use Rattle.sts_whole.proofs.ClassParts.{members_left, declared_left, functions_left, step_list}
+use Rattle.sts_whole.proofs.build_classes.add_members.Goals as goal
+
+pub loop-member-preserved : goal.loop-member-preserved
+loop-member-preserved c =
+    let l = c.args.plan.now in let parts = c.args.parts.now in let k = parts.class in let inits = w.initials_of l parts in
+    let xs = parts.members.now in let i = c.loop-member.member-index in let x = c.member-item.result in
+    let at = c.loop-member.next in let next = c.in_ok-next.next in let h = c.in_ok-next.ensures in let inv = c.loop-member.invariant in
+    let lt : i < length xs = omega (arith, c.loop-member-test.true) in
+    let left = members_left l k inits at.function at.declaration next.function next.declaration xs i x lt c.member-item.is h.function h.declaration in
+    record {
+      routines = step_list (typed_routines c.loop-member.routines) (typed_routines c.add_member.new.routines) (w.members_made l k inits at.function at.declaration (class_members (drop i xs)))
+          (w.member_made l k inits at.function at.declaration (class_member x)) (w.members_made l k inits next.function next.declaration (class_members (drop (i + 1) xs)))
+          (typed_routines c.args.routines.now ++ w.members_made l k inits parts.first.function parts.first.declaration (class_members xs)) inv.routines left c.in_ok-add_member.ensures;
+      declaration = declared_left (naming l) k at.declaration next.declaration xs i x _ lt c.member-item.is h.declaration inv.declaration;
+      function = functions_left at.function next.function xs i x _ lt c.member-item.is h.function inv.function;
+    }

@@ -1,0 +1,13 @@
+use Rattle.std.proofs.Common.{◌≡◌, ◌+◌, ◌++◌, List, drop, map, sym, subst}
+use Rattle.sts_syntax.specs.declared.types.Ty.{Ty}
+use Rattle.sts_syntax.specs.Types as value
+use Rattle.sts_whole.specs.Wholes as w
+use Rattle.sts_whole.proofs.Classes.{next_mapped}
+use Rattle.sts_whole.proofs.build_classes.member_types.Goals as goal
+
+pub loop-name-preserved : goal.loop-name-preserved
+loop-name-preserved c =
+    let f = w.member_kind c.args.plan.now c.args.class in
+    let names = c.args.names.now in let i = c.loop-name.name-index in
+    subst (λ (found : List Ty). value.value_types found ++ map f (drop (i + 1) names) ≡ map f names) (sym c.in_ok-push.ensures.ok)
+    (next_mapped f names i c.loop-name.all c.in_ok-member_type.field-0 c.loop-name-test.true c.loop-name.invariant c.in_ok-member_type.ensures)

@@ -1,0 +1,19 @@
+use Rattle.std.proofs.Common.{sym, subst}
+use Rattle.sts_syntax.specs.TypedTrees.{TypedStatement}
+use Rattle.sts_syntax.specs.TypedViews.{typed_statement}
+use Rattle.sts_syntax.specs.Views.{declarations, statement}
+use Rattle.type_derive.specs.Making.{Making}
+use Rattle.typed_trees.specs.Steps.{IsBuilt}
+use Rattle.sts_whole.proofs.Mains.{main_without, main_with}
+use Rattle.sts_whole.proofs.build_globals.build_main.Goals as goal
+
+pub returns-in_ok-made-in-None : goal.returns-in_ok-made-in-None
+returns-in_ok-made-in-None c =
+    let e = main_without c.args.plan.now c.args.d (statement c.args.a.now) (sym c.in-None.ensures) in
+    subst (λ (f : Making TypedStatement). IsBuilt c.args.builder.now c.build_outer.new.builder f (typed_statement c.in_ok-made-in-None.made)) e c.in_ok-made-in-None.ensures
+
+pub returns-in_ok-made-in-Some : goal.returns-in_ok-made-in-Some
+returns-in_ok-made-in-Some c =
+    let h = c.in-Some.lets in
+    let e = main_with c.args.plan.now c.args.d (statement c.args.a.now) (record { fixed = h.fixed; each = declarations h.each.now }) (sym c.in-Some.ensures) in
+    subst (λ (f : Making TypedStatement). IsBuilt c.args.builder.now c.build_lets.new.builder f (typed_statement c.in_ok-made-in-Some.made)) e c.in_ok-made-in-Some.ensures

@@ -1,0 +1,19 @@
+use Rattle.std.proofs.Common.{◌≡◌, ◌++◌, drop}
+use Rattle.sts_syntax.specs.Programs.{top_levels}
+use Rattle.sts_syntax.specs.Types.{value_types}
+use Rattle.sts_syntax.specs.TypedViews.{typed_routines}
+use Rattle.type_derive.specs.Programs.{◌before◌}
+use Rattle.sts_whole.specs.Wholes as w
+use Rattle.sts_whole.proofs.build_program.add_items.Given as goal
+
+-- what is built, and what is left to build, is the whole
+abbrev pub invariant-loop-item : goal.invariant-loop-item
+invariant-loop-item l =
+    let first = l.initial.whole in
+    let left = w.items_of l.plan l.whole (top_levels (drop l.item-index l.items)) in
+    let all = w.items_of l.plan first (top_levels l.items) in
+    record {
+      stmts : (w.typed_list l.whole.stmts before left.it) ≡ (w.typed_list first.stmts before all.it);
+      locals : value_types l.whole.builder.locals ++ left.locals ≡ value_types first.builder.locals ++ all.locals;
+      routines : typed_routines l.whole.builder.routines ++ left.routines ≡ typed_routines first.builder.routines ++ all.routines;
+    }

@@ -1,0 +1,91 @@
+// How far a walk through the parts of a program is.
+ghost use Rattle.std.specs.Prelude.{◌≡◌, ◌+◌, length, IfOk};
+ghost use Rattle.sts_syntax.specs.Programs.{class_member};
+ghost use Rattle.sts_syntax.specs.Views.{statement};
+ghost use Rattle.sts_scope.specs.Entries as entry;
+ghost use Rattle.sts_scope.specs.Handlers as h;
+ghost use Rattle.typed_trees.specs.Sites.{naming};
+
+use sts_base::{NoMemory, Seq};
+use sts_syntax::{Form, Item, Member, Stmt, TypedStmt};
+use typed_numbers::behind_member;
+use typed_trees::{Builder, Plan};
+
+/// The numbers of the next declaration and the next function.
+#[derive(Clone, Copy)]
+pub struct Next {
+    pub declaration: usize,
+    pub function: u32,
+}
+
+/// A class: its number, its members, and the numbers of the first declaration and the first function in them.
+#[derive(Clone, Copy)]
+pub struct ClassParts<'a> {
+    pub class: u32,
+    pub first: Next,
+    pub members: &'a [Member],
+}
+
+/// What is built of a text: the statements of the main program, its locals and all functions, and which class and declaration come next.
+#[derive(Drop)]
+pub struct Whole {
+    pub stmts: Seq<TypedStmt>,
+    pub builder: Builder,
+    pub class: u32,
+    pub declaration: usize,
+}
+
+/// So many declarations further, if memory could hold so many.
+pub fn further(d: usize, by: usize) -> Result<usize, NoMemory>
+    ensures { IfOk result (λ n. n ≡ d + by) }
+{
+    d.checked_add(by).ok_or(NoMemory)
+}
+
+/// The declaration behind a member; a constructor is none.
+fn declaration_behind(plan: &Plan, class: u32, d: usize, member: &Member) -> Result<usize, NoMemory>
+    ensures { IfOk result (λ n. n ≡ d + length (entry.member_entry (naming plan.now) class (class_member member.now))) }
+{
+    match member {
+        Member::Field(_) => further(d, 1),
+        Member::Method { name: _, body: _ } => further(d, 1),
+        Member::Constructor(_) => Ok(d),
+    }
+}
+
+/// Behind a member of a class.
+pub fn next_member(plan: &Plan, class: u32, next: Next, member: &Member) -> Result<Next, NoMemory>
+    ensures declaration { IfOk result (λ n. n.declaration ≡ next.declaration + length (entry.member_entry (naming plan.now) class (class_member member.now))) }
+    ensures function { IfOk result (λ n. n.function ≡ next.function + h.member_routines (class_member member.now)) }
+{
+    Ok(Next {
+        declaration: declaration_behind(plan, class, next.declaration, member)?,
+        function: behind_member(member, next.function)?,
+    })
+}
+
+/// How many globals a statement of the main program declares.
+#[tactic(auto, using(sts_scope::proofs::Statements::let_count))]
+pub fn globals_in(s: &Stmt) -> usize
+    ensures { result ≡ length (entry.main_entries (statement s.now)) }
+{
+    match &s.form {
+        Form::Let { fixed: _, each } => each.len(),
+        Form::Block(_) => 0,
+        Form::If(_, _, _) => 0,
+        Form::While(_, _) => 0,
+        Form::DoWhile(_, _) => 0,
+        Form::For(_, _, _, _) => 0,
+        Form::ForOf {
+            fixed: _,
+            name: _,
+            list: _,
+            body: _,
+        } => 0,
+        Form::Return(_) => 0,
+        Form::Break => 0,
+        Form::Continue => 0,
+        Form::Plain(_) => 0,
+        Form::Empty => 0,
+    }
+}

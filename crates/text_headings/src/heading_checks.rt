@@ -1,0 +1,322 @@
+// The headings of functions and of members of classes.
+ghost use Rattle.std.specs.Prelude.{◌≡◌, ℕ, ◌+◌, ◌||◌, ◌==◌, ◌≤◌, length, drop, take, is_some, not, false, IfOk, OnOk, IfErr};
+ghost use Rattle.std.specs.BTreeSet.{contains};
+ghost use Rattle.std.specs.Ordering.{nat_cmp};
+ghost use Rattle.sts_syntax.specs.Annotations.{annotation};
+ghost use Rattle.sts_syntax.specs.Views.{declaration, declarations, routine, parameter, parameters, optional_annotation, optional_expression, statement};
+ghost use Rattle.sts_syntax.specs.Programs.{class_member, class_members, top_level, top_levels};
+ghost use Rattle.sts_scope.specs.Values.{value_at};
+ghost use Rattle.sts_scope.specs.Faults.{Finds, ◌then◌, own, unless};
+ghost use Rattle.sts_scope.specs.Entries as entry;
+ghost use Rattle.sts_scope.specs.Lookup as look;
+ghost use Rattle.sts_scope.specs.Headings as heading;
+ghost use Rattle.sts_base.specs.declared.refused.Code.TheVariants as code;
+
+use std::alloc::Global;
+use std::collections::BTreeSet;
+use sts_base::{Code, Refused};
+use sts_scope::{ByNumber, Environment, Owner, unless};
+use sts_syntax::{Binding, Body, Form, Item, Member, Param, Shape, Stmt};
+
+/// The name of a type is known.
+fn check_type(classes: &ByNumber, shape: &Shape) -> Result<(), Refused>
+    ensures { Finds result (heading.type_fault (value_at classes.now.values.items) (annotation shape.now)) }
+{
+    let mut inner = shape;
+    loop {
+        match inner {
+            Shape::List(item) => inner = item,
+            Shape::Named { at, name } => {
+                return unless(classes.get(*name).is_some(), Code::UnknownName, *at);
+            }
+            Shape::Number => return Ok(()),
+            Shape::Boolean => return Ok(()),
+            Shape::Text => return Ok(()),
+            Shape::Nothing => return Ok(()),
+        }
+    }
+}
+
+/// The name of a type that is written is known.
+pub fn check_written(classes: &ByNumber, shape: &Option<Shape>) -> Result<(), Refused>
+    ensures { Finds result (heading.written_fault (value_at classes.now.values.items) (optional_annotation shape.now)) }
+{
+    match shape {
+        None => Ok(()),
+        Some(shape) => check_type(classes, shape),
+    }
+}
+
+/// Notes a name among those of parameters. Whether it is there already.
+fn note(seen: &mut BTreeSet<u32>, x: u32) -> Result<bool, Refused>
+    ensures twice { IfOk result (λ twice. twice ≡ contains nat_cmp seen.old x) }
+    ensures noted { OnOk result ((y : ℕ) → contains nat_cmp seen.new y ≡ (x == y || contains nat_cmp seen.old y)) }
+    ensures err { IfErr result (λ e. e ≡ Refused.NoMemory) }
+{
+    match seen.insert(x) {
+        Ok(added) => Ok(!added),
+        Err(_) => Err(Refused::NoMemory),
+    }
+}
+
+/// A parameter, whose name stands before it already or doesn't.
+fn check_parameter(classes: &ByNumber, twice: bool, p: &Param) -> Result<(), Refused>
+    ensures { Finds result (own (optional_annotation p.now.shape) code.NeedsType p.now.at then unless (not twice) code.TwiceNamed p.now.at then heading.written_fault (value_at classes.now.values.items) (optional_annotation p.now.shape)) }
+{
+    unless(p.shape.is_some(), Code::NeedsType, p.at)?;
+    unless(!twice, Code::TwiceNamed, p.at)?;
+    check_written(classes, &p.shape)
+}
+
+/// The parameters of a function.
+fn check_parameters(alloc: Global, classes: &ByNumber, params: &[Param]) -> Result<(), Refused>
+    ensures { Finds result (heading.parameters_fault (value_at classes.now.values.items) (parameters params.now) 0 (parameters params.now)) }
+{
+    let mut seen = BTreeSet::new(alloc);
+    for i in 0..params.len() {
+        let twice = note(&mut seen, params[i].name)?;
+        check_parameter(classes, twice, &params[i])?;
+    }
+    Ok(())
+}
+
+/// The heading of a function.
+#[tactic(auto, using(sts_syntax::proofs::Laws::routine_parts))]
+fn check_routine(alloc: Global, classes: &ByNumber, body: &Body) -> Result<(), Refused>
+    ensures { Finds result (heading.routine_fault (value_at classes.now.values.items) (routine body.now)) }
+{
+    check_parameters(alloc, classes, body.params.as_slice())?;
+    check_written(classes, &body.gives)
+}
+
+/// A field.
+#[tactic(auto, using(sts_syntax::proofs::Laws::declaration_parts))]
+fn check_field(
+    classes: &ByNumber,
+    known: &Environment,
+    c: u32,
+    d: usize,
+    b: &Binding,
+) -> Result<(), Refused>
+    ensures { Finds result (heading.field_fault (value_at classes.now.values.items) known.now.entries known.now.classes c d (declaration b.now)) }
+{
+    unless(
+        !known.entries().is_second(d, Owner::Class(c), b.name),
+        Code::TwiceNamed,
+        b.at,
+    )?;
+    unless(known.inherited(c, b.name).is_none(), Code::TwiceNamed, b.at)?;
+    unless(
+        b.shape.is_some() || b.first.is_some(),
+        Code::NeedsType,
+        b.at,
+    )?;
+    check_written(classes, &b.shape)
+}
+
+/// A method.
+#[tactic(auto, using(crate::proofs::Parameters::method_at))]
+fn check_method(
+    alloc: Global,
+    classes: &ByNumber,
+    known: &Environment,
+    c: u32,
+    d: usize,
+    x: u32,
+    body: &Body,
+) -> Result<(), Refused>
+    ensures { Finds result (heading.method_fault (value_at classes.now.values.items) known.now.entries known.now.classes c d x (routine body.now)) }
+{
+    let at = body.at;
+    unless(
+        !known.entries().is_second(d, Owner::Class(c), x),
+        Code::TwiceNamed,
+        at,
+    )?;
+    unless(!known.inherits_field(c, x), Code::TwiceNamed, at)?;
+    check_routine(alloc, classes, body)
+}
+
+/// So many declarations further, if memory could hold so many.
+fn further(d: usize, by: usize) -> Result<usize, Refused>
+    ensures ok { IfOk result (λ n. n ≡ d + by) }
+    ensures err { IfErr result (λ e. e ≡ Refused.NoMemory) }
+{
+    match d.checked_add(by) {
+        Some(n) => Ok(n),
+        None => Err(Refused::NoMemory),
+    }
+}
+
+/// A constructor is no second one.
+#[tactic(auto, using(crate::proofs::Parameters::method_at))]
+fn check_constructor(
+    alloc: Global,
+    classes: &ByNumber,
+    made: bool,
+    body: &Body,
+) -> Result<(), Refused>
+    ensures { Finds result (unless (not made) code.TwiceNamed (heading.routine_at (routine body.now)) then heading.routine_fault (value_at classes.now.values.items) (routine body.now)) }
+{
+    let at = body.at;
+    unless(!made, Code::TwiceNamed, at)?;
+    check_routine(alloc, classes, body)
+}
+
+/// A member of the class c; the d-th declaration is the next. How many are declared behind it.
+fn check_member(
+    alloc: Global,
+    classes: &ByNumber,
+    known: &Environment,
+    c: u32,
+    d: usize,
+    made: bool,
+    member: &Member,
+) -> Result<usize, Refused>
+    ensures found { Finds result (heading.member_fault (value_at classes.now.values.items) known.now.entries known.now.classes c d made (class_member member.now)) }
+    ensures next { IfOk result (λ n. n ≡ d + length (entry.member_entry (value_at classes.now.values.items) c (class_member member.now))) }
+{
+    match member {
+        Member::Field(b) => {
+            check_field(classes, known, c, d, b)?;
+            further(d, 1)
+        }
+        Member::Method { name, body } => {
+            check_method(alloc, classes, known, c, d, *name, body)?;
+            further(d, 1)
+        }
+        Member::Constructor(body) => {
+            check_constructor(alloc, classes, made, body)?;
+            Ok(d)
+        }
+    }
+}
+
+/// Whether a member is a constructor.
+fn is_constructor(member: &Member) -> bool
+    ensures { result ≡ heading.is_constructor (class_member member.now) }
+{
+    match member {
+        Member::Field(_) => false,
+        Member::Method { name: _, body: _ } => false,
+        Member::Constructor(_) => true,
+    }
+}
+
+/// The members of a class.
+fn check_members(
+    alloc: Global,
+    classes: &ByNumber,
+    known: &Environment,
+    c: u32,
+    first: usize,
+    members: &[Member],
+) -> Result<usize, Refused>
+    ensures found { Finds result (heading.members_fault (value_at classes.now.values.items) known.now.entries known.now.classes c first false (class_members members.now)) }
+    ensures next { IfOk result (λ n. n ≡ first + length (entry.member_entries (value_at classes.now.values.items) c (class_members members.now))) }
+{
+    let mut d = first;
+    let mut made = false;
+    for i in 0..members.len() {
+        d = check_member(alloc, classes, known, c, d, made, &members[i])?;
+        made = made || is_constructor(&members[i]);
+    }
+    Ok(d)
+}
+
+/// How many globals a statement of the main program declares.
+fn globals_in(s: &Stmt) -> usize
+    ensures { result ≡ length (entry.main_entries (statement s.now)) }
+{
+    match &s.form {
+        Form::Let { fixed: _, each } => each.len(),
+        Form::Block(_) => 0,
+        Form::If(_, _, _) => 0,
+        Form::While(_, _) => 0,
+        Form::DoWhile(_, _) => 0,
+        Form::For(_, _, _, _) => 0,
+        Form::ForOf {
+            fixed: _,
+            name: _,
+            list: _,
+            body: _,
+        } => 0,
+        Form::Return(_) => 0,
+        Form::Break => 0,
+        Form::Continue => 0,
+        Form::Plain(_) => 0,
+        Form::Empty => 0,
+    }
+}
+
+/// A part of a text, before which stand c classes and d declarations. How many are declared behind it.
+fn check_item(
+    alloc: Global,
+    classes: &ByNumber,
+    known: &Environment,
+    c: u32,
+    d: usize,
+    item: &Item,
+) -> Result<usize, Refused>
+    ensures found { Finds result (heading.item_fault (value_at classes.now.values.items) known.now.entries known.now.classes c d (top_level item.now)) }
+    ensures next { IfOk result (λ n. n ≡ d + length (entry.item_entries (value_at classes.now.values.items) c (top_level item.now))) }
+{
+    match item {
+        Item::Class {
+            at: _,
+            name: _,
+            base: _,
+            base_at: _,
+            members,
+        } => {
+            let first = further(d, 1)?;
+            check_members(alloc, classes, known, c, first, members.as_slice())
+        }
+        Item::Function { name: _, body } => {
+            check_routine(alloc, classes, body)?;
+            further(d, 1)
+        }
+        Item::Stmt(s) => further(d, globals_in(s)),
+    }
+}
+
+/// The number of the class behind a part of a text.
+fn class_behind(c: u32, item: &Item) -> Result<u32, Refused>
+    ensures ok { IfOk result (λ n. n ≡ c + entry.classes_in (top_level item.now)) }
+    ensures err { IfErr result (λ e. e ≡ Refused.NoMemory) }
+{
+    match item {
+        Item::Class {
+            at: _,
+            name: _,
+            base: _,
+            base_at: _,
+            members: _,
+        } => match c.checked_add(1) {
+            Some(n) => Ok(n),
+            None => Err(Refused::NoMemory),
+        },
+        Item::Function { name: _, body: _ } => Ok(c),
+        Item::Stmt(_) => Ok(c),
+    }
+}
+
+/// The headings of a text, before which stand so many classes and declarations.
+pub fn check_headings(
+    alloc: Global,
+    classes: &ByNumber,
+    known: &Environment,
+    first_class: u32,
+    first: usize,
+    items: &[Item],
+) -> Result<(), Refused>
+    ensures { Finds result (heading.headings_fault (value_at classes.now.values.items) known.now.entries known.now.classes first_class first (top_levels items.now)) }
+{
+    let mut c = first_class;
+    let mut d = first;
+    for i in 0..items.len() {
+        d = check_item(alloc, classes, known, c, d, &items[i])?;
+        c = class_behind(c, &items[i])?;
+    }
+    Ok(())
+}

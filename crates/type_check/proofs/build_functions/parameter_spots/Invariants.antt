@@ -1,7 +1,0 @@
-use Rattle.std.proofs.Common.{◌≡◌, ◌++◌, drop}
-use Rattle.sts_syntax.specs.Views.{parameters}
-use Rattle.type_derive.specs.Programs.{parameter_spots}
-use Rattle.type_check.proofs.build_functions.parameter_spots.Given as goal
-
-abbrev pub invariant-loop-param : goal.invariant-loop-param
-invariant-loop-param l = l.all ++ parameter_spots l.at (parameters (drop l._param-index l.params)) ≡ parameter_spots l.first (parameters l.params)

@@ -1,6 +1,0 @@
-use Rattle.std.proofs.Common.{rules}
-use Rattle.sts_syntax.proofs.TypedLaws.{typed_call_tree}
-use Rattle.type_check.proofs.build_heads.call_node.Goals as goal
-
-pub returns : goal.returns
-returns c = let k = typed_call_tree c.args.ty c.args.callee c.args.args in search (rules, k)

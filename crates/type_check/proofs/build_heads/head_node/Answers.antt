@@ -1,7 +1,0 @@
-use Rattle.std.proofs.Common.{rules}
-use Rattle.sts_syntax.specs.declared.types.Ty.TheVariants as ty
-use Rattle.sts_syntax.proofs.TypedLaws.{typed_make_tree}
-use Rattle.type_check.proofs.build_heads.head_node.Goals as goal
-
-pub returns-in-Make : goal.returns-in-Make
-returns-in-Make c = let k = typed_make_tree (ty.Class c.in-Make.class) c.in-Make.class c.args.args in search (rules, k)

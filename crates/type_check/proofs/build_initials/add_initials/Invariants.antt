@@ -1,9 +1,0 @@
-use Rattle.std.proofs.Common.{◌≡◌, ◌++◌, drop}
-use Rattle.sts_syntax.specs.Programs.{class_members}
-use Rattle.type_check.specs.Wholes as w
-use Rattle.type_check.proofs.build_initials.add_initials.Given as goal
-
-abbrev pub invariant-loop-member : goal.invariant-loop-member
-invariant-loop-member l =
-    w.typed_list l.all ++ w.initials l.plan l.parts.class l.next.function l.next.declaration (class_members (drop l.member-index l.parts.members.now))
-    ≡ w.typed_list l.fn.all ++ w.initials_of l.plan l.parts

@@ -1,7 +1,0 @@
-use Rattle.std.proofs.Common.{◌≡◌, drop}
-use Rattle.type_derive.specs.Programs.{passed_on}
-use Rattle.type_check.specs.Wholes.{onto}
-use Rattle.type_check.proofs.build_makers.passed_on.Given as goal
-
-abbrev pub invariant-loop-kind : goal.invariant-loop-kind
-invariant-loop-kind l = onto l.all (passed_on l.at (drop l.kind-index l.takes)) ≡ passed_on l.first l.takes

@@ -1,5 +1,0 @@
-use Rattle.type_derive.proofs.Going.{unequal}
-use Rattle.type_derive.proofs.rules.all_go.Goals as goal
-
-pub returns-then-ss-ts : goal.returns-then-ss-ts
-returns-then-ss-ts c = unequal c.args.known.now.classes c.args.ss.now c.args.ts.now c.if-ss-ts.true

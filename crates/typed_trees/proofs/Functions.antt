@@ -1,0 +1,87 @@
+-- Functions, part by part.
+use Rattle.std.proofs.Common.{◌≡◌, ℕ, ◌+◌, ◌<◌, List, [], ◌∷◌, ◌++◌, length, drop, get_or, Option, refl, ap, sym, ◌∙◌, append_assoc}
+use Rattle.std.specs.Prelude.{unwrap_or}
+use Rattle.sts_syntax.specs.declared.types.Ty.{Ty}
+use Rattle.sts_syntax.specs.declared.trees.Param.{Param}
+use Rattle.sts_syntax.specs.Types as value
+use Rattle.sts_syntax.specs.Types.{ValueType}
+use Rattle.sts_syntax.specs.Views.{parameters, optional_annotation}
+use Rattle.sts_scope.specs.declared.kinds.Kind.{Kind}
+use Rattle.sts_scope.specs.Kinds as kind
+use Rattle.sts_scope.specs.Entries.{Naming, written_kind, parameter_kinds}
+use Rattle.sts_syntax.specs.declared.typed.TypedBody.{TypedBody}
+use Rattle.sts_syntax.specs.declared.trees.Body.{Body, out-Body}
+use Rattle.sts_syntax.specs.declared.trees.Stmt.{Stmt}
+use Rattle.sts_syntax.specs.TypedTrees.{TypedRoutine}
+use Rattle.sts_syntax.specs.TypedViews.{typed_routine, typed_routines}
+use Rattle.sts_syntax.specs.Views.{statements, routine}
+use Rattle.sts_syntax.proofs.Laws.{routine_parts}
+use Rattle.std.specs.Prelude.{Bool, false, Result, Ok, Err, OnOk}
+use Rattle.sts_scope.specs.declared.known.This.TheVariants as this
+use Rattle.type_derive.specs.Built as b
+use Rattle.typed_trees.specs.declared.build_places.Plan.{Plan}
+use Rattle.typed_trees.specs.Sites as s
+use Rattle.typed_trees.specs.Sites.{naming}
+use Rattle.typed_trees.specs.Functions as functions
+use Rattle.typed_trees.proofs.Listed.{next_value, drop_next}
+
+-- one parameter's type more
+pub types_next : (names : Naming) (params : List Param) (i : ℕ) (a : Param) (old new : List Ty) (t : Ty) (o : Option Kind) (all : List ValueType) → i < length params → a ≡ get_or params i a
+    → o ≡ written_kind names (optional_annotation a.shape) → value.value_type t ≡ kind.value_type (unwrap_or o kind.nothing) → new ≡ old ++ t ∷ []
+    → value.value_types old ++ kind.value_types (parameter_kinds names (parameters (drop i params))) ≡ all
+    → value.value_types new ++ kind.value_types (parameter_kinds names (parameters (drop (i + 1) params))) ≡ all
+types_next names params i a old new t o all less at w e h inv =
+    let r = drop_next params i less in
+    let same : r.0 ≡ a = sym (r.1 a) ∙ sym at in
+    let rest = kind.value_types (parameter_kinds names (parameters (drop (i + 1) params))) in
+    let v = kind.value_type (unwrap_or (written_kind names (optional_annotation a.shape)) kind.nothing) in
+    let m : kind.value_types (parameter_kinds names (parameters (drop i params))) ≡ v ∷ rest =
+    ap (λ (q : List Param). kind.value_types (parameter_kinds names (parameters q))) r.2
+    ∙ ap (λ (q : Param). kind.value_type (unwrap_or (written_kind names (optional_annotation q.shape)) kind.nothing) ∷ rest) same in
+    ap (λ q. value.value_types q ++ rest) h
+    ∙ next_value old t v rest all (ap (λ q. value.value_types old ++ q) (sym m) ∙ inv) (e ∙ ap (λ q. kind.value_type (unwrap_or q kind.nothing)) w)
+
+pub routines_append : (xs ys : List TypedBody) → typed_routines (xs ++ ys) ≡ typed_routines xs ++ typed_routines ys
+routines_append [] ys = refl
+routines_append (x ∷ xs) ys = ap (λ q. typed_routine x ∷ q) (routines_append xs ys)
+
+-- a function is put behind others, and those that stand in it behind it
+pub added : (old mid new inner : List TypedBody) (own : TypedBody) → mid ≡ old ++ own ∷ [] → new ≡ mid ++ inner → typed_routines new ≡ typed_routines old ++ (typed_routine own ∷ typed_routines inner)
+added old mid new inner own e h =
+    ap (λ q. typed_routines q) h
+    ∙ (routines_append mid inner ∙ (ap (λ q. q ++ typed_routines inner) (ap (λ q. typed_routines q) e ∙ routines_append old (own ∷ []))
+    ∙ append_assoc (typed_routines old) (typed_routine own ∷ []) (typed_routines inner)))
+
+-- a function with these parameters and this result, whose statements stand there, and those in it
+abbrev both : Plan → ℕ → List ValueType → ValueType → b.Site → List Stmt → List TypedRoutine
+both l n vs v st all = let m = functions.routine l vs v (s.statements_made l st (statements all)) n in m.it ∷ m.routines
+
+both_is : (l : Plan) (n : ℕ) (vs vs' : List ValueType) (v v' : ValueType) (st st' : b.Site) (all all' : List Stmt) (own : TypedBody) (inner : List TypedBody)
+    → typed_routine own ≡ (functions.routine l vs v (s.statements_made l st (statements all)) n).it → typed_routines inner ≡ (functions.routine l vs v (s.statements_made l st (statements all)) n).routines
+    → vs ≡ vs' → v ≡ v' → st ≡ st' → all ≡ all' → (typed_routine own ∷ typed_routines inner) ≡ both l n vs' v' st' all'
+both_is l n vs vs' v v' st st' all all' own inner eo ei e1 e2 e3 e4 =
+    let m = functions.routine l vs v (s.statements_made l st (statements all)) n in
+    (ap (λ q. q ∷ typed_routines inner) eo ∙ ap (λ q. m.it ∷ q) ei)
+    ∙ (ap (λ q. both l n q v st all) e1 ∙ (ap (λ q. both l n vs' q st all) e2 ∙ (ap (λ q. both l n vs' v' q all) e3 ∙ ap (λ q. both l n vs' v' st' q) e4)))
+
+pub function_is : (l : Plan) (library : Bool) (n : ℕ) (gives : Option Kind) (body : Body) (vs : List ValueType) (v : ValueType) (st : b.Site) (all : List Stmt) (own : TypedBody) (inner : List TypedBody)
+    → typed_routine own ≡ (functions.routine l vs v (s.statements_made l st (statements all)) n).it → typed_routines inner ≡ (functions.routine l vs v (s.statements_made l st (statements all)) n).routines
+    → vs ≡ kind.value_types (parameter_kinds (naming l) (parameters (out-Body body).params)) → v ≡ functions.class_result l gives → st ≡ functions.site_of l this.Nowhere gives library 0 (parameters (out-Body body).params) → all ≡ (out-Body body).stmts
+    → (typed_routine own ∷ typed_routines inner) ≡ functions.function_made l library n gives (routine body)
+unfolding s.statements_made
+function_is l library n gives body vs v st all own inner eo ei e1 e2 e3 e4 =
+    both_is l n vs _ v _ st _ all _ own inner eo ei e1 e2 e3 e4 ∙ sym (ap (λ q. functions.function_made l library n gives q) (routine_parts body))
+
+pub method_is : (l : Plan) (class n : ℕ) (gives : Option Kind) (body : Body) (vs : List ValueType) (v : ValueType) (st : b.Site) (all : List Stmt) (own : TypedBody) (inner : List TypedBody)
+    → typed_routine own ≡ (functions.routine l vs v (s.statements_made l st (statements all)) n).it → typed_routines inner ≡ (functions.routine l vs v (s.statements_made l st (statements all)) n).routines
+    → vs ≡ value.Object class ∷ kind.value_types (parameter_kinds (naming l) (parameters (out-Body body).params)) → v ≡ functions.class_result l gives → st ≡ functions.site_of l (this.Object class) gives false 1 (parameters (out-Body body).params) → all ≡ (out-Body body).stmts
+    → (typed_routine own ∷ typed_routines inner) ≡ functions.method_made l class n gives (routine body)
+unfolding s.statements_made
+method_is l class n gives body vs v st all own inner eo ei e1 e2 e3 e4 =
+    both_is l n vs _ v _ st _ all _ own inner eo ei e1 e2 e3 e4 ∙ sym (ap (λ q. functions.method_made l class n gives q) (routine_parts body))
+
+-- what is put behind others is what is made
+pub put_behind : {A E : Type 0} (r : Result A E) (old new : List TypedBody) (own : TypedBody) (inner : List TypedBody) (made : List TypedRoutine)
+    → OnOk r (typed_routines new ≡ typed_routines old ++ (typed_routine own ∷ typed_routines inner)) → (typed_routine own ∷ typed_routines inner) ≡ made → OnOk r (typed_routines new ≡ typed_routines old ++ made)
+put_behind (Ok x) old new own inner made h e = h ∙ ap (λ q. typed_routines old ++ q) e
+put_behind (Err x) old new own inner made h e = tt

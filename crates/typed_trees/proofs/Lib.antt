@@ -1,0 +1,15 @@
+pub mod Blocks
+pub mod BuiltHeads
+pub mod Drawn
+pub mod Forms
+pub mod GivenTrees
+pub mod Globals
+pub mod Leaves
+pub mod Made
+pub mod Passed
+pub mod Pieces
+pub mod Runs
+pub mod Undeclared
+pub mod Values
+pub mod Functions
+pub mod Listed

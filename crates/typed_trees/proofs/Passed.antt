@@ -1,0 +1,43 @@
+-- Nodes with a list, once the list is built.
+use Rattle.std.proofs.Common.{◌≡◌, true, List, [], Option, Some, None, refl, sym, ap, ◌∙◌}
+use Rattle.sts_syntax.specs.declared.typed.TypedExpr.{TypedExpr}
+use Rattle.sts_syntax.specs.Types.{ValueType}
+use Rattle.sts_syntax.specs.TypedTrees.{TypedTree, TypedTrees}
+use Rattle.sts_syntax.specs.TypedViews.{typed_trees}
+use Rattle.sts_syntax.specs.Trees.{Tree, Trees}
+use Rattle.sts_scope.specs.declared.kinds.Kind.{Kind}
+use Rattle.type_derive.specs.Built as b
+use Rattle.typed_trees.specs.declared.build_heads.Head.{Head}
+use Rattle.typed_trees.specs.declared.build_places.Builder.{Builder}
+use Rattle.typed_trees.specs.declared.build_places.Plan.{Plan}
+use Rattle.typed_trees.specs.Calls.{Kinds, behind_made, passed_made, head_made, head_of, head_node, has_list, type_noted}
+use Rattle.typed_trees.specs.Sites.{tree_made, tree_kind, given_made}
+use Rattle.typed_trees.specs.Steps.{IsBuilt}
+use Rattle.typed_trees.proofs.BuiltHeads.{head_is, kinds_alone}
+use Rattle.typed_trees.proofs.Pieces.{stays, last, via_at}
+
+-- a node of its list
+pub head_built : (p : Plan) (st : b.Site) (g : Option Kind) (x : Tree) (h : Head) (u : ValueType) (b c : Builder) (xs : TypedTrees) (it : TypedTree)
+    → head_of p st x ≡ Some h → has_list x ≡ true → u ≡ type_noted g (tree_kind p st g x) x → it ≡ head_node p u h xs → IsBuilt b c (passed_made p st h x) xs → IsBuilt b c (tree_made p st g x) it
+unfolding head_made
+head_built p st g x h u b c xs it is list type node built =
+    via_at b c (head_made p st u (Some h) x) (tree_made p st g x) (head_node p u h xs) it
+    (ap (λ (v : ValueType). head_made p st v (Some h) x b.local b.function) type ∙ ap (λ (o : Option Head). head_made p st (type_noted g (tree_kind p st g x) x) o x b.local b.function) (sym is)
+    ∙ head_is p st g x b.local b.function list)
+    (sym node) (last b c (passed_made p st h x) (λ ys. head_node p u h ys) xs built)
+
+-- where a tree has a failure
+pub none_built : (p : Plan) (st : b.Site) (g : Option Kind) (x : Tree) (c : Builder) (it : TypedTree)
+    → head_of p st x ≡ None → has_list x ≡ true → it ≡ b.amiss → IsBuilt c c (tree_made p st g x) it
+unfolding head_made
+none_built p st g x c it is list node =
+    let u = type_noted g (tree_kind p st g x) x in
+    via_at c c (head_made p st u None x) (tree_made p st g x) b.amiss it
+    (ap (λ (o : Option Head). head_made p st u o x c.local c.function) (sym is) ∙ head_is p st g x c.local c.function list) (sym node) (stays c b.amiss)
+
+-- arguments to which types are given
+pub given_built : (p : Plan) (st : b.Site) (us : List Kind) (args : Trees) (b c : Builder) (first : List TypedExpr) (it : TypedTrees)
+    → first ≡ [] → IsBuilt b c (behind_made p st (Kinds us) (typed_trees first) args) it → IsBuilt b c (given_made p st us args) it
+given_built p st us args b c first it is built =
+    via_at b c (behind_made p st (Kinds us) (typed_trees first) args) (given_made p st us args) it it
+    (ap (λ (ys : List TypedExpr). behind_made p st (Kinds us) (typed_trees ys) args b.local b.function) is ∙ kinds_alone p st us args b.local b.function) refl built

@@ -1,0 +1,4 @@
+pub mod Calls
+pub mod Sites
+pub mod Steps
+pub mod Functions

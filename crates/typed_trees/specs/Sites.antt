@@ -1,0 +1,167 @@
+-- The definitions of typed trees, over what the builder knows.
+use Rattle.std.specs.Prelude.{◌≡◌, ℕ, Bool, Option, Some, None, List, length, unwrap_or}
+use Rattle.sts_syntax.specs.Annotations.{Annotation}
+use Rattle.sts_syntax.specs.BoardTable.{BoardParameter}
+use Rattle.sts_syntax.specs.Trees.{Tree, Binary, Both, Either, Choice, Item, Set, Trees, OptionalTree, Statement, Statements, OptionalStatement, Declarations, Routine}
+use Rattle.sts_syntax.specs.Types.{ValueType}
+use Rattle.sts_syntax.specs.TypedTrees.{none, more, TypedTree, TypedTrees, TypedStatement, TypedStatements, OptionalTypedStatement, TypedDeclaration, TypedRoutine}
+use Rattle.sts_scope.specs.declared.kinds.Kind.{Kind}
+use Rattle.sts_scope.specs.Kinds.{nothing, value_type, class_of}
+use Rattle.sts_scope.specs.Rules.{part_of}
+use Rattle.sts_scope.specs.declared.known.Found.{Found}
+use Rattle.sts_scope.specs.declared.known.Part.{Part}
+use Rattle.sts_syntax.specs.declared.typed.Spot.{Spot}
+use Rattle.sts_scope.specs.Entries.{Naming}
+use Rattle.sts_scope.specs.Lookup.{is_field}
+use Rattle.sts_scope.specs.Values.{value_at}
+use Rattle.type_derive.specs.declared.roles.Role.{Role}
+use Rattle.type_derive.specs.Built as b
+use Rattle.type_derive.specs.Making.{Made, Making, pure, ◌>=>◌}
+use Rattle.type_derive.specs.Nodes.{kind_role}
+use Rattle.sts_scope.specs.Numbers.{is_method}
+use Rattle.type_derive.specs.Scopes.{place}
+use Rattle.type_derive.specs.Typing as typing
+use Rattle.typed_numbers.specs.Building.{numbering_of, names_upto, globals_from}
+use Rattle.typed_trees.specs.declared.build_places.Plan.{Plan}
+use Rattle.typed_trees.specs.declared.build_places.Site.{Site}
+
+pub record Two (A : Type 0) : Type 0 where
+  pub first : A
+  pub second : A
+
+abbrev pub two : {A : Type 0} → A → A → Two A
+two a c = record { first = a; second = c }
+
+abbrev pub made_of : {A : Type 0} → A → List ValueType → List TypedRoutine → Made A
+made_of x locals routines = record { it = x; locals = locals; routines = routines }
+
+-- which class a name stands for
+abbrev pub naming : Plan → Naming
+naming p = value_at p.classes.now.values.items
+
+-- The names of fields and slots, and the numbers of globals, are those of the declarations.
+pub record IsPlan (p : Plan) : Type 0 where
+  pub fields : p.names.now.fields ≡ names_upto is_field p.known.now (length p.known.now.classes)
+  pub slots : p.names.now.slots ≡ names_upto is_method p.known.now (length p.known.now.classes)
+  pub globals : p.names.now.globals ≡ globals_from 0 p.known.now.entries
+
+abbrev pub site : Site → b.Site
+site s = record { place = place s.scope; spots = s.spots }
+
+abbrev pub role : Option Kind → Role
+role given = kind_role given
+
+unfoldable pub tree_kind : Plan → b.Site → Option Kind → Tree → Option Kind
+tree_kind p s g e = typing.type_of p.tables.now p.known.now s.place (kind_role g) e
+
+unfoldable pub tree_made : Plan → b.Site → Option Kind → Tree → Making TypedTree
+tree_made p = b.made_tree p.tables.now (naming p) p.known.now (numbering_of p.numbers.now)
+
+-- the type that is noted where this one was found, or none
+abbrev pub noted : Option Kind → ValueType
+noted of = value_type (unwrap_or of nothing)
+
+-- the operands of an expression that has two, those of a choice behind its test, and the type that is given to the second one's place
+abbrev pub first_of : Tree → Tree
+first_of (Binary at op a c) = a
+first_of (Both at a c) = a
+first_of (Either at a c) = a
+first_of (Item at a c) = a
+first_of (Set at op a c) = a
+first_of (Choice at q a c) = a
+first_of x = x
+
+abbrev pub second_of : Tree → Tree
+second_of (Binary at op a c) = c
+second_of (Both at a c) = c
+second_of (Either at a c) = c
+second_of (Item at a c) = c
+second_of (Set at op a c) = c
+second_of (Choice at q a c) = c
+second_of x = x
+
+abbrev pub second_given : Plan → b.Site → Tree → Option Kind
+second_given p s (Set at op a c) = Some (unwrap_or (tree_kind p s None a) nothing)
+second_given p s x = None
+
+-- they are made one behind the other
+unfoldable pub two_made : Plan → b.Site → Tree → Making (Two TypedTree)
+two_made p s x = tree_made p s None (first_of x) >=> λ a. tree_made p s (second_given p s x) (second_of x) >=> λ c. pure (two a c)
+
+-- a choice's test, and the two behind it
+pub record Three : Type 0 where
+  pub test : TypedTree
+  pub parts : Two TypedTree
+
+abbrev pub three : TypedTree → Two TypedTree → Three
+three z w = record { test = z; parts = w }
+
+abbrev pub test_of : Tree → Tree
+test_of (Choice at q a c) = q
+test_of x = x
+
+unfoldable pub three_made : Plan → b.Site → Tree → Making Three
+three_made p s x = tree_made p s None (test_of x) >=> λ z. two_made p s x >=> λ w. pure (three z w)
+
+unfoldable pub given_made : Plan → b.Site → List Kind → Trees → Making TypedTrees
+given_made p = b.made_given p.tables.now (naming p) p.known.now (numbering_of p.numbers.now)
+
+unfoldable pub items_made : Plan → b.Site → Kind → Trees → Making TypedTrees
+items_made p = b.made_items p.tables.now (naming p) p.known.now (numbering_of p.numbers.now)
+
+unfoldable pub asked_made : Plan → b.Site → List BoardParameter → Trees → Making TypedTrees
+asked_made p = b.made_asked p.tables.now (naming p) p.known.now (numbering_of p.numbers.now)
+
+unfoldable pub body_made : Plan → b.Site → Routine → Making TypedStatements
+body_made p = b.made_body p.tables.now (naming p) p.known.now (numbering_of p.numbers.now)
+
+unfoldable pub first_made : Plan → b.Site → Option Annotation → OptionalTree → Making (Option TypedTree)
+first_made p = b.made_first p.tables.now (naming p) p.known.now (numbering_of p.numbers.now)
+
+unfoldable pub optional_made : Plan → b.Site → OptionalTree → Making (Option TypedTree)
+optional_made p = b.made_optional p.tables.now (naming p) p.known.now (numbering_of p.numbers.now)
+
+unfoldable pub value_made : Plan → b.Site → Option Kind → OptionalTree → Making (Option TypedTree)
+value_made p = b.made_value p.tables.now (naming p) p.known.now (numbering_of p.numbers.now)
+
+unfoldable pub locals_made : Plan → b.Site → Bool → Declarations → Making (List TypedDeclaration)
+locals_made p = b.made_locals p.tables.now (naming p) p.known.now (numbering_of p.numbers.now)
+
+unfoldable pub statement_made : Plan → b.Site → Statement → Making TypedStatement
+statement_made p = b.made_statement p.tables.now (naming p) p.known.now (numbering_of p.numbers.now)
+
+unfoldable pub opening_made : Plan → b.Site → OptionalStatement → Making OptionalTypedStatement
+opening_made p = b.made_opening p.tables.now (naming p) p.known.now (numbering_of p.numbers.now)
+
+unfoldable pub statements_made : Plan → b.Site → Statements → Making TypedStatements
+statements_made p = b.made_statements p.tables.now (naming p) p.known.now (numbering_of p.numbers.now)
+
+-- where what follows a statement stands, whose first local has this number
+abbrev pub behind : Plan → ℕ → b.Site → Statement → b.Site
+behind p = b.behind_statement p.tables.now (naming p) p.known.now (numbering_of p.numbers.now)
+
+abbrev pub behind_first : Plan → ℕ → b.Site → OptionalStatement → b.Site
+behind_first p = b.first_site p.tables.now (naming p) p.known.now (numbering_of p.numbers.now)
+
+-- where a name's value is
+abbrev pub spot_of : Plan → b.Site → Found → Spot
+spot_of p = b.spot_of p.tables.now (naming p) p.known.now (numbering_of p.numbers.now)
+
+-- a member that is read
+abbrev pub member_read : Plan → ValueType → Part → ℕ → ℕ → TypedTree → TypedTree
+member_read p = b.member_read p.tables.now (naming p) p.known.now (numbering_of p.numbers.now)
+
+abbrev pub part_behind : Plan → Option Kind → ℕ → Part
+part_behind p of m = part_of p.tables.now.names p.known.now (unwrap_or of nothing) m
+
+abbrev pub class_behind : Option Kind → ℕ
+class_behind of = unwrap_or (class_of (unwrap_or of nothing)) 0
+
+-- typed trees behind others
+abbrev pub joined : TypedTrees → TypedTrees → TypedTrees
+joined none rest = rest
+joined (more x xs) rest = more x (joined xs rest)
+
+-- the class that `new` makes an object of
+abbrev pub class_found : Plan → Found → ℕ
+class_found p = b.class_found p.tables.now (naming p) p.known.now (numbering_of p.numbers.now)

@@ -1,0 +1,198 @@
+// Expressions of a list: what is given to the place of each, and those that are there without being built.
+ghost use Rattle.std.specs.Prelude.{◌≡◌, ◌+◌, ◌*◌, ◌==◌, pos, slice_get, IfOk, if◌then◌else◌};
+ghost use Rattle.std.specs.Option.{option_map};
+ghost use Rattle.sts_syntax.specs.BoardViews.{board_parameter};
+ghost use Rattle.sts_syntax.specs.TypedViews.{typed_tree};
+ghost use Rattle.sts_syntax.specs.Views.{tree};
+ghost use Rattle.type_derive.specs.Built as b;
+ghost use Rattle.type_derive.specs.Typing as typing;
+ghost use Rattle.typed_trees.specs.Calls as call;
+ghost use Rattle.typed_trees.specs.Sites as s;
+
+use crate::build_numbers::routine_number;
+use crate::build_places::{Plan, Site};
+use sts_base::{NoMemory, Tables};
+use sts_scope::{Base, Found, Kind, flat};
+use sts_syntax::{BoardParameter, Expr, Node, Ty, TypedExpr, TypedNode};
+use type_derive::name_found;
+
+/// What is given to the places of a list.
+#[derive(Clone, Copy)]
+pub enum Takes<'a> {
+    /// each its type
+    Given(&'a [Kind]),
+    /// all behind the first one that one's type
+    Alike(Kind),
+    /// what a call of the board asks for
+    Asked(&'a [BoardParameter]),
+}
+
+/// An expression of a list.
+#[derive(Drop)]
+pub enum Planned {
+    /// it is to be built, where this type is given to its place
+    Built(Option<Kind>),
+    /// it is there already
+    There(TypedExpr),
+}
+
+/// What is planned of the i-th expression of a list.
+pub fn plan_argument(
+    plan: &Plan,
+    site: &Site,
+    takes: Takes,
+    i: usize,
+    a: &Expr,
+) -> Result<Planned, NoMemory>
+    ensures { IfOk result (λ r. call.planned_made plan.now (s.site site.now) r (tree a.now) ≡ call.argument_made plan.now (s.site site.now) (call.places takes.entry) i (tree a.now)) }
+{
+    match takes {
+        Takes::Given(takes) => Ok(Planned::Built(given_at(takes, i))),
+        Takes::Alike(kind) => Ok(Planned::Built(alike_given(i, kind))),
+        Takes::Asked(takes) => asked_one(plan, site, asked_at(takes, i), a),
+    }
+}
+
+/// The type that is given to the i-th place.
+fn given_at(takes: &[Kind], i: usize) -> Option<Kind>
+    ensures { result ≡ slice_get takes.now i }
+{
+    match takes.get(i) {
+        None => None,
+        Some(kind) => Some(*kind),
+    }
+}
+
+/// The type that is given to the i-th item of an array.
+fn alike_given(i: usize, kind: Kind) -> Option<Kind>
+    ensures { result ≡ call.alike_given i kind }
+{
+    if i == 0 { None } else { Some(kind) }
+}
+
+/// What is asked for at the i-th place.
+fn asked_at(takes: &[BoardParameter], i: usize) -> Option<BoardParameter>
+    ensures { result ≡ slice_get takes.now i }
+{
+    match takes.get(i) {
+        None => None,
+        Some(parameter) => Some(*parameter),
+    }
+}
+
+/// What is planned of an argument of a call of the board.
+fn asked_one(
+    plan: &Plan,
+    site: &Site,
+    asked: Option<BoardParameter>,
+    a: &Expr,
+) -> Result<Planned, NoMemory>
+    ensures { IfOk result (λ r. call.planned_made plan.now (s.site site.now) r (tree a.now) ≡ call.asked_one plan.now (s.site site.now) (option_map board_parameter asked) (tree a.now)) }
+{
+    match asked {
+        None => Ok(Planned::Built(None)),
+        Some(BoardParameter::Number) => Ok(Planned::Built(Some(flat(Base::Number)))),
+        Some(BoardParameter::Text) => Ok(Planned::Built(Some(flat(Base::Text)))),
+        Some(BoardParameter::Handler) => Ok(served(plan, site, a)),
+        Some(BoardParameter::Drawing) => Ok(Planned::There(drawing(plan, a)?)),
+    }
+}
+
+/// What serves events: a function expression is built, else it is a function's name.
+fn served(plan: &Plan, site: &Site, a: &Expr) -> Planned
+    ensures { call.planned_made plan.now (s.site site.now) result (tree a.now) ≡ call.served plan.now (s.site site.now) (tree a.now) }
+{
+    match &a.node {
+        Node::Handler(_) => Planned::Built(None),
+        Node::Name(x) => Planned::There(TypedExpr {
+            ty: Ty::Nothing,
+            node: TypedNode::Handler(routine_of(
+                plan,
+                name_found(plan.tables, plan.known, &site.scope, *x),
+            )),
+        }),
+        _ => Planned::There(amiss()),
+    }
+}
+
+/// What stands where a tree has a failure.
+pub fn amiss() -> TypedExpr
+    ensures { typed_tree result ≡ b.amiss }
+{
+    TypedExpr {
+        ty: Ty::Null,
+        node: TypedNode::Null,
+    }
+}
+
+/// The number of the function that a name stands for.
+pub fn routine_of(plan: &Plan, found: Found) -> u32
+    ensures { result ≡ call.routine_of plan.now found }
+{
+    match found {
+        Found::Function(d) => routine_number(plan.numbers, d),
+        Found::Local(_) => 0,
+        Found::Captured => 0,
+        Found::Global(_) => 0,
+        Found::Class(_) => 0,
+        Found::Unknown => 0,
+    }
+}
+
+/// The bytes of a text; none where it has no number in the table.
+fn text_at(tables: &Tables, text: u32) -> &[u8]
+    ensures { result.now ≡ typing.text_at tables.now text }
+{
+    match tables.texts.get(text as usize) {
+        None => &[],
+        Some(bytes) => bytes.as_slice(),
+    }
+}
+
+/// A frame with one light more before it, unless the byte is white space. A frame of more than 31 lights has no number.
+fn light(frame: u32, byte: u8) -> Result<u32, NoMemory>
+    ensures { IfOk result (λ n. n ≡ (if typing.is_white byte then frame else (if byte == 35 then 1 else 0) + 2 * frame)) }
+{
+    if byte == 32 || byte == 9 || byte == 10 || byte == 13 {
+        return Ok(frame);
+    }
+    if frame > 0x3FFF_FFFF {
+        return Err(NoMemory);
+    }
+    if byte == 35 {
+        Ok(1 + 2 * frame)
+    } else {
+        Ok(2 * frame)
+    }
+}
+
+/// The frame that a text draws.
+#[tactic(auto, using(crate::proofs::Drawn::light_more, crate::proofs::Drawn::none_drawn))]
+fn frame_of(bytes: &[u8]) -> Result<i32, NoMemory>
+    ensures { IfOk result (λ z. z ≡ pos (b.frame_of (typing.drawn bytes.now))) }
+{
+    let mut frame: u32 = 0;
+    for i in 0..bytes.len() {
+        frame = light(frame, bytes[bytes.len() - 1 - i])?;
+    }
+    match i32::try_from(frame) {
+        Ok(frame) => Ok(frame),
+        Err(_) => Err(NoMemory),
+    }
+}
+
+/// A drawing, as the number of its frame.
+fn drawing(plan: &Plan, a: &Expr) -> Result<TypedExpr, NoMemory>
+    ensures { IfOk result (λ r. typed_tree r ≡ call.drawing plan.now (tree a.now)) }
+{
+    match &a.node {
+        Node::Text(text) => {
+            let frame = frame_of(text_at(plan.tables, *text))?;
+            Ok(TypedExpr {
+                ty: Ty::Number,
+                node: TypedNode::Num(frame),
+            })
+        }
+        _ => Ok(amiss()),
+    }
+}

@@ -1,0 +1,87 @@
+// Typed statements and locals, made of their parts.
+ghost use Rattle.std.specs.Prelude.{◌≡◌, ◌+◌, ◌++◌, ◌∷◌, [], Ok, IfOk, OnOk};
+ghost use Rattle.sts_syntax.specs.Types as value;
+ghost use Rattle.sts_syntax.specs.Types.{value_types};
+ghost use Rattle.sts_syntax.specs.TypedTrees as t;
+ghost use Rattle.sts_syntax.specs.TypedViews.{typed_statement, typed_statements};
+ghost use Rattle.typed_trees.specs.Sites as s;
+
+use crate::build_nodes::{boxed, noted_type};
+use crate::build_places::Builder;
+use std::alloc::Global;
+use sts_base::{NoMemory, Seq};
+use sts_scope::Kind;
+use sts_syntax::{Ty, TypedStmt};
+use typed_numbers::one_more;
+
+/// What is kept, beside what else was made, else neither. A generic function, in which no form of tree is written out.
+pub fn beside<A: Drop, B: Drop>(kept: A, other: Result<B, NoMemory>) -> Result<(A, B), NoMemory>
+    ensures kept { IfOk result (λ both. both.0 ≡ kept) }
+    ensures other { IfOk result (λ both. other ≡ Ok both.1) }
+{
+    match other {
+        Ok(other) => Ok((kept, other)),
+        Err(_) => Err(NoMemory),
+    }
+}
+
+/// A block of statements.
+#[tactic(auto, using(sts_syntax::proofs::TypedLaws::typed_block_statement))]
+pub fn block_of(all: Seq<TypedStmt>) -> TypedStmt
+    ensures { typed_statement result ≡ t.Block (typed_statements all) }
+{
+    TypedStmt::Block(all)
+}
+
+/// A further local of this type; its number.
+fn add_typed(builder: &mut Builder, ty: Ty) -> Result<u32, NoMemory>
+    ensures number { IfOk result (λ i. i ≡ builder.old.local) }
+    ensures locals { OnOk result (builder.new.locals ≡ builder.old.locals ++ ty ∷ []) }
+    ensures routines { OnOk result (builder.new.routines ≡ builder.old.routines) }
+    ensures local { OnOk result (builder.new.local ≡ builder.old.local + 1) }
+    ensures function { OnOk result (builder.new.function ≡ builder.old.function) }
+{
+    let number = builder.local;
+    let next = one_more(number)?;
+    builder.locals.push(ty)?;
+    builder.local = next;
+    Ok(number)
+}
+
+/// A further local of this kind, or of none; its number.
+#[tactic(auto, using(crate::proofs::Values::values_append))]
+pub fn add_local(alloc: Global, builder: &mut Builder, kind: Option<Kind>) -> Result<u32, NoMemory>
+    ensures number { IfOk result (λ i. i ≡ builder.old.local) }
+    ensures locals { OnOk result (value_types builder.new.locals ≡ value_types builder.old.locals ++ s.noted kind ∷ []) }
+    ensures routines { OnOk result (builder.new.routines ≡ builder.old.routines) }
+    ensures local { OnOk result (builder.new.local ≡ builder.old.local + 1) }
+    ensures function { OnOk result (builder.new.function ≡ builder.old.function) }
+{
+    let ty = noted_type(alloc, kind)?;
+    add_typed(builder, ty)
+}
+
+/// The type of an array of what has a type, else of none.
+fn noted_list_type(alloc: Global, kind: Option<Kind>) -> Result<Ty, NoMemory>
+    ensures { IfOk result (λ ty. value.value_type ty ≡ value.ListOf (s.noted kind)) }
+{
+    let ty = noted_type(alloc, kind)?;
+    let item = boxed(alloc, ty)?;
+    Ok(Ty::List(item))
+}
+
+/// The locals of a loop through an array: the item, the array and how far it is; the number of the first.
+#[tactic(auto, using(crate::proofs::Values::values_append, crate::proofs::Pieces::three))]
+pub fn add_loop(alloc: Global, builder: &mut Builder, kind: Option<Kind>) -> Result<u32, NoMemory>
+    ensures number { IfOk result (λ i. i ≡ builder.old.local) }
+    ensures locals { OnOk result (value_types builder.new.locals ≡ value_types builder.old.locals ++ s.noted kind ∷ value.ListOf (s.noted kind) ∷ value.Number ∷ []) }
+    ensures routines { OnOk result (builder.new.routines ≡ builder.old.routines) }
+    ensures local { OnOk result (builder.new.local ≡ builder.old.local + 3) }
+    ensures function { OnOk result (builder.new.function ≡ builder.old.function) }
+{
+    let number = add_local(alloc, builder, kind)?;
+    let ty = noted_list_type(alloc, kind)?;
+    add_typed(builder, ty)?;
+    add_typed(builder, Ty::Number)?;
+    Ok(number)
+}

@@ -1,0 +1,91 @@
+// Handlers: each one's function stands before those that stand in it.
+ghost use Rattle.std.specs.Prelude.{◌≡◌, ◌+◌, ◌++◌, [], length, IfOk, OnOk};
+ghost use Rattle.sts_syntax.specs.Types as value;
+ghost use Rattle.sts_syntax.specs.TypedViews.{typed_tree, typed_routine, typed_routines};
+ghost use Rattle.sts_syntax.specs.Views.{tree, routine};
+ghost use Rattle.typed_trees.specs.Sites as s;
+ghost use Rattle.typed_trees.specs.Sites.{IsPlan};
+ghost use Rattle.typed_trees.specs.Functions as functions;
+
+use crate::build_functions::{Function, add};
+use crate::build_nodes::noted;
+use crate::build_places::{Builder, Noted, Plan, Site};
+use crate::build_statements::build_body;
+use lent_lists::Gathered;
+use sts_base::{NoMemory, Seq};
+use sts_scope::Kind;
+use sts_syntax::{Body, Expr, Node, Ty, TypedBody, TypedNode};
+use typed_numbers::one_more;
+
+/// A handler's function, those that stand in it, and the number behind them.
+#[derive(Drop)]
+pub struct Inner {
+    pub function: Function,
+    pub behind: u32,
+}
+
+/// A handler's function, whose number is n.
+#[cycle(build)]
+fn build_inner(plan: &Plan, site: &Site, n: u32, body: &Body) -> Result<Inner, NoMemory>
+    requires { IsPlan plan.now }
+    ensures own { IfOk result (λ r. typed_routine r.function.own ≡ (functions.routine plan.now [] value.Nothing (s.body_made plan.now (s.site site.now) (routine body.now)) n).it) }
+    ensures inner { IfOk result (λ r. typed_routines r.function.inner ≡ (functions.routine plan.now [] value.Nothing (s.body_made plan.now (s.site site.now) (routine body.now)) n).routines) }
+    ensures behind { IfOk result (λ r. r.behind ≡ n + 1 + length (functions.routine plan.now [] value.Nothing (s.body_made plan.now (s.site site.now) (routine body.now)) n).routines) }
+{
+    let mut builder = Builder {
+        locals: Seq::new(plan.alloc),
+        routines: Gathered::new(plan.alloc),
+        local: 0,
+        function: one_more(n)?,
+    };
+    let stmts = build_body(plan, site, &mut builder, body)?;
+    let Builder {
+        locals,
+        routines,
+        function: behind,
+        ..
+    } = builder;
+    let own = TypedBody {
+        params: Seq::new(plan.alloc),
+        locals,
+        gives: Ty::Nothing,
+        stmts,
+    };
+    Ok(Inner {
+        function: Function {
+            own,
+            inner: routines,
+        },
+        behind,
+    })
+}
+
+/// A handler.
+#[tactic(auto, using(crate::proofs::Leaves::handler_made, crate::proofs::Leaves::handler_kind, crate::proofs::Leaves::handler_locals))]
+#[cycle(build)]
+pub fn build_handler(
+    plan: &Plan,
+    site: &Site,
+    builder: &mut Builder,
+    given: Option<Kind>,
+    e: &Expr,
+) -> Result<Noted, NoMemory>
+    requires { IsPlan plan.now }
+    ensures made { IfOk result (λ r. typed_tree r.tree ≡ (s.tree_made plan.now (s.site site.now) given (tree e.now) builder.old.local builder.old.function).it) }
+    ensures kind { IfOk result (λ r. r.kind ≡ s.tree_kind plan.now (s.site site.now) given (tree e.now)) }
+    ensures locals { OnOk result (value.value_types builder.new.locals ≡ value.value_types builder.old.locals ++ (s.tree_made plan.now (s.site site.now) given (tree e.now) builder.old.local builder.old.function).locals) }
+    ensures routines { OnOk result (typed_routines builder.new.routines ≡ typed_routines builder.old.routines ++ (s.tree_made plan.now (s.site site.now) given (tree e.now) builder.old.local builder.old.function).routines) }
+    ensures local { OnOk result (builder.new.local ≡ builder.old.local + length (s.tree_made plan.now (s.site site.now) given (tree e.now) builder.old.local builder.old.function).locals) }
+    ensures function { OnOk result (builder.new.function ≡ builder.old.function + length (s.tree_made plan.now (s.site site.now) given (tree e.now) builder.old.local builder.old.function).routines) }
+{
+    match &e.node {
+        Node::Handler(body) => {
+            let n = builder.function;
+            let inner = build_inner(plan, site, n, body)?;
+            add(&mut builder.routines, inner.function)?;
+            builder.function = inner.behind;
+            Ok(noted(Ty::Nothing, TypedNode::Handler(n), None))
+        }
+        _ => Err(NoMemory),
+    }
+}

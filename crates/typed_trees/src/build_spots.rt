@@ -1,0 +1,95 @@
+// Numbers of fields, slots and globals, and where the values of names are.
+ghost use Rattle.std.specs.Prelude.{◌≡◌, IfOk, get_or, unwrap_or, Some};
+ghost use Rattle.sts_syntax.specs.declared.typed.Spot.TheVariants as spot;
+ghost use Rattle.sts_scope.specs.Numbers as number;
+ghost use Rattle.typed_trees.specs.Sites as s;
+ghost use Rattle.typed_trees.specs.Sites.{IsPlan};
+
+use crate::build_nodes::or_nothing;
+use crate::build_numbers::names_at;
+use crate::build_places::{Plan, Site};
+use sts_base::NoMemory;
+use sts_scope::{Found, Kind, Part, class_of};
+use sts_syntax::Spot;
+use type_derive::part_of;
+use typed_numbers::place_among;
+
+/// The number of a class's field of a name. A class that isn't there has none.
+#[tactic(auto, using(crate::proofs::Listed::names_there, crate::proofs::Listed::names_are))]
+pub fn field_number(plan: &Plan, class: u32, name: u32) -> Result<u32, NoMemory>
+    requires { IsPlan plan.now }
+    ensures { IfOk result (λ n. n ≡ number.place_among (number.field_names plan.now.known.now class) name) }
+{
+    if (class as usize) < plan.known.classes().len() {
+        place_among(names_at(&plan.names.fields, class), name)
+    } else {
+        Err(NoMemory)
+    }
+}
+
+/// The number of a class's slot of a name. A class that isn't there has none.
+#[tactic(auto, using(crate::proofs::Listed::names_there, crate::proofs::Listed::names_are))]
+pub fn slot_number(plan: &Plan, class: u32, name: u32) -> Result<u32, NoMemory>
+    requires { IsPlan plan.now }
+    ensures { IfOk result (λ n. n ≡ number.place_among (number.slot_names plan.now.known.now class) name) }
+{
+    if (class as usize) < plan.known.classes().len() {
+        place_among(names_at(&plan.names.slots, class), name)
+    } else {
+        Err(NoMemory)
+    }
+}
+
+/// The number of a global by its declaration. One that isn't there has none.
+#[tactic(auto, using(crate::proofs::Globals::globals_at))]
+pub fn global_number(plan: &Plan, d: usize) -> Result<u32, NoMemory>
+    requires { IsPlan plan.now }
+    ensures { IfOk result (λ n. n ≡ number.global_number plan.now.known.now d) }
+{
+    match plan.names.globals.get(d) {
+        Some(n) => Ok(*n),
+        None => Err(NoMemory),
+    }
+}
+
+/// Where the value of a local is.
+fn local_spot(site: &Site, i: usize) -> Spot
+    ensures { result ≡ get_or (s.site site.now).spots i (spot.Global 0) }
+{
+    match site.spots.get(i) {
+        Some(at) => at,
+        None => Spot::Global(0),
+    }
+}
+
+/// Where the value of a name is.
+pub fn spot_of(plan: &Plan, site: &Site, found: Found) -> Result<Spot, NoMemory>
+    requires { IsPlan plan.now }
+    ensures { IfOk result (λ at. at ≡ s.spot_of plan.now (s.site site.now) found) }
+{
+    match found {
+        Found::Local(i) => Ok(local_spot(site, i)),
+        Found::Global(d) => Ok(Spot::Global(global_number(plan, d)?)),
+        Found::Captured => Ok(Spot::Global(0)),
+        Found::Function(_) => Ok(Spot::Global(0)),
+        Found::Class(_) => Ok(Spot::Global(0)),
+        Found::Unknown => Ok(Spot::Global(0)),
+    }
+}
+
+/// What stands behind the dot of what has a type, or none.
+pub fn part_behind(plan: &Plan, of: Option<Kind>, name: u32) -> Part
+    ensures { result ≡ s.part_behind plan.now of name }
+{
+    part_of(plan.tables, plan.known, or_nothing(of), name)
+}
+
+/// The class of what has a type, or none.
+pub fn class_behind(of: Option<Kind>) -> u32
+    ensures { result ≡ s.class_behind of }
+{
+    match class_of(or_nothing(of)) {
+        None => 0,
+        Some(class) => class,
+    }
+}
