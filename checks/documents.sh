@@ -1,7 +1,8 @@
 #!/bin/sh
 # Each definition that a document names by its file, as in (`IsPlace` in crates/sts_base/specs/Places.antt), stands there, where a path that begins with
 # specs/ belongs to the crate named before; each crate of crates.txt stands once in the table of docs/ARCHITECTURE.md, with the length of the longest
-# chain of crates up to it, at most eight, and there is no other; and each file that a link leads to is there.
+# chain of crates up to it, at most eight, and there is no other; each lemma of another crate is cited from its proofs/Laws.antt; and each file that a
+# link leads to is there.
 # usage: checks/documents.sh
 set -eu
 cd "$(dirname "$0")/.."
@@ -49,8 +50,15 @@ wanted = [(it, depth(it)) for it in used]
 wrong += [f"docs/ARCHITECTURE.md: there is no row `{name}` with {number}" for name, number in wanted if (name, number) not in rows]
 wrong += [f"docs/ARCHITECTURE.md: the row of `{name}` with {number} is one too many" for name, number in rows if (name, number) not in wanted or rows.count((name, number)) > 1]
 wrong += [f"crates.txt: a chain of {number} crates ends at {name}" for name, number in wanted if number > 8]
+cited = 0
+for file in sorted(glob.glob("crates/*/src/**/*.rt", recursive=True) + glob.glob("crates/*/[ps]*/**/*.antt", recursive=True)):
+    for crate, module in re.findall(r"(?<![\w.:])(?:Rattle\.)?(\w+)(?:\.|::)proofs(?:\.|::)(\w+)", open(file, encoding="utf-8").read()):
+        if crate in used and crate != file.split("/")[1]:
+            cited += 1
+            if module != "Laws":
+                wrong.append(f"{file}: cites {module} of {crate}, which isn't its Laws")
 for it in wrong:
     print(f"documents: {it}")
-print(f"documents: {names} names, {links} links, {len(rows)} crates, {len(wrong)} wrong")
-sys.exit(1 if wrong or not names or not links else 0)
+print(f"documents: {names} names, {links} links, {len(rows)} crates, {cited} citations, {len(wrong)} wrong")
+sys.exit(1 if wrong or not names or not links or not cited else 0)
 PYTHON

@@ -15,7 +15,7 @@ use Rattle.derived_types.specs.declared.origins.Origin.{Origin}
 use Rattle.type_derive.specs.Derived.{Source, sources_from, item_sources, global_sources, declared_source}
 use Rattle.derived_types.specs.Origins.{source, sources}
 use Rattle.type_derive.specs.Returns.{parameter_locals}
-use Rattle.sts_scope.proofs.Lists.{drop_at}
+use Rattle.sts_scope.proofs.Laws.{drop_at}
 
 pub sources_append : (xs ys : List Origin) → sources (xs ++ ys) ≡ sources xs ++ sources ys
 sources_append [] ys = refl

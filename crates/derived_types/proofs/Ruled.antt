@@ -14,7 +14,7 @@ use Rattle.type_derive.specs.Derived.{Source, follows, rule, at}
 use Rattle.derived_types.specs.Origins.{source, sources}
 use Rattle.derived_types.specs.Underway.{IsMonotone, Keeps}
 use Rattle.derived_types.proofs.Gathered.{source_none, source_at}
-use Rattle.type_derive.proofs.ReturnsGrow.{rule_grows}
+use Rattle.type_derive.proofs.Laws.{rule_grows}
 
 abbrev pub ruled : Tables → Naming → Known → ℕ → Option Source → Option Kind
 ruled t f k d o = elim o [ None ↦ None | Some s ↦ follows f t k (nat_lt d k.library) s ]

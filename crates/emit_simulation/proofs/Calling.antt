@@ -28,7 +28,7 @@ use Rattle.thumb_emit.specs.Bounds.{op_instructions, total_cost}
 use Rattle.thumb_emit.specs.InFlash.{Addresses, callee_at}
 use Rattle.placed_frames.specs.View.{View, registers_of, bank_of}
 use Rattle.placed_frames.specs.Frames.{AreWords, outgoing_at}
-use Rattle.placed_frames.proofs.Plain.{at_view, quiet_does}
+use Rattle.placed_frames.proofs.Laws.{at_view, quiet_does}
 use Rattle.emit_simulation.specs.Laid.{over, steps_of}
 use Rattle.emit_simulation.specs.Starts.{start}
 use Rattle.emit_simulation.specs.Ties.{IsAt, IsShared, IsImage, Means, spots, calls_at, calling_of, return_in}

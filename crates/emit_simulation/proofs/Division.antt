@@ -18,8 +18,7 @@ use Rattle.thumb_divide.specs.Routine.{HasRoutine, most_instructions}
 use Rattle.thumb_divide.proofs.Laws.{divides_on_a_bank, within_reaches}
 use Rattle.thumb_emit.specs.Emit.{division}
 use Rattle.placed_frames.specs.View.{View, with_low, registers_of, bank_of, At}
-use Rattle.placed_frames.proofs.Kept.{four}
-use Rattle.placed_frames.proofs.Plain.{at_view, quiet_does}
+use Rattle.placed_frames.proofs.Laws.{four, at_view, quiet_does}
 use Rattle.emit_simulation.specs.Laid.{Fm, over, Laid, Comes, store_of}
 use Rattle.emit_simulation.proofs.Flowing.{each_goes, flows_one, then}
 use Rattle.emit_simulation.proofs.Placed.{store_low, mov_flows}

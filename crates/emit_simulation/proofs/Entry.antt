@@ -24,11 +24,7 @@ use Rattle.thumb_emit.specs.Bounds.{total_cost}
 use Rattle.placed_frames.specs.View.{View, with_low, registers_of, bank_of, Quiet, At}
 use Rattle.placed_frames.specs.Places.{Store, put, move, moved, IsRoom, own, words}
 use Rattle.placed_frames.specs.Frames.{Frame, HasFrames, Running, AreWords, outgoing_of}
-use Rattle.placed_frames.proofs.Plain.{at_view, quiet_does}
-use Rattle.placed_frames.proofs.Stack.{push_five}
-use Rattle.placed_frames.proofs.Kept.{frames_room}
-use Rattle.placed_frames.proofs.Puts.{move_room, move_incoming}
-use Rattle.placed_frames.proofs.Calls.{calls, pushed_at}
+use Rattle.placed_frames.proofs.Laws.{at_view, quiet_does, push_five, frames_room, move_room, move_incoming, calls, pushed_at}
 use Rattle.emit_simulation.specs.Laid.{Fm, over, Laid, Comes, Flows, OfInstr, OfLabel, OfNumber, AllFlow, loaded_flags, steps_of, store_of}
 use Rattle.emit_simulation.specs.Starts.{StandAt}
 use Rattle.emit_simulation.proofs.Flowing.{flows, flows_one, branches, passes_by, then, goes_next, each_goes}

@@ -13,7 +13,7 @@ use Rattle.thumb_layout.specs.Holds.{cost, Means, Reaches}
 use Rattle.thumb_layout.proofs.Laws.{silent_add, silent_one, reaches_add}
 use Rattle.thumb_emit.specs.Bounds.{total_cost}
 use Rattle.placed_frames.specs.View.{View, registers_of, bank_of, At}
-use Rattle.placed_frames.proofs.Plain.{does, at_view, quiet_does}
+use Rattle.placed_frames.proofs.Laws.{does, at_view, quiet_does}
 use Rattle.emit_simulation.specs.Laid.{Fm, over, Laid, Flows, OfInstr, OfLabel, OfNumber, OfAddress, AllFlow, step_of, steps_of, Comes}
 
 -- a piece whose effect goes on is gone through

@@ -16,7 +16,7 @@ use Rattle.thumb_layout.specs.Holds.{Reads}
 use Rattle.thumb_layout.specs.Flash.{HasCode, places}
 use Rattle.thumb_layout.proofs.Laws.{reads_moving, laid_code_means, code_holds, label_goes}
 use Rattle.placed_frames.specs.View.{At}
-use Rattle.placed_frames.proofs.Accesses.{sp_has, sp_stays, flash_fault, flash_load}
+use Rattle.placed_frames.proofs.Laws.{sp_has, sp_stays, flash_fault, flash_load}
 use Rattle.emit_simulation.specs.Laid.{over, Laid, IsEven, AreBytes}
 
 -- a word of bytes

@@ -13,7 +13,7 @@ use Rattle.thumb_layout.specs.Holds.{Reaches}
 use Rattle.thumb_layout.proofs.Laws.{reaches_add}
 use Rattle.thumb_emit.specs.Frame.{raises, lowers}
 use Rattle.placed_frames.specs.View.{At}
-use Rattle.placed_frames.proofs.Stack.{Down, move_down, move_up, sub_sp, add_sp}
+use Rattle.placed_frames.proofs.Laws.{Down, move_down, move_up, sub_sp, add_sp}
 use Rattle.emit_simulation.specs.Laid.{over, Laid}
 use Rattle.emit_simulation.specs.Starts.{StandAt}
 use Rattle.emit_simulation.proofs.Flowing.{each_goes}

@@ -24,8 +24,7 @@ use Rattle.thumb_emit.specs.InFlash.{Addresses}
 use Rattle.placed_frames.specs.View.{View, with_low, PutOwn}
 use Rattle.placed_frames.specs.Places.{Store, value, get, IsRoom, words}
 use Rattle.placed_frames.specs.Frames.{HasFrame, HasWaiting, HasFrames, Waits, saved, saved_at, words_at, writes_at, outgoing_at}
-use Rattle.placed_frames.proofs.Kept.{value_set, frames_stay}
-use Rattle.placed_frames.proofs.Calls.{room}
+use Rattle.placed_frames.proofs.Laws.{value_set, frames_stay, room}
 use Rattle.emit_simulation.specs.Laid.{Flows, OfInstr, AllFlow, store_of}
 use Rattle.emit_simulation.specs.Starts.{start}
 use Rattle.emit_simulation.specs.Ties.{IsAt, IsShared, IsImage, Means, spots, place_in, place_at, return_to, frame_of, frames_of}

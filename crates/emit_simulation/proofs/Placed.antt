@@ -7,7 +7,7 @@ use Rattle.flat_ir.specs.declared.ops.Function.{Function}
 use Rattle.register_assign.specs.declared.places.Place.{Place}
 use Rattle.register_assign.specs.declared.places.Place.TheVariants.{Reg, Slot, Incoming}
 use Rattle.register_assign.specs.Sound.{IsWithin}
-use Rattle.placed_frames.proofs.Kept.{four}
+use Rattle.placed_frames.proofs.Laws.{four}
 use Rattle.placed_frames.specs.Places.{words, put, get, IsRoom}
 use Rattle.thumb_layout.specs.declared.pieces.Piece.TheVariants.{Plain}
 use Rattle.thumb_layout.specs.Pieces.{Places}

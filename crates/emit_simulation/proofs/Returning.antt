@@ -25,10 +25,7 @@ use Rattle.thumb_emit.specs.InFlash.{Addresses}
 use Rattle.placed_frames.specs.View.{View, with_low, registers_of, bank_of, At}
 use Rattle.placed_frames.specs.Places.{own, words}
 use Rattle.placed_frames.specs.Frames.{HasFrames, saved}
-use Rattle.placed_frames.proofs.Plain.{at_view}
-use Rattle.placed_frames.proofs.Stack.{pop_five}
-use Rattle.placed_frames.proofs.Kept.{four, Shifted, frames_shift, frames_small}
-use Rattle.placed_frames.proofs.Calls.{room}
+use Rattle.placed_frames.proofs.Laws.{at_view, pop_five, four, Shifted, frames_shift, frames_small, room}
 use Rattle.emit_simulation.specs.Laid.{over, store_of}
 use Rattle.emit_simulation.specs.Starts.{start}
 use Rattle.emit_simulation.specs.Ties.{IsAt, IsShared, IsImage, Means, spots, place_in, return_to, frames_of}

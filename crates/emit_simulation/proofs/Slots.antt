@@ -38,8 +38,7 @@ use Rattle.arena_values.proofs.Laws.{sees_class}
 use Rattle.placed_frames.specs.View.{View, with_low, registers_of, bank_of, GetOwn, Get, InArena, InFlash as InFlashAt}
 use Rattle.placed_frames.specs.Places.{Store, get}
 use Rattle.placed_frames.specs.Frames.{HasFrames}
-use Rattle.placed_frames.proofs.Plain.{at_view, quiet_does}
-use Rattle.placed_frames.proofs.Calls.{room}
+use Rattle.placed_frames.proofs.Laws.{at_view, quiet_does, room}
 use Rattle.emit_simulation.specs.Laid.{over, Comes, OfInstr, store_of}
 use Rattle.emit_simulation.specs.Starts.{start}
 use Rattle.emit_simulation.specs.Ties.{IsAt, IsShared, IsImage, IsText, IsCode, Means, spots, place_in, return_to, frames_of}

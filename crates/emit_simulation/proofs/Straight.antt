@@ -10,7 +10,7 @@ use Rattle.sts_meaning.specs.Values.{Value, with_entry}
 use Rattle.placed_frames.specs.View.{View, with_low}
 use Rattle.placed_frames.specs.Places.{get, put, IsRoom}
 use Rattle.placed_frames.specs.Frames.{Frame, Running}
-use Rattle.placed_frames.proofs.Calls.{puts as running_puts, room}
+use Rattle.placed_frames.proofs.Laws.{puts as running_puts, room}
 use Rattle.emit_simulation.specs.Laid.{Flows, store_of}
 use Rattle.emit_simulation.proofs.Placed.{gets, puts, put_view, store_put}
 

@@ -28,8 +28,7 @@ use Rattle.flat_meaning.specs.Frames.{FlatActivity}
 use Rattle.sts_implements.specs.Passes.{trailing_instructions}
 use Rattle.thumb_emit.specs.InFlash.{Addresses}
 use Rattle.placed_frames.specs.View.{View, registers_of, bank_of, At}
-use Rattle.placed_frames.proofs.Accesses.{sp_has, sp_stays}
-use Rattle.placed_frames.proofs.Plain.{least, Bm}
+use Rattle.placed_frames.proofs.Laws.{sp_has, sp_stays, least, Bm}
 use Rattle.emit_simulation.specs.Laid.{Fm, over, Laid, Comes}
 use Rattle.emit_simulation.specs.Ties.{IsTied, IsShared, ties}
 use Rattle.emit_simulation.specs.Context.{view_in, bank_in, fiber_seen, shared_seen}

@@ -34,7 +34,7 @@ use Rattle.std.specs.Prelude.{Contains}
 use Rattle.thumb_emit.specs.Emit.{op_pieces, function_pieces}
 use Rattle.thumb_emit.specs.InFlash.{Addresses}
 use Rattle.placed_frames.specs.View.{View, with_low, registers_of, bank_of, Quiet}
-use Rattle.placed_frames.proofs.Plain.{at_view}
+use Rattle.placed_frames.proofs.Laws.{at_view}
 use Rattle.arena_values.proofs.Laws.{words_unequal}
 use Rattle.emit_simulation.specs.Laid.{Flows, OfInstr, OfLabel, step_of, store_of, over}
 use Rattle.emit_simulation.specs.Starts.{start}

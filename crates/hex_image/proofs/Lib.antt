@@ -11,3 +11,4 @@ pub mod LoopLemmas
 pub mod TextLemmas
 pub mod WrittenLemmas
 pub mod RoundLemmas
+pub mod Laws

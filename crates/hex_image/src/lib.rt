@@ -5,14 +5,14 @@
 #![tactic(auto)]
 
 mod flash;
-mod laws;
 mod line;
 mod reading;
 mod record;
 mod refused;
+mod theorems;
 mod writing;
 
-pub use laws::{one_reading, round_trip};
 pub use reading::read_hex;
 pub use refused::{HexCode, HexRefused};
+pub use theorems::{one_reading, round_trip};
 pub use writing::write_hex;

@@ -19,8 +19,7 @@ use Rattle.thumb_layout.specs.declared.laid.Laid.{Laid}
 use Rattle.thumb_layout.specs.Soundness.{IsSound}
 use Rattle.thumb_layout.specs.Layout.{up}
 use Rattle.thumb_layout.specs.Cells.{Cell, Ins, Call, Word, Gap, half_bytes, word_bytes, spelled, offset, cell_bytes, with_cell, with_cells, CellsFit, cells_of, laid}
-use Rattle.thumb_layout.proofs.Laws.{laid_long}
-use Rattle.thumb_layout.proofs.Fitting.{cells_fit}
+use Rattle.thumb_layout.proofs.Laws.{laid_long, cells_fit}
 use Rattle.flat_ir.specs.declared.ops.FlatClass.{FlatClass}
 use Rattle.flat_ir.specs.declared.ops.FlatCode.{FlatCode}
 use Rattle.thumb_divide.specs.Routine.{routine_bytes}

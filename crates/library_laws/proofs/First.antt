@@ -20,8 +20,7 @@ use Rattle.sts_grammar.specs.Laws.{OneProgram}
 use Rattle.sts_prelude.specs.Library as l
 use Rattle.sts_prelude.specs.Spelled.{IsLibrary}
 use Rattle.sts_prelude.specs.declared.text.TheConstants.{LIBRARY}
-use Rattle.sts_prelude.proofs.Tokens.{own, own_tokens, own_tokenized}
-use Rattle.sts_prelude.proofs.Spelling.{library_spelled}
+use Rattle.sts_prelude.proofs.Laws.{own, own_tokens, own_tokenized, library_spelled}
 
 -- a test of a table for strings that stand twice
 abbrev absent : List ℕ → List (List ℕ) → Bool

@@ -24,7 +24,7 @@ use Rattle.type_derive.specs.Formed.{IsFormedProgram}
 use Rattle.type_derive.specs.Accepted.{known, AreDerived, all_sources}
 use Rattle.type_derive.specs.Libraries.{library_fault}
 use Rattle.sts_prelude.specs.Library as l
-use Rattle.sts_prelude.proofs.Tokens.{own, own_tokens}
+use Rattle.sts_prelude.proofs.Laws.{own, own_tokens}
 use Rattle.library_laws.proofs.Faultless.{leds, numbers, strings, lines, absolutes, least, greatest}
 
 abbrev pub L : Program

@@ -26,7 +26,7 @@ use Rattle.sts_scope.specs.Scopes.{all_names, library_classes}
 use Rattle.sts_scope.specs.Handlers.{all_routines}
 use Rattle.type_derive.specs.Accepted.{AreDerived, known, main_routine, typed}
 use Rattle.sts_prelude.specs.Library as l
-use Rattle.sts_prelude.proofs.Tokens.{own_tokens}
+use Rattle.sts_prelude.proofs.Laws.{own_tokens}
 use Rattle.library_laws.proofs.Prelude.{L, names, k, T, show, basic, number_glyph, text_glyph, serial}
 use Rattle.library_laws.proofs.Rows.{N, built, made_is}
 

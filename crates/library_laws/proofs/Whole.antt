@@ -15,9 +15,7 @@ use Rattle.sts_grammar.specs.Texts.{no_entries}
 use Rattle.sts_prelude.specs.Library as l
 use Rattle.sts_prelude.specs.Spelled as spelled
 use Rattle.sts_prelude.specs.declared.text.TheConstants.{LIBRARY}
-use Rattle.sts_prelude.proofs.Tokens.{own, own_tokens, own_tokenized}
-use Rattle.sts_prelude.proofs.Renumbered.{moved}
-use Rattle.sts_prelude.proofs.Spelling.{tokens_by, own_tokens_are}
+use Rattle.sts_prelude.proofs.Laws.{own, own_tokens, own_tokenized, moved, tokens_by, own_tokens_are}
 use Rattle.library_laws.specs.Laws.{first}
 use Rattle.library_laws.proofs.Prelude.{L, formed, faultless}
 use Rattle.library_laws.proofs.Rows.{rows}

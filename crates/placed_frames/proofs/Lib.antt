@@ -4,3 +4,4 @@ pub mod Stack
 pub mod Puts
 pub mod Kept
 pub mod Calls
+pub mod Laws

@@ -4,7 +4,7 @@ use Rattle.std.specs.Prelude.{Option, Some, None}
 use Rattle.board_world.specs.Observations.{End, Quietly, By_script, Panicked, Faulted}
 use Rattle.hex_image.specs.declared.refused.HexCode.{HexCode}
 use Rattle.hex_image.specs.Spells.{Spells, Breaks}
-use Rattle.hex_image.proofs.AnswerLemmas.{one_reading-of}
+use Rattle.hex_image.proofs.Laws.{one_reading-of}
 use Rattle.run_tool.specs.Answers.{Answer, status_of, status_number}
 use Rattle.run_tool.specs.Runs.{run_status}
 use Rattle.run_tool.specs.RunHex.{RunsHex}

@@ -8,8 +8,7 @@ use Rattle.sts_syntax.specs.TypedTrees as e
 use Rattle.sts_syntax.specs.TypedTrees.{TypedTree, TypedTrees, TypedStatement, TypedStatements, OptionalTypedStatement, TypedDeclaration, TypedRoutine}
 use Rattle.sts_syntax.specs.Measures.{total}
 use Rattle.sts_syntax.specs.Weights.{weight_of, weights, optional_weight, declared_weight, statement_weight, first_weight, statements_weight, routines_weight}
-use Rattle.sts_syntax.proofs.Measured.{arguments_total, one_more}
-use Rattle.sts_syntax.proofs.Holds.{weighs}
+use Rattle.sts_syntax.proofs.Laws.{arguments_total, one_more, weighs}
 use Rattle.sts_lower.specs.Sizes.{Target, ToName, ToField, ToItem, ToNothing, target, size, sizes, reach_size, store_size, bump_size, items_size, call_size, action_size, initial_size, declared_size, test_size, step_size, return_size, statement_size, first_size, statements_size}
 use Rattle.sts_lower.specs.Code.{handler_of}
 use Rattle.sts_lower.specs.Repeated.{repeated, repeated_each, repeated_by, repeated_by_call, optionally_repeated, repeated_first, repeated_in, repeated_in_first, repeated_in_all, repeated_in_each}

@@ -9,3 +9,4 @@ pub mod Turns
 pub mod Bounds
 pub mod Lowerable
 pub mod Made
+pub mod Laws

@@ -10,8 +10,7 @@ use Rattle.sts_syntax.specs.declared.typed.Callee.TheVariants as c
 use Rattle.sts_syntax.specs.BoardTable.{BoardAction, Service, Library, Repeats, ServicePlace, Written, Always, row_of, placed}
 use Rattle.sts_syntax.specs.Measures.{total, how_many}
 use Rattle.sts_syntax.specs.Weights.{weight_of, weights, optional_weight, declared_weight, statement_weight, first_weight, statements_weight}
-use Rattle.sts_syntax.proofs.Holds.{weighs}
-use Rattle.sts_syntax.proofs.Measured.{few_places, one_more, places_of as action_places}
+use Rattle.sts_syntax.proofs.Laws.{weighs, few_places, one_more, places_of as action_places}
 use Rattle.sts_lower.specs.Sizes.{initial_size, test_size, statement_size, first_size, Target, ToName, ToField, ToItem, ToNothing, target}
 use Rattle.sts_lower.specs.Code.{set_op, handler_of, action_code, call_code, store_code, bump_code}
 use Rattle.sts_lower.specs.Statements.{bare_code, return_code}

@@ -11,7 +11,7 @@ use Rattle.sts_syntax.specs.Measures.{pending_words, outgoing_words}
 use Rattle.sts_syntax.specs.Weights.{routines_weight}
 use Rattle.sts_syntax.specs.BoardTable.{library_size}
 use Rattle.sts_syntax.specs.WellTypedPrograms.{IsWellTyped, IsWithinLimits, IsClassWithinLimits, IsProgramWithinLimits, setting, base_of_maker, is_maker}
-use Rattle.sts_syntax.proofs.BoardLookup.{drop_at}
+use Rattle.sts_syntax.proofs.Laws.{drop_at}
 use Rattle.sts_lower.specs.Sizes.{statements_size}
 use Rattle.sts_lower.specs.Statements.{statements_code, bare_code}
 use Rattle.sts_lower.specs.Repeated.{before}

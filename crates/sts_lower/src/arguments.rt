@@ -9,7 +9,7 @@ ghost use Rattle.sts_lower.specs.Works as p;
 use sts_syntax::{BoardAction, Callee, ServicePlace};
 
 /// What stands at the places of what is called: nothing but written arguments, except in a service.
-#[tactic(auto, using(sts_syntax::proofs::Measured::few_places))]
+#[tactic(auto, using(sts_syntax::proofs::Laws::few_places))]
 pub(crate) fn places(callee: Callee) -> &'static [ServicePlace]
     ensures sizes { (xs : List ℕ) → m.argument_sizes 1 callee xs ≡ placed (λ n. 1) (map service_place result.now) xs }
     ensures few { length result.now ≤ 4 }

@@ -171,7 +171,7 @@ fn invoke<'a>(
 }
 
 /// A call comes next.
-#[tactic(auto, using(sts_syntax::proofs::Holds::how_many_are))]
+#[tactic(auto, using(sts_syntax::proofs::Laws::how_many_are))]
 pub(crate) fn open_call<'a>(
     stack: &mut Stack<'a>,
     alloc: Global,
@@ -204,7 +204,7 @@ pub(crate) fn open_call<'a>(
 }
 
 /// A call of a base's constructor or method comes next.
-#[tactic(auto, using(sts_syntax::proofs::Holds::how_many_are))]
+#[tactic(auto, using(sts_syntax::proofs::Laws::how_many_are))]
 pub(crate) fn open_super_call<'a>(
     stack: &mut Stack<'a>,
     alloc: Global,
@@ -252,7 +252,7 @@ fn with_object(alloc: Global, object: u32, first: u32, n: u32) -> Result<Seq<u32
 }
 
 /// A new object comes next.
-#[tactic(auto, using(sts_syntax::proofs::Holds::how_many_are))]
+#[tactic(auto, using(sts_syntax::proofs::Laws::how_many_are))]
 pub(crate) fn open_make<'a>(
     stack: &mut Stack<'a>,
     alloc: Global,
@@ -288,7 +288,7 @@ pub(crate) fn open_make<'a>(
 }
 
 /// An array comes next.
-#[tactic(auto, using(sts_syntax::proofs::Holds::how_many_are))]
+#[tactic(auto, using(sts_syntax::proofs::Laws::how_many_are))]
 pub(crate) fn open_items<'a>(
     stack: &mut Stack<'a>,
     frame: &Frame<'a>,

@@ -29,7 +29,7 @@ fn is_maker(classes: &Seq<TypedClass>, f: u32) -> bool
 }
 
 /// A function, of a program with these classes and so many functions.
-#[tactic(auto, using(sts_syntax::proofs::FrameBounds::locals_are))]
+#[tactic(auto, using(sts_syntax::proofs::Laws::locals_are))]
 fn lower_routine(
     alloc: Global,
     classes: &Seq<TypedClass>,
@@ -138,7 +138,7 @@ fn copied(alloc: Global, numbers: &Seq<u32>) -> Result<Seq<u32>, NoMemory>
     Ok(copy)
 }
 
-#[tactic(auto, using(sts_syntax::proofs::FrameBounds::locals_are))]
+#[tactic(auto, using(sts_syntax::proofs::Laws::locals_are))]
 fn lower_class(alloc: Global, class: &TypedClass) -> Result<FlatClass, NoMemory>
     requires { length (class_entry class.now).fields ≤ 30 }
     ensures { IfOk result (λ flat. flat ≡ l.flat_class (class_entry class.now)) }

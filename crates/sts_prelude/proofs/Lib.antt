@@ -3,3 +3,4 @@ pub mod Renumbered
 pub mod Spelling
 mod Refusals
 mod Resolving
+pub mod Laws

@@ -5,3 +5,4 @@ pub mod Chains
 pub mod Symbols
 pub mod Longer
 pub mod Going
+pub mod Laws

@@ -6,7 +6,7 @@ use Rattle.std.proofs.lemmas.Option.{same_Some}
 use Rattle.std.proofs.lemmas.Bool.Decides.{nat_tests}
 use Rattle.made_maps.specs.declared.maps.Node.{Node}
 use Rattle.made_maps.specs.Nodes.{IsWithin, Stays, found}
-use Rattle.made_maps.proofs.Finding.{stays_all, stays_both}
+use Rattle.made_maps.proofs.Laws.{stays_all, stays_both}
 use Rattle.sts_scope.specs.declared.kinds.Kind.{Kind}
 use Rattle.sts_scope.specs.declared.entries.Entry.{Entry}
 use Rattle.sts_scope.specs.declared.entries.ClassHead.{ClassHead}

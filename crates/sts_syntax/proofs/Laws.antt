@@ -1,4 +1,9 @@
 -- The trees of nodes, declared names and routines that are made of their parts: lists have the trees of their items.
+pub use Rattle.sts_syntax.proofs.BoardLookup.{drop_at, same_bytes_is}
+pub use Rattle.sts_syntax.proofs.FrameBounds.{block_is, locals_are, outgoing_words_le}
+pub use Rattle.sts_syntax.proofs.Holds.{how_many_are, weighs}
+pub use Rattle.sts_syntax.proofs.Measured.{arguments_total, few_places, one_more, places_of}
+pub use Rattle.sts_syntax.proofs.TypedLaws.{call_is, items_is, make_is, super_call_is, typed_block_statement, typed_call_tree, typed_items_tree, typed_make_tree, typed_super_call_tree}
 use Rattle.std.proofs.Common.{◌≡◌, ℕ, List, refl, sym, ap, ◌∙◌}
 use Rattle.std.specs.Prelude.{Bool, Option}
 use Rattle.std.specs.declared.alloc.Global.{Global}

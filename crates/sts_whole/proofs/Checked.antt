@@ -20,7 +20,7 @@ use Rattle.type_derive.specs.Passes.{all_overrides, nodes_fault}
 use Rattle.type_derive.specs.Limits.{limits_fault}
 use Rattle.type_derive.specs.Accepted.{known, typed, refusal, type_refusal, IsAccepted}
 use Rattle.type_derive.specs.Solved.{IsSolved}
-use Rattle.type_derive.proofs.Rounds.{types_exist}
+use Rattle.type_derive.proofs.Laws.{types_exist}
 use Rattle.sts_whole.specs.Checking.{Refuses}
 use Rattle.type_check.specs.Texts.{type_failure}
 

@@ -2,7 +2,7 @@
 use Rattle.std.proofs.Common.{◌≡◌, ℕ, suc, ◌+◌, ◌<◌, List, ◌∷◌, ◌++◌, length, drop, get_or, ap, sym, ◌∙◌, arith, length-append, append_assoc}
 use Rattle.sts_syntax.specs.declared.units.Member.{Member}
 use Rattle.sts_syntax.specs.Programs.{ClassMember, Field, Method, Constructor, class_member, class_members}
-use Rattle.sts_scope.proofs.Lists.{drop_at}
+use Rattle.sts_scope.proofs.Laws.{drop_at}
 use Rattle.sts_syntax.specs.TypedTrees.{TypedStatement}
 use Rattle.sts_scope.specs.Entries.{Naming, member_entry, member_entries}
 use Rattle.sts_scope.specs.Handlers.{member_routines, members_routines, declared_handlers, routine_handlers}

@@ -14,8 +14,7 @@ use Rattle.sts_scope.specs.Rules.{kind_at}
 use Rattle.typed_trees.specs.declared.build_places.Plan.{Plan}
 use Rattle.typed_trees.specs.Functions as functions
 use Rattle.sts_whole.specs.Wholes as w
-use Rattle.typed_trees.proofs.Values.{values_append}
-use Rattle.typed_trees.proofs.Listed.{next_value, drop_next}
+use Rattle.typed_trees.proofs.Laws.{values_append, next_value, drop_next}
 
 pub next_mapped : (f : ℕ → ValueType) (names : List ℕ) (i : ℕ) (found : List Ty) (t : Ty) → i < length names → value.value_types found ++ map f (drop i names) ≡ map f names → value.value_type t ≡ f (get_or names i 0)
     → value.value_types (found ++ t ∷ []) ++ map f (drop (i + 1) names) ≡ map f names

@@ -29,9 +29,7 @@ use Rattle.typed_trees.specs.Sites as s
 use Rattle.typed_trees.specs.Steps.{IsBuilt}
 use Rattle.typed_trees.specs.Functions as functions
 use Rattle.sts_whole.specs.Wholes as w
-use Rattle.typed_trees.proofs.Listed.{drop_next, next_value}
-use Rattle.typed_trees.proofs.Pieces.{then, last}
-use Rattle.typed_trees.proofs.Runs.{onto, StatementsGo}
+use Rattle.typed_trees.proofs.Laws.{drop_next, next_value, then, last, onto, StatementsGo}
 
 -- without a base
 pub without_base : (l : Plan) (st : b.Site) (inits : List TypedStatement) (all : Statements) → w.maker_statements l st None inits all ≡ w.behind_made l st inits all

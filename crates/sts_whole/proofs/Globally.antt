@@ -9,7 +9,7 @@ use Rattle.typed_trees.specs.declared.build_places.Plan.{Plan}
 use Rattle.typed_trees.specs.Sites as s
 use Rattle.typed_trees.specs.Sites.{made_of}
 use Rattle.sts_whole.specs.Wholes as w
-use Rattle.typed_trees.proofs.Made.{alone}
+use Rattle.typed_trees.proofs.Laws.{alone}
 
 pub global_is : (l : Plan) (st : b.Site) (number : ℕ) (a : Binding) (m n : ℕ) → w.global_made l st number (declaration a) m n
     ≡ (let x = s.first_made l st (optional_annotation (out-Binding a).shape) (optional_expression (out-Binding a).first) m n in made_of (record { name = Global number; first = x.it }) x.locals x.routines)

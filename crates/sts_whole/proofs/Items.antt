@@ -7,7 +7,7 @@ use Rattle.sts_syntax.specs.Programs.{TopLevel, Class, Function, Main, Program, 
 use Rattle.sts_syntax.specs.TypedTrees as e
 use Rattle.sts_syntax.specs.TypedTrees.{TypedStatement, TypedStatements, TypedRoutine, TypedProgram}
 use Rattle.sts_syntax.specs.TypedViews.{typed_routines}
-use Rattle.sts_scope.proofs.Lists.{drop_at}
+use Rattle.sts_scope.proofs.Laws.{drop_at}
 use Rattle.sts_scope.specs.declared.known.Known.{Known}
 use Rattle.sts_scope.specs.Entries.{Naming, classes_in, item_entries}
 use Rattle.sts_scope.specs.Handlers.{item_routines, all_routines}
@@ -21,7 +21,7 @@ use Rattle.typed_trees.specs.declared.build_places.Plan.{Plan}
 use Rattle.typed_trees.specs.Sites.{naming}
 use Rattle.sts_whole.specs.Wholes as w
 use Rattle.sts_whole.specs.Wholes.{Adds}
-use Rattle.typed_trees.proofs.Pieces.{drop_all}
+use Rattle.typed_trees.proofs.Laws.{drop_all}
 
 -- a part, before what is made of the rest
 abbrev pub joined : Made (List TypedStatement) → Made TypedStatements → Made TypedStatements

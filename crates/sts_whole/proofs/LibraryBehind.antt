@@ -8,8 +8,7 @@ use Rattle.sts_lexer.specs.Tables.{Extends}
 use Rattle.sts_lexer.specs.Tokens.{IsTokenization}
 use Rattle.sts_lexer.specs.Uses.{NumbersInOrder}
 use Rattle.sts_lexer.specs.declared.token.Token.{Token}
-use Rattle.sts_lexer.proofs.Numbering.{slice_get_left}
-use Rattle.sts_lexer.proofs.Laws.{one_numbering, tokens_same}
+use Rattle.sts_lexer.proofs.Laws.{slice_get_left, one_numbering, tokens_same}
 use Rattle.sts_syntax.specs.Programs.{Program}
 use Rattle.sts_prelude.specs.Library as l
 use Rattle.sts_prelude.specs.declared.text.TheConstants.{LIBRARY}

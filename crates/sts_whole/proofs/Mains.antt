@@ -8,7 +8,7 @@ use Rattle.sts_syntax.specs.Trees as t
 use Rattle.sts_syntax.specs.TypedTrees.{TypedDeclaration}
 use Rattle.sts_syntax.specs.TypedViews.{typed_declaration, typed_declarations}
 use Rattle.sts_syntax.specs.Views.{declaration, declarations}
-use Rattle.sts_scope.proofs.Lists.{drop_at}
+use Rattle.sts_scope.proofs.Laws.{drop_at}
 use Rattle.sts_scope.specs.declared.known.This.TheVariants as this
 use Rattle.type_derive.specs.Making.{Making, pure, ◌>=>◌}
 use Rattle.sts_scope.specs.Numbers.{global_number}
@@ -18,7 +18,7 @@ use Rattle.typed_trees.specs.declared.build_places.Plan.{Plan}
 use Rattle.typed_trees.specs.Sites as s
 use Rattle.typed_trees.specs.Steps.{IsBuilt}
 use Rattle.sts_whole.specs.Wholes as w
-use Rattle.typed_trees.proofs.Pieces.{then, last, stays, drop_all}
+use Rattle.typed_trees.proofs.Laws.{then, last, stays, drop_all}
 
 -- a global, by its number
 pub declared_is : (l : Plan) (d : ℕ) (a : Declaration) → w.global_made l (w.outer_site this.Nowhere) (global_number l.known.now d) a ≡ w.declared_made l d a

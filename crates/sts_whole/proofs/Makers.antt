@@ -9,7 +9,7 @@ use Rattle.sts_scope.specs.declared.kinds.Kind.{Kind}
 use Rattle.sts_scope.specs.Kinds as kind
 use Rattle.type_derive.specs.Programs.{passed_on}
 use Rattle.sts_whole.specs.Wholes.{onto}
-use Rattle.typed_trees.proofs.Listed.{drop_next}
+use Rattle.typed_trees.proofs.Laws.{drop_next}
 
 pub onto_none : (all : List TypedExpr) → onto all e.none ≡ typed_trees all
 onto_none [] = refl

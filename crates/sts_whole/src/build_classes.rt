@@ -130,7 +130,7 @@ pub fn global_types(plan: &Plan) -> Result<Seq<Ty>, NoMemory>
 }
 
 /// The functions in a field's initialiser.
-#[tactic(auto, using(typed_trees::proofs::Functions::routines_append))]
+#[tactic(auto, using(typed_trees::proofs::Laws::routines_append))]
 fn add_inner(
     plan: &Plan,
     routines: &mut Gathered<TypedBody>,

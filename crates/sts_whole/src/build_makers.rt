@@ -43,7 +43,7 @@ pub fn passed_on(alloc: Global, first: u32, takes: &[Kind]) -> Result<Seq<TypedE
 }
 
 /// The call of a base's constructor.
-#[tactic(auto, using(sts_syntax::proofs::TypedLaws::typed_super_call_tree))]
+#[tactic(auto, using(sts_syntax::proofs::Laws::typed_super_call_tree))]
 fn super_called(plan: &Plan, base: u32, args: Seq<TypedExpr>) -> TypedStmt
     ensures { typed_statement result ≡ w.super_called plan.now base (typed_trees args) }
 {
@@ -292,7 +292,7 @@ fn unwritten_constructor(plan: &Plan, parts: &ClassParts) -> Result<TypedBody, N
 }
 
 /// The constructors of a class that aren't written: one, or none.
-#[tactic(auto, using(typed_trees::proofs::Functions::routines_append))]
+#[tactic(auto, using(typed_trees::proofs::Laws::routines_append))]
 pub fn add_unwritten(
     plan: &Plan,
     routines: &mut Gathered<TypedBody>,

@@ -65,7 +65,7 @@ pub fn next_member(plan: &Plan, class: u32, next: Next, member: &Member) -> Resu
 }
 
 /// How many globals a statement of the main program declares.
-#[tactic(auto, using(sts_scope::proofs::Statements::let_count))]
+#[tactic(auto, using(sts_scope::proofs::Laws::let_count))]
 pub fn globals_in(s: &Stmt) -> usize
     ensures { result ≡ length (entry.main_entries (statement s.now)) }
 {

@@ -160,7 +160,7 @@ fn add_items(plan: &Plan, whole: &mut Whole, items: &[Item]) -> Result<(), NoMem
 }
 
 /// The main program behind all functions.
-#[tactic(auto, using(typed_trees::proofs::Functions::routines_append))]
+#[tactic(auto, using(typed_trees::proofs::Laws::routines_append))]
 fn with_main(plan: &Plan, whole: Whole) -> Result<Seq<TypedBody>, NoMemory>
     ensures { IfOk result (λ all. typed_routines all ≡ typed_routines whole.builder.routines ++ w.main_of (value_types whole.builder.locals) (typed_statements whole.stmts) ∷ []) }
 {

@@ -10,7 +10,7 @@ use Rattle.sts_syntax.proofs.Laws.{routine_parts}
 use Rattle.sts_scope.specs.Faults.{◌then◌, own, unless}
 use Rattle.sts_scope.specs.Entries.{Naming}
 use Rattle.sts_scope.specs.Headings.{takes_name, written_fault, parameters_fault, routine_at}
-use Rattle.sts_scope.proofs.Lists.{drop_at}
+use Rattle.sts_scope.proofs.Laws.{drop_at}
 
 parameters_take : (ps : List Param) (i : ℕ) → take i (parameters ps) ≡ parameters (take i ps)
 parameters_take [] zero = refl

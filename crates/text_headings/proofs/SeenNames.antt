@@ -11,7 +11,7 @@ use Rattle.sts_scope.specs.Values.{value_at, or_else}
 use Rattle.sts_scope.specs.Lookup.{declares, entry_number, is_second}
 use Rattle.sts_scope.specs.Globals.{name_fault, names_fault}
 use Rattle.text_headings.specs.Seen.{AreSeen}
-use Rattle.sts_scope.proofs.Lists.{position-append, drop_at}
+use Rattle.sts_scope.proofs.Laws.{position-append, drop_at}
 
 some_else : (a : Option ℕ) (b : Bool) (n : ℕ) → is_some (or_else a (cond b (Some n) None)) ≡ (b || is_some a)
 some_else None true n = refl

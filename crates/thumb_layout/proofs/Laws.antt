@@ -1,4 +1,5 @@
 -- The laws that other crates cite: what a piece does that a flash holds, and that a flash with laid code holds its pieces.
+pub use Rattle.thumb_layout.proofs.Fitting.{cells_fit}
 use Rattle.std.proofs.Common.{◌≡◌, ℕ, ◌+◌, ◌%◌, ◌<◌, ◌≤◌, List, true, false, Some, None, length, min, refl, ap, ◌∙◌, arith, slice_get}
 use Rattle.thumb_code.specs.declared.instructions.Instr.{Instr}
 use Rattle.thumb_code.specs.declared.register_file.Registers.{Registers}

@@ -21,7 +21,7 @@ use Rattle.sts_syntax.specs.Views.{tree, trees}
 use Rattle.sts_scope.specs.declared.kinds.Kind.{Kind}
 use Rattle.sts_scope.specs.Faults.{Fault, ◌then◌, own, unless, Finds}
 use Rattle.sts_scope.specs.Places.{Place}
-use Rattle.sts_scope.proofs.Lists.{drop_at, drop_end}
+use Rattle.sts_scope.proofs.Laws.{drop_at, drop_end}
 use Rattle.type_derive.specs.declared.roles.Role.{Role}
 use Rattle.type_derive.specs.declared.roles.Role.TheVariants.{Free, Called}
 use Rattle.type_derive.specs.Typing.{◌>>=◌, Callee, type_of, types_of, role_of, behind, finds, space_of, spelling, constant_of, board_callee, callee_of, called, made, super_method, are_given, board_kind}

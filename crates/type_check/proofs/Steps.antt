@@ -19,12 +19,12 @@ use Rattle.sts_scope.specs.Globals.{is_dollar}
 use Rattle.type_derive.specs.declared.roles.Role.{Role}
 use Rattle.type_derive.specs.declared.roles.Role.TheVariants.{Free}
 use Rattle.type_derive.specs.Typing.{type_of}
-use Rattle.sts_scope.proofs.Lists.{drop_at}
+use Rattle.sts_scope.proofs.Laws.{drop_at}
 use Rattle.type_derive.specs.Moves.{Extends}
 use Rattle.type_derive.specs.Returns as derive
 use Rattle.type_derive.specs.Returns.{is_alone}
 use Rattle.type_derive.specs.Nodes as node
-use Rattle.type_derive.proofs.Moves.{stays, further, extends_to, after_extends}
+use Rattle.type_derive.proofs.Laws.{stays, further, extends_to, after_extends}
 use Rattle.type_derive.specs.declared.context.Context.{Context}
 use Rattle.type_check.specs.Bounds as bounds
 use Rattle.type_check.specs.Seen.{is_test, initial_kind}

@@ -13,7 +13,7 @@ use Rattle.sts_scope.specs.declared.entries.ClassHead.{ClassHead}
 use Rattle.sts_scope.specs.declared.known.Known.{Known}
 use Rattle.sts_scope.specs.Entries.{Naming}
 use Rattle.sts_scope.specs.Places.{Place}
-use Rattle.sts_scope.proofs.Lists.{drop_at, drop_end}
+use Rattle.sts_scope.proofs.Laws.{drop_at, drop_end}
 use Rattle.type_derive.specs.Nodes.{lacks_handler}
 use Rattle.type_derive.specs.Shown.{goes_some}
 use Rattle.type_derive.specs.Typing.{type_of, role_of, are_given}

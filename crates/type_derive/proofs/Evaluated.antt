@@ -26,7 +26,7 @@ use Rattle.type_derive.specs.Shown.{shown, all_shown, goes_some, goes_first, typ
 use Rattle.type_derive.specs.Typing.{◌>>=◌, type_of, types_of, called, constant_of, settable, are_given, board_callee, callee_of, board_kind}
 use Rattle.std.proofs.Math.Seq.{drop-nil}
 use Rattle.std.proofs.Math.Dec.{leb-zero, leb-suc-zero, leb-suc-suc}
-use Rattle.sts_scope.proofs.Lists.{drop_at, drop_end}
+use Rattle.sts_scope.proofs.Laws.{drop_at, drop_end}
 
 pub moved : (t : Tables) (k : Known) (p : Place) (r : Role) (x a : Expr) (s : Option Kind) → s ≡ type_of t k p r (tree x) → x ≡ a → s ≡ type_of t k p r (tree a)
 moved t k p r x a s h e = h ∙ ap (λ z. type_of t k p r (tree z)) e

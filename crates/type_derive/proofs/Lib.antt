@@ -7,3 +7,4 @@ pub mod Moves
 pub mod Grows
 pub mod ReturnsGrow
 pub mod Rounds
+pub mod Laws

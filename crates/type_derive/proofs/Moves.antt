@@ -12,7 +12,7 @@ use Rattle.sts_scope.specs.Entries.{Naming}
 use Rattle.sts_scope.specs.Places.{Place, inner, with, local}
 use Rattle.type_derive.specs.Moves.{Extends, left}
 use Rattle.type_derive.specs.Returns.{is_alone, bound, all_declared, after, returned, all_returned, or_else}
-use Rattle.sts_scope.proofs.Lists.{drop_at}
+use Rattle.sts_scope.proofs.Laws.{drop_at}
 
 taken : {A : Type 0} (xs ys : List A) → take (length xs) (xs ++ ys) ≡ xs
 taken [] ys = refl

@@ -152,7 +152,7 @@ pub fn name_fixed(known: &Environment, scope: &Scope, found: Found) -> bool
 }
 
 /// Whether a name is spelled so.
-#[tactic(auto, using(sts_syntax::proofs::BoardLookup::same_bytes_is))]
+#[tactic(auto, using(sts_syntax::proofs::Laws::same_bytes_is))]
 fn is_spelled(tables: &Tables, x: u32, bytes: &[u8]) -> bool
     ensures { result ≡ rule.is_spelled tables.now.names x bytes.now }
 {

@@ -19,8 +19,7 @@ use Rattle.type_derive.specs.Typing.{type_of}
 use Rattle.type_derive.specs.Returns.{is_alone, or_else, parameter_locals, within, bound, all_declared, after, after_first, items_of, looped, returned, all_returned, answered}
 use Rattle.type_derive.specs.Derived.{Source, Stated, Initial, Returns, declared_source, routine_source, global_sources, main_sources, member_sources, item_sources, sources_from, follows, at}
 use Rattle.type_derive.specs.Accepted.{known, all_sources, derivation, AreDerived}
-use Rattle.type_derive.proofs.ReturnsGrow.{rule_grows}
-use Rattle.type_derive.proofs.Rounds.{least_has}
+use Rattle.type_derive.proofs.Laws.{rule_grows, least_has}
 use Rattle.typed_laws.specs.Stands.{IsProper}
 use Rattle.typed_laws.proofs.Names.{some_is, either_some, proper, AreProper}
 use Rattle.typed_laws.proofs.Sites.{kind_split}

@@ -1,3 +1,4 @@
 pub mod Listed
 pub mod Numbered
 pub mod Chains
+pub mod Laws

@@ -11,7 +11,7 @@ use Rattle.type_derive.specs.Built.{Site, in_block, behind_statement, new_spots}
 use Rattle.type_derive.specs.Moves.{Extends, left}
 use Rattle.sts_scope.specs.Numbers.{Numbering}
 use Rattle.type_derive.specs.Returns.{after}
-use Rattle.type_derive.proofs.Moves.{after_extends}
+use Rattle.type_derive.proofs.Laws.{after_extends}
 
 taken : {A : Type 0} (xs ys : List A) → take (length xs) (xs ++ ys) ≡ xs
 taken [] ys = refl

@@ -27,7 +27,7 @@ use Rattle.typed_trees.specs.Sites.{tree_made, tree_kind, given_made, items_made
 use Rattle.typed_trees.specs.Calls as call
 use Rattle.typed_trees.specs.Calls.{Places, Kinds, Alike, Asks, argument_made, arguments_made, asked_one, served, head_of, head_made, passed_made, object_made, behind_made, head_places, head_node, type_noted, has_list}
 use Rattle.typed_trees.proofs.GivenTrees.{next_at, later_at}
-use Rattle.typed_numbers.proofs.Listed.{items_is}
+use Rattle.typed_numbers.proofs.Laws.{items_is}
 use Rattle.typed_trees.proofs.Made.{alone}
 
 none_noted : (given kind : Option Kind) (at : ℕ) (xs : List Expr) → length xs < 1 → s.noted given ≡ type_noted given kind (Items at (trees xs))

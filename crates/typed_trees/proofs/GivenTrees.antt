@@ -5,7 +5,7 @@ use Rattle.sts_syntax.specs.declared.typed.TypedExpr.{TypedExpr}
 use Rattle.sts_syntax.specs.TypedTrees.{TypedTrees, none, more}
 use Rattle.sts_syntax.specs.TypedViews.{typed_tree, typed_trees}
 use Rattle.sts_syntax.specs.Views.{tree, trees}
-use Rattle.sts_scope.proofs.Lists.{drop_at}
+use Rattle.sts_scope.proofs.Laws.{drop_at}
 use Rattle.sts_scope.specs.declared.kinds.Kind.{Kind}
 use Rattle.type_derive.specs.Built as b
 use Rattle.type_derive.specs.Making.{Making, pure, ◌>=>◌}

@@ -13,3 +13,4 @@ pub mod Undeclared
 pub mod Values
 pub mod Functions
 pub mod Listed
+pub mod Laws

@@ -15,7 +15,7 @@ use Rattle.sts_syntax.specs.TypedTrees.{TypedDeclaration, TypedStatements, done,
 use Rattle.sts_syntax.specs.TypedViews.{typed_declaration, typed_declarations, typed_statement, typed_statements}
 use Rattle.sts_syntax.specs.Views.{routine, declaration, declarations, statement, statements}
 use Rattle.sts_syntax.proofs.Laws.{routine_parts}
-use Rattle.sts_scope.proofs.Lists.{drop_at}
+use Rattle.sts_scope.proofs.Laws.{drop_at}
 use Rattle.sts_scope.specs.declared.known.Known.{Known}
 use Rattle.sts_scope.specs.Entries.{Naming, written_kind}
 use Rattle.sts_scope.specs.Kinds.{value_type}

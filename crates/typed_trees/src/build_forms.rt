@@ -26,7 +26,7 @@ pub fn beside<A: Drop, B: Drop>(kept: A, other: Result<B, NoMemory>) -> Result<(
 }
 
 /// A block of statements.
-#[tactic(auto, using(sts_syntax::proofs::TypedLaws::typed_block_statement))]
+#[tactic(auto, using(sts_syntax::proofs::Laws::typed_block_statement))]
 pub fn block_of(all: Seq<TypedStmt>) -> TypedStmt
     ensures { typed_statement result ≡ t.Block (typed_statements all) }
 {

@@ -210,7 +210,7 @@ fn call_node(ty: Ty, callee: Callee, args: Seq<TypedExpr>) -> TypedExpr
 }
 
 /// The node, of its type and its list.
-#[tactic(auto, using(sts_syntax::proofs::TypedLaws::typed_items_tree, sts_syntax::proofs::TypedLaws::typed_super_call_tree))]
+#[tactic(auto, using(sts_syntax::proofs::Laws::typed_items_tree, sts_syntax::proofs::Laws::typed_super_call_tree))]
 pub fn head_node(
     plan: &Plan,
     ty: Ty,

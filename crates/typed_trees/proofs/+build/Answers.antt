@@ -28,7 +28,7 @@ use Rattle.typed_trees.specs.Steps.{IsBuilt}
 use Rattle.typed_trees.proofs.Blocks.{Grown, grown_not, grown_is, grown_further, grown_block, grown_behind, site_closed, site_is, site_of}
 use Rattle.typed_trees.proofs.GivenTrees.{arguments_begin, arguments_step, arguments_end}
 use Rattle.typed_trees.proofs.Passed.{head_built, none_built}
-use Rattle.typed_numbers.proofs.Listed.{block_is, let_is, items_is, make_is, super_call_is, call_is}
+use Rattle.typed_numbers.proofs.Laws.{block_is, let_is, items_is, make_is, super_call_is, call_is}
 use Rattle.typed_trees.proofs.Forms.{if_only_is, if_else_is, while_is, do_while_is, for_is, for_first_is, for_of_is, return_is, plain_is, of_two, of_three, optional_is, turns_is, three_locals, from_ok}
 use Rattle.typed_trees.proofs.Pieces.{then, stays, last, via, drop_all}
 use Rattle.sts_scope.specs.Entries.{written_kind}

@@ -5,7 +5,7 @@ use Rattle.sts_scope.specs.Values.{value_at}
 use Rattle.type_derive.specs.Derived.{rule}
 use Rattle.derived_types.specs.Origins.{sources}
 use Rattle.derived_types.specs.Underway.{Moves}
-use Rattle.type_derive.proofs.Evaluated.{none_if}
+use Rattle.type_derive.proofs.Laws.{none_if}
 use Rattle.derived_types.proofs.Least.{said_one}
 use Rattle.derived_types.proofs.Ruled.{monotone, known_at}
 use Rattle.derived_types.proofs.solving.advance.Goals as goal

@@ -3,7 +3,7 @@ use Rattle.std.specs.Prelude.{false, None}
 use Rattle.sts_syntax.specs.Views.{parameters}
 use Rattle.sts_scope.specs.Values.{value_at}
 use Rattle.sts_scope.specs.Places.{Place, inner, with, outside}
-use Rattle.sts_scope.proofs.Lists.{drop_end}
+use Rattle.sts_scope.proofs.Laws.{drop_end}
 use Rattle.type_derive.specs.Scopes.{place}
 use Rattle.type_derive.specs.Returns.{parameter_locals}
 use Rattle.derived_types.proofs.Gathered.{locals_step}

@@ -1,4 +1,4 @@
-use Rattle.sts_syntax.proofs.TypedLaws.{typed_block_statement}
+use Rattle.sts_syntax.proofs.Laws.{typed_block_statement}
 use Rattle.measure_rows.proofs.forms.block.Goals as goal
 
 pub returns : goal.returns

@@ -1,4 +1,4 @@
-use Rattle.sts_syntax.proofs.TypedLaws.{typed_call_tree}
+use Rattle.sts_syntax.proofs.Laws.{typed_call_tree}
 use Rattle.measure_rows.proofs.forms.call_of.Goals as goal
 
 pub returns : goal.returns

@@ -2,7 +2,7 @@ use Rattle.std.proofs.Common.{◌≡◌, ◌++◌, sym, subst, arith}
 use Rattle.sts_syntax.specs.Types.{value_type}
 use Rattle.sts_syntax.specs.TypedTrees.{TypedTree}
 use Rattle.sts_syntax.specs.TypedViews.{typed_trees}
-use Rattle.sts_syntax.proofs.TypedLaws.{call_is, super_call_is, make_is, items_is}
+use Rattle.sts_syntax.proofs.Laws.{call_is, super_call_is, make_is, items_is}
 use Rattle.sts_lower.specs.Works.{Value, opened_value}
 use Rattle.sts_lower.specs.Fitting.{Fits}
 use Rattle.sts_lower.specs.Shown.{layout, works}

@@ -3,7 +3,7 @@ use Rattle.std.specs.List.{AllByRecursion}
 use Rattle.std.proofs.lemmas.List.{drop_all}
 use Rattle.sts_syntax.specs.declared.typed.TypedBody.{TypedBody}
 use Rattle.sts_syntax.specs.TypedViews.{class_entries, typed_routine, typed_routines}
-use Rattle.sts_syntax.proofs.BoardLookup.{drop_at}
+use Rattle.sts_syntax.proofs.Laws.{drop_at}
 use Rattle.sts_lower.specs.Repeated.{before}
 use Rattle.sts_lower.specs.Works.{routine_of, routines_of}
 use Rattle.sts_lower.specs.Fitting.{IsLowerableRoutine}

@@ -2,7 +2,7 @@ use Rattle.std.proofs.Common.{◌≡◌, ◌+◌, ◌++◌, ◌<◌, ◌^◌, �
 use Rattle.sts_syntax.specs.declared.typed.TypedStmt.{TypedStmt}
 use Rattle.sts_syntax.specs.Measures.{hold, greatest_of}
 use Rattle.sts_syntax.specs.TypedViews.{class_entries, typed_statements, typed_routine}
-use Rattle.sts_syntax.proofs.FrameBounds.{locals_are, outgoing_words_le}
+use Rattle.sts_syntax.proofs.Laws.{locals_are, outgoing_words_le}
 use Rattle.sts_lower.specs.Sizes.{statements_size}
 use Rattle.sts_lower.specs.Statements.{statements_code, bare_code}
 use Rattle.sts_lower.specs.Repeated.{before}

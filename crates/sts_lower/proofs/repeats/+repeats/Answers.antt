@@ -3,8 +3,7 @@ use Rattle.std.specs.Prelude.{OnOk}
 use Rattle.sts_syntax.specs.TypedTrees.{TypedTree}
 use Rattle.sts_syntax.specs.TypedViews.{typed_tree, typed_trees}
 use Rattle.sts_syntax.specs.Weights.{weight_of, weights}
-use Rattle.sts_syntax.proofs.TypedLaws.{call_is, super_call_is, make_is, items_is}
-use Rattle.sts_syntax.proofs.Measured.{arguments_total, one_more}
+use Rattle.sts_syntax.proofs.Laws.{call_is, super_call_is, make_is, items_is, arguments_total, one_more}
 use Rattle.sts_lower.specs.Code.{handler_of}
 use Rattle.sts_lower.specs.Repeated.{repeated, repeated_each, repeated_by_call}
 use Rattle.sts_lower.proofs.repeats.+repeats.Goals as goal

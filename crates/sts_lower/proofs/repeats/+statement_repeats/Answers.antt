@@ -2,7 +2,7 @@ use Rattle.std.proofs.Common.{◌≡◌, ◌++◌, sym, ap, subst, arith}
 use Rattle.std.specs.Prelude.{OnOk}
 use Rattle.sts_syntax.specs.TypedTrees.{TypedStatement}
 use Rattle.sts_syntax.specs.Weights.{statement_weight}
-use Rattle.sts_syntax.proofs.FrameBounds.{block_is}
+use Rattle.sts_syntax.proofs.Laws.{block_is}
 use Rattle.sts_lower.specs.Repeated.{repeated_in}
 use Rattle.sts_lower.proofs.repeats.+statement_repeats.Goals as goal
 

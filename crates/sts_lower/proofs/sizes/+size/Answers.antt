@@ -1,8 +1,7 @@
 use Rattle.std.proofs.Common.{ap, arith}
 use Rattle.sts_syntax.specs.Weights.{weight_of, weights}
 use Rattle.sts_syntax.specs.TypedViews.{typed_trees}
-use Rattle.sts_syntax.proofs.TypedLaws.{call_is, super_call_is, make_is, items_is}
-use Rattle.sts_syntax.proofs.Measured.{arguments_total, one_more}
+use Rattle.sts_syntax.proofs.Laws.{call_is, super_call_is, make_is, items_is, arguments_total, one_more}
 use Rattle.sts_lower.specs.Sizes.{size, sizes}
 use Rattle.sts_lower.proofs.Sums.{items_size_is}
 use Rattle.sts_lower.proofs.sizes.+size.Goals as goal

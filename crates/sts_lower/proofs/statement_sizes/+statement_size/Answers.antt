@@ -1,7 +1,7 @@
 use Rattle.std.proofs.Common.{ap, arith}
 use Rattle.sts_syntax.specs.TypedViews.{typed_statements}
 use Rattle.sts_syntax.specs.Weights.{statement_weight, statements_weight}
-use Rattle.sts_syntax.proofs.FrameBounds.{block_is}
+use Rattle.sts_syntax.proofs.Laws.{block_is}
 use Rattle.sts_lower.specs.Sizes as z
 use Rattle.sts_lower.proofs.statement_sizes.+statement_size.Goals as goal
 

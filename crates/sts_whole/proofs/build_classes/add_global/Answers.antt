@@ -3,7 +3,7 @@ use Rattle.sts_syntax.specs.Types as value
 use Rattle.sts_scope.specs.Kinds as kind
 use Rattle.std.specs.Prelude.{unwrap_or}
 use Rattle.sts_whole.proofs.Classes.{global_added, one_false}
-use Rattle.typed_trees.proofs.Listed.{on_ok}
+use Rattle.typed_trees.proofs.Laws.{on_ok}
 use Rattle.sts_whole.proofs.build_classes.add_global.Goals as goal
 
 pub returns-then-is_global : goal.returns-then-is_global

@@ -3,7 +3,7 @@ use Rattle.sts_scope.specs.Lookup.{is_field}
 use Rattle.sts_scope.specs.Numbers.{is_method}
 use Rattle.sts_whole.specs.Wholes as w
 use Rattle.sts_whole.proofs.Classes.{entry_made}
-use Rattle.typed_trees.proofs.Listed.{names_there, names_are}
+use Rattle.typed_trees.proofs.Laws.{names_there, names_are}
 use Rattle.sts_whole.proofs.build_classes.class_entry.Goals as goal
 
 pub names_at-requires : goal.names_at-requires

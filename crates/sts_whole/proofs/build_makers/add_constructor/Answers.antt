@@ -10,7 +10,7 @@ use Rattle.typed_trees.specs.Sites as s
 use Rattle.typed_trees.specs.Functions as functions
 use Rattle.sts_whole.specs.Wholes as w
 use Rattle.sts_whole.proofs.Constructors.{constructor_is}
-use Rattle.typed_trees.proofs.Functions.{put_behind}
+use Rattle.typed_trees.proofs.Laws.{put_behind}
 use Rattle.sts_whole.proofs.build_makers.add_constructor.Goals as goal
 
 pub returns : goal.returns

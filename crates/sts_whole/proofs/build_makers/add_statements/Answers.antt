@@ -3,7 +3,7 @@ use Rattle.sts_syntax.specs.Views.{statements}
 use Rattle.typed_trees.specs.Sites as s
 use Rattle.sts_whole.specs.Wholes as w
 use Rattle.sts_whole.proofs.Constructors.{behind_begins}
-use Rattle.typed_trees.proofs.Runs.{statements_step, statements_end}
+use Rattle.typed_trees.proofs.Laws.{statements_step, statements_end}
 use Rattle.sts_whole.proofs.build_makers.add_statements.Goals as goal
 
 pub loop-i-init : goal.loop-i-init

@@ -2,7 +2,7 @@ use Rattle.std.proofs.Common.{drop}
 use Rattle.sts_syntax.specs.Views.{statements}
 use Rattle.typed_trees.specs.Sites as s
 use Rattle.sts_whole.specs.Wholes as w
-use Rattle.typed_trees.proofs.Runs.{StatementsGo}
+use Rattle.typed_trees.proofs.Laws.{StatementsGo}
 use Rattle.sts_whole.proofs.build_makers.add_statements.Given as goal
 
 abbrev pub invariant-loop-i : goal.invariant-loop-i

@@ -3,7 +3,7 @@ use Rattle.sts_syntax.specs.declared.types.Ty.TheVariants as ty
 use Rattle.sts_syntax.specs.Types as value
 use Rattle.sts_syntax.specs.TypedTrees as e
 use Rattle.sts_syntax.specs.TypedViews.{typed_trees}
-use Rattle.sts_syntax.proofs.TypedLaws.{typed_super_call_tree}
+use Rattle.sts_syntax.proofs.Laws.{typed_super_call_tree}
 use Rattle.sts_whole.proofs.build_makers.super_called.Goals as goal
 
 pub returns : goal.returns

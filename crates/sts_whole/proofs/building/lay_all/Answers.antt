@@ -2,7 +2,7 @@ use Rattle.std.proofs.Common.{◌≡◌, ◌+◌, ◌<◌, List, [], ◌∷◌, 
 use Rattle.std.specs.List.{AllByRecursion}
 use Rattle.register_assign.specs.declared.places.Placed.{Placed}
 use Rattle.thumb_layout.specs.Cells.{laid}
-use Rattle.sts_syntax.proofs.BoardLookup.{drop_at}
+use Rattle.sts_syntax.proofs.Laws.{drop_at}
 use Rattle.sts_whole.specs.Building.{IsLayable}
 use Rattle.sts_whole.specs.Compiled.{bodies_of}
 use Rattle.sts_whole.proofs.building.lay_all.Goals as goal

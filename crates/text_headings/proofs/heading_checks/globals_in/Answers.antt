@@ -1,5 +1,5 @@
 use Rattle.std.proofs.Common.{sym, ◌∙◌}
-use Rattle.sts_scope.proofs.Statements.{let_count}
+use Rattle.sts_scope.proofs.Laws.{let_count}
 use Rattle.text_headings.proofs.heading_checks.globals_in.Goals as goal
 
 pub returns-in-Let : goal.returns-in-Let

@@ -10,11 +10,9 @@ use Rattle.sts_scope.specs.Rules.{operate, joined, element, choose, assign, coun
 use Rattle.type_derive.specs.declared.roles.Role.TheVariants.{Free, Given}
 use Rattle.type_derive.specs.Scopes.{place}
 use Rattle.type_derive.specs.Typing.{◌>>=◌, type_of, role_of, constant_of, board_callee, settable}
-use Rattle.type_derive.proofs.Evaluated.{none_if}
+use Rattle.type_derive.proofs.Laws.{none_if, closed, extends_to, after_extends, block_is, call_is, super_call_is, make_is, items_is}
 use Rattle.sts_scope.specs.Places.{inner}
 use Rattle.sts_syntax.proofs.Laws.{routine_parts, let_statement}
-use Rattle.type_derive.proofs.Moves.{closed, extends_to, after_extends}
-use Rattle.type_derive.proofs.Opened.{block_is, call_is, super_call_is, make_is, items_is}
 use Rattle.type_check.specs.declared.seen.Seen.{Seen}
 use Rattle.type_check.specs.Bounds.{optional_boxed}
 use Rattle.type_derive.specs.Naming.{naming}

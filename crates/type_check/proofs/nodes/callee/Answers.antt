@@ -4,7 +4,7 @@ use Rattle.sts_scope.specs.Rules.{part_of}
 use Rattle.type_derive.specs.declared.roles.Role.TheVariants.{Free}
 use Rattle.type_derive.specs.Scopes.{place}
 use Rattle.type_derive.specs.Typing.{type_of, callee_of, named_callee, part_callee}
-use Rattle.type_derive.proofs.Calling.{name_is, member_is}
+use Rattle.type_derive.proofs.Laws.{name_is, member_is}
 use Rattle.type_check.specs.Seen.{part_at}
 use Rattle.type_check.proofs.Parts.{part_through}
 use Rattle.type_check.proofs.nodes.callee.Goals as goal

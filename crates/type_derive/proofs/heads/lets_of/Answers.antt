@@ -1,7 +1,7 @@
 use Rattle.std.proofs.Common.{List, Option, Some, sym, ap, ◌∙◌}
 use Rattle.sts_syntax.specs.declared.trees.Binding.{Binding}
 use Rattle.sts_syntax.specs.Views.{declarations}
-use Rattle.sts_scope.proofs.Statements.{let_is}
+use Rattle.sts_scope.proofs.Laws.{let_is}
 use Rattle.type_derive.specs.Heads.{Declares, lets_of}
 use Rattle.type_derive.proofs.heads.lets_of.Goals as goal
 

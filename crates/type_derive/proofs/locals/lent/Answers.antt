@@ -1,5 +1,5 @@
 use Rattle.std.proofs.Common.{◌≡◌, ◌++◌, ◌∷◌, [], ◌≤◌, length, sym, ap, ◌∙◌, arith, append-nil}
-use Rattle.sts_scope.proofs.Lists.{drop_end}
+use Rattle.sts_scope.proofs.Laws.{drop_end}
 use Rattle.type_derive.specs.Named.{is_around}
 use Rattle.type_derive.proofs.Named.{around_append}
 use Rattle.type_derive.proofs.locals.lent.Goals as goal

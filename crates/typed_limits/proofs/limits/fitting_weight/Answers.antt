@@ -5,7 +5,7 @@ use Rattle.sts_syntax.specs.declared.typed.TypedBody.{TypedBody}
 use Rattle.sts_syntax.specs.TypedViews.{typed_routine, typed_routines}
 use Rattle.sts_syntax.specs.Weights.{routines_weight}
 use Rattle.sts_syntax.specs.Nodes.{expressions_of, all_expressions}
-use Rattle.sts_syntax.proofs.BoardLookup.{drop_at}
+use Rattle.sts_syntax.proofs.Laws.{drop_at}
 use Rattle.typed_limits.specs.Limits.{routine_fits}
 use Rattle.typed_limits.specs.declared.uses.Uses.{Uses}
 use Rattle.typed_limits.specs.Uses.{noted}

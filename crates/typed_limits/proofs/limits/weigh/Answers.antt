@@ -3,7 +3,7 @@ use Rattle.sts_syntax.specs.declared.typed.TypedStmt.{TypedStmt}
 use Rattle.sts_syntax.specs.TypedViews.{typed_statements}
 use Rattle.sts_syntax.specs.Nodes.{expressions_of}
 use Rattle.sts_syntax.specs.Sizes.{statements_nodes}
-use Rattle.sts_syntax.proofs.FrameBounds.{locals_are}
+use Rattle.sts_syntax.proofs.Laws.{locals_are}
 use Rattle.typed_limits.specs.declared.uses.Uses.{Uses}
 use Rattle.typed_limits.proofs.Noting.{noted_nodes}
 use Rattle.typed_limits.proofs.limits.weigh.Goals as goal

@@ -3,7 +3,7 @@ use Rattle.std.proofs.lemmas.Result.{IfOk-weaker}
 use Rattle.sts_syntax.specs.declared.typed.TypedStmt.{TypedStmt}
 use Rattle.sts_syntax.specs.TypedViews.{typed_statement, typed_statements}
 use Rattle.sts_syntax.specs.Sizes.{statement_nodes, statements_nodes}
-use Rattle.sts_syntax.proofs.FrameBounds.{block_is}
+use Rattle.sts_syntax.proofs.Laws.{block_is}
 use Rattle.typed_limits.proofs.Lengths.{declarations_length}
 use Rattle.typed_limits.proofs.statement_counts.+statement_count.Goals as goal
 

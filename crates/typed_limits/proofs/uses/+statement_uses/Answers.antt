@@ -4,8 +4,7 @@ use Rattle.sts_syntax.specs.declared.typed.TypedStmt.{TypedStmt}
 use Rattle.sts_syntax.specs.TypedTrees.{TypedStatement}
 use Rattle.sts_syntax.specs.TypedViews.{typed_statement, typed_statements}
 use Rattle.sts_syntax.specs.Nodes.{expressions, expressions_of}
-use Rattle.sts_syntax.proofs.BoardLookup.{drop_at}
-use Rattle.sts_syntax.proofs.FrameBounds.{block_is}
+use Rattle.sts_syntax.proofs.Laws.{drop_at, block_is}
 use Rattle.typed_limits.specs.declared.uses.Uses.{Uses}
 use Rattle.typed_limits.specs.Uses.{noted}
 use Rattle.typed_limits.proofs.Noting.{noted_append}

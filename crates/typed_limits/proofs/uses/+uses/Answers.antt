@@ -4,8 +4,7 @@ use Rattle.sts_syntax.specs.declared.typed.TypedExpr.{TypedExpr}
 use Rattle.sts_syntax.specs.TypedTrees.{TypedTree}
 use Rattle.sts_syntax.specs.TypedViews.{typed_tree, typed_trees}
 use Rattle.sts_syntax.specs.Nodes.{nodes, nodes_of}
-use Rattle.sts_syntax.proofs.BoardLookup.{drop_at}
-use Rattle.sts_syntax.proofs.TypedLaws.{call_is, super_call_is, make_is, items_is}
+use Rattle.sts_syntax.proofs.Laws.{drop_at, call_is, super_call_is, make_is, items_is}
 use Rattle.typed_limits.specs.declared.uses.Uses.{Uses}
 use Rattle.typed_limits.specs.Uses.{with_node, noted}
 use Rattle.typed_limits.proofs.Noting.{noted_append}

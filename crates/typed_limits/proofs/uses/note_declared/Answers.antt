@@ -2,7 +2,7 @@ use Rattle.std.proofs.Common.{◌≡◌, ◌+◌, ◌∷◌, ◌<◌, List, leng
 use Rattle.sts_syntax.specs.declared.typed.TypedBinding.{TypedBinding}
 use Rattle.sts_syntax.specs.TypedViews.{optional_typed_tree, typed_declarations}
 use Rattle.sts_syntax.specs.Nodes.{optional_nodes, declared_nodes}
-use Rattle.sts_syntax.proofs.BoardLookup.{drop_at}
+use Rattle.sts_syntax.proofs.Laws.{drop_at}
 use Rattle.typed_limits.specs.declared.uses.Uses.{Uses}
 use Rattle.typed_limits.specs.Uses.{noted}
 use Rattle.typed_limits.proofs.Noting.{noted_append}

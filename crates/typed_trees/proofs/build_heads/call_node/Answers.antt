@@ -1,5 +1,5 @@
 use Rattle.std.proofs.Common.{rules}
-use Rattle.sts_syntax.proofs.TypedLaws.{typed_call_tree}
+use Rattle.sts_syntax.proofs.Laws.{typed_call_tree}
 use Rattle.typed_trees.proofs.build_heads.call_node.Goals as goal
 
 pub returns : goal.returns

@@ -1,6 +1,6 @@
 use Rattle.std.proofs.Common.{rules}
 use Rattle.sts_syntax.specs.declared.types.Ty.TheVariants as ty
-use Rattle.sts_syntax.proofs.TypedLaws.{typed_make_tree}
+use Rattle.sts_syntax.proofs.Laws.{typed_make_tree}
 use Rattle.typed_trees.proofs.build_heads.head_node.Goals as goal
 
 pub returns-in-Make : goal.returns-in-Make

@@ -6,7 +6,7 @@ use Rattle.sts_scope.specs.declared.kinds.Kind.{Kind}
 use Rattle.typed_trees.specs.declared.build_heads.Head.TheVariants as head
 use Rattle.typed_trees.specs.Calls as call
 use Rattle.typed_trees.specs.Sites as s
-use Rattle.typed_numbers.proofs.Listed.{items_is}
+use Rattle.typed_numbers.proofs.Laws.{items_is}
 use Rattle.typed_trees.proofs.build_heads.head_of.Goals as goal
 
 pub returns-in_ok-kind-in-Items-clause-head : goal.returns-in_ok-kind-in-Items-clause-head

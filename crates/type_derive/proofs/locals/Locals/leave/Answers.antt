@@ -1,7 +1,7 @@
 use Rattle.std.proofs.Common.{◌≡◌, ◌+◌, ◌∙◌, List, take, sym, subst, ap}
 use Rattle.sts_scope.specs.declared.known.Local.{Local}
 use Rattle.type_derive.specs.Named.{InScope, in_scope}
-use Rattle.lent_lists.proofs.Layered.{take_behind}
+use Rattle.lent_lists.proofs.Laws.{take_behind}
 use Rattle.type_derive.proofs.locals.Locals.leave.Goals as goal
 
 pub returns : goal.returns

@@ -1,5 +1,5 @@
 use Rattle.hex_image.proofs.RoundLemmas.{round_trip-of}
-use Rattle.hex_image.proofs.laws.round_trip.Goals as goal
+use Rattle.hex_image.proofs.theorems.round_trip.Goals as goal
 
 pub returns : goal.returns
 returns c = round_trip-of

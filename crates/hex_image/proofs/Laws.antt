@@ -1,0 +1,2 @@
+-- Lemmas that other crates cite.
+pub use Rattle.hex_image.proofs.AnswerLemmas.{one_reading-of}

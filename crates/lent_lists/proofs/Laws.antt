@@ -1,0 +1,2 @@
+-- Lemmas that other crates cite.
+pub use Rattle.lent_lists.proofs.Layered.{take_behind}

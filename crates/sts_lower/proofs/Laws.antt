@@ -1,0 +1,2 @@
+-- Lemmas that other crates cite.
+pub use Rattle.sts_lower.proofs.Made.{few_fields, few_functions}
