@@ -1,6 +1,5 @@
 -- The lemmas that proofs of other crates cite.
 pub use Rattle.sts_lexer.proofs.Numbering.{slice_get_left}
-
 -- a lexeme ends within the text
 pub use Rattle.sts_lexer.proofs.Lexing.{spells_within}
 -- a text's tokens by given tables are one list, by other tables they differ in entries alone, and a text that has tokens isn't refused
