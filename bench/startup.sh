@@ -5,8 +5,7 @@
 set -eu
 top=$(cd "$(dirname "$0")/.." && pwd)
 runs=${1:-101}
-program=$top/crates/sts/out/sts
-"$top/bin/sts" fly > /dev/null || [ $? -eq 2 ]
+program=$("$top/bin/program")
 folder=$(mktemp -d)
 trap 'rm -rf "$folder"' EXIT
 

@@ -1,15 +1,12 @@
 #!/bin/sh
 # What the documents show is run as it is written there: each line of README.md and docs/*.md that begins with `bin/sts`, alone or behind `$`, writes the lines below it, or else the
 # next block; each `sts ..` of the README's table of words is taken, with a file in place of P, S and H and a number in place of N; and each example of a refusal in docs/LANGUAGE.md is
-# refused by its code at its place. Wants the program sts as rt ci builds it; without it the check is skipped (status 77).
+# refused by its code at its place. PROGRAM is sts, as bin/program
+# names it where it is left out.
 # usage: checks/as_written.sh [PROGRAM]
 set -eu
 top=$(cd "$(dirname "$0")/.." && pwd)
-program=${1:-$top/crates/sts/out/sts}
-[ -x "$program" ] || {
-    echo "as_written: $program is not built"
-    exit 77
-}
+program=${1:-$("$top/bin/program")}
 folder=$(mktemp -d)
 trap 'rm -rf "$folder"' EXIT
 mkdir "$folder/bin"

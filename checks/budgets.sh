@@ -1,14 +1,11 @@
 #!/bin/sh
 # A function that calls itself until its depth is passed, within each budget from 1 to 2000 instructions: `run`, and `build` and then `run-hex`, write the same bytes with the same status,
-# and what a smaller budget wrote before its closing line begins what a greater one writes. Wants the program sts as rt ci builds it; without it the check is skipped (status 77).
+# and what a smaller budget wrote before its closing line begins what a greater one writes. PROGRAM is sts, as bin/program
+# names it where it is left out.
 # usage: checks/budgets.sh [PROGRAM]
 set -eu
 top=$(cd "$(dirname "$0")/.." && pwd)
-program=${1:-$top/crates/sts/out/sts}
-[ -x "$program" ] || {
-    echo "budgets: $program is not built"
-    exit 77
-}
+program=${1:-$("$top/bin/program")}
 folder=$(mktemp -d)
 trap 'rm -rf "$folder"' EXIT
 cp "$program" "$folder/sts"

@@ -1,15 +1,12 @@
 #!/bin/sh
 # The example game's text, a script of three entries, and the HEX text that `build` writes of a small program, each cut behind each of its bytes. A text that is accepted is run, and its
 # transcript is that of an independent reading of the rules (bench/programs/reading.py); else it is refused. Nothing but the whole script is a script, and nothing but the whole HEX text,
-# with or without its last line's end, is an image. Wants the program sts as rt ci builds it; without it the check is skipped (status 77).
+# with or without its last line's end, is an image. PROGRAM is sts, as bin/program
+# names it where it is left out.
 # usage: checks/cuts.sh [PROGRAM]
 set -eu
 top=$(cd "$(dirname "$0")/.." && pwd)
-program=${1:-$top/crates/sts/out/sts}
-[ -x "$program" ] || {
-    echo "cuts: $program is not built"
-    exit 77
-}
+program=${1:-$("$top/bin/program")}
 folder=$(mktemp -d)
 trap 'rm -rf "$folder"' EXIT
 cp "$program" "$folder/sts"

@@ -6,13 +6,11 @@ Each function stands in a program of its own: with arguments in the words at SP,
 program's own panic, and a call of function 0 one of the function itself. The last line is 'N functions, M calls, K wrong'.
 """
 
-import os
 import random
 import struct
 import subprocess
 import sys
 
-TOP = os.path.dirname(os.path.dirname(os.path.abspath(__file__)))
 FOLDER = sys.argv[1]
 WORD = 1 << 32
 STACK_END = 0x20003F80
@@ -210,7 +208,7 @@ def run(function, code):
 
 random.seed(1)
 functions = [*operators(), *flow(), *heap()]
-rows = subprocess.run(["rt", "run"], cwd=f"{TOP}/crates/emit_rows", input="".join(it.line + "\n" for it in functions), capture_output=True, text=True)
+rows = subprocess.run([sys.argv[2]], input="".join(it.line + "\n" for it in functions), capture_output=True, text=True)
 codes = rows.stdout.split("\n")[:-1]
 assert len(codes) == len(functions), rows.stderr[-500:]
 calls = wrong = 0

@@ -5,8 +5,7 @@
 # usage: checks/examples.sh [PROGRAM]
 set -eu
 top=$(cd "$(dirname "$0")/.." && pwd)
-program=${1:-$top/crates/sts/out/sts}
-[ -x "$program" ] || "$top/bin/sts" > /dev/null || [ -x "$program" ]
+program=${1:-$("$top/bin/program")}
 folder=$(mktemp -d)
 trap 'rm -rf "$folder"' EXIT
 wrong=0

@@ -1,15 +1,11 @@
 #!/bin/sh
-# Lets each call that can fail do so in turn, in some runs of the programs sts and tool_rows as rt ci builds them (checks/faults.py). Without sts or a C compiler the check is skipped
-# (status 77), and where tool_rows isn't built, sts alone is run.
+# Lets each call that can fail do so in turn, in some runs of the programs sts, as bin/program names it, and tool_rows as rt ci builds it (checks/faults.py). Without
+# a C compiler the check is skipped (status 77), and where tool_rows isn't built, sts alone is run.
 # usage: checks/faults.sh [STS [TOOL_ROWS]]
 set -eu
 top=$(cd "$(dirname "$0")/.." && pwd)
-program=${1:-$top/crates/sts/out/sts}
+program=${1:-$("$top/bin/program")}
 rows=${2:-$top/crates/tool_rows/out/tool_rows}
-[ -x "$program" ] || {
-    echo "faults: $program is not built"
-    exit 77
-}
 command -v cc >/dev/null || {
     echo 'faults: there is no C compiler'
     exit 77

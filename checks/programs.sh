@@ -1,15 +1,12 @@
 #!/bin/sh
 # Programs over all forms of the language, in checks/programs.txt under a line `# NAME` each, cut behind each of their tokens: where an @ stands
 # behind the token, what stands up to there spells a program, so that it is accepted or refused by a code of names, types and limits, 8 to 15; else it
-# is refused by code 6. The signs were set by hand from the grammar. Tokens stand apart there, and the signs are taken out. Wants the program sts as rt ci builds it; without it the check is skipped (status 77).
+# is refused by code 6. The signs were set by hand from the grammar. Tokens stand apart there, and the signs are taken out. PROGRAM is sts, as bin/program
+# names it where it is left out.
 # usage: checks/programs.sh [PROGRAM]
 set -eu
 top=$(cd "$(dirname "$0")/.." && pwd)
-program=${1:-$top/crates/sts/out/sts}
-[ -x "$program" ] || {
-    echo "programs: $program is not built"
-    exit 77
-}
+program=${1:-$("$top/bin/program")}
 folder=$(mktemp -d)
 trap 'rm -rf "$folder"' EXIT
 cp "$program" "$folder/sts"

@@ -1,14 +1,10 @@
 #!/bin/sh
 # The programs of checks/types.txt, whose verdicts on names, types and limits were set by hand, go through the built program's `check` and TypeScript's
-# checker (checks/types.py). Wants the program sts as rt ci builds it; without it, or without TypeScript, the check is skipped (status 77), as far as it wants that.
+# checker (checks/types.py). PROGRAM is sts, as bin/program names it where it is left out. Without TypeScript the check is skipped (status 77), as far as it wants that.
 # usage: checks/types.sh [PROGRAM]
 set -eu
 top=$(cd "$(dirname "$0")/.." && pwd)
-program=${1:-$top/crates/sts/out/sts}
-[ -x "$program" ] || {
-    echo "types: $program is not built"
-    exit 77
-}
+program=${1:-$("$top/bin/program")}
 folder=$(mktemp -d)
 trap 'rm -rf "$folder"' EXIT
 cp "$program" "$folder/sts"

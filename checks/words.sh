@@ -1,9 +1,8 @@
 #!/bin/sh
-# Compares what the program word_rows reads of 100,000 random lists of words with what the rules say of them, written anew in Python. The program
-# is built where it isn't there.
-# usage: checks/words.sh [SEED]
+# Compares what the program word_rows reads of 100,000 random lists of words with what the rules say of them, written anew in Python. PROGRAM is word_rows, as bin/compile makes it
+# where it is left out.
+# usage: checks/words.sh [PROGRAM [SEED]]
 set -eu
 top=$(cd "$(dirname "$0")/.." && pwd)
-program=$top/crates/word_rows/out/word_rows
-[ -x "$program" ] || (cd "$top/crates/word_rows" && rt run -- < /dev/null > /dev/null) || [ -x "$program" ]
-exec python3 "$top/checks/words.py" "$program" "${1:-1}"
+program=${1:-$("$top/bin/compile" word_rows)}
+exec python3 "$top/checks/words.py" "$program" "${2:-1}"

@@ -6,7 +6,7 @@
 # (make.c), some out of random halfwords. How often each service, each end, each kind of fault, and what the world does came up in the runs that
 # were compared whole is printed, and none of it may be 0. An image that differs is kept in this folder's caller, as board-*.hex and
 # board-*.json. No test of the gate.
-# usage: bench/boards/boards.sh [COUNT [PROGRAM [SALT]]]; COUNT is 30000, and PROGRAM is bin/sts as it is built. JOBS says how many run side by
+# usage: bench/boards/boards.sh [COUNT [PROGRAM [SALT]]]; COUNT is 30000, and PROGRAM is what bin/program names. JOBS says how many run side by
 # side, else as many as there are processors
 set -eu
 here=$(cd "$(dirname "$0")" && pwd)
@@ -16,8 +16,7 @@ salt=${3:-1}
 if [ $# -ge 2 ]; then
     program=$2
 else
-    "$top/bin/sts" >/dev/null 2>&1 || true
-    program=$top/crates/sts/out/sts
+    program=$("$top/bin/program")
 fi
 [ -x "$program" ] || {
     echo "boards: $program is not built"

@@ -4,7 +4,7 @@
 # have halfwords there that mostly go on, and a hundredth as many are random bytes. Each run has a budget of 1,000 instructions and 20 seconds. No other status than 0, 3, 4 and 13 may come, and the
 # transcript is to be the emulator's. Where a run reads stack words that nothing has written, any word may stand there, so such a run may
 # differ; how many do is printed. An image that differs is kept in this folder's caller, as random-*.hex. No test of the gate.
-# usage: bench/images/random.sh [COUNT [PROGRAM [SALT]]]; COUNT is 100000, and PROGRAM is bin/sts as it is built
+# usage: bench/images/random.sh [COUNT [PROGRAM [SALT]]]; COUNT is 100000, and PROGRAM is what bin/program names
 set -eu
 here=$(cd "$(dirname "$0")" && pwd)
 top=$(cd "$here/../.." && pwd)
@@ -13,8 +13,7 @@ salt=${3:-1}
 if [ $# -ge 2 ]; then
     program=$2
 else
-    "$top/bin/sts" >/dev/null 2>&1 || true
-    program=$top/crates/sts/out/sts
+    program=$("$top/bin/program")
 fi
 [ -x "$program" ] || {
     echo "random: $program is not built"

@@ -7,9 +7,8 @@ top=$(cd "$(dirname "$0")/../.." && pwd)
 runs=${1:-3}
 folder=$(mktemp -d)
 trap 'rm -rf "$folder"' EXIT
-"$top/bin/sts" fly > /dev/null || [ $? -eq 2 ]
 
-python3 - "$folder" "$top/crates/sts/out/sts" "$runs" <<'PYTHON'
+python3 - "$folder" "$("$top/bin/program")" "$runs" <<'PYTHON'
 import resource
 import subprocess
 import sys

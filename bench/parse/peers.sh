@@ -3,5 +3,4 @@
 # usage: bench/parse/peers.sh [HOW_MANY [SEED]]
 set -eu
 here=$(cd "$(dirname "$0")" && pwd)
-"$here/../../bin/sts" fly > /dev/null || [ $? -eq 2 ]
-exec node "$here/peers.js" "$here/../../crates/sts/out/sts" "${1:-2000}" "${2:-1}"
+exec node "$here/peers.js" "$("$here/../../bin/program")" "${1:-2000}" "${2:-1}"

@@ -10,8 +10,7 @@ top=$here/../..
 runs=${1:-11}
 folder=$(mktemp -d)
 trap 'rm -rf "$folder"' EXIT
-"$top/bin/sts" fly > /dev/null || [ $? -eq 2 ]
-program=$top/crates/sts/out/sts
+program=$("$top/bin/program")
 
 awk -v out="$folder" 'BEGIN {
     file = out "/functions.ts"; size = 0

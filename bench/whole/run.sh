@@ -7,8 +7,7 @@ top=$(cd "$(dirname "$0")/../.." && pwd)
 runs=${1:-7}
 folder=$(mktemp -d)
 trap 'rm -rf "$folder"' EXIT
-"$top/bin/sts" fly > /dev/null || [ $? -eq 2 ]
-program=$top/crates/sts/out/sts
+program=$("$top/bin/program")
 compiler=/usr/share/nodejs/typescript/bin/tsc
 
 python3 - "$folder" <<'PYTHON'

@@ -1,0 +1,78 @@
+#!/bin/sh
+# What somebody meets who has just cloned the repository: the first command of README.md, in a clone of the last commit, writes what README says, and says how many seconds it took;
+# called again it takes the program that it compiled, another executable under that name is not taken, and two first calls side by side both answer. And folders as an interrupted
+# bin/prove or bin/compile leaves them have `rt ci` refuse nothing: it takes the tree, cut down to one small crate, so that its look at all files is tried without proving the rest;
+# where a source lies among what is built it would refuse it.
+# usage: checks/newcomer.sh
+set -eu
+top=$(cd "$(dirname "$0")/.." && pwd)
+for it in rt git; do
+    command -v "$it" >/dev/null || {
+        echo "newcomer: $it is missing"
+        exit 77
+    }
+done
+folder=$(mktemp -d)
+trap 'rm -rf "$folder"' EXIT
+export XDG_CACHE_HOME="$folder/cache" TMPDIR="$folder"
+git clone -q "$top" "$folder/clone"
+cd "$folder/clone"
+wrong=0
+judge() {
+    [ "$2" = "$3" ] || {
+        wrong=$((wrong + 1))
+        echo "newcomer: $1: '$2' in place of '$3'"
+    }
+}
+
+command=$(sed -n 's/^    \(bin\/sts run .*\)$/\1/p' README.md | head -1)
+due=$(awk '/^    bin\/sts run /{first = 1; next} first && /^    /{sub(/^    /, ""); print; found = 1; next} found{exit}' README.md)
+judge 'the first command of README.md' "$command" 'bin/sts run examples/hello.ts'
+answers() {
+    status=0
+    said=$($command 2>"$folder/errors") || status=$?
+    judge "$1, status" "$status" 0
+    judge "$1" "$said" "$due"
+    judge "$1, that nothing is proved" "$(grep -c 'their proofs have not been checked on this machine' "$folder/errors")" 1
+}
+began=$(date +%s)
+$command >"$folder/beside" 2>/dev/null &
+answers 'the first answer'
+echo "newcomer: the first answer came after $(($(date +%s) - began)) s on $(nproc) processors"
+wait || wrong=$((wrong + 1))
+judge 'the answer to a call beside it' "$(cat "$folder/beside")" "$due"
+began=$(date +%s%N)
+answers 'a later answer'
+echo "newcomer: a later answer came after $((($(date +%s%N) - began) / 1000000)) ms"
+judge 'executables kept' "$(find out/compiled -name 'sts.*' | wc -l)" 1
+kept=$(find out/compiled -name 'sts.*')
+cp /bin/true "$kept"
+if bin/compile >/dev/null 2>"$folder/errors" & child=$!; then sleep 2; fi
+judge 'another executable under its name' "$(grep -c 'compiling sts' "$folder/errors")" 1
+kill "$child" 2>/dev/null || true
+wait "$child" 2>/dev/null || true
+judge 'what an interrupted bin/compile leaves' "$(find "$folder" -maxdepth 1 -name 'sts-compile.*' | wc -l)" 0
+
+# bin/prove, interrupted in its first crate and as if behind it.
+bin/prove >/dev/null 2>&1 &
+child=$!
+sleep 4
+provers=$(pgrep -f "$folder/clone/.git/proved" | wc -l)
+[ "$provers" -gt 0 ] || { wrong=$((wrong + 1)); echo 'newcomer: bin/prove proves nothing'; }
+kill "$child" 2>/dev/null || true
+wait "$child" 2>/dev/null || true
+sleep 1
+judge 'provers that outlive bin/prove' "$(pgrep -f "$folder/clone/.git/proved" | wc -l)" 0
+mkdir -p .git/proved/sts_base.rlib/lang/src crates/sts/out
+cp crates/sts_base/src/lib.rt .git/proved/sts_base.rlib/lang/src/lib.rt
+rm -rf crates
+mkdir -p crates/tiny/src
+printf 'tiny:\n' >crates.txt
+printf '//! A number.\n#![tactic(auto)]\n\n/// Gives one.\npub fn one() -> u32 {\n    1\n}\n' >crates/tiny/src/lib.rt
+gate() { rt ci 2>&1 | tail -1; }
+judge 'rt ci over what was left' "$(gate)" '1 passed, 0 failed'
+mkdir -p out/sts_base.rlib
+cp .git/proved/sts_base.rlib/lang/src/lib.rt out/sts_base.rlib/
+judge 'rt ci over a source in out/' "$(gate)" '0 passed, 1 failed'
+echo "newcomer: $wrong wrong"
+[ "$wrong" -eq 0 ]
