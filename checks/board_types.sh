@@ -1,6 +1,6 @@
 #!/bin/sh
 # examples/board.d.ts declares the calls and constants of the board's table (crates/sts_syntax/specs/BoardTable.antt), with as many parameters of the
-# same types and the same result, and no others; and TypeScript's checker takes each program of examples/ with it.
+# same types and the same result, and no others, and so does docs/CALLS.md, with the constants' numbers; and TypeScript's checker takes each program of examples/ with it.
 # usage: checks/board_types.sh
 set -eu
 cd "$(dirname "$0")/.."
@@ -24,9 +24,22 @@ for line in open("examples/board.d.ts", encoding="utf-8"):
     elif constant := re.match(r"    const (\w+): (\w+)$", line):
         found[f"{space}.{constant[1]}"] = constant[2]
 
-wrong = sorted(it for it in {*wanted, *found} if wanted.get(it) != found.get(it))
-for it in wrong:
-    print(f"board types: {it} is {wanted.get(it)} in the table and {found.get(it)} in examples/board.d.ts")
+numbers = {f"{space}.{name}": int(n) for space, name, n in re.findall(r'constant \(codes "(\w+)"\) \(codes "(\w+)"\) \(pos (\d+)\)', table)}
+told, told_numbers = {}, {}
+for line in open("docs/CALLS.md", encoding="utf-8"):
+    if call := re.match(r"\| `(\w+\.\w+)\((.*)\): (\w+)` \|", line):
+        told[call[1]] = [it.split(": ", 1)[1] for it in call[2].split(", ") if it], call[3]
+    elif constant := re.match(r"\| `(\w+\.\w+)` \| (\d+) \|$", line):
+        told[constant[1]], told_numbers[constant[1]] = "number", int(constant[2])
+
+wrong = []
+for document, has in (("examples/board.d.ts", found), ("docs/CALLS.md", told)):
+    for it in sorted(it for it in {*wanted, *has} if wanted.get(it) != has.get(it)):
+        wrong.append(it)
+        print(f"board types: {it} is {wanted.get(it)} in the table and {has.get(it)} in {document}")
+for it in sorted(it for it in {*numbers, *told_numbers} if numbers.get(it) != told_numbers.get(it)):
+    wrong.append(it)
+    print(f"board types: {it} is {numbers.get(it)} in the table and {told_numbers.get(it)} in docs/CALLS.md")
 print(f"board types: {len(found)} names, {len(wrong)} wrong")
 sys.exit(1 if wrong or len(rows) < 20 else 0)
 PYTHON
