@@ -1,7 +1,8 @@
 #!/bin/sh
 # Each program of examples/ has a transcript NAME.txt, and most a script NAME.json: the transcript was worked out from the rules, and is what the rules give
 # as bench/programs/reading.py reads them, with no code of this repository. The program accepts each example's text, and writes that transcript by `run`, and by
-# `build` and then `run-hex`; and the image that ran, as `run` writes it behind its transcript with --stats --image, is the one that `build` writes.
+# `build` and then `run-hex`; and the image that ran, as `run` writes it behind its transcript with --stats --image, is the one that `build` writes, and
+# ends in as many instructions as `run` tells, and not in one less.
 # usage: checks/examples.sh [PROGRAM]
 set -eu
 top=$(cd "$(dirname "$0")/.." && pwd)
@@ -21,7 +22,18 @@ for text in "$top"/examples/*.ts; do
     [ "$said" = accepted ] || { echo "examples: check says of $name: $said"; wrong=$((wrong + 1)); }
     "$program" run "$text" $script 2> /dev/null | cmp - "$top/examples/$name.txt" || wrong=$((wrong + 1))
     "$program" build "$text" > "$folder/image.hex" || wrong=$((wrong + 1))
-    "$program" run "$text" $script --stats --image 2> /dev/null | sed -n '/^instructions /,$p' | sed 1d | cmp - "$folder/image.hex" || wrong=$((wrong + 1))
+    status=0
+    "$program" run "$text" $script --stats --image > "$folder/all" 2> /dev/null || status=$?
+    sed -n '/^instructions /,$p' "$folder/all" | sed 1d | cmp - "$folder/image.hex" || wrong=$((wrong + 1))
+    executed=$(sed -n 's/^instructions //p' "$folder/all")
+    ended=0
+    "$program" run-hex "$folder/image.hex" $script --budget "$executed" > "$folder/enough" 2> /dev/null || ended=$?
+    cmp "$folder/enough" "$top/examples/$name.txt" && [ "$ended" -eq "$status" ] || { echo "examples: $name: $executed instructions aren't enough"; wrong=$((wrong + 1)); }
+    if [ "$executed" -gt 1 ]; then
+        ended=0
+        "$program" run-hex "$folder/image.hex" $script --budget $((executed - 1)) > "$folder/cut" 2> /dev/null || ended=$?
+        [ "$ended" -eq 4 ] || { echo "examples: $name: one instruction less than $executed is enough"; wrong=$((wrong + 1)); }
+    fi
     "$program" run-hex "$folder/image.hex" $script 2> /dev/null | cmp - "$top/examples/$name.txt" || wrong=$((wrong + 1))
 done
 echo "examples: $count programs, $wrong wrong"
