@@ -6,8 +6,6 @@
 mod arrival;
 mod form;
 mod shapes;
-#[cfg(test)]
-mod tests;
 mod verdict;
 
 pub use arrival::{ARRIVAL_LIMIT, Arrival, ArrivalCode, ArrivalRefused};

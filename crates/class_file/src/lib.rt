@@ -6,8 +6,6 @@
 mod class;
 mod form;
 mod shapes;
-#[cfg(test)]
-mod tests;
 mod verdict;
 
 pub use class::{BOARD_LIMIT, ClassCode, ClassFile, ClassRefused, LOSS_LIMIT, Loss, Names};
