@@ -1,6 +1,6 @@
 -- What a record keeps of a fiber.
-use Rattle.std.specs.Prelude.{ℕ, ℤ, pos, List, [], replicate, Option, Some, None}
-use Rattle.slab.specs.Slab.{Slab, get}
+use Rattle.std.specs.Prelude.{ℕ, ◌-◌, ℤ, pos, List, [], ◌++◌, length, replicate, take, Option, Some, None}
+use Rattle.slab.specs.Slab.{Slab, get, with_value}
 use Rattle.thumb_code.specs.declared.register_file.Registers.{Registers}
 
 pub record Kept : Type 0 where
@@ -28,3 +28,14 @@ or_unused (Some k) = k
 
 abbrev pub kept_at : Slab Kept → ℕ → Kept
 kept_at pool key = or_unused (get pool key)
+
+-- so many words: those that there are, and zeros behind them
+abbrev pub sized : ℕ → List ℕ → List ℕ
+sized n words = take n words ++ replicate (n - length words) 0
+
+-- the records where one has other words, or other registers and another base
+abbrev pub with_words : Slab Kept → ℕ → List ℕ → Slab Kept
+with_words pool key words = with_value pool key (record (kept_at pool key) { words = words })
+
+abbrev pub with_kept : Slab Kept → ℕ → Registers → ℕ → Slab Kept
+with_kept pool key registers base = with_value pool key (record (kept_at pool key) { registers = registers; base = base })

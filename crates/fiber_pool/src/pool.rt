@@ -1,8 +1,8 @@
 // The records, by key.
-ghost use Rattle.std.specs.Prelude.{◌≡◌, ℕ, ◌+◌, ◌<◌, ◌≤◌, ◌↔◌, length, Some, None, IsSome, OnSome, IfOk, IfSome, IfNone};
+ghost use Rattle.std.specs.Prelude.{◌≡◌, ℕ, ◌+◌, ◌<◌, ◌≤◌, ◌↔◌, length, Some, None, IsSome, OnSome, IfOk, IfSome, IfNone, slice_index, slice_set};
 ghost use Rattle.board_world.specs.Limits.{seat_limit};
 ghost use Rattle.slab.specs.Slab.{get, slab_len, Updates, ContainsKey};
-ghost use Rattle.fiber_pool.specs.Kept.{Kept, record_limit, unused};
+ghost use Rattle.fiber_pool.specs.Kept.{Kept, record_limit, unused, kept_at, sized, with_words, with_kept};
 
 use crate::record::Record;
 use board_world::SEAT_LIMIT;
@@ -111,14 +111,63 @@ impl Pool {
         }
     }
 
-    /// How many words are kept.
+    /// How many words are kept, 0 at a key that isn't live.
     pub fn words(&self, key: usize) -> usize
-        requires { ContainsKey self.now key }
         ensures length { IfSome (get self.now key) (λ k. result ≡ length k.words) }
+        ensures count { result ≡ length (kept_at self.now key).words }
         ensures most { result ≤ record_limit }
     {
         match self.slab.get(key) {
             Some(record) => record.words().len(),
+            None => 0,
+        }
+    }
+
+    /// Sets the number of words: those that there are stay, and new ones are 0.
+    pub fn size(&mut self, key: usize, words: usize)
+        requires live { ContainsKey self.old key }
+        requires most { words ≤ record_limit }
+        ensures { self.new ≡ with_words self.old key (sized words (kept_at self.old key).words) }
+    {
+        match self.slab.get_mut(key) {
+            Some(record) => record.size(words),
+            None => unreachable!(),
+        }
+    }
+
+    /// One of the words.
+    pub fn word(&self, key: usize, at: usize) -> u32
+        requires live { ContainsKey self.now key }
+        requires there { at < length (kept_at self.now key).words }
+        ensures { result ≡ slice_index (kept_at self.now key).words at }
+    {
+        match self.slab.get(key) {
+            Some(record) => record.words()[at],
+            None => unreachable!(),
+        }
+    }
+
+    /// Changes one of the words.
+    pub fn set_word(&mut self, key: usize, at: usize, word: u32)
+        requires live { ContainsKey self.old key }
+        requires there { at < length (kept_at self.old key).words }
+        ensures { self.new ≡ with_words self.old key (slice_set (kept_at self.old key).words at word) }
+    {
+        match self.slab.get_mut(key) {
+            Some(record) => record.set_word(at, word),
+            None => unreachable!(),
+        }
+    }
+
+    /// Keeps a fiber's registers and base. All else stays.
+    pub fn keep(&mut self, key: usize, registers: Registers, base: u32)
+        requires { ContainsKey self.old key }
+        ensures kept { self.new ≡ with_kept self.old key registers base }
+        ensures updates { Updates self.old self.new key (Some (record (kept_at self.old key) { registers = registers; base = base })) }
+        ensures live { slab_len self.new ≡ slab_len self.old }
+    {
+        match self.slab.get_mut(key) {
+            Some(record) => record.keep_rest(registers, base),
             None => unreachable!(),
         }
     }

@@ -1,6 +1,6 @@
 // One record.
-ghost use Rattle.std.specs.Prelude.{◌≡◌, ◌≤◌, pos, None, [], length};
-ghost use Rattle.fiber_pool.specs.Kept.{record_limit};
+ghost use Rattle.std.specs.Prelude.{◌≡◌, ◌<◌, ◌≤◌, pos, None, [], length, slice_set};
+ghost use Rattle.fiber_pool.specs.Kept.{record_limit, sized};
 
 use std::marker::Model;
 use thumb_code::Registers;
@@ -50,10 +50,40 @@ impl Record {
         requires { length words.now ≤ record_limit }
         ensures { self.new ≡ record self.old { registers = registers; base = base; words = words.now } }
     {
-        self.registers = registers;
-        self.base = base;
+        self.keep_rest(registers, base);
         self.len = words.len();
         self.words[..words.len()].copy_from_slice(words);
+    }
+
+    /// Sets the number of words: those that there are stay, and new ones are 0.
+    pub fn size(&mut self, words: usize)
+        requires { words ≤ record_limit }
+        ensures { self.new ≡ record self.old { words = sized words self.old.words } }
+    {
+        if self.len < words {
+            self.words[self.len..words].fill(0);
+        }
+        self.len = words;
+    }
+
+    /// Changes one word.
+    #[tactic(auto, using(crate::proofs::Words::set_below, crate::proofs::Words::none_above))]
+    pub fn set_word(&mut self, at: usize, word: u32)
+        requires { at < length self.old.words }
+        ensures { self.new ≡ record self.old { words = slice_set self.old.words at word } }
+    {
+        let count = self.len;
+        if at < count {
+            self.words[at] = word;
+        }
+    }
+
+    /// Keeps these registers and this base instead.
+    pub fn keep_rest(&mut self, registers: Registers, base: u32)
+        ensures { self.new ≡ record self.old { registers = registers; base = base } }
+    {
+        self.registers = registers;
+        self.base = base;
     }
 
     /// Keeps this event value instead.

@@ -17,6 +17,11 @@ no_lists = record { ready = []; sleepers = []; waiters = [] }
 abbrev pub total : {Y : Type 0} → ListsOf Y → ℕ
 total q = length q.ready + length q.sleepers + length q.waiters
 
+-- this key stands first
+abbrev pub Leads : ℕ → List ℕ → Type 0
+Leads key [] = ⊥
+Leads key (k ∷ ks) = key ≡ k
+
 -- the first of a list of pairs whose key passes a test, and the list without it
 module _ {X Y : Type 0} (test : X → Bool) where
   abbrev pub first_chosen : List (X × Y) → Option Y

@@ -3,7 +3,7 @@ ghost use Rattle.std.specs.Prelude.{◌≡◌, ◌+◌, ◌<◌, ◌≤◌, ◌�
 ghost use Rattle.std.specs.Option.{option_to_list};
 ghost use Rattle.board_world.specs.Limits.{seat_limit};
 ghost use Rattle.board_world.specs.Waiting.{least, chosen, left, hears};
-ghost use Rattle.fiber_queues.specs.Lists.{no_lists, total, HasRoom, first_chosen};
+ghost use Rattle.fiber_queues.specs.Lists.{no_lists, Leads, total, HasRoom, first_chosen};
 ghost use Rattle.fiber_queues.specs.Calls.{due_woken, waiter_woken};
 
 use crate::search::{first_due, first_hearing, least_of};
@@ -101,6 +101,17 @@ impl Queues {
             None
         } else {
             Some(self.ready.remove(0))
+        }
+    }
+
+    /// The first ready key. None exactly where none is ready.
+    pub fn first(&self) -> Option<usize>
+        ensures none { (result ≡ None) ↔ (self.now.ready ≡ []) }
+        ensures first { IfSome result (λ key. Leads key self.now.ready) }
+    {
+        match self.ready.as_slice().first() {
+            Some(key) => Some(*key),
+            None => None,
         }
     }
 

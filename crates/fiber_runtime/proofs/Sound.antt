@@ -146,28 +146,33 @@ sound_named t t' old machine h e k =
 pub sound_machine : (old : State) (machine : Machine) → IsSound old → IsSound (record old { machine = machine })
 sound_machine old machine h = record { each = h.each; count = h.count; most = h.most; fits = h.fits; suspended = h.suspended }
 
-pub sound_blocked : (key now : ℕ) (t : Turning) (why : Why) (old new : State) → IsSound old → old.running ≡ Some t → t.key ≡ Some key → Fits (kept_of old.machine t) → Blocked key t why now old new → IsSound new
-sound_blocked key now t why old new h e k i m =
+-- the running fiber's record holds what fits, and it joins a list
+pub sound_laid : (key now : ℕ) (t : Turning) (why : Why) (old new : State) (x : Kept) → IsSound old → old.running ≡ Some t → t.key ≡ Some key → Fits x → Updates old.pool new.pool key (Some x) → slab_len new.pool ≡ slab_len old.pool
+    → new ≡ record old { pool = new.pool; running = None; lists = joined why now key old.lists } → IsSound new
+sound_laid key now t why old new x0 h e k i updates live rest =
     let runs = runs_at old t (Some key) e k in
     let before = each_before old h (key ∷ []) runs in
-    subst IsSound (sym m.rest) (record {
+    subst IsSound (sym rest) (record {
       each = λ other.
           let j = how_often-joined other key now why old.lists in
           elim (cases_eq other key) [
-            | inl same ↦ (let n = updated old.pool new.pool key _ m.updates other same in let o = one_at key other same in omega (arith, j, n, o, before other, once_most (is_some (get old.pool other))))
-            | inr differs ↦ (let n = stayed old.pool new.pool key _ m.updates other differs in let o = none_at key other differs in omega (arith, j, n, o, before other))
+            | inl same ↦ (let n = updated old.pool new.pool key _ updates other same in let o = one_at key other same in omega (arith, j, n, o, before other, once_most (is_some (get old.pool other))))
+            | inr differs ↦ (let n = stayed old.pool new.pool key _ updates other differs in let o = none_at key other differs in omega (arith, j, n, o, before other))
           ];
-      count = omega (arith, count_before old h (key ∷ []) runs, length-joined key now why old.lists, m.live);
-      most = omega (arith, h.most, m.live);
+      count = omega (arith, count_before old h (key ∷ []) runs, length-joined key now why old.lists, live);
+      most = omega (arith, h.most, live);
       fits = λ other x f. elim (cases_eq other key) [
-        | inl same ↦ inr (subst Fits (let g : Some (kept_of old.machine t) ≡ Some x = sym m.updates.changed ∙ ap (get new.pool) (sym same) ∙ f in cc) i)
-        | inr differs ↦ elim (fits_before old h (key ∷ []) runs other x (sym (m.updates.others other differs) ∙ f)) [
+        | inl same ↦ inr (subst Fits (let g : Some x0 ≡ Some x = sym updates.changed ∙ ap (get new.pool) (sym same) ∙ f in cc) i)
+        | inr differs ↦ elim (fits_before old h (key ∷ []) runs other x (sym (updates.others other differs) ∙ f)) [
           | inl one ↦ inl (let o = none_at key other differs in omega (arith, o))
           | inr fit ↦ inr fit
         ]
       ];
       suspended = h.suspended;
     })
+
+pub sound_blocked : (key now : ℕ) (t : Turning) (why : Why) (old new : State) → IsSound old → old.running ≡ Some t → t.key ≡ Some key → Fits (kept_of old.machine t) → Blocked key t why now old new → IsSound new
+sound_blocked key now t why old new h e k i m = sound_laid key now t why old new (kept_of old.machine t) h e k i m.updates m.live m.rest
 
 pub sound_adopted : (key : ℕ) (t : Turning) (old new : State) → IsSound old → old.running ≡ Some t → t.key ≡ None → Adopted key t old new → IsSound new
 sound_adopted key t old new h e k m =

@@ -1,7 +1,10 @@
 // The runtime.
-ghost use Rattle.std.specs.Prelude.{◌≡◌, ℕ, ◌+◌, ◌<◌, ◌≤◌, ◌↔◌, [], length, Some, None, IsOk, IfOk, OnOk, OnErr, IfSome, OnSome, IsSome, is_some};
+ghost use Rattle.std.specs.Prelude.{◌≡◌, ℕ, ◌+◌, ◌<◌, ◌≤◌, ◌↔◌, [], length, Some, None, IsOk, IfOk, OnOk, OnErr, IfSome, OnSome, IsSome, is_some, ◌*◌, slice_index, slice_set};
 ghost use Rattle.std.specs.Bool.{OnTrue, OnFalse};
-ghost use Rattle.slab.specs.Slab.{slab_len};
+ghost use Rattle.slab.specs.Slab.{slab_len, ContainsKey};
+ghost use Rattle.fiber_pool.specs.Kept.{record_limit, kept_at, sized, with_words, with_kept};
+ghost use Rattle.fiber_queues.specs.Lists.{Leads};
+ghost use Rattle.fiber_runtime.specs.Words.{Fits};
 ghost use Rattle.thumb_code.specs.Machine.{base_of, step as step_of};
 ghost use Rattle.armv6m_machine.specs.Steps.{IsStep};
 ghost use Rattle.board_world.specs.Limits.{seat_limit, raiser_limit, end_limit};
@@ -57,6 +60,7 @@ impl Runtime {
     ghost use Rattle.fiber_runtime.specs.LendingMachine.{LendsMachine};
     ghost use Rattle.fiber_runtime.specs.declared.turning.Turning.{Turning};
     ghost use Rattle.fiber_runtime.specs.Moves.{IsIdle, HasMain, Blocked, Adopted, Resumed, Ended, Spawned, Woken, Reinstated, started, restarted, suspended};
+    ghost use Rattle.fiber_runtime.specs.Copying.{Parked, Taken};
 
     /// Over this machine, with main alone: it begins as the image in flash says, and is ready.
     pub fn new(alloc: Global, machine: Machine) -> Result<Runtime, NoMemory>
@@ -147,6 +151,107 @@ impl Runtime {
                 });
                 true
             }
+        }
+    }
+
+    /// Sets the number of words in the running fiber's record: those that there are stay, and new ones are 0.
+    pub fn size(&mut self, key: usize, words: usize)
+        requires runs { running_key self.old.running ≡ Some key }
+        requires most { words ≤ record_limit }
+        ensures sized { self.new ≡ record self.old { pool = with_words self.old.pool key (sized words (kept_at self.old.pool key).words) } }
+        ensures live { ContainsKey self.old.pool key }
+    {
+        self.pool.size(key, words);
+    }
+
+    /// How many words a record keeps, 0 at a key that isn't live.
+    pub fn words(&self, key: usize) -> usize
+        ensures count { result ≡ length (kept_at self.now.pool key).words }
+        ensures most { result ≤ record_limit }
+    {
+        self.pool.words(key)
+    }
+
+    /// One of the words of a record.
+    pub fn word(&self, key: usize, at: usize) -> u32
+        requires live { ContainsKey self.now.pool key }
+        requires there { at < length (kept_at self.now.pool key).words }
+        ensures { result ≡ slice_index (kept_at self.now.pool key).words at }
+    {
+        self.pool.word(key, at)
+    }
+
+    /// Changes one of the words of a record.
+    pub fn set_word(&mut self, key: usize, at: usize, word: u32)
+        requires live { ContainsKey self.old.pool key }
+        requires there { at < length (kept_at self.old.pool key).words }
+        ensures { self.new ≡ record self.old { pool = with_words self.old.pool key (slice_set (kept_at self.old.pool key).words at word) } }
+    {
+        self.pool.set_word(key, at, word);
+    }
+
+    /// Keeps registers and base in the running fiber's record.
+    pub fn keep(&mut self, key: usize, registers: Registers, base: u32)
+        requires runs { running_key self.old.running ≡ Some key }
+        ensures { self.new ≡ record self.old { pool = with_kept self.old.pool key registers base } }
+    {
+        self.pool.keep(key, registers, base);
+    }
+
+    /// The first ready key. None exactly where none is ready.
+    pub fn next_key(&self) -> Option<usize>
+        ensures none { (result ≡ None) ↔ (self.now.lists.ready ≡ []) }
+        ensures first { IfSome result (λ key. Leads key self.now.lists.ready) }
+    {
+        self.queues.first()
+    }
+
+    /// The running fiber blocks, and its record's words stay, of which there are as many as lie from SP to the base.
+    pub fn park(&mut self, why: Why, now: u32)
+        requires runs { IsSome self.old.running }
+        requires keyed { IfSome self.old.running (λ t. IsSome t.key) }
+        requires inside { IsInside self.old.machine.registers.sp self.old.machine.memory.base }
+        requires early { now ≤ end_limit }
+        requires sized { IfSome (running_key self.old.running) (λ key. self.old.machine.registers.sp + 4 * length (kept_at self.old.pool key).words ≡ self.old.machine.memory.base) }
+        ensures { (key : ℕ) (t : Turning) → self.old.running ≡ Some t → t.key ≡ Some key → Parked key t why now self.old self.new }
+    {
+        match self.running {
+            Some(turning) => match turning.key {
+                Some(key) => {
+                    self.pool
+                        .keep(key, self.machine.registers(), self.machine.base());
+                    name(&mut self.pool, key, turning);
+                    self.running = None;
+                    join(&mut self.queues, key, why, now);
+                }
+                None => unreachable!(),
+            },
+            None => unreachable!(),
+        }
+    }
+
+    /// The first ready fiber becomes the running one, and the words in the stack region stay.
+    pub fn take(&mut self, key: usize)
+        requires idle { self.old.running ≡ None }
+        requires alone { self.old.raisers ≡ [] }
+        requires first { Leads key self.old.lists.ready }
+        ensures taken { Taken self.old self.new }
+        ensures fits { Fits (kept_at self.old.pool key) }
+    {
+        let (registers, base) = self.pool.kept(key);
+        let value = self.pool.value(key);
+        let listener = self.pool.listener(key);
+        match self.queues.next() {
+            Some(_) => {
+                self.machine.set_registers(registers);
+                self.machine.set_base(base);
+                self.running = Some(Turning {
+                    key: Some(key),
+                    value,
+                    listener,
+                });
+            }
+            None => unreachable!(),
         }
     }
 
@@ -418,6 +523,14 @@ impl Runtime {
         ensures { result ≡ self.now.machine.memory.base }
     {
         self.machine.base()
+    }
+
+    /// The words of the stack region.
+    pub fn stack(&self) -> &[u32]
+        ensures value { result.now ≡ self.now.machine.memory.stack }
+        ensures size { length result.now ≡ 1024 }
+    {
+        self.machine.stack()
     }
 
     /// Sets the machine's registers.

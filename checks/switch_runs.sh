@@ -1,0 +1,14 @@
+#!/bin/sh
+# The routine of the switch is run by another program's processor, QEMU, for 0 to 1,024 words: it copies them, changes no other word, and takes as many instructions
+# as crates/switch_rows, which executes the same bytes by the instruction table. Without the assembler or QEMU it is skipped (status 77).
+# usage: checks/switch_runs.sh
+set -eu
+for tool in arm-none-eabi-as qemu-arm; do
+    command -v "$tool" > /dev/null || {
+        echo "switch_runs: $tool is missing (packages binutils-arm-none-eabi and qemu-user)"
+        exit 77
+    }
+done
+folder=$(mktemp -d)
+trap 'rm -rf "$folder"' EXIT
+python3 "$(dirname "$0")/switch_runs.py" "$folder"

@@ -1,0 +1,14 @@
+mod Words
+mod Ranges
+mod Steps
+mod Whole
+mod Pieces
+mod Switches
+mod Mapped
+mod Bytes
+mod StackWords
+mod Alone
+mod Going
+mod Blocking
+mod Resuming
+mod Worked
