@@ -12,7 +12,6 @@ import struct
 import subprocess
 import sys
 
-TOP = os.path.dirname(os.path.dirname(os.path.abspath(__file__)))
 FOLDER = sys.argv[1]
 MOST = 1024
 MARK = 0x5EED5EED
@@ -49,7 +48,7 @@ target: .word   {target}
 
 
 def rows(lines):
-    given = subprocess.run(["rt", "run"], cwd=f"{TOP}/crates/switch_rows", input="".join(it + "\n" for it in lines), capture_output=True, text=True)
+    given = subprocess.run([sys.argv[2]], input="".join(it + "\n" for it in lines), capture_output=True, text=True)
     found = given.stdout.split("\n")[:-1]
     assert len(found) == len(lines), given.stderr[-500:]
     return found
