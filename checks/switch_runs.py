@@ -6,7 +6,6 @@ The program has the number of words at a place of its own, where this script wri
 routine are counted. The last line is 'N numbers of words, I instructions, K wrong'.
 """
 
-import os
 import random
 import struct
 import subprocess
