@@ -29,3 +29,6 @@ pub mod Settling
 pub mod Executing
 pub mod Finished
 pub mod Others
+mod Waiting
+mod Proceeding
+mod Going

@@ -33,9 +33,9 @@ use tool_io::{PutFailed, Sink};
 /// A board with an image in flash, a script, and devices in their places. All memory of a run is taken by `mount`.
 #[derive(Drop)]
 pub struct Board<D> {
-    engine: Engine,
-    plugs: Plugs<D>,
-    instructions: u64,
+    pub(crate) engine: Engine,
+    pub(crate) plugs: Plugs<D>,
+    pub(crate) instructions: u64,
 }
 
 /// There was no memory for a board; the devices are handed back.
@@ -91,7 +91,7 @@ fn fresh_engine(alloc: Global, image: Vec<u8>, script: Script) -> Result<Engine,
 
 /// Puts the line of what was seen at a moment, and then sends its words to the devices.
 #[inline(always)]
-fn tell<K: Sink, D: Device>(
+pub fn tell<K: Sink, D: Device>(
     engine: &mut Engine,
     sight: Sight,
     now: u32,

@@ -13,6 +13,7 @@ mod ending;
 mod engine;
 mod idle;
 mod instruct;
+mod moments;
 mod place;
 mod places;
 mod reckoning;
