@@ -91,6 +91,9 @@ module _ {A S : Type 0} (K : Kind A S) where
       by_over true = refl
       by_over false = refl
 
+  pub rests : (t : ℕ) (v : World A S) → v.ready ≡ [] → moves_before t v.board.queue v ≡ false → idled_before K t v ≡ v
+  rests t v e m = ap (λ (xs : List (Activity A)). idle_before K t (idle_bound v.board) xs v) e ∙ waits t (idle_bound v.board) [] v e refl m
+
   -- a later moment before which nothing comes is as good
   pub waits_on : (t u n : ℕ) (w : World A S) → t ≤ u → IsSettled (run_before K t n w) → (let v = run_before K t (suc n) w in v.ready ≡ [] → moves_before u v.board.queue v ≡ false → run_before K u (suc n) w ≡ v)
   waits_on t u n w l s e m =

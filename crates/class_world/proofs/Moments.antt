@@ -175,7 +175,7 @@ module _ {A S : Type 0} (K : Kind A S) where
       if_keeps (λ (u : World A S). u.board.seen ≡ w.board.seen) (over w.board) w (idle_while K n v.ready v) refl (seen_idle n v.ready v ∙ seen_moved w.board.queue w))
 
   module _ (t : ℕ) where
-    seen_idle_before : (n : ℕ) (xs : List (Activity A)) (w : World A S) → (idle_before K t n xs w).board.seen ≡ w.board.seen
+    pub seen_idle_before : (n : ℕ) (xs : List (Activity A)) (w : World A S) → (idle_before K t n xs w).board.seen ≡ w.board.seen
     seen_idle_before zero xs w = refl
     seen_idle_before (suc n) (x ∷ xs) w = refl
     seen_idle_before (suc n) [] w =

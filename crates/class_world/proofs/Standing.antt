@@ -14,7 +14,7 @@ use Rattle.board_world.specs.Kinds.{Kind, Question, Raises, Plots, Displays, Wri
 use Rattle.board_world.specs.Waiting.{left, least, none, how_many, held_by}
 use Rattle.board_world.specs.Activities.{Activity, World, handlers}
 use Rattle.board_world.specs.World.{lacks_seat, stops, jump, clock_moves, ends_with, ends, moved, idle_bound, blocks, acted}
-use Rattle.board_world.specs.Before.{IsRisingFrom, WakeFrom, is_by_clock, is_jump_before, moves_before, idle_before, stepped_before, tick_before, run_before}
+use Rattle.board_world.specs.Before.{IsRisingFrom, WakeFrom, is_by_clock, is_jump_before, moves_before, idle_before, idled_before, stepped_before, tick_before, run_before}
 use Rattle.board_world.proofs.Laws.{if_keeps, clock_all}
 use Rattle.class_world.proofs.Moments.{until_all, end_all}
 
@@ -130,6 +130,21 @@ module _ {A S : Type 0} (K : Kind A S) (clock until : ℕ) (script : List Entry)
   standing_run n w h =
       (let r = stands_run n w ((h.clock_is, h.until_is, h.script_is, h.goes), h.later) in
       record { clock_is = r.0.0; until_is = r.0.1; script_is = r.0.2; goes = r.0.3; later = r.1 })
+
+  pub standing_idled : (w : World A S) → IsStanding clock until script w → IsStanding clock until script (idled_before K 0 w)
+  standing_idled w h =
+      (let r = stands_idle (idle_bound w.board) w.ready w ((h.clock_is, h.until_is, h.script_is, h.goes), h.later) in
+      record { clock_is = r.0.0; until_is = r.0.1; script_is = r.0.2; goes = r.0.3; later = r.1 })
+
+-- where no event is queued, no idle move comes before the first moment
+pub none_before_first : {A S : Type 0} (queue : List Event) (w : World A S) → queue ≡ [] → moves_before 0 queue w ≡ false
+none_before_first (e ∷ rest) w h = cc
+none_before_first [] w h = by_move (clock_move (least w.sleepers) (next_entry w.board.script) w.board.until)
+  where
+    by_move : (i : Idle) → is_jump_before 0 i ≡ false
+    by_move (Jump s) = grind (arith, nat_tests)
+    by_move Quiet = refl
+    by_move Script = refl
 
 -- a moment's entries leave those that come later, and its sleepers those that wake later
 left_rising : (t : ℕ) (es : List Entry) (b : Board) → IsRisingFrom t es → IsRisingFrom (suc t) (arrive_all t es b).script
