@@ -97,7 +97,7 @@ ticks_to : (image : List ℕ) (bound : Option ℕ) (w : World Fiber Shared) (a :
 ticks_to image None w a others o r = ticks image w a others o r
 ticks_to image (Some t) w a others o r = rw o (ap (λ l. stepped_before (fibers image) t l w) r)
 
-over_to : (image : List ℕ) (bound : Option ℕ) (w : World Fiber Shared) → over w.board ≡ true → (idled_to (fibers image) bound w ≡ w) × (tick_to image bound w ≡ w)
+pub over_to : (image : List ℕ) (bound : Option ℕ) (w : World Fiber Shared) → over w.board ≡ true → (idled_to (fibers image) bound w ≡ w) × (tick_to image bound w ≡ w)
 over_to image None w o = (over_stays (fibers image) (idle_bound w.board) w.ready w o, rw o refl)
 over_to image (Some t) w o = (stays (idle_bound w.board) w.ready, rw o refl)
   where

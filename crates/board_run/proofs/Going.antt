@@ -1,52 +1,33 @@
 -- The clock comes to a moment with events that are raised behind the script's own entries.
-use Rattle.std.proofs.Common.{All, ◌<◌, OnOk, Result, Ok, Err, ◌≡◌, ℕ, ◌+◌, ◌≤◌, true, false, if◌then◌else◌, nat_lt, List, [], ◌∷◌, ◌++◌, length, drop, Option, Some, None, is_some, refl, ap, sym, ◌∙◌, subst, arith, append_assoc}
-use Rattle.std.proofs.lemmas.Bool.Decides.{nat_tests}
+use Rattle.std.proofs.Common.{All, ◌<◌, OnOk, OnErr, Result, Ok, Err, ◌≡◌, ℕ, ◌≤◌, true, false, if◌then◌else◌, nat_lt, List, [], ◌∷◌, ◌++◌, length, drop, Option, refl, ap, sym, ◌∙◌, subst, arith}
 use Rattle.std.proofs.lemmas.List.{append-nil}
 use Rattle.board_world.specs.declared.events.Event.{Event}
-use Rattle.board_world.specs.declared.clock.Idle.TheVariants.{Jump}
 use Rattle.board_world.specs.Limits.{queue_limit}
-use Rattle.board_world.specs.Rules.{clock_move}
-use Rattle.board_world.specs.Board.{Board, raised, arrive_all, next_entry, over}
-use Rattle.board_world.specs.Waiting.{least}
+use Rattle.board_world.specs.Board.{Board, raised, arrive_all}
 use Rattle.board_world.specs.Activities.{World}
-use Rattle.board_world.specs.World.{jump, moved, clock_moves}
-use Rattle.board_world.specs.Before.{IsRisingFrom, idled_before, run_before, moves_before, is_jump_before}
-use Rattle.board_world.proofs.Laws.{first_before}
+use Rattle.board_world.specs.World.{jump}
+use Rattle.board_world.specs.Before.{IsRisingFrom}
 use Rattle.bank_model.specs.Fibers.{Fiber, Shared}
-use Rattle.bank_model.specs.BoardMachine.{fibers}
 use Rattle.board_drivers.specs.Buttons.{HasButtons}
 use Rattle.message_bus.specs.BusState.{BusState, queued}
 use Rattle.event_script.specs.World.{world_entries}
-use Rattle.fiber_queues.proofs.Laws.{least-keyed}
 use Rattle.board_ports.specs.Plugged.{Plugged}
-use Rattle.board_outside.specs.Moves.{Move, HasMet, Meets, seen_of}
-use Rattle.board_outside.proofs.Laws.{met_then}
+use Rattle.board_outside.specs.Moves.{Meets}
 use Rattle.board_run.specs.declared.engine.Engine.{Engine}
 use Rattle.board_run.specs.Arriving.{Arrived, acted_on}
-use Rattle.board_run.specs.Idling.{IsEmpty}
 use Rattle.board_run.specs.Represents.{Represents}
-use Rattle.board_run.specs.Run.{Reaches}
-use Rattle.board_world.specs.Transcript.{lines}
 use Rattle.board_world.specs.Limits.{end_limit}
 use Rattle.thumb_code.specs.Map.{flash_end}
-use Rattle.tool_io.specs.Putting.{Took}
 use Rattle.event_script.specs.Sound.{IsSound}
-use Rattle.board_outside.proofs.Laws.{seen_of-append}
 use Rattle.board_run.specs.declared.end.Counts.{Counts}
 use Rattle.board_run.specs.Advancing.{IsWhole}
-use Rattle.board_run.specs.Run.{Comes}
 use Rattle.board_run.specs.Represents.{IsShown}
-use Rattle.board_run.specs.Proceeding.{Makes, MakesTo, Proceeds}
-use Rattle.board_run.proofs.Proceeding.{makes_then, makes_none}
-use Rattle.board_run.specs.Shown.{of_key}
-use Rattle.board_run.specs.View.{state_of, plain_of, end_of}
-use Rattle.std.specs.Option.{option_map}
+use Rattle.board_run.specs.View.{state_of, plain_of}
 use Rattle.class_world.specs.Hearing.{with_heard, raised_at}
 use Rattle.class_world.specs.Keeping.{raised_all, with_kept}
 use Rattle.class_world.proofs.Laws.{kept_arrives}
-use Rattle.board_run.specs.Going.{queued_all, IsDueAt, CameTo, Goes}
+use Rattle.board_run.specs.Going.{queued_all, CameTo}
 use Rattle.board_run.proofs.Goes.{IsPlain}
-use Rattle.board_run.proofs.Raises.{nobody_ready}
 use Rattle.board_run.proofs.Arrives.{arrived}
 use Rattle.fiber_queues.specs.Calls.{due_woken}
 use Rattle.fiber_runtime.specs.State.{State}
@@ -116,47 +97,6 @@ came_by log faults e p p' t events rising r woke new =
     subst (λ (b : BusState). CameTo log faults t events e (record new { bus = b }) p p') (sym is)
     (subst (λ (x : Engine). CameTo log faults t events e (record x { bus = record new.bus { queue = queued_all events new.bus.queue } }) p p') (sym stays) c))
 
--- The moment's other moves behind it.
-pub goes_on_through : (image : List ℕ) (t n : ℕ) (events : List Event) (first more : List Move) (old there new : Engine) → IsEmpty (state_of old) → old.end ≡ None → old.bus.queue ≡ [] → IsDueAt t events old
-    → ((w : World Fiber Shared) → Represents image (state_of old) w → Represents image (state_of there) (jump t (with_kept t events w)) × Meets first w.board (jump t (with_kept t events w)).board)
-    → Makes image n more (state_of there) (state_of new) → Goes image t n events (first ++ more) (state_of old) (state_of new)
-goes_on_through image t n events first more old there new empty going quiet due arrives comes at met shows free has =
-    let K = fibers image in
-    let start = λ (rest : List ℕ). with_kept t events (at rest) in
-    let reaches : Reaches (Some (t + 1)) image start 0 [] (met ++ first) (state_of there) = record {
-      at = λ rest. jump t (start rest);
-      shows = λ rest. (arrives (at rest) (shows rest)).0;
-      free = λ _. λ rest. free rest;
-      met = λ rest. met_then met first (at rest).board (jump t (start rest)).board (has rest) (arrives (at rest) (shows rest)).1;
-      settles = λ rest. comes_first rest;
-    } in
-    let x = comes (Some (t + 1)) start 0 [] (met ++ first) reaches in
-    let r = x.1 in
-    let count : n + 0 ≡ n = omega arith in (
-      x.0,
-      r.at,
-      r.shows,
-      r.free,
-      λ rest. subst (λ l. HasMet l (r.at rest).board) (append_assoc met first more) (r.met rest),
-      λ rest. r.settles rest ∙ ap (λ k. run_before K (t + 1) k (idled_before K (t + 1) (start (x.0 ++ rest)))) count,
-      λ rest j l. x.2 rest j (omega arith) (omega (arith, l)),
-    )
-  where
-    comes_first : (rest : List ℕ) → idled_before (fibers image) (t + 1) (jump t (with_kept t events (at rest))) ≡ idled_before (fibers image) (t + 1) (with_kept t events (at rest))
-    comes_first rest =
-        let w = with_kept t events (at rest) in
-        let h = shows rest in
-        let nobody = nobody_ready image (state_of old) (at rest) h empty.running empty.raisers empty.spent empty.ready in
-        let on : over w.board ≡ false = ap (λ (p : Board). is_some p.end) h.board ∙ ap (λ o. is_some (option_map end_of o)) going in
-        let none : w.board.queue ≡ [] = h.hears.queue ∙ quiet in
-        let says : clock_move (least w.sleepers) (next_entry w.board.script) w.board.until ≡ Jump t =
-        ap (λ s. clock_move s (next_entry w.board.script) w.board.until) (ap least h.sleepers ∙ least-keyed (of_key old.runtime.pool) old.runtime.lists.sleepers)
-        ∙ ap (λ (p : Board). clock_move (least old.runtime.lists.sleepers) (next_entry (with_heard (raised_at t events) p.script)) p.until) h.board ∙ due in
-        let soon : nat_lt t (t + 1) ≡ true = grind (arith, nat_tests) in
-        let before : moves_before (t + 1) w.board.queue w ≡ true = ap (λ l. moves_before (t + 1) l w) none ∙ ap (is_jump_before (t + 1)) says ∙ soon in
-        let is : moved (fibers image) w.board.queue w ≡ jump t w = ap (λ l. moved (fibers image) l w) none ∙ ap (λ i. clock_moves i w) says in
-        ap (idled_before (fibers image) (t + 1)) (sym is) ∙ first_before (fibers image) (t + 1) (t + 1) (omega arith) w nobody on before
-
 module _ {B : Type 0} (log : B → Option (List (ℕ × ℕ))) (faults : B → ℕ) (e new : Engine) (p p' : Plugged B) (t : ℕ) (events : List Event) (c : CameTo log faults t events e new p p') where
   pub came_shown : IsShown (state_of e) → IsShown (state_of new)
   came_shown s =
@@ -178,18 +118,16 @@ module _ {B : Type 0} (log : B → Option (List (ℕ × ℕ))) (faults : B → �
         words = (let y = w.words in let z = ap (λ (k : Counts). k.words) counts in omega (arith, y, z));
       }
 
-  -- what follows while the clock stands, and then the instructions of the moment
-  pub through_it : (mid last : Engine) (n most : ℕ) (p2 : Plugged B) (s u : Option (List ℕ)) → IsEmpty (state_of e) → e.end ≡ None → e.bus.queue ≡ [] → IsDueAt t events e
-      → ((image : List ℕ) → Comes image 0 [] (state_of new) (state_of mid)) → (q : Proceeds log faults n mid last p' p2 s u)
-      → ((image : List ℕ) → Goes image t n events (c.moves ++ q.moves) (state_of e) (state_of last)) × Took s u (lines (seen_of (c.moves ++ q.moves)))
-  through_it mid last n most p2 s u empty going quiet due stay q = (
-    λ image. goes_on_through image t n events c.moves q.moves e new last empty going quiet due (c.shows image)
-        (λ bound. (let count : n + 0 ≡ n = omega arith in subst (λ k. MakesTo bound image k q.moves (state_of new) (state_of last)) count
-        (makes_then bound image 0 n [] q.moves (state_of new) (state_of mid) (state_of last) (makes_none bound image [] (state_of new) (state_of mid) (stay image bound)) (q.makes image bound)))),
-    subst (λ l. Took s u (lines l)) (sym (seen_of-append c.moves q.moves ∙ ap (λ l. l ++ seen_of q.moves) c.silent)) q.written,
-  )
-
 -- what is so of an Ok, and what follows from it
 pub then_ok : {T E P Q : Type 0} (r : Result T E) → OnOk r P → (P → Q) → OnOk r Q
 then_ok (Ok x) p f = f p
 then_ok (Err x) p f = tt
+
+pub then_err : {T E P Q : Type 0} (r : Result T E) → OnErr r P → (P → Q) → OnErr r Q
+then_err (Ok x) p f = tt
+then_err (Err x) p f = f p
+
+-- three facts of an Ok
+pub then_oks : {T E P Q R S : Type 0} (r : Result T E) → OnOk r P → OnOk r Q → OnOk r R → (P → Q → R → S) → OnOk r S
+then_oks (Ok x) p q s f = f p q s
+then_oks (Err x) p q s f = tt

@@ -32,3 +32,10 @@ pub mod Others
 mod Waiting
 mod Proceeding
 mod Going
+mod AtMoment
+mod Through
+mod FirstMoment
+mod Passes
+mod Leading
+mod AtOnce
+mod Answered

@@ -14,3 +14,4 @@ pub mod Ran
 pub mod Others
 pub mod Proceeding
 pub mod Going
+pub mod Gone

@@ -51,7 +51,7 @@ fn raise_all(bus: &mut Bus, events: &[Event])
 
 impl Engine {
     /// When the next entry of the script comes. None where none is left.
-    fn next_entry(&self) -> Option<u32>
+    pub fn next_entry(&self) -> Option<u32>
         ensures { result ≡ next_entry (world_entries (drop self.now.next self.now.script.entries)) }
     {
         match self.script.entries.get(self.next) {

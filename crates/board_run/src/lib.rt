@@ -18,12 +18,15 @@ mod place;
 mod places;
 mod reckoning;
 mod serve;
+mod slots;
 mod staying;
 mod texts;
 
 pub use board::{Board, NotMounted, Stats};
 pub use end::{Counts, End, Stop};
 pub use engine::{Engine, Served};
+pub use moments::Gone;
 pub use place::Place;
 pub use places::Places;
+pub use slots::Slots;
 pub use staying::others_keep_their_banks;
