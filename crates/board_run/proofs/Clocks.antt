@@ -31,7 +31,7 @@ use Rattle.board_run.specs.declared.engine.Engine.{Engine}
 use Rattle.board_run.specs.Shown.{of_key}
 use Rattle.board_run.specs.Represents.{BoardState, Represents}
 use Rattle.board_outside.specs.Moves.{Move, HasMet, Meets}
-use Rattle.board_run.specs.Run.{Comes}
+use Rattle.board_run.specs.Run.{ComesTo, Comes}
 use Rattle.board_run.specs.Idling.{IsEmpty, moves_left}
 use Rattle.board_run.specs.Arriving.{acted_on, Arrived}
 use Rattle.board_run.specs.View.{state_of, end_of, plain_of}
@@ -68,20 +68,20 @@ module _ (e : Engine) (empty : IsEmpty (state_of e)) (going : e.end ≡ None) (q
 
   clock_comes : (image : List ℕ) (new : BoardState) (moves : List Move) (move : Idle) → clock_says e ≡ move
       → ((w : World Fiber Shared) → Represents image (state_of e) w → Represents image new (clock_moves move w) × ((clock_moves move w).shared ≡ w.shared) × Meets moves w.board (clock_moves move w).board)
-      → Comes image 0 moves (state_of e) new
+      → ComesTo None image 0 moves (state_of e) new
   clock_comes image new moves move says f =
-      idles image (state_of e) new moves (ap (λ (o : Option Stop). option_map end_of o) going) (λ w h. nobody_ready image (state_of e) w h empty.running empty.raisers empty.spent empty.ready)
+      idles None image (state_of e) new moves (ap (λ (o : Option Stop). option_map end_of o) going) (λ w h. nobody_ready image (state_of e) w h empty.running empty.raisers empty.spent empty.ready) (λ t e' w h. cc)
       (λ w met h m.
       let x = f w h in
       subst (λ (v : World Fiber Shared). Represents image new v × (v.shared ≡ w.shared) × HasMet (met ++ moves) v.board) (sym (world_moved image w h ∙ ap (λ i. clock_moves i w) says))
       (x.0, x.1, met_then met moves w.board (clock_moves move w).board m x.2))
 
-  pub comes_quiet : clock_says e ≡ Quiet → (image : List ℕ) → Comes image 0 [] (state_of e) (state_of (record e { end = Some StopQuiet }))
+  pub comes_quiet : clock_says e ≡ Quiet → (image : List ℕ) → ComesTo None image 0 [] (state_of e) (state_of (record e { end = Some StopQuiet }))
   comes_quiet says image =
       clock_comes image (state_of (record e { end = Some StopQuiet })) [] Quiet says
       (λ w h. (arrived image (state_of e) w h (ended_by w.board Quietly) (ended_by (plain_of e) Quietly) e.bus.queue (ap (λ (p : Board). ended_by p Quietly) h.board) refl refl h.hears.queue, refl, meets_nothing w.board (ended_by w.board Quietly) refl refl))
 
-  pub comes_script : clock_says e ≡ Script → (image : List ℕ) → Comes image 0 [] (state_of e) (state_of (record e { clock = e.script.end; end = Some StopScript }))
+  pub comes_script : clock_says e ≡ Script → (image : List ℕ) → ComesTo None image 0 [] (state_of e) (state_of (record e { clock = e.script.end; end = Some StopScript }))
   comes_script says image =
       clock_comes image (state_of (record e { clock = e.script.end; end = Some StopScript })) [] Script says
       (λ w h. (
@@ -103,10 +103,10 @@ module _ (e : Engine) (empty : IsEmpty (state_of e)) (going : e.end ≡ None) (q
     at_moment = record e { clock = t; runtime = record e.runtime { lists = due_woken t e.runtime.lists } }
 
     module _ (new : Engine) (stays : new ≡ record at_moment { bus = new.bus; buttons = new.buttons; next = new.next }) (a : Arrived log faults at_moment new plugged plugged') where
-      abbrev settled : Engine
+      abbrev pub settled : Engine
       settled = record at_moment { bus = new.bus; buttons = new.buttons; next = new.next }
 
-      jump_shows : (image : List ℕ) (w : World Fiber Shared) → Represents image (state_of e) w → Represents image (state_of settled) (jump t w) × Meets a.moves w.board (jump t w).board
+      pub jump_shows : (image : List ℕ) (w : World Fiber Shared) → Represents image (state_of e) w → Represents image (state_of settled) (jump t w) × Meets a.moves w.board (jump t w).board
       jump_shows image w h =
           let now : Board = record w.board { clock = t } in
           let has : HasButtons t e.buttons e.bus now = record { moment = refl; button_a = ap (λ (p : Board). p.a_since) h.board; button_b = ap (λ (p : Board). p.b_since) h.board; events = h.hears.queue } in
@@ -118,9 +118,9 @@ module _ (e : Engine) (empty : IsEmpty (state_of e)) (going : e.end ≡ None) (q
           let meets : Meets a.moves w.board R = record { seen = sym (append-nil w.board.seen) ∙ ap (λ l. w.board.seen ++ l) (sym a.silent); unplugged = refl } in
           (subst (λ (x : BusState). Represents image (record (state_of settled) { bus = x }) (jump t w)) bus first, subst (λ (x : Board). Meets a.moves w.board x) (sym is) meets)
 
-      pub comes_jump : (image : List ℕ) → Comes image 0 a.moves (state_of e) (state_of new)
+      pub comes_jump : (image : List ℕ) → ComesTo None image 0 a.moves (state_of e) (state_of new)
       comes_jump image =
-          subst (λ (x : Engine). Comes image 0 a.moves (state_of e) (state_of x)) (sym stays)
+          subst (λ (x : Engine). ComesTo None image 0 a.moves (state_of e) (state_of x)) (sym stays)
           (clock_comes image (state_of settled) a.moves (Jump t) says (λ w h. (let x = jump_shows image w h in (x.0, refl, x.1))))
 
       pub fewer_jump : (new.next ≤ length e.script.entries) → e.next ≤ new.next → length new.bus.queue + 2 * e.next ≤ length e.bus.queue + 2 * new.next
@@ -146,7 +146,11 @@ pub says_so : (e : Engine) (move : Idle) (a b : Option ℕ) → move ≡ clock_m
 says_so e move a b m p q = sym (m ∙ ap (λ x. clock_move x b e.script.end) p ∙ ap (λ x. clock_move (least e.runtime.lists.sleepers) x e.script.end) q)
 
 pub still_idles : {B : Type 0} (log : B → Option (List (ℕ × ℕ))) (faults : B → ℕ) (old new : BoardState) (p : Plugged B) → ((image : List ℕ) → Comes image 0 [] old new) → Idles log faults old new p p
-still_idles log faults old new p comes = record { moves = []; silent = refl; comes = comes; ports = λ before start f. subst (λ l. Follows log faults l start p) (sym (append-nil before)) f }
+still_idles log faults old new p comes = record { moves = []; silent = refl; comes = λ image. comes image None; ports = λ before start f. subst (λ l. Follows log faults l start p) (sym (append-nil before)) f }
+
+-- the clock ends the run, and no device is touched
+pub ended_idles : {B : Type 0} (log : B → Option (List (ℕ × ℕ))) (faults : B → ℕ) (old new : BoardState) (p : Plugged B) → ((image : List ℕ) → ComesTo None image 0 [] old new) → Idles log faults old new p p
+ended_idles log faults old new p comes = record { moves = []; silent = refl; comes = comes; ports = λ before start f. subst (λ l. Follows log faults l start p) (sym (append-nil before)) f }
 
 pub jump_idles : {B : Type 0} (log : B → Option (List (ℕ × ℕ))) (faults : B → ℕ) (e : Engine) (empty : IsEmpty (state_of e)) (going : e.end ≡ None) (quiet : e.bus.queue ≡ []) (p p' : Plugged B) (t : ℕ) (says : clock_says e ≡ Jump t) (within : e.next ≤ length e.script.entries)
     (r : State) (woke : r ≡ record e.runtime { lists = due_woken t e.runtime.lists }) (new : Engine) → new ≡ record e { clock = t; runtime = r; bus = new.bus; buttons = new.buttons; next = new.next }

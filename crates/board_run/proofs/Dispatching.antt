@@ -4,6 +4,7 @@ use Rattle.slab.specs.Slab.{slab_len}
 use Rattle.board_world.specs.declared.events.Event.{Event}
 use Rattle.board_world.specs.Activities.{World}
 use Rattle.board_world.specs.World.{moved, dispatch}
+use Rattle.board_world.specs.Before.{moves_before}
 use Rattle.bank_model.specs.Fibers.{Fiber, Shared}
 use Rattle.bank_model.specs.BoardMachine.{fibers}
 use Rattle.message_bus.specs.BusState.{BusState}
@@ -53,9 +54,10 @@ module _ (e : Engine) (empty : IsEmpty (state_of e)) (event : Event) (mid bus : 
       subst (λ (x : List Place). Represents image (record b { runtime = new; bus = bus; places = x; plain = record b.plain { queue = bus.queue; seats = slab_len new.pool } }) v) (same_places image w h) third
 
   pub dispatch_comes : e.end ≡ None → (image : List ℕ) → Comes image 0 [] (state_of e) (state_of behind_dispatch)
-  dispatch_comes going image =
+  dispatch_comes going image bound =
       let b = state_of e in
-      idles image b (state_of behind_dispatch) [] (ap (λ (o : Option Stop). option_map end_of o) going) (λ w h. nobody_ready image b w h empty.running empty.raisers empty.spent empty.ready)
+      idles bound image b (state_of behind_dispatch) [] (ap (λ (o : Option Stop). option_map end_of o) going) (λ w h. nobody_ready image b w h empty.running empty.raisers empty.spent empty.ready)
+      (λ t e' w h. ap (λ l. moves_before t l w) (h.hears.queue ∙ ap (λ (x : BusState). x.queue) taken))
       (λ w met h m.
       let q : w.board.queue ≡ event ∷ mid.queue = h.hears.queue ∙ ap (λ (x : BusState). x.queue) taken in (
         subst (λ l. Represents image (state_of behind_dispatch) (moved (fibers image) l w)) (sym q) (shows image w h),

@@ -27,7 +27,7 @@ use Rattle.board_run.specs.declared.end.Counts.{Counts}
 use Rattle.board_run.specs.declared.end.Stop.{Stop}
 use Rattle.board_run.specs.declared.engine.Engine.{Engine}
 use Rattle.board_run.specs.Represents.{BoardState, Represents, IsShown}
-use Rattle.board_run.specs.Run.{Reaches, Comes}
+use Rattle.board_run.specs.Run.{Reaches, ComesTo, Comes}
 use Rattle.board_run.specs.Ports.{Idles}
 use Rattle.board_run.specs.Served.{Steps}
 use Rattle.board_run.specs.Advancing.{Executes, PortsMeet, Advances, Fails, IsWhole}
@@ -56,8 +56,8 @@ executes_then image n m first second a b c f g start k used met r =
     let late : (rest : List ℕ) (j : ℕ) → n + k ≤ j → j < m + n + k → over (run K j (idled K (start ((used ++ (x.0 ++ y.0)) ++ rest)))).board ≡ false =
     λ rest j l h. ap (λ us. over (run K j (idled K (start (us ++ rest)))).board) (sym words) ∙ y.2 rest j l (omega (arith, h)) in (
       x.0 ++ y.0,
-      subst (λ j. Reaches image start j (used ++ (x.0 ++ y.0)) (met ++ (first ++ second)) c) count
-          (subst (λ l. Reaches image start (m + (n + k)) (used ++ (x.0 ++ y.0)) l c) moves (subst (λ l. Reaches image start (m + (n + k)) l ((met ++ first) ++ second) c) words y.1)),
+      subst (λ j. Reaches None image start j (used ++ (x.0 ++ y.0)) (met ++ (first ++ second)) c) count
+          (subst (λ l. Reaches None image start (m + (n + k)) (used ++ (x.0 ++ y.0)) l c) moves (subst (λ l. Reaches None image start (m + (n + k)) l ((met ++ first) ++ second) c) words y.1)),
       λ rest j l h. elim (before_or_not j (n + k)) [ inl e ↦ early rest j l e | inr e ↦ late rest j e h ],
     )
   where
@@ -68,11 +68,11 @@ executes_then image n m first second a b c f g start k used met r =
     before_or_not (suc j) (suc k) = elim (before_or_not j k) [ inl e ↦ inl (omega (arith, e)) | inr e ↦ inr (omega (arith, e)) ]
 
 -- what comes further by no instruction
-pub executes_none : (image : List ℕ) (moves : List Move) (a b : BoardState) → Comes image 0 moves a b → Executes image 0 moves a b
+pub executes_none : (image : List ℕ) (moves : List Move) (a b : BoardState) → ComesTo None image 0 moves a b → Executes image 0 moves a b
 executes_none image moves a b f start n used met r = (let x = f start n used met r in (x.0, x.1, λ rest j l h. absurd (omega (arith, l, h))))
 
 -- one instruction of the running fiber, where the run isn't over
-pub executes_one : (image : List ℕ) (moves : List Move) (a b : BoardState) → a.plain.end ≡ None → IsSome a.runtime.running → Comes image 1 moves a b → Executes image 1 moves a b
+pub executes_one : (image : List ℕ) (moves : List Move) (a b : BoardState) → a.plain.end ≡ None → IsSome a.runtime.running → ComesTo None image 1 moves a b → Executes image 1 moves a b
 executes_one image moves a b going runs f start n used met r =
     let K = fibers image in
     let x = f start n used met r in
@@ -91,7 +91,7 @@ pub on_err : {T E : Type 0} {P : Type 0} (r : Result T E) → P → OnErr r P
 on_err (Ok x) p = tt
 on_err (Err x) p = p
 
-none_yet : (o : Option Stop) → o ≡ None → option_map end_of o ≡ None
+pub none_yet : (o : Option Stop) → o ≡ None → option_map end_of o ≡ None
 none_yet o e = ap (option_map end_of) e
 
 module _ {B : Type 0} (log : B → Option (List (ℕ × ℕ))) (faults : B → ℕ) where
@@ -108,7 +108,7 @@ module _ {B : Type 0} (log : B → Option (List (ℕ × ℕ))) (faults : B → �
     written = subst (λ l. Took s u l) (sym (lines-append (seen_of f.moves) (seen_of g.moves)) ∙ ap lines (sym (seen_of-append f.moves g.moves))) (took-then _ _ f.written g.written);
   }
 
-  into_then : {s t u : Option (List ℕ)} (x y next : List ℕ) → Took s t x → TookInto t u y next → TookInto s u (x ++ y) next
+  pub into_then : {s t u : Option (List ℕ)} (x y next : List ℕ) → Took s t x → TookInto t u y next → TookInto s u (x ++ y) next
   into_then x y next p q = record {
     told = λ had e. (let r = q.told (had ++ x) (p.told had e) in (r.0, r.1, r.2 ∙ ap Some (append_assoc had x (y ++ r.0) ∙ ap (λ l. had ++ l) (sym (append_assoc x y r.0)))));
   }
@@ -133,7 +133,7 @@ module _ {B : Type 0} (log : B → Option (List (ℕ × ℕ))) (faults : B → �
     moves = [];
     executes = λ image start n used met r.
         (let count : n ≡ 0 + n = omega arith in
-        ([], subst (λ k. Reaches image start k (used ++ []) (met ++ []) (state_of e)) count (subst (λ us. Reaches image start n us (met ++ []) (state_of e)) (sym (append-nil used)) (subst (λ ms. Reaches image start n used ms (state_of e)) (sym (append-nil met)) r)), λ rest j l h. absurd (omega (arith, l, h))));
+        ([], subst (λ k. Reaches None image start k (used ++ []) (met ++ []) (state_of e)) count (subst (λ us. Reaches None image start n us (met ++ []) (state_of e)) (sym (append-nil used)) (subst (λ ms. Reaches None image start n used ms (state_of e)) (sym (append-nil met)) r)), λ rest j l h. absurd (omega (arith, l, h))));
     ports = λ before start f. subst (λ ms. Follows log faults ms start p) (sym (append-nil before)) f;
     written = took-nothing s;
   }
@@ -152,7 +152,7 @@ module _ {B : Type 0} (log : B → Option (List (ℕ × ℕ))) (faults : B → �
       → PortsMeet log faults moves p q → Took s t (lines (seen_of moves)) → Advances log faults 1 a b p q s t
   advances_one a b p q s t moves going runs comes ports took = record {
     moves = moves;
-    executes = λ image. executes_one image moves (state_of a) (state_of b) (none_yet a.end going) runs (comes image);
+    executes = λ image. executes_one image moves (state_of a) (state_of b) (none_yet a.end going) runs (comes image None);
     ports = ports;
     written = took;
   }
@@ -169,17 +169,17 @@ module _ {B : Type 0} (log : B → Option (List (ℕ × ℕ))) (faults : B → �
         done = [];
         last = o;
         at = state_of b;
-        executes = λ image. executes_one image (Seen o ∷ []) (state_of a) (state_of b) (none_yet a.end going) runs (subst (λ ms. Comes image 1 ms (state_of a) (state_of b)) seen.1 (comes image));
+        executes = λ image. executes_one image (Seen o ∷ []) (state_of a) (state_of b) (none_yet a.end going) runs (subst (λ ms. ComesTo None image 1 ms (state_of a) (state_of b)) seen.1 (comes image None));
         ports = λ before start f. subst (λ ms. Follows log faults ms start q) (sym (append-nil before)) (subst (λ x. Follows log faults before start x) (sym same) f);
         written = record { told = λ had e. (let l : TookPart s t (line o ++ []) = subst (λ ms. TookPart s t (lines (seen_of ms))) seen.1 part in let r = l.told had e in (r.0, subst (IsPrefix r.0) (append-nil (line o)) r.1, r.2)) };
       }
 
 -- an instruction changes no flash
-pub flash_kept : (n : ℕ) (more : List Move) (b c : BoardState) → IsShown b → ((image : List ℕ) → Comes image n more b c) → c.runtime.machine.memory.flash ≡ b.runtime.machine.memory.flash
-flash_kept n more b c s f = (let image = b.runtime.machine.memory.flash in let r = f image _ 0 [] [] (shown_reaches image b s.world s.shows) in let h : Represents image c (r.1.at []) = r.1.shows [] in h.flash)
+pub flash_kept : (n : ℕ) (more : List Move) (b c : BoardState) → IsShown b → ((image : List ℕ) → ComesTo None image n more b c) → c.runtime.machine.memory.flash ≡ b.runtime.machine.memory.flash
+flash_kept n more b c s f = (let image = b.runtime.machine.memory.flash in let r = f image _ 0 [] [] (shown_reaches None image b s.world s.shows) in let h : Represents image c (r.1.at []) = r.1.shows [] in h.flash)
 
 -- what a board rests on, behind idle moves
-pub whole_idle : (n : ℕ) (a b : Engine) (moves : List Move) → IsWhole a n → ((image : List ℕ) → Comes image 0 moves (state_of a) (state_of b)) → b.script ≡ a.script → b.next ≤ length a.script.entries → b.counts ≡ a.counts
+pub whole_idle : (n : ℕ) (a b : Engine) (moves : List Move) → IsWhole a n → ((image : List ℕ) → ComesTo None image 0 moves (state_of a) (state_of b)) → b.script ≡ a.script → b.next ≤ length a.script.entries → b.counts ≡ a.counts
     → (a.clock ≤ end_limit → b.clock ≤ end_limit) → IsWhole b n
 whole_idle n a b moves w f script within counts early =
     let flash = flash_kept 0 moves (state_of a) (state_of b) w.shown f in
@@ -196,11 +196,11 @@ whole_idle n a b moves w f script within counts early =
     }
 
 -- what a board rests on, behind an instruction and the idle moves that follow
-pub whole_after : (n : ℕ) (a b c : Engine) (first second : List Move) → IsWhole a n → Steps a b → ((image : List ℕ) → Comes image 1 first (state_of a) (state_of b)) → ((image : List ℕ) → Comes image 0 second (state_of b) (state_of c))
+pub whole_after : (n : ℕ) (a b c : Engine) (first second : List Move) → IsWhole a n → Steps a b → ((image : List ℕ) → Comes image 1 first (state_of a) (state_of b)) → ((image : List ℕ) → ComesTo None image 0 second (state_of b) (state_of c))
     → c.script ≡ b.script → c.next ≤ length b.script.entries → c.counts ≡ b.counts → (b.clock ≤ end_limit → c.clock ≤ end_limit) → IsWhole c (n + 1)
 whole_after n a b c first second w s f g script within counts early =
-    let shown = comes_shown 1 first (state_of a) (state_of b) w.shown f in
-    let flash = flash_kept 0 second (state_of b) (state_of c) shown g ∙ flash_kept 1 first (state_of a) (state_of b) w.shown f in
+    let shown = comes_shown 1 first (state_of a) (state_of b) w.shown (λ image. f image None) in
+    let flash = flash_kept 0 second (state_of b) (state_of c) shown g ∙ flash_kept 1 first (state_of a) (state_of b) w.shown (λ image. f image None) in
     record {
       shown = comes_shown 0 second (state_of b) (state_of c) shown g;
       script = subst IsSound (sym (script ∙ s.script)) w.script;
@@ -216,7 +216,7 @@ whole_after n a b c first second w s f g script within counts early =
 module _ {B : Type 0} (log : B → Option (List (ℕ × ℕ))) (faults : B → ℕ) (a mid : Engine) (sight : Sight) (shown : IsShown (state_of a))
     (comes : (image : List ℕ) → Comes image 1 (moves_of a.runtime.machine.memory.flash a.clock sight) (state_of a) (state_of mid)) where
   pub same_flash : mid.runtime.machine.memory.flash ≡ a.runtime.machine.memory.flash
-  same_flash = flash_kept 1 (moves_of a.runtime.machine.memory.flash a.clock sight) (state_of a) (state_of mid) shown comes
+  same_flash = flash_kept 1 (moves_of a.runtime.machine.memory.flash a.clock sight) (state_of a) (state_of mid) shown (λ image. comes image None)
 
   -- a whole step: an instruction, its line, its words, and the idle moves behind it
   pub step_goes : (told new : Engine) (p q r : Plugged B) (s t : Option (List ℕ)) → a.end ≡ None → IsSome a.runtime.running → told ≡ mid
@@ -245,4 +245,4 @@ module _ {B : Type 0} (log : B → Option (List (ℕ × ℕ))) (faults : B → �
       (subst (λ (x : Engine). x.clock ≤ end_limit → new.clock ≤ end_limit) same early)
 
   pub step_shown : (told : Engine) → told ≡ mid → IsShown (state_of told)
-  step_shown told same = subst (λ (x : Engine). IsShown (state_of x)) (sym same) (comes_shown 1 (moves_of a.runtime.machine.memory.flash a.clock sight) (state_of a) (state_of mid) shown comes)
+  step_shown told same = subst (λ (x : Engine). IsShown (state_of x)) (sym same) (comes_shown 1 (moves_of a.runtime.machine.memory.flash a.clock sight) (state_of a) (state_of mid) shown (λ image. comes image None))

@@ -87,7 +87,7 @@ module _ {B : Type 0} (log : B → Option (List (ℕ × ℕ))) (faults : B → �
   abbrev begin : List ℕ → World Fiber Shared
   begin free = bank_start image script.end (world_entries script.entries) free
 
-  begins : Reaches image begin 0 [] [] (state_of first)
+  begins : Reaches None image begin 0 [] [] (state_of first)
   begins = record { at = begin; shows = m.begins; free = λ _. λ rest. refl; met = λ rest. record { seen = refl; unplugged = refl }; settles = λ rest. refl }
 
   begin_stays : (free : List ℕ) → idled (fibers image) (begin free) ≡ begin free
@@ -101,7 +101,7 @@ module _ {B : Type 0} (log : B → Option (List (ℕ × ℕ))) (faults : B → �
 
   -- the worlds that are shown, and that the run wasn't over before
   module _ (n : ℕ) (e : Engine) (p : Plugged B) (s t : Option (List ℕ)) (a : Advances log faults n first e plugged p s t) (settled : IsSettled e) where
-    reached : (used : List ℕ) × Reaches image begin (n + 0) used a.moves (state_of e) × ((rest : List ℕ) (j : ℕ) → 0 ≤ j → j < n + 0 → over (run (fibers image) j (idled (fibers image) (begin (used ++ rest)))).board ≡ false)
+    reached : (used : List ℕ) × Reaches None image begin (n + 0) used a.moves (state_of e) × ((rest : List ℕ) (j : ℕ) → 0 ≤ j → j < n + 0 → over (run (fibers image) j (idled (fibers image) (begin (used ++ rest)))).board ≡ false)
     reached = a.executes image begin 0 [] [] begins
 
     abbrev after : List ℕ → World Fiber Shared

@@ -27,7 +27,7 @@ use Rattle.board_run.proofs.Course.{executes}
 
 -- what is shown may be used to see how far a board comes
 pub by_shown : (image : List ℕ) (n : ℕ) (more : List Move) (b b' : BoardState) → ((w : World Fiber Shared) → Represents image b w → Comes image n more b b') → Comes image n more b b'
-by_shown image n more b b' f start k used met r = f (r.at []) (r.shows []) start k used met r
+by_shown image n more b b' f bound start k used met r = f (r.at []) (r.shows []) bound start k used met r
 
 module _ (image : List ℕ) (b : BoardState) (t : Turning) (runs : b.runtime.running ≡ Some t) (going : b.plain.end ≡ None) where
   -- the board behind an instruction that went on

@@ -29,3 +29,13 @@ pub mod Settling
 pub mod Executing
 pub mod Finished
 pub mod Others
+mod Waiting
+mod Proceeding
+mod Going
+mod AtMoment
+mod Through
+mod FirstMoment
+mod Passes
+mod Leading
+mod AtOnce
+mod Answered

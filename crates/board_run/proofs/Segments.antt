@@ -12,12 +12,12 @@ use Rattle.board_outside.specs.Moves.{Move}
 use Rattle.board_run.specs.Run.{Reaches}
 
 -- Whatever was done so far, a next call begins from the worlds that are shown: they are its start, and its count is 0.
-pub begins_again : (image : List ℕ) (start : List ℕ → World Fiber Shared) (n : ℕ) (used : List ℕ) (met : List Move) (b : BoardState) (r : Reaches image start n used met b) → Reaches image r.at 0 [] met b
+pub begins_again : (image : List ℕ) (start : List ℕ → World Fiber Shared) (n : ℕ) (used : List ℕ) (met : List Move) (b : BoardState) (r : Reaches None image start n used met b) → Reaches None image r.at 0 [] met b
 begins_again image start n used met b r = record { at = r.at; shows = r.shows; free = r.free; met = r.met; settles = λ rest. refl }
 
 -- What is shown after so many instructions from there is shown after as many more from the first start.
-pub goes_further : (image : List ℕ) (start : List ℕ → World Fiber Shared) (n m : ℕ) (used further : List ℕ) (met more : List Move) (b c : BoardState) (r : Reaches image start n used met b)
-    → Reaches image r.at m further more c → Reaches image start (m + n) (used ++ further) more c
+pub goes_further : (image : List ℕ) (start : List ℕ → World Fiber Shared) (n m : ℕ) (used further : List ℕ) (met more : List Move) (b c : BoardState) (r : Reaches None image start n used met b)
+    → Reaches None image r.at m further more c → Reaches None image start (m + n) (used ++ further) more c
 goes_further image start n m used further met more b c r q = record {
   at = q.at;
   shows = q.shows;
@@ -28,7 +28,7 @@ goes_further image start n m used further met more b c r q = record {
 }
 
 -- Where a board isn't over and somebody is ready in its world, the run isn't over after as many instructions, nor after fewer.
-pub not_over_yet : (image : List ℕ) (start : List ℕ → World Fiber Shared) (n : ℕ) (used : List ℕ) (met : List Move) (b : BoardState) → Reaches image start n used met b → b.plain.end ≡ None
+pub not_over_yet : (image : List ℕ) (start : List ℕ → World Fiber Shared) (n : ℕ) (used : List ℕ) (met : List Move) (b : BoardState) → Reaches None image start n used met b → b.plain.end ≡ None
     → ((w : World Fiber Shared) → Represents image b w → (a : Activity Fiber) × (as' : List (Activity Fiber)) × (w.ready ≡ a ∷ as'))
     → (rest : List ℕ) (j : ℕ) → j ≤ n → over (run (fibers image) j (idled (fibers image) (start (used ++ rest)))).board ≡ false
 not_over_yet image start n used met b r e busy rest j l = by_test (over (run (fibers image) j (idled (fibers image) (start (used ++ rest)))).board) refl

@@ -1,5 +1,5 @@
 -- Idle moves, one behind the other.
-use Rattle.std.proofs.Common.{◌≡◌, ℕ, ◌≤◌, List, [], ◌++◌, length, Option, refl, sym, ap, ◌∙◌, subst, append_assoc}
+use Rattle.std.proofs.Common.{◌≡◌, ℕ, ◌≤◌, List, [], ◌++◌, length, Option, None, refl, sym, ap, ◌∙◌, subst, append_assoc}
 use Rattle.board_world.specs.Limits.{end_limit}
 use Rattle.board_ports.specs.Plugged.{Plugged}
 use Rattle.board_ports.specs.History.{Follows}
@@ -19,7 +19,7 @@ module _ {B : Type 0} (log : B → Option (List (ℕ × ℕ))) (faults : B → �
   then_idles a b c p q r x y = record {
     moves = x.moves ++ y.moves;
     silent = seen_of-append x.moves y.moves ∙ rw (x.silent, y.silent) refl;
-    comes = λ image. comes_then image 0 0 x.moves y.moves a b c (x.comes image) (y.comes image);
+    comes = λ image. comes_then None image 0 0 x.moves y.moves a b c (x.comes image) (y.comes image);
     ports = λ before start f. subst (λ l. Follows log faults l start r) (append_assoc before (port_moves x.moves) (port_moves y.moves) ∙ ap (λ l. before ++ l) (sym (port_moves-append x.moves y.moves)))
         (y.ports (before ++ port_moves x.moves) start (x.ports before start f));
   }

@@ -24,8 +24,8 @@ use Rattle.board_run.specs.View.{state_of}
 -- The board comes so many instructions further, which meet these moves, and the run wasn't over before any of them.
 abbrev pub Executes : List ℕ → ℕ → List Move → BoardState → BoardState → Type 0
 Executes image more moves old new =
-    (start : List ℕ → World Fiber Shared) (n : ℕ) (used : List ℕ) (met : List Move) → Reaches image start n used met old
-    → (further : List ℕ) × Reaches image start (more + n) (used ++ further) (met ++ moves) new
+    (start : List ℕ → World Fiber Shared) (n : ℕ) (used : List ℕ) (met : List Move) → Reaches None image start n used met old
+    → (further : List ℕ) × Reaches None image start (more + n) (used ++ further) (met ++ moves) new
     × ((rest : List ℕ) (j : ℕ) → n ≤ j → j < more + n → over (run (fibers image) j (idled (fibers image) (start ((used ++ further) ++ rest)))).board ≡ false)
 
 -- The devices that were plugged in have met these moves more.

@@ -1,15 +1,15 @@
 -- Idle moves, at the ports.
-use Rattle.std.specs.Prelude.{◌≡◌, ℕ, List, [], ◌++◌, Option}
+use Rattle.std.specs.Prelude.{◌≡◌, ℕ, List, [], ◌++◌, Option, None}
 use Rattle.board_ports.specs.Plugged.{Plugged}
 use Rattle.board_ports.specs.History.{PortMove, Follows}
 use Rattle.board_outside.specs.Moves.{Move, seen_of}
 use Rattle.board_outside.specs.Ports.{port_moves}
 use Rattle.board_run.specs.Represents.{BoardState}
-use Rattle.board_run.specs.Run.{Comes}
+use Rattle.board_run.specs.Run.{ComesTo}
 
 -- Idle moves unplug, and show nothing.
 pub record Idles {B : Type 0} (log : B → Option (List (ℕ × ℕ))) (faults : B → ℕ) (old new : BoardState) (plugged plugged' : Plugged B) : Type 0 where
   pub moves : List Move
   pub silent : seen_of moves ≡ []
-  pub comes : (image : List ℕ) → Comes image 0 moves old new
+  pub comes : (image : List ℕ) → ComesTo None image 0 moves old new
   pub ports : (before : List PortMove) (start : List (Option B)) → Follows log faults before start plugged → Follows log faults (before ++ port_moves moves) start plugged'

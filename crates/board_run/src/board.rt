@@ -18,11 +18,13 @@ use crate::closing::{put_closing, told};
 use crate::end::{Counts, End};
 use crate::engine::Engine;
 use crate::places::Places;
+use crate::slots::Slots;
 use arena_heap::Arena;
 use armv6m_machine::Machine;
 use board_drivers::{Buttons, Display};
 use board_outside::{Sight, show};
 use board_ports::{Device, Plugs};
+use board_world::Event;
 use event_script::Script;
 use fiber_runtime::Runtime;
 use message_bus::Bus;
@@ -33,9 +35,13 @@ use tool_io::{PutFailed, Sink};
 /// A board with an image in flash, a script, and devices in their places. All memory of a run is taken by `mount`.
 #[derive(Drop)]
 pub struct Board<D> {
-    engine: Engine,
-    plugs: Plugs<D>,
-    instructions: u64,
+    pub(crate) engine: Engine,
+    pub(crate) plugs: Plugs<D>,
+    pub(crate) instructions: u64,
+    /// The events that are kept for the next moment.
+    pub(crate) kept: Slots<Event>,
+    /// The first numbers that were sent by radio in the moment that went last.
+    pub(crate) sent: Slots<i32>,
 }
 
 /// There was no memory for a board; the devices are handed back.
@@ -89,9 +95,26 @@ fn fresh_engine(alloc: Global, image: Vec<u8>, script: Script) -> Result<Engine,
     })
 }
 
+/// An engine over an image, and room for kept events and for numbers that are sent.
+fn fresh_parts(
+    alloc: Global,
+    image: Vec<u8>,
+    script: Script,
+) -> Result<(Engine, Slots<Event>, Slots<i32>), NoMemory>
+    requires size { vec_len image ≤ flash_end }
+    requires script { IsSound script }
+    ensures mounted { IfOk result (λ parts. IsMounted image.items script parts.0) }
+    ensures none { IfOk result (λ parts. (parts.1 ≡ []) × (parts.2 ≡ [])) }
+{
+    let engine = fresh_engine(alloc, image, script)?;
+    let kept = Slots::new(alloc)?;
+    let sent = Slots::new(alloc)?;
+    Ok((engine, kept, sent))
+}
+
 /// Puts the line of what was seen at a moment, and then sends its words to the devices.
 #[inline(always)]
-fn tell<K: Sink, D: Device>(
+pub fn tell<K: Sink, D: Device>(
     engine: &mut Engine,
     sight: Sight,
     now: u32,
@@ -127,13 +150,16 @@ impl<D: Device> Board<D> {
         ensures mounted { IfOk result (λ board. IsMounted image.items script board.engine) }
         ensures plugged { IfOk result (λ board. (board.plugs.places ≡ places.items) × Follows D.log D.faults [] places.items board.plugs) }
         ensures counted { IfOk result (λ board. board.instructions ≡ 0) }
+        ensures none { IfOk result (λ board. (board.kept ≡ []) × (board.sent ≡ [])) }
         ensures back { IfErr result (λ refused. refused.places.items ≡ places.items) }
     {
-        match fresh_engine(alloc, image, script) {
-            Ok(engine) => Ok(Board {
+        match fresh_parts(alloc, image, script) {
+            Ok((engine, kept, sent)) => Ok(Board {
                 engine,
                 plugs: Plugs::new(places),
                 instructions: 0,
+                kept,
+                sent,
             }),
             Err(NoMemory) => Err(NotMounted { places }),
         }
@@ -246,6 +272,8 @@ impl<D: Device> Board<D> {
             engine: _,
             plugs,
             instructions: _,
+            kept: _,
+            sent: _,
         } = self;
         plugs.into_places()
     }

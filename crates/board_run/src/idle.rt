@@ -4,6 +4,8 @@ ghost use Rattle.std.specs.Bool.{OnTrue, OnFalse};
 ghost use Rattle.board_world.specs.Limits.{end_limit};
 ghost use Rattle.board_world.specs.Scripts.{IsSoundAct};
 ghost use Rattle.board_world.specs.Board.{next_entry};
+ghost use Rattle.board_world.specs.Before.{IsRisingFrom};
+ghost use Rattle.board_run.specs.Going.{CameTo, queued_all};
 ghost use Rattle.event_script.specs.World.{world_act, world_entries};
 ghost use Rattle.event_script.specs.Sound.{IsSound};
 ghost use Rattle.board_run.specs.Arriving.{Applied, Arrived};
@@ -18,7 +20,7 @@ use crate::engine::Engine;
 use crate::place::place_for;
 use board_drivers::Buttons;
 use board_ports::{Device, Plugs};
-use board_world::{Idle, idle_move};
+use board_world::{Event, Idle, idle_move};
 use event_script::Act;
 use message_bus::Bus;
 
@@ -38,9 +40,18 @@ fn apply<D: Device>(act: Act, now: u32, buttons: &mut Buttons, bus: &mut Bus, pl
     }
 }
 
+/// Raises events in order.
+fn raise_all(bus: &mut Bus, events: &[Event])
+    ensures { bus.new ≡ record bus.old { queue = queued_all events.now bus.old.queue } }
+{
+    for event in events {
+        let _ = bus.raise(*event);
+    }
+}
+
 impl Engine {
     /// When the next entry of the script comes. None where none is left.
-    fn next_entry(&self) -> Option<u32>
+    pub fn next_entry(&self) -> Option<u32>
         ensures { result ≡ next_entry (world_entries (drop self.now.next self.now.script.entries)) }
     {
         match self.script.entries.get(self.next) {
@@ -51,7 +62,7 @@ impl Engine {
 
     /// Takes the oldest event of the queue and dispatches it: its handlers are to begin, then the waiters that hear it. False exactly where
     /// there is none; then nothing changes.
-    fn dispatch(&mut self) -> bool
+    pub fn dispatch(&mut self) -> bool
         requires empty { IsEmpty (state_of self.old) }
         requires shown { IsShown (state_of self.old) }
         requires going { self.old.end ≡ None }
@@ -117,6 +128,24 @@ impl Engine {
         if !self.dispatch() {
             self.clock_move(plugs);
         }
+    }
+
+    /// The clock comes to a moment: the sleepers that are due become ready, the entries of the moment are applied, and behind them these events are raised.
+    pub fn come_to<D: Device>(&mut self, moment: u32, events: &[Event], plugs: &mut Plugs<D>)
+        requires acts { All (λ e. IsSoundAct (world_act e.act)) self.old.script.entries }
+        requires within { self.old.next ≤ length self.old.script.entries }
+        requires rising { IsRisingFrom moment (world_entries (drop self.old.next self.old.script.entries)) }
+        ensures came { CameTo D.log D.faults moment events.now self.old self.new plugs.old plugs.new }
+        ensures script { self.new.script ≡ self.old.script }
+        ensures counts { self.new.counts ≡ self.old.counts }
+        ensures end { self.new.end ≡ self.old.end }
+        ensures clock { self.new.clock ≡ moment }
+        ensures within { self.new.next ≤ length self.old.script.entries }
+    {
+        self.clock = moment;
+        self.runtime.wake_due(moment);
+        self.arrive(plugs);
+        raise_all(&mut self.bus, events);
     }
 
     /// Goes on until a fiber runs or the run is over.

@@ -7,7 +7,9 @@ pub use Rattle.board_world.proofs.Stays.{over_stays, busy_stays, run_over, run_s
 pub use Rattle.board_world.proofs.Settle.{settles, idled_first, jump_from, jump_soonest, some_due}
 -- what comes before a moment doesn't hang on the script's entries from then on, and the clock doesn't go back
 pub use Rattle.board_world.proofs.Before.{run_then, run_settled}
-pub use Rattle.board_world.proofs.Onwards.{idled_on_to, run_on_to}
+pub use Rattle.board_world.proofs.Onwards.{first_before, idled_on_to, run_alike, run_on_to}
+pub use Rattle.board_world.proofs.Timely.{On, on_trans, by_clock_over, clock_all, moved_on, idle_on, acted_on, tick_on}
+pub use Rattle.board_world.proofs.Settle.{progress, due}
 pub use Rattle.board_world.proofs.Timely.{run_timely, run_same, run_settles, later_waits, rises_in_order}
 -- lists that are related one by one
 pub use Rattle.board_world.proofs.Pairs.{paired_append, paired_length, paired_map, paired_weaken, paired_if, paired_chosen, paired_left, paired_least, paired_some, paired_many, paired_none}

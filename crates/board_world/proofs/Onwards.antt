@@ -26,7 +26,7 @@ module _ {A S : Type 0} (K : Kind A S) (t u : ℕ) (later : t ≤ u) where
   moves_sooner [] w h = jump_sooner t u later (clock_move (least w.sleepers) (next_entry w.board.script) w.board.until) h
 
   -- one idle move may be made first
-  first_before : (w : World A S) → w.ready ≡ [] → over w.board ≡ false → moves_before u w.board.queue w ≡ true → idled_before K u (moved K w.board.queue w) ≡ idled_before K u w
+  pub first_before : (w : World A S) → w.ready ≡ [] → over w.board ≡ false → moves_before u w.board.queue w ≡ true → idled_before K u (moved K w.board.queue w) ≡ idled_before K u w
   first_before w e o h =
       (let v = moved K w.board.queue w in
       let n : ℕ = 1 + due w.board in
@@ -86,7 +86,7 @@ module _ {A S : Type 0} (K : Kind A S) (t u : ℕ) (later : t ≤ u) where
           let there : length x.ready ≡ suc (length rest) = ap length e in
           subst (λ (z : World A S). tick_before K u z ≡ idled_before K t v) (sym (same (λ p. omega (arith, there)))) (ap (λ (c : Bool). if c then x else stepped_before K u x.ready x) o ∙ ap (λ (xs : List (Activity A)). stepped_before K u xs x) e ∙ idle_alike (idle_bound v.board) v.ready v refl k))
 
-  run_alike : (n : ℕ) (w : World A S) → IsSettled (run_before K t n w) → run_before K u n w ≡ run_before K t n w
+  pub run_alike : (n : ℕ) (w : World A S) → IsSettled (run_before K t n w) → run_before K u n w ≡ run_before K t n w
   run_alike zero w h = refl
   run_alike (suc n) w h = tick_alike (run_before K t n w) (run_before K u n w) h (run_alike n w)
 

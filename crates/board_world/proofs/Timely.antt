@@ -60,7 +60,7 @@ untouched_answer c es (Pressed (pos n)) v b h = h
 untouched_answer c es (Pressed (negsuc n)) v b h = h
 
 -- the entries of a moment leave the clock, and what is left of a list in order isn't before
-clock_all : (s : ℕ) (es : List Entry) (b : Board) → (arrive_all s es b).clock ≡ b.clock
+pub clock_all : (s : ℕ) (es : List Entry) (b : Board) → (arrive_all s es b).clock ≡ b.clock
 clock_all s [] b = refl
 clock_all s (e ∷ es) b = if_keeps (λ (x : Board). x.clock ≡ b.clock) (e.at == s) _ _ (clock_all s es (arrive e.act b) ∙ (untouched_arrive b.clock b.script e.act b (refl, refl)).0) refl
 
@@ -102,7 +102,7 @@ wakes_later now (pos m) = omega arith
 wakes_later now (negsuc m) = omega arith
 
 -- who ended by the clock has ended
-by_clock_over : (o : Option End) → is_some o ≡ false → is_by_clock o ≡ false
+pub by_clock_over : (o : Option End) → is_some o ≡ false → is_by_clock o ≡ false
 by_clock_over None h = refl
 by_clock_over (Some e) h = cc
 
@@ -116,7 +116,7 @@ module _ {A S : Type 0} where
       }
 
   -- timely still, and the clock hasn't gone back
-  record On (w v : World A S) : Type 0 where
+  pub record On (w v : World A S) : Type 0 where
     pub timely : IsTimely v
     pub clock : w.board.clock ≤ v.board.clock
 
@@ -127,7 +127,7 @@ module _ {A S : Type 0} where
   on_if true w x y p q = p
   on_if false w x y p q = q
 
-  on_trans : (w v u : World A S) → On w v → On v u → On w u
+  pub on_trans : (w v u : World A S) → On w v → On v u → On w u
   on_trans w v u p q = record { timely = q.timely; clock = (let first : w.board.clock ≤ v.board.clock = p.clock in let more : v.board.clock ≤ u.board.clock = q.clock in omega (arith, first, more)) }
 
   jump_on : (s : ℕ) (w : World A S) → IsTimely w → clock_move (least w.sleepers) (next_entry w.board.script) w.board.until ≡ Jump s → On w (jump s w)
@@ -154,7 +154,7 @@ module _ {A S : Type 0} where
 
 module _ {A S : Type 0} (K : Kind A S) where
   -- an idle move that doesn't end the run
-  moved_on : (queue : List Event) (w : World A S) → IsTimely w → is_by_clock (moved K queue w).board.end ≡ false → On w (moved K queue w)
+  pub moved_on : (queue : List Event) (w : World A S) → IsTimely w → is_by_clock (moved K queue w).board.end ≡ false → On w (moved K queue w)
   moved_on (e ∷ rest) w h k = on_same w (moved K (e ∷ rest) w) h (refl, refl) refl
   moved_on [] w h k = by_move (clock_move (least w.sleepers) (next_entry w.board.script) w.board.until) refl k
     where
@@ -171,7 +171,7 @@ module _ {A S : Type 0} (K : Kind A S) where
       by_over true o = subst (λ (u : World A S). is_by_clock u.board.end ≡ false) (over_stays K n v.ready v o) k
       by_over false o = by_clock_over v.board.end o
 
-  idle_on : (n : ℕ) (xs : List (Activity A)) (w : World A S) → IsTimely w → is_by_clock (idle_while K n xs w).board.end ≡ false → On w (idle_while K n xs w)
+  pub idle_on : (n : ℕ) (xs : List (Activity A)) (w : World A S) → IsTimely w → is_by_clock (idle_while K n xs w).board.end ≡ false → On w (idle_while K n xs w)
   idle_on zero xs w h k = on_same w w h (refl, refl) refl
   idle_on (suc n) (x ∷ xs) w h k = on_same w w h (refl, refl) refl
   idle_on (suc n) [] w h k = by_over (over w.board) (λ v p q. idle_on n v.ready v p q) k
@@ -234,7 +234,7 @@ module _ {A S : Type 0} (K : Kind A S) where
         clock = (let same : v.board.clock ≡ w.board.clock = k.0 in omega (arith, same));
       }
 
-  acted_on : (a : Activity A) (others : List (Activity A)) (w : World A S) (turn : Turn A S) → IsTimely w → On w (acted K a others w turn)
+  pub acted_on : (a : Activity A) (others : List (Activity A)) (w : World A S) (turn : Turn A S) → IsTimely w → On w (acted K a others w turn)
   acted_on a others w (Goes self s) h = on_same w (acted K a others w (Goes self s)) h (refl, refl) refl
   acted_on a others w (Asks q next) h = on_same w (acted K a others w (Asks q next)) h (untouched_answer w.board.clock w.board.script q a.value w.board (refl, refl)) refl
   acted_on a others w (Takes n next) h = on_if (nat_le (w.board.used + n) arena_limit) w _ _ (on_same w _ h (refl, refl) refl) (on_same w _ h (refl, refl) refl)
@@ -259,7 +259,7 @@ module _ {A S : Type 0} (K : Kind A S) where
       on_trans w v (idled K v) m (idle_on (idle_bound v.board) v.ready v m.timely k))
 
   -- a counted step that doesn't end the run by the clock
-  tick_on : (w : World A S) → IsTimely w → is_by_clock (tick K w).board.end ≡ false → On w (tick K w)
+  pub tick_on : (w : World A S) → IsTimely w → is_by_clock (tick K w).board.end ≡ false → On w (tick K w)
   tick_on w h k = by_over (over w.board) k
     where
       by_over : (c : Bool) → is_by_clock (if c then w else stepped K w.ready w).board.end ≡ false → On w (if c then w else stepped K w.ready w)

@@ -4,7 +4,7 @@ use Rattle.board_world.specs.Limits.{end_limit}
 use Rattle.board_run.specs.declared.end.Stop.TheVariants.{Quiet as StopQuiet, Script as StopScript}
 use Rattle.board_run.specs.declared.engine.Engine.{Engine}
 use Rattle.board_run.specs.View.{state_of}
-use Rattle.board_run.proofs.Clocks.{acts_of, says_so, still_idles, comes_quiet, comes_script, fewer_ends, jump_idles, jump_fewer, moment_early}
+use Rattle.board_run.proofs.Clocks.{acts_of, says_so, ended_idles, comes_quiet, comes_script, fewer_ends, jump_idles, jump_fewer, moment_early}
 use Rattle.board_run.proofs.engine.Engine.clock_move.Goals as goal
 
 pub arrive-requires-clause-acts : goal.arrive-requires-clause-acts
@@ -14,13 +14,13 @@ pub returns-in-Quiet-clause-idles : goal.returns-in-Quiet-clause-idles
 returns-in-Quiet-clause-idles g c =
     let e = c.args.self.now in
     let says = says_so e Quiet c.next_wake.result c.next_entry.result c.in-Quiet.ensures c.next_wake.ensures.least c.next_entry.ensures in
-    still_idles g.D.Device.log g.D.Device.faults (state_of e) (state_of (record e { end = Some StopQuiet })) c.args.plugs.now (comes_quiet e c.requires.empty c.requires.going c.requires.quiet says)
+    ended_idles g.D.Device.log g.D.Device.faults (state_of e) (state_of (record e { end = Some StopQuiet })) c.args.plugs.now (comes_quiet e c.requires.empty c.requires.going c.requires.quiet says)
 
 pub returns-in-Script-clause-idles : goal.returns-in-Script-clause-idles
 returns-in-Script-clause-idles g c =
     let e = c.args.self.now in
     let says = says_so e Script c.next_wake.result c.next_entry.result c.in-Script.ensures c.next_wake.ensures.least c.next_entry.ensures in
-    still_idles g.D.Device.log g.D.Device.faults (state_of e) (state_of (record e { clock = e.script.end; end = Some StopScript })) c.args.plugs.now (comes_script e c.requires.empty c.requires.going c.requires.quiet says)
+    ended_idles g.D.Device.log g.D.Device.faults (state_of e) (state_of (record e { clock = e.script.end; end = Some StopScript })) c.args.plugs.now (comes_script e c.requires.empty c.requires.going c.requires.quiet says)
 
 pub returns-in-Quiet-clause-fewer : goal.returns-in-Quiet-clause-fewer
 returns-in-Quiet-clause-fewer g c = fewer_ends c.args.self.now c.requires.empty c.requires.going c.requires.quiet StopQuiet c.args.self.now.clock

@@ -1,0 +1,85 @@
+-- What a board answers behind the closing line.
+use Rattle.std.proofs.Common.{◌≡◌, ℕ, ◌≤◌, inr, ℤ, true, false, List, [], ◌++◌, Option, Some, Result, Ok, Err, refl, sym, ap, ◌∙◌, subst}
+use Rattle.std.proofs.lemmas.List.{append-nil}
+use Rattle.std.specs.Option.{option_map}
+use Rattle.board_world.specs.Observations.{ByteList}
+use Rattle.board_world.specs.Transcript.{closing_line}
+use Rattle.board_world.specs.Before.{is_by_clock}
+use Rattle.tool_io.specs.Putting.{Took, TookPart, Puts}
+use Rattle.tool_io.specs.declared.sink.PutFailed.{PutFailed}
+use Rattle.tool_io.proofs.Laws.{took-then, rose-before}
+use Rattle.board_outside.specs.Moves.{seen_of}
+use Rattle.board_run.specs.declared.board.Board.{Board}
+use Rattle.board_run.specs.declared.end.End.{End}
+use Rattle.board_run.specs.declared.end.Stop.{Stop}
+use Rattle.board_run.specs.declared.end.Stop.TheVariants.{Quiet, Script, Panic, Fault}
+use Rattle.board_run.specs.declared.moments.Gone.TheVariants.{Ended}
+use Rattle.board_run.specs.Ran.{answer_of, told}
+use Rattle.board_run.specs.Proceeding.{led_lines, first_sent}
+use Rattle.board_run.specs.Gone.{HasGone, IsPassed, EndsBy, Went}
+use Rattle.board_run.specs.View.{end_of}
+use Rattle.board_run.proofs.Leading.{into_part}
+
+module _ {B : Type 0} (log : B → Option (List (ℕ × ℕ))) (faults : B → ℕ) (lead : ByteList) (moment budget used : ℕ) (old new : Board B) (s t : Option (List ℕ)) where
+  -- the same with a text behind
+  closed : (u : Option (List ℕ)) (text : ByteList) → HasGone log faults lead [] moment used old new s t [] → Took t u text → HasGone log faults lead [] moment used old new s u text
+  closed u text g took = record {
+    moves = g.moves;
+    goes = g.goes;
+    ports = g.ports;
+    sent = g.sent;
+    written = subst (λ l. Took s u (l ++ text)) (append-nil (led_lines lead (seen_of g.moves))) (took-then _ text g.written took);
+    counted = g.counted;
+    whole = g.whole;
+    clock = g.clock;
+    script = g.script;
+  }
+
+  -- what was noted before is let go first
+  pub from_none : (numbers : List ℤ) → numbers ≡ [] → HasGone log faults lead numbers moment used (record old { sent = numbers }) new s t [] → HasGone log faults lead [] moment used old new s t []
+  from_none numbers e g = record {
+    moves = g.moves;
+    goes = g.goes;
+    ports = g.ports;
+    sent = g.sent ∙ ap (λ ns. first_sent ns (seen_of g.moves)) e;
+    written = g.written;
+    counted = g.counted;
+    whole = g.whole;
+    clock = g.clock;
+    script = g.script;
+  }
+
+  pub went_ended : (u : Option (List ℕ)) (fs mid fs' : ℕ) (stop : Stop) → new.engine.end ≡ Some stop → HasGone log faults lead [] moment used old new s t [] → IsPassed moment used budget new → fs ≤ mid
+      → (put : Result (Unit {0}) PutFailed) → Puts t u mid fs' (lead ++ closing_line new.engine.clock (Some (end_of stop))) put → (answer : End) → answer ≡ answer_of put (Some stop)
+      → Went log faults lead moment budget old new s u fs fs' (Ended answer)
+  went_ended u fs mid fs' stop ended g p later put puts answer is = subst (λ a. Went log faults lead moment budget old new s u fs fs' (Ended a)) (sym is) (by_put put puts)
+    where
+      at_moment : lead ++ closing_line new.engine.clock (Some (end_of stop)) ≡ lead ++ closing_line moment (Some (end_of stop))
+      at_moment = ap (λ c. lead ++ closing_line c (Some (end_of stop))) g.clock
+
+      ends : Took t u (lead ++ closing_line new.engine.clock (Some (end_of stop))) → EndsBy log faults lead moment budget stop old new s u
+      ends took = record { used = used; within = p.within; ended = ended; gone = closed u (lead ++ closing_line moment (Some (end_of stop))) g (subst (Took t u) at_moment took) }
+
+      sound : is_by_clock (Some (end_of stop)) ≡ false
+      sound = ap (λ o. is_by_clock (option_map end_of o)) (sym ended) ∙ p.sound
+
+      by_stop : (x : Stop) → x ≡ stop → Took t u (lead ++ closing_line new.engine.clock (Some (end_of stop))) → Went log faults lead moment budget old new s u fs fs' (Ended (told (Some x)))
+      by_stop Quiet e took = absurd (let c : true ≡ false = ap (λ y. is_by_clock (Some (end_of y))) e ∙ sound in cc)
+      by_stop Script e took = absurd (let c : true ≡ false = ap (λ y. is_by_clock (Some (end_of y))) e ∙ sound in cc)
+      by_stop (Panic code) e took = subst (λ y. EndsBy log faults lead moment budget y old new s u) (sym e) (ends took)
+      by_stop (Fault fault address) e took = subst (λ y. EndsBy log faults lead moment budget y old new s u) (sym e) (ends took)
+
+      by_put : (put : Result (Unit {0}) PutFailed) → Puts t u mid fs' (lead ++ closing_line new.engine.clock (Some (end_of stop))) put → Went log faults lead moment budget old new s u fs fs' (Ended (answer_of put (Some stop)))
+      by_put (Ok x) q = by_stop stop refl q.took
+      by_put (Err x) q = (
+        inr (record {
+          used = used;
+          within = p.within;
+          stop = stop;
+          ended = ended;
+          taken_before = t;
+          gone = g;
+          written = into_part (lead ++ closing_line moment (Some (end_of stop))) (subst (TookPart t u) at_moment q.part);
+        }),
+        rose-before fs mid fs' later q.failed,
+      )

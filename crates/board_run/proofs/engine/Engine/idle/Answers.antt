@@ -1,0 +1,6 @@
+use Rattle.board_run.specs.View.{state_of}
+use Rattle.board_run.proofs.Clocks.{still_idles}
+use Rattle.board_run.proofs.engine.Engine.idle.Goals as goal
+
+pub returns-else-not-dispatch-clause-idles : goal.returns-else-not-dispatch-clause-idles
+returns-else-not-dispatch-clause-idles g c = still_idles g.D.Device.log g.D.Device.faults (state_of c.args.self.now) (state_of c.dispatch.new.self) c.args.plugs.now c.if-not-dispatch.ensures.comes

@@ -1,0 +1,13 @@
+mod Moments
+mod Scripts
+mod Once
+mod On
+mod Kept
+mod Implement
+mod Lines
+mod Full
+mod Arriving
+mod Stepped
+mod Standing
+mod Giving
+pub mod Laws
