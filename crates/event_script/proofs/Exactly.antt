@@ -11,7 +11,7 @@ use Rattle.std.proofs.lemmas.Slice.Eq.{bytes_eq-Decides}
 use Rattle.std.proofs.lemmas.Map.Text.{is_eq-slice_cmp}
 use Rattle.serde_json.specs.Data.{Data, null, boolean, number, string, array, object, Members, no_members, member}
 use Rattle.serde_json.specs.Find.{get, get_member}
-use Rattle.event_script.specs.Form.{count_of, has_members}
+use Rattle.event_script.specs.Trees.{count_of, has_members}
 use Rattle.event_script.specs.Names.{IsOneOf, HasExactly}
 
 abbrev keys : Members → List (List ℕ)

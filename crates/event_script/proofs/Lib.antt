@@ -1,4 +1,6 @@
 mod Counting
+mod Lists
 mod Soundness
 mod Exactly
 mod Members
+pub mod Laws

@@ -2,9 +2,10 @@
 use Rattle.std.proofs.Common.{◌≡◌, ℕ, zero, suc, ◌<◌, ◌≤◌, ◌⊎◌, inl, inr, Bool, true, false, ◌||◌, if◌then◌else◌, nat_le, nat_lt, Option, Some, None, option_map, option_and_then, IfSome, Result, Ok, Err, List, [], ◌∷◌, length, get_or, refl, subst, arith, All, codes}
 use Rattle.std.proofs.lemmas.Bool.Decides.{nat_tests}
 use Rattle.std.proofs.lemmas.Int.{ints}
+use Rattle.std.proofs.lemmas.List.Elements.{All-head, All-tail, All-weaker}
 use Rattle.std.specs.List.Sorted.{IsNonDecreasingBy}
-use Rattle.serde_json.specs.Data.{Data, Items, no_items, item}
-use Rattle.serde_json.specs.Find.{get, as_number, as_u64, as_array}
+use Rattle.serde_json.specs.Data.{Data}
+use Rattle.serde_json.specs.Find.{get, as_number, as_u64}
 use Rattle.board_world.specs.Board as board
 use Rattle.board_world.specs.Limits.{end_limit, last_port}
 use Rattle.board_world.specs.Scripts.{IsSoundAct}
@@ -15,18 +16,20 @@ use Rattle.event_script.specs.declared.script.Entry.{Entry}
 use Rattle.event_script.specs.declared.script.Script.{Script}
 use Rattle.event_script.specs.declared.script.ScriptCode.{ScriptCode}
 use Rattle.event_script.specs.declared.script.ScriptCode.TheVariants.{OutOfOrder, PastEnd, TooMany}
-use Rattle.event_script.specs.Form.{at_most, whole, says, has_members, only_if, button_of, raised_with, act_of, entry_with, entry_of, entries_with, entries_of, script_with, script_of}
+use Rattle.event_script.specs.Trees.{at_most, whole, says, has_members, only_if, list_of}
+use Rattle.event_script.specs.Form.{button_of, raised_with, act_of, entry_with, entry_of, script_with, script_of}
 use Rattle.event_script.specs.Verdict.{falls_from, is_past, judged}
 use Rattle.event_script.specs.World.{world_act, world_entries}
 use Rattle.event_script.specs.Sound.{HasSmallNumbers, IsSound, IsWithinForm}
+use Rattle.event_script.proofs.Lists.{list-some}
 
 -- what is known of each act that is read
-abbrev IsFine : Act → Type 0
+abbrev pub IsFine : Act → Type 0
 IsFine a = IsSoundAct (world_act a) × HasSmallNumbers a
 
 -- a fact for what there is, where there is something
 module _ {X : Type 0} (P : X → Type 0) where
-  only-some : (b : Bool) (x : Option X) → IfSome x P → IfSome (only_if b x) P
+  pub only-some : (b : Bool) (x : Option X) → IfSome x P → IfSome (only_if b x) P
   only-some true x p = p
   only-some false x p = tt
 
@@ -42,7 +45,7 @@ at_most-some most (Some n) = by_test (nat_le n most) refl
     by_test true e = grind (arith, nat_tests)
     by_test false e = tt
 
-whole-some : (most : ℕ) (name : List ℕ) (d : Data) → IfSome (whole most name d) (λ n. n ≤ most)
+pub whole-some : (most : ℕ) (name : List ℕ) (d : Data) → IfSome (whole most name d) (λ n. n ≤ most)
 whole-some most name d = at_most-some most (option_and_then as_u64 (option_and_then as_number (get name d)))
 
 button-shape : (b c : Bool) → (let o : Option ℕ = (if b then Some 1 else if c then Some 2 else None) in IfSome o (λ n. (n ≡ 1) ⊎ (n ≡ 2)))
@@ -78,7 +81,7 @@ act-shape false false false true true n dn up rs un p q r s = s
 act-shape false false false true false n dn up rs un p q r s = tt
 act-shape false false false false m n dn up rs un p q r s = tt
 
-act-some : (d : Data) → IfSome (act_of d) IsFine
+pub act-some : (d : Data) → IfSome (act_of d) IsFine
 act-some d =
     let source = whole greatest_number (codes "source") d in
     let value = whole greatest_number (codes "value") d in
@@ -94,46 +97,26 @@ entry-some (Some t) (Some a) p = p
 entry-some (Some t) None p = tt
 entry-some None a p = tt
 
-abbrev Acts : List Entry → Type 0
-Acts [] = Unit {0}
-Acts (e ∷ es) = IsFine e.act × Acts es
-
-entries-with-some : (e : Option Entry) (es : Option (List Entry)) → IfSome e (λ x. IsFine x.act) → IfSome es Acts → IfSome (entries_with e es) Acts
-entries-with-some (Some e) (Some es) p q = (p, q)
-entries-with-some (Some e) None p q = tt
-entries-with-some None es p q = tt
-
-entries-some : (ds : Items) → IfSome (entries_of ds) Acts
-entries-some no_items = tt
-entries-some (item d ds) = entries-with-some (entry_of d) (entries_of ds) (entry-some (whole end_limit (codes "at") d) (act_of d) (act-some d)) (entries-some ds)
-
 abbrev Formed : Script → Type 0
-Formed s = (s.end ≤ end_limit) × Acts s.entries
+Formed s = (s.end ≤ end_limit) × All (λ e. IsFine e.act) s.entries
 
-script-with-some : (t : Option ℕ) (es : Option (List Entry)) → IfSome t (λ n. n ≤ end_limit) → IfSome es Acts → IfSome (script_with t es) Formed
+script-with-some : (t : Option ℕ) (es : Option (List Entry)) → IfSome t (λ n. n ≤ end_limit) → IfSome es (All (λ e. IsFine e.act)) → IfSome (script_with t es) Formed
 script-with-some (Some t) (Some es) p q = (p, q)
 script-with-some (Some t) None p q = tt
 script-with-some None es p q = tt
 
-chained : (o : Option Items) → IfSome (option_and_then entries_of o) Acts
-chained None = tt
-chained (Some ds) = entries-some ds
-
 script-some : (d : Data) → IfSome (script_of d) Formed
 script-some d =
     let end = whole end_limit (codes "end") d in
-    let trees = option_and_then as_array (get (codes "events") d) in
-    only-some Formed (has_members 2 d) (script_with end (option_and_then entries_of trees)) (script-with-some end (option_and_then entries_of trees) (whole-some end_limit (codes "end") d) (chained trees))
+    let entries = list_of entry_of (codes "events") d in
+    let each = λ (e : Data). entry-some (whole end_limit (codes "at") e) (act_of e) (act-some e) in
+    only-some Formed (has_members 2 d) (script_with end entries)
+    (script-with-some end entries (whole-some end_limit (codes "end") d) (list-some (λ e. IsFine e.act) entry_of each (codes "events") d))
 
-all-acts : (es : List Entry) → Acts es → All (λ e. IsSoundAct e.act) (world_entries es)
+all-acts : (es : List Entry) → All (λ e. IsFine e.act) es → All (λ e. IsSoundAct e.act) (world_entries es)
 all-acts [] p k d h = absurd (omega arith)
-all-acts (e ∷ es) p zero d h = p.0.0
-all-acts (e ∷ es) p (suc k) d h = all-acts es p.1 k d (omega arith)
-
-all-numbers : (es : List Entry) → Acts es → All (λ e. HasSmallNumbers e.act) es
-all-numbers [] p k d h = absurd (omega arith)
-all-numbers (e ∷ es) p zero d h = p.0.1
-all-numbers (e ∷ es) p (suc k) d h = all-numbers es p.1 k d (omega arith)
+all-acts (e ∷ es) p zero d h = (All-head (λ e. IsFine e.act) e es p).0
+all-acts (e ∷ es) p (suc k) d h = all-acts es (All-tail (λ e. IsFine e.act) e es p) k d (omega arith)
 
 -- a list that doesn't fall
 both-false : (a b : Bool) → (a || b) ≡ false → (a ≡ false) × (b ≡ false)
@@ -181,7 +164,7 @@ judged-sound d s s' form h =
         let same : s ≡ s' = cc in
         subst IsRead same (
           record { end = formed.0; order = ordered 0 s.entries e; within = not_past s.end s.entries f; acts = all-acts s.entries formed.1 },
-          record { few = grind (arith, nat_tests); numbers = all-numbers s.entries formed.1 },
+          record { few = grind (arith, nat_tests); numbers = All-weaker (λ e. IsFine e.act) (λ e. HasSmallNumbers e.act) (λ e p. p.1) s.entries formed.1 },
         )
 
 -- a number within its limit is there

@@ -1,47 +1,13 @@
 -- The form of a script: which trees are scripts, and which script each is.
-use Rattle.std.specs.Prelude.{ℕ, suc, pos, Bool, true, false, if◌then◌else◌, nat_le, ◌==◌, Option, Some, None, option_map, option_and_then, List, [], ◌∷◌, codes}
-use Rattle.std.specs.Str.{bytes_eq}
-use Rattle.serde_json.specs.Data.{Data, Items, no_items, item, Members, no_members, member}
-use Rattle.serde_json.specs.Find.{get, as_number, as_u64, as_str, as_array, as_object}
+use Rattle.std.specs.Prelude.{ℕ, pos, if◌then◌else◌, Option, Some, None, option_map, List, codes}
+use Rattle.serde_json.specs.Data.{Data, Items}
 use Rattle.board_world.specs.Limits.{end_limit, last_port}
 use Rattle.event_script.specs.Limits.{greatest_number}
+use Rattle.event_script.specs.Trees.{whole, says, has_members, only_if, items_of, list_of}
 use Rattle.event_script.specs.declared.script.Act.{Act}
 use Rattle.event_script.specs.declared.script.Act.TheVariants.{Down, Up, Raise, Unplug}
 use Rattle.event_script.specs.declared.script.Entry.{Entry}
 use Rattle.event_script.specs.declared.script.Script.{Script}
-
--- the number of a member that is a whole number from 0 up to the greatest; other members have none
-abbrev pub at_most : ℕ → Option ℕ → Option ℕ
-at_most most None = None
-at_most most (Some n) = if nat_le n most then Some n else None
-
-abbrev pub whole : ℕ → List ℕ → Data → Option ℕ
-whole most name d = at_most most (option_and_then as_u64 (option_and_then as_number (get name d)))
-
--- whether a member is this text
-abbrev pub is_text : List ℕ → Option (List ℕ) → Bool
-is_text text None = false
-is_text text (Some s) = bytes_eq s text
-
-abbrev pub says : List ℕ → List ℕ → Data → Bool
-says name text d = is_text text (option_and_then as_str (get name d))
-
--- an object of so many members; it has each name once, so with as many named members there it has exactly those
-abbrev pub count_of : Members → ℕ
-count_of no_members = 0
-count_of (member k d ms) = suc (count_of ms)
-
-abbrev pub is_count : ℕ → Option Members → Bool
-is_count n None = false
-is_count n (Some ms) = count_of ms == n
-
-abbrev pub has_members : ℕ → Data → Bool
-has_members n d = is_count n (as_object d)
-
--- what there is only where a test passes
-abbrev pub only_if : {X : Type 0} → Bool → Option X → Option X
-only_if true o = o
-only_if false o = None
 
 -- `button` is "A", which is 1, or "B", which is 2
 abbrev pub button_of : Data → Option ℕ
@@ -70,14 +36,9 @@ entry_with None act = None
 abbrev pub entry_of : Data → Option Entry
 entry_of d = entry_with (whole end_limit (codes "at") d) (act_of d)
 
-abbrev pub entries_with : Option Entry → Option (List Entry) → Option (List Entry)
-entries_with (Some e) (Some es) = Some (e ∷ es)
-entries_with (Some e) None = None
-entries_with None es = None
-
+-- all entries of a list
 abbrev pub entries_of : Items → Option (List Entry)
-entries_of no_items = Some []
-entries_of (item d ds) = entries_with (entry_of d) (entries_of ds)
+entries_of = items_of entry_of
 
 abbrev pub script_with : Option ℕ → Option (List Entry) → Option Script
 script_with (Some end) (Some entries) = Some (record { end = end; entries = entries })
@@ -86,5 +47,4 @@ script_with None entries = None
 
 -- the members are `end`, in milliseconds up to the latest end, and `events`, a list of entries
 abbrev pub script_of : Data → Option Script
-script_of d =
-    only_if (has_members 2 d) (script_with (whole end_limit (codes "end") d) (option_and_then entries_of (option_and_then as_array (get (codes "events") d))))
+script_of d = only_if (has_members 2 d) (script_with (whole end_limit (codes "end") d) (list_of entry_of (codes "events") d))

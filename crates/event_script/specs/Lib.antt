@@ -1,5 +1,7 @@
 pub mod Limits
 pub mod Json
+pub mod Trees
+pub mod Order
 pub mod Form
 pub mod Verdict
 pub mod Codes

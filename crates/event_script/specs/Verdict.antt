@@ -6,13 +6,13 @@ use Rattle.event_script.specs.declared.script.Script.{Script}
 use Rattle.event_script.specs.declared.script.ScriptCode.{ScriptCode}
 use Rattle.event_script.specs.declared.script.ScriptCode.TheVariants.{NotScript, OutOfOrder, PastEnd, TooMany}
 use Rattle.event_script.specs.Limits.{entry_limit}
+use Rattle.event_script.specs.Order.{falls_by}
 use Rattle.event_script.specs.Json.{IsTree}
 use Rattle.event_script.specs.Form.{script_of}
 
 -- whether some entry's moment is below that of the one before; the first has this moment before it
 abbrev pub falls_from : ℕ → List Entry → Bool
-falls_from before [] = false
-falls_from before (e ∷ es) = nat_lt e.at before || falls_from e.at es
+falls_from = falls_by (λ e. e.at)
 
 -- whether some entry's moment is above the end; one that equals it isn't
 abbrev pub is_past : ℕ → List Entry → Bool

@@ -1,53 +1,20 @@
 // Reading a script from a JSON tree.
-ghost use Rattle.std.specs.Prelude.{◌≡◌, ◌≤◌, IfOk, IfSome, codes, option_map};
-ghost use Rattle.serde_json.specs.View.{view, items_view};
+ghost use Rattle.std.specs.Prelude.{◌≡◌, IfOk, codes, option_map};
+ghost use Rattle.serde_json.specs.View.{view};
 ghost use Rattle.board_world.specs.Limits.{last_port};
 ghost use Rattle.event_script.specs.Limits.{greatest_number};
-ghost use Rattle.event_script.specs.Form.{whole, says, has_members, button_of, act_of, entry_of, entries_of, script_of, raised_with};
+ghost use Rattle.event_script.specs.Trees.{whole};
+ghost use Rattle.event_script.specs.Form.{button_of, act_of, entry_of, script_of, raised_with};
 
+use crate::trees::{FromTree, has_members, list_of, says, whole};
 use crate::{Act, Entry, Script};
 use board_world::{END_LIMIT, Event, LAST_PORT};
 use serde_json::Value;
 use std::alloc::Global;
-use sts_base::{NoMemory, Seq};
+use sts_base::NoMemory;
 
 /// The greatest source and value of an event.
 const GREATEST_NUMBER: u32 = 65_535;
-
-/// The number of a member, where it is a whole number up to the greatest.
-fn whole(tree: &Value, name: &str, most: u32) -> Option<u32>
-    ensures number { result ≡ whole most name.now (view tree.now) }
-    ensures within { IfSome result (λ n. n ≤ most) }
-{
-    match tree.get(name).and_then(Value::as_u64) {
-        None => None,
-        Some(number) => if number <= u64::from(most) {
-            Some(number as u32)
-        } else {
-            None
-        },
-    }
-}
-
-/// Whether a member is this text.
-fn says(tree: &Value, name: &str, text: &str) -> bool
-    ensures { result ≡ says name.now text.now (view tree.now) }
-{
-    match tree.get(name).and_then(Value::as_str) {
-        None => false,
-        Some(found) => found == text,
-    }
-}
-
-/// Whether it is an object of so many members.
-fn has_members(tree: &Value, count: usize) -> bool
-    ensures { result ≡ has_members count (view tree.now) }
-{
-    match tree.as_object() {
-        None => false,
-        Some(members) => members.len() == count,
-    }
-}
 
 /// The number of the button that is named.
 fn button_of(tree: &Value) -> Option<u8>
@@ -82,8 +49,8 @@ fn port_of(tree: &Value) -> Option<Act>
     Some(Act::Unplug(port as u8))
 }
 
-/// What an entry does.
-fn act_of(tree: &Value) -> Option<Act>
+/// What an entry does: what `do` says, where there are the members for it and one more.
+pub fn act_of(tree: &Value) -> Option<Act>
     ensures { result ≡ act_of (view tree.now) }
 {
     if says(tree, "do", "down") {
@@ -124,18 +91,16 @@ fn entry_of(tree: &Value) -> Option<Entry>
     Some(Entry { at, act })
 }
 
-/// All entries of the list, where each has its form.
-fn entries_of(alloc: Global, trees: &[Value]) -> Result<Option<Seq<Entry>>, NoMemory>
-    ensures { IfOk result (λ o. o ≡ entries_of (items_view trees.now)) }
-{
-    let mut entries = Seq::new(alloc);
-    for tree in trees {
-        match entry_of(tree) {
-            None => return Ok(None),
-            Some(entry) => entries.push(entry)?,
-        }
+impl FromTree for Entry {
+    ghost use Rattle.event_script.specs.Form.{entry_of};
+
+    ghost of_tree = { entry_of };
+
+    ghost is_sound = { λ _. Unit {0} };
+
+    fn from_tree(_: Global, tree: &Value) -> Result<Option<Entry>, NoMemory> {
+        Ok(entry_of(tree))
     }
-    Ok(Some(entries))
 }
 
 /// The script that a tree is, where it has the form of one.
@@ -149,11 +114,8 @@ pub fn script_of(alloc: Global, tree: &Value) -> Result<Option<Script>, NoMemory
         None => return Ok(None),
         Some(end) => end,
     };
-    match tree.get("events").and_then(Value::as_array) {
+    match list_of(alloc, tree, "events")? {
         None => Ok(None),
-        Some(trees) => match entries_of(alloc, trees.as_slice())? {
-            None => Ok(None),
-            Some(entries) => Ok(Some(Script { end, entries })),
-        },
+        Some(entries) => Ok(Some(Script { end, entries })),
     }
 }

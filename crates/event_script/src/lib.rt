@@ -3,12 +3,17 @@
 #![tactic(auto)]
 
 mod form;
+mod order;
 mod script;
 mod shapes;
 #[cfg(test)]
 mod tests;
+mod trees;
 mod verdict;
 
+pub use form::act_of;
+pub use order::{Ordered, falls};
 pub use script::{Act, ENTRY_LIMIT, Entry, Script, ScriptCode, ScriptRefused};
 pub use shapes::{lists_of_entries_are_scripts, members_are_exact, rows_are_entries};
+pub use trees::{FromTree, TreeRefused, has_members, list_of, says, text_of, tree_of, whole};
 pub use verdict::read_script;

@@ -1,43 +1,22 @@
 // Which bytes are a script, and why others are none.
-ghost use Rattle.std.specs.Prelude.{◌≡◌, ◌≢◌, Ok, Err, IfOk, IfErr};
+ghost use Rattle.std.specs.Prelude.{◌≡◌, Ok, Err, IfOk};
 ghost use Rattle.serde_json.specs.Data.{Data};
-ghost use Rattle.serde_json.specs.View.{view};
 ghost use Rattle.event_script.specs.Json.{IsTree};
-ghost use Rattle.event_script.specs.Verdict.{falls_from, is_past, judged, Tells};
+ghost use Rattle.event_script.specs.Verdict.{is_past, judged, Tells};
 ghost use Rattle.event_script.specs.Sound.{IsSound, IsWithinForm};
 
 use crate::form::script_of;
+use crate::order::{Ordered, falls};
+use crate::trees::{TreeRefused, tree_of};
 use crate::{ENTRY_LIMIT, Entry, Script, ScriptCode, ScriptRefused};
-use serde_json::Value;
 use std::alloc::Global;
 
-/// The tree of a file's bytes.
-fn tree_of(alloc: Global, bytes: &[u8]) -> Result<Value, ScriptRefused>
-    ensures ok { IfOk result (λ value. IsTree bytes.now (view value)) }
-    ensures not_json { IfErr result (λ e. e ≢ ScriptRefused.NoMemory → (e ≡ ScriptRefused.Script ScriptCode.NotJson) × ((tree : Data) → ¬ IsTree bytes.now tree)) }
-{
-    match Value::from_slice(alloc, bytes) {
-        Ok(value) => Ok(value),
-        Err(error) => if error.is_memory() {
-            Err(ScriptRefused::NoMemory)
-        } else {
-            Err(ScriptRefused::Script(ScriptCode::NotJson))
-        },
-    }
-}
+impl Ordered for Entry {
+    ghost place = { λ e. e.at };
 
-/// Whether some entry comes at an earlier moment than the one before it.
-fn is_out_of_order(entries: &[Entry]) -> bool
-    ensures { result ≡ falls_from 0 entries.now }
-{
-    let mut before = 0;
-    for entry in entries {
-        if entry.at < before {
-            return true;
-        }
-        before = entry.at;
+    fn place(&self) -> u32 {
+        self.at
     }
-    false
 }
 
 /// Whether some entry comes after the end.
@@ -57,7 +36,7 @@ fn judge(script: Script) -> Result<Script, ScriptCode>
     ensures { result ≡ judged script }
 {
     let entries = script.entries.as_slice();
-    if is_out_of_order(entries) {
+    if falls(entries) {
         return Err(ScriptCode::OutOfOrder);
     }
     if is_past_end(entries, script.end) {
@@ -81,7 +60,11 @@ pub fn read_script(alloc: Global, bytes: &[u8]) -> Result<Script, ScriptRefused>
     ensures past_end { result ≡ Err (ScriptRefused.Script ScriptCode.PastEnd) → Tells bytes.now (Err ScriptCode.PastEnd) }
     ensures too_many { result ≡ Err (ScriptRefused.Script ScriptCode.TooMany) → Tells bytes.now (Err ScriptCode.TooMany) }
 {
-    let tree = tree_of(alloc, bytes)?;
+    let tree = match tree_of(alloc, bytes) {
+        Ok(tree) => tree,
+        Err(TreeRefused::NotJson) => return Err(ScriptRefused::Script(ScriptCode::NotJson)),
+        Err(TreeRefused::NoMemory) => return Err(ScriptRefused::NoMemory),
+    };
     match script_of(alloc, &tree) {
         Err(_) => Err(ScriptRefused::NoMemory),
         Ok(None) => Err(ScriptRefused::Script(ScriptCode::NotScript)),

@@ -2,7 +2,8 @@ use Rattle.std.proofs.Common.{◌∙◌, ap, pos, Some, option_map}
 use Rattle.event_script.specs.declared.script.Act.TheVariants.{Down, Up, Raise, Unplug}
 use Rattle.board_world.specs.Limits.{end_limit, last_port}
 use Rattle.event_script.specs.Limits.{greatest_number}
-use Rattle.event_script.specs.Form.{at_most, raised_with, entry_with}
+use Rattle.event_script.specs.Trees.{at_most}
+use Rattle.event_script.specs.Form.{raised_with, entry_with}
 use Rattle.event_script.proofs.Soundness.{within-limit}
 use Rattle.event_script.proofs.shapes.rows_are_entries.Goals as goal
 

@@ -1,8 +1,8 @@
 use Rattle.std.proofs.Common.{◌≡◌, ◌∙◌, ◌==◌, sym, ap, ℕ}
 use Rattle.serde_json.specs.View.{members_view}
-use Rattle.event_script.specs.Form.{is_count, count_of}
+use Rattle.event_script.specs.Trees.{is_count, count_of}
 use Rattle.event_script.proofs.Counting.{counted}
-use Rattle.event_script.proofs.form.has_members.Goals as goal
+use Rattle.event_script.proofs.trees.has_members.Goals as goal
 
 pub returns-in-Some : goal.returns-in-Some
 returns-in-Some c =

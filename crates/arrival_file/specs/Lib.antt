@@ -1,0 +1,7 @@
+pub mod Limits
+pub mod Form
+pub mod Verdict
+pub mod World
+pub mod Sound
+pub mod Codes
+pub mod Shapes

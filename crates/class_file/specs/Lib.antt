@@ -1,0 +1,7 @@
+pub mod Limits
+pub mod Form
+pub mod Verdict
+pub mod Within
+pub mod Codes
+pub mod Shapes
+pub mod Rows
