@@ -69,8 +69,8 @@ exists_executed image w (suc budget) = (let before = exists_executed image w bud
     by_done executed x same (inl e) = by_test (over (run K budget w).board) refl (λ n l. x.not_before n (omega (arith, l, e)))
 
 -- Where somebody runs, or the run is over, the world that is shown makes no idle move.
-stays : (image : List ℕ) (e : Engine) (w : World Fiber Shared) → IsSettled e → Represents image (state_of e) w → idled (fibers image) w ≡ w
-stays image e w s h = by_end e.end refl
+pub settled_stays : (image : List ℕ) (e : Engine) (w : World Fiber Shared) → IsSettled e → Represents image (state_of e) w → idled (fibers image) w ≡ w
+settled_stays image e w s h = by_end e.end refl
   where
     K : Kind Fiber Shared
     K = fibers image
@@ -109,7 +109,7 @@ module _ {B : Type 0} (log : B → Option (List (ℕ × ℕ))) (faults : B → �
 
     at_is : (rest : List ℕ) → reached.1.at rest ≡ after rest
     at_is rest =
-        sym (stays image e (reached.1.at rest) settled (reached.1.shows rest)) ∙ reached.1.settles rest ∙ ap (run (fibers image) (n + 0)) (begin_stays (reached.0 ++ rest))
+        sym (settled_stays image e (reached.1.at rest) settled (reached.1.shows rest)) ∙ reached.1.settles rest ∙ ap (run (fibers image) (n + 0)) (begin_stays (reached.0 ++ rest))
         ∙ ap (λ k. run (fibers image) k (begin (reached.0 ++ rest))) (none_added n)
 
     shown : (rest : List ℕ) → Represents image (state_of e) (after rest)

@@ -29,6 +29,8 @@ pub mod Settling
 pub mod Executing
 pub mod Finished
 pub mod Others
+pub mod Parted
+pub mod Laws
 mod Waiting
 mod Proceeding
 mod Going

@@ -12,6 +12,7 @@ pub mod Arriving
 pub mod Advancing
 pub mod Ran
 pub mod Others
+pub mod Parting
 pub mod Proceeding
 pub mod Going
 pub mod Gone

@@ -194,12 +194,13 @@ impl<D: Device> Board<D> {
     }
 
     /// Executes instructions until the run is over, but at most so many.
-    fn execute<K: Sink>(&mut self, most: u32, out: &mut K) -> Result<(), PutFailed>
+    pub(crate) fn execute<K: Sink>(&mut self, most: u32, out: &mut K) -> Result<(), PutFailed>
         requires whole { IsWhole self.old.engine self.old.instructions }
         requires settled { IsSettled self.old.engine }
         requires early { self.old.instructions < 2 ^ 49 }
         ensures goes { OnOk result ((count : ℕ) × HasExecuted D.log D.faults count most self.old.engine self.new.engine self.old.plugs self.new.plugs (K.taken out.old) (K.taken out.new) (self.old.instructions + count) self.new.instructions) }
         ensures settled { OnOk result (IsSettled self.new.engine) }
+        ensures whole { OnOk result (IsWhole self.new.engine self.new.instructions) }
         ensures cut { OnErr result (Fails D.log D.faults most self.old.engine self.old.plugs self.new.plugs (K.taken out.old) (K.taken out.new)) }
         ensures later { K.faults out.old ≤ K.faults out.new }
         ensures failed { OnErr result (Rose (K.faults out.old) (K.faults out.new)) }
@@ -214,7 +215,7 @@ impl<D: Device> Board<D> {
     }
 
     /// Puts the closing line, and says how the run ended.
-    fn finish<K: Sink>(&self, out: &mut K) -> End
+    pub(crate) fn finish<K: Sink>(&self, out: &mut K) -> End
         ensures { Finishes (K.taken out.old) (K.taken out.new) (K.faults out.old) (K.faults out.new) self.now.engine result }
     {
         match put_closing(out, self.engine.clock, self.engine.end) {

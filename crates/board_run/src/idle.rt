@@ -25,7 +25,13 @@ use event_script::Act;
 use message_bus::Bus;
 
 /// Applies an act from outside, at a moment in milliseconds.
-fn apply<D: Device>(act: Act, now: u32, buttons: &mut Buttons, bus: &mut Bus, plugs: &mut Plugs<D>)
+pub(crate) fn apply<D: Device>(
+    act: Act,
+    now: u32,
+    buttons: &mut Buttons,
+    bus: &mut Bus,
+    plugs: &mut Plugs<D>,
+)
     requires { IsSoundAct (world_act act) }
     ensures applied { Applied D.log D.faults act now buttons.old buttons.new bus.old bus.new plugs.old plugs.new }
     ensures grows { length bus.new.queue ≤ length bus.old.queue + 2 }

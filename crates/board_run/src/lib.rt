@@ -14,6 +14,7 @@ mod engine;
 mod idle;
 mod instruct;
 mod moments;
+mod parting;
 mod place;
 mod places;
 mod reckoning;
