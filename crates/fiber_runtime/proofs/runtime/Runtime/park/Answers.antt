@@ -3,7 +3,7 @@ use Rattle.slab.specs.Slab.{Updates}
 use Rattle.fiber_pool.specs.Kept.{Kept, kept_at}
 use Rattle.bank_model.specs.Standing.{IsInside}
 use Rattle.fiber_runtime.specs.State.{State, running_key}
-use Rattle.fiber_runtime.specs.Words.{Fits, kept_of}
+use Rattle.fiber_runtime.specs.Words.{kept_of}
 use Rattle.fiber_runtime.proofs.Sound.{sound_laid, updates_twice}
 use Rattle.fiber_runtime.proofs.runtime.Runtime.park.Goals as goal
 

@@ -1,4 +1,4 @@
-use Rattle.std.proofs.Common.{rules, ◌≡◌, ℕ, List, [], ◌∷◌, ◌++◌, subst, sym, Some, None, Option, IfSome, ◌∙◌, ap, w32, to_z, of_z}
+use Rattle.std.proofs.Common.{rules, ◌≡◌, ℕ, ◌∷◌, subst, sym, Some, Option, IfSome, ◌∙◌, ap, w32, to_z, of_z}
 use Rattle.thumb_code.specs.declared.register_file.Registers.{Registers}
 use Rattle.thumb_code.specs.Machine.{State as Machine}
 use Rattle.fiber_pool.specs.Kept.{Kept}
