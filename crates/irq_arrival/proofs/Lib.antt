@@ -7,3 +7,4 @@ pub mod Going
 pub mod Closing
 pub mod Listed
 pub mod Standing
+pub mod Reaching

@@ -3,7 +3,9 @@
 #![tactic(auto)]
 
 mod run;
+mod sources;
 mod theorems;
 
 pub use run::run_arrivals;
+pub use sources::sources_meet_arrivals;
 pub use theorems::{arrivals_are_applied, parts_are_one_run};
