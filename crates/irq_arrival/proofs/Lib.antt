@@ -1,0 +1,10 @@
+pub mod Courses
+pub mod Joins
+pub mod Meets
+pub mod Applies
+pub mod Counted
+pub mod Going
+pub mod Closing
+pub mod Listed
+pub mod Standing
+pub mod Reaching

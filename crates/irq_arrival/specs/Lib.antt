@@ -1,0 +1,4 @@
+pub mod Along
+pub mod RanOn
+pub mod Underway
+pub mod ReachesWith
