@@ -34,13 +34,19 @@ def expect(what, had, wanted):
 
 
 def blocks_of(text):
-    """The blocks of a document that are moved in by four places, each as its lines."""
-    blocks = [[]]
+    """The blocks of a document that are moved in by four places, each as its lines. Empty lines within a block belong to it."""
+    blocks, empty = [[]], 0
     for line in text.split("\n"):
         if line.startswith("    "):
-            blocks[-1].append(line[4:])
+            blocks[-1] += [""] * (empty if blocks[-1] else 0) + [line[4:]]
+            empty = 0
+        elif not line:
+            empty += 1
         elif blocks[-1]:
             blocks.append([])
+            empty = 0
+        else:
+            empty = 0
     return blocks
 
 
@@ -54,7 +60,8 @@ for document in [f"{top}/README.md", *sorted(glob.glob(f"{top}/docs/*.md"))]:
             line, due = block[at].removeprefix("$ "), block[at + 1 : end]
             if not due and not block[at].startswith("$ ") and number + 1 < len(blocks):
                 due = blocks[number + 1]
-            expect(("commands", line), call(line)[1], "".join(f"{it}\n" for it in due))
+            # (a document can't show the CR of a line's end)
+            expect(("commands", line), call(line)[1].replace("\r\n", "\n"), "".join(f"{it}\n" for it in due))
 
 with open(f"{top}/README.md", encoding="utf-8") as file:
     readme = file.read()
