@@ -174,6 +174,10 @@ counts = dict.fromkeys(["both take", "both refuse", "no JSON", "order", "number"
 wrong = 0
 full = {"end": 0, "events": [{"at": 0, "do": "up", "button": "A"}] * 4096}
 given = [json.dumps(full).encode(), json.dumps(full | {"events": full["events"] + full["events"][:1]}).encode(), b"", b"\xff", b"[]", b"null"]
+RAISED, UNPLUGGED = {"at": 0, "do": "raise", "source": 0, "value": 0}, {"at": 0, "do": "unplug", "port": 0}
+for name, most, at in (("at", LAST, RAISED), ("at", LAST, UNPLUGGED), ("at", LAST, full["events"][0]), ("source", 65535, RAISED), ("value", 65535, RAISED), ("port", 3, UNPLUGGED)):
+    given += [json.dumps({"end": LAST, "events": [at | {name: number}]}).encode() for number in (-1, 0, most, most + 1)]
+given += [json.dumps({"end": number, "events": []}).encode() for number in (-1, 0, LAST, LAST + 1)]
 while len(given) < FILES:
     made = script()
     given.append(spelled(changed(made) if chance.random() < 0.4 else made))
