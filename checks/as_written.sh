@@ -1,8 +1,8 @@
 #!/bin/sh
 # What the documents show is run as it is written there: each line of README.md and docs/*.md that begins with `bin/sts`, alone or behind `$`, writes the lines below it, or else the
-# next block; each `sts ..` of the README's table of words is taken, with a file in place of P, S and H and a number in place of N; and each example of a refusal in docs/LANGUAGE.md is
-# refused by its code at its place. PROGRAM is sts, as bin/program
-# names it where it is left out.
+# next block; each `sts ..` of the README's table of words is taken, with a file in place of P, S and H and a number in place of N; each example of a refusal in docs/LANGUAGE.md is
+# refused by its code at its place; and each of those that TypeScript refuses there (TS and a number) is accepted. A line behind `$ ` may also begin with `cat`, to show a file of examples/, or with `echo`, to give
+# text to the program. PROGRAM is sts, as bin/program names it where it is left out.
 # usage: checks/as_written.sh [PROGRAM]
 set -eu
 top=$(cd "$(dirname "$0")/.." && pwd)
@@ -19,7 +19,7 @@ import subprocess
 import sys
 
 top, folder = sys.argv[1:]
-wrong, counts = [], {"commands": 0, "forms": 0, "refusals": 0}
+wrong, counts = [], {"commands": 0, "forms": 0, "refusals": 0, "accepted": 0}
 
 
 def call(line):
@@ -34,13 +34,19 @@ def expect(what, had, wanted):
 
 
 def blocks_of(text):
-    """The blocks of a document that are moved in by four places, each as its lines."""
-    blocks = [[]]
+    """The blocks of a document that are moved in by four places, each as its lines. Empty lines within a block belong to it."""
+    blocks, empty = [[]], 0
     for line in text.split("\n"):
         if line.startswith("    "):
-            blocks[-1].append(line[4:])
+            blocks[-1] += [""] * (empty if blocks[-1] else 0) + [line[4:]]
+            empty = 0
+        elif not line:
+            empty += 1
         elif blocks[-1]:
             blocks.append([])
+            empty = 0
+        else:
+            empty = 0
     return blocks
 
 
@@ -49,12 +55,13 @@ for document in [f"{top}/README.md", *sorted(glob.glob(f"{top}/docs/*.md"))]:
         text = file.read()
     blocks = blocks_of(text)
     for number, block in enumerate(blocks):
-        begins = [at for at, line in enumerate(block) if re.match(r"(\$ )?bin/sts\b", line)]
+        begins = [at for at, line in enumerate(block) if re.match(r"(\$ )?bin/sts\b|\$ (cat|echo) ", line)]
         for at, end in zip(begins, [*begins[1:], len(block)]):
             line, due = block[at].removeprefix("$ "), block[at + 1 : end]
             if not due and not block[at].startswith("$ ") and number + 1 < len(blocks):
                 due = blocks[number + 1]
-            expect(("commands", line), call(line)[1], "".join(f"{it}\n" for it in due))
+            # (a document can't show the CR of a line's end)
+            expect(("commands", line), call(line)[1].replace("\r\n", "\n"), "".join(f"{it}\n" for it in due))
 
 with open(f"{top}/README.md", encoding="utf-8") as file:
     readme = file.read()
@@ -71,6 +78,10 @@ for code, example, line, column in re.findall(r"(?m)^\| (\d+) \|.*?\| ((?:`[^`]*
     with open(f"{folder}/example.ts", "w", encoding="utf-8") as file:
         file.write("\n".join(re.findall(r"`([^`]*)`", example)))
     expect(("refusals", example), call("bin/sts check example.ts"), (10, f"refused {code} {line} {column}\n"))
+for example in re.findall(r"(?m)^\| ((?:`[^`]*` ?)+) \| TS\d+ \|", language):
+    with open(f"{folder}/example.ts", "w", encoding="utf-8") as file:
+        file.write("\n".join(re.findall(r"`([^`]*)`", example)))
+    expect(("accepted", example), call("bin/sts check example.ts"), (0, "accepted\n"))
 
 for it in wrong:
     print(f"as_written: {it}")

@@ -1,6 +1,7 @@
 #!/bin/sh
 # examples/board.d.ts declares the calls and constants of the board's table (crates/sts_syntax/specs/BoardTable.antt), with as many parameters of the
-# same types and the same result, and no others, and so does docs/CALLS.md, with the constants' numbers; and TypeScript's checker takes each program of examples/ with it.
+# same types and the same result, and no others, and so does docs/CALLS.md, with the constants' numbers; TypeScript's checker takes each program of examples/ with it, by itself and all
+# by examples/tsconfig.json, by which it doesn't take another; and what docs/LANGUAGE.md says that it refuses it refuses so (TS and a number).
 # usage: checks/board_types.sh
 set -eu
 cd "$(dirname "$0")/.."
@@ -51,4 +52,30 @@ for program in examples/*.ts; do
     [ "$program" != examples/board.d.ts ] || continue
     tsc --noEmit --strict --strictNullChecks false --noLib --target es5 examples/board.d.ts "$program"
 done
+tsc -p examples
+folder=$(mktemp -d)
+trap 'rm -rf "$folder"' EXIT
+cp -r examples "$folder/examples"
+echo 'basic.pause("a")' > "$folder/examples/other.ts"
+case $(tsc -p "$folder/examples") in *'other.ts(1,13): error TS2345:'*) ;; *) echo 'board types: examples/tsconfig.json has tsc take a text for a number'; exit 1 ;; esac
 echo 'board types: TypeScript takes each program of examples/'
+python3 - "$folder" <<'PYTHON'
+import re
+import subprocess
+import sys
+
+folder = sys.argv[1]
+with open("docs/LANGUAGE.md", encoding="utf-8") as file:
+    rows = re.findall(r"(?m)^\| ((?:`[^`]*` ?)+) \| (TS\d+) \|", file.read())
+wrong = 0
+for example, due in rows:
+    with open(f"{folder}/p.ts", "w", encoding="utf-8") as file:
+        file.write("\n".join(re.findall(r"`([^`]*)`", example)))
+    words = ["--noEmit", "--strict", "--strictNullChecks", "false", "--noLib", "--target", "es5", f"{folder}/examples/board.d.ts", f"{folder}/p.ts"]
+    said = set(re.findall(r"error (TS\d+):", subprocess.run(["tsc", *words], stdout=subprocess.PIPE, text=True, check=False).stdout))
+    if said != {due}:
+        wrong += 1
+        print(f"board types: TypeScript says {said} of {example}, and docs/LANGUAGE.md {due}")
+print(f"board types: {len(rows)} programs that TypeScript refuses, {wrong} wrong")
+sys.exit(1 if wrong or not rows else 0)
+PYTHON

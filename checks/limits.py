@@ -68,6 +68,17 @@ both("parameters with this", 8, lambda n: f"class C {{ m({', '.join(f'a{i}: numb
 both("locals", 64, lambda n: "function f(): void {\n" + lines(n, "let a{} = 0") + "}", LIMIT)
 both("values that an expression holds", 64, lambda n: "let a = 0\n" + "a += " * (n - 1) + "1", LIMIT)
 both("weight of a function", 1200, lambda n: ";" * (n - 4), LIMIT)
+# (a call as a statement, with numbers and texts as its arguments, and a function's name as its handler: the statement, the call, each argument, and each number that always stands in it)
+CALLS = {
+    2: ["input.runningTime()", "control.eventValue()"],
+    3: ["basic.pause(1)", "basic.forever(h)", "basic.showLeds(`" + "." * 25 + "`)", "basic.showNumber(1)", "basic.clearScreen()", "input.buttonIsPressed(1)", "control.inBackground(h)", "control.panic(1)", "serial.writeNumber(1)", "radio.sendNumber(1)", "Math.abs(1)"],
+    4: ['basic.showString("")', 'serial.writeString("a")', 'serial.writeLine("a")', "pins.digitalWritePin(1, 2)", "control.raiseEvent(1, 2)", "control.raiseNow(1, 2)", "control.waitForEvent(1, 2)", "Math.min(1, 2)", "Math.max(1, 2)"],
+    5: ["led.plot(1, 2)", "led.unplot(1, 2)", "led.toggle(1, 2)", "input.onButtonPressed(1, h)", "input.onButtonPressed(Button.A, function () { ; })", "control.onEvent(1, 2, h)"],
+    6: ["control.onEventFlags(1, 2, h, EventFlags.DropIfBusy)"],
+}
+for calls_weight, calls in CALLS.items():
+    for it in calls:
+        both(f"weight with {it}", 1200, lambda n: f"function h(): void {{ }}\n{it};" + ";" * (n - 4 - calls_weight), LIMIT)
 both("weight of all functions", 3600, lambda n: f"function f(): void {{ {';' * 1196} }}\nfunction g(): void {{ {';' * 1196} }}\n" + ";" * (n - 2404), LIMIT)
 # (the library has one text, the two bytes of a line's end)
 both("bytes of texts", 16384, lambda n: f'serial.writeString("{"a" * (n - 2)}")', LIMIT)

@@ -1,6 +1,7 @@
 /// <reference no-default-lib="true"/>
 // What a program of the board can use, for editors and for TypeScript's own checker:
 //     tsc --noEmit --strict --strictNullChecks false --noLib --target es5 examples/board.d.ts program.ts
+// For programs in this folder tsconfig.json says so: `tsc -p examples`.
 // TypeScript takes more than the board does: `sts check program.ts` decides what runs on it. Numbers are whole numbers of 32 bits, and
 // null is a value of each class, each array and of string.
 

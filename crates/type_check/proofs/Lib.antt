@@ -1,5 +1,6 @@
 pub mod Calls
 pub mod Found
+pub mod Handed
 pub mod Steps
 pub mod Parts
 pub mod Taking

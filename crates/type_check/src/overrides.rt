@@ -57,7 +57,6 @@ fn agrees(known: &Environment, d: usize, base: Option<usize>) -> bool
 }
 
 /// A method against the nearest one of its name in its bases.
-#[tactic(auto, using(crate::proofs::Texts::routine_place))]
 fn check_method(known: &Environment, c: u32, d: usize, x: u32, body: &Body) -> Result<(), Refused>
     ensures { Finds result (failure.unless (pass.agrees known.now d (look.inherited known.now.entries known.now.classes c x)) code.Mismatch (heading.routine_at (routine body.now))) }
 {
@@ -101,7 +100,6 @@ pub fn behind_member(context: &Context, c: u32, d: usize, member: &Member) -> Re
 }
 
 /// The methods of a class, whose first member is the d-th declaration, against those of its bases. The number of the declaration behind the class.
-#[tactic(auto, using(crate::proofs::Texts::overrides_step))]
 fn check_overrides(
     context: &Context,
     c: u32,

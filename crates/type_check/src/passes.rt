@@ -27,7 +27,6 @@ use type_derive::{Context, Scope, head_of, kind_at, outer_scope, routine_scope};
 const ROOM: usize = 1000;
 
 /// A field or a global, which is declared outside all functions.
-#[tactic(auto, using(crate::proofs::Texts::field_is))]
 fn check_field(context: &Context, this: This, b: &Binding) -> Result<(), Refused>
     ensures { Finds result (pass.field_fault context.now.tables.now (naming context.now) context.now.known.now this (declaration b.now)) }
 {
@@ -83,7 +82,6 @@ fn check_main(context: &Context, s: &Stmt) -> Result<(), Refused>
 }
 
 /// The statements of a function, where `this` and the result are these.
-#[tactic(auto, using(sts_syntax::proofs::Laws::routine_parts))]
 fn check_body(
     context: &Context,
     this: This,
@@ -168,7 +166,6 @@ fn check_made(
 }
 
 /// A constructor of the class with the base b.
-#[tactic(auto, using(sts_syntax::proofs::Laws::routine_parts))]
 fn check_derived(context: &Context, this: This, b: u32, body: &Body) -> Result<(), Refused>
     ensures { Finds result (pass.constructor_fault context.now.tables.now (naming context.now) context.now.known.now this (Some b) (routine body.now)) }
 {
@@ -218,7 +215,6 @@ fn check_member(context: &Context, c: u32, d: usize, member: &Member) -> Result<
 }
 
 /// The members of the class c, of which the first is the d-th declaration. The number of the declaration behind them.
-#[tactic(auto, using(crate::proofs::Texts::members_step))]
 fn check_members(
     context: &Context,
     c: u32,

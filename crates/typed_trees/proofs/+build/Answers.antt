@@ -1,6 +1,6 @@
 use Rattle.std.proofs.Common.{◌≡◌, ◌+◌, ◌++◌, ◌∷◌, [], ◌<◌, ◌≤◌, length, List, refl, sym, ap, ◌∙◌, subst, arith, append-nil, rules}
 use Rattle.std.specs.Prelude.{IfOk, OnOk, Ok, Err, Some, None, true}
-use Rattle.std.proofs.lemmas.Result.{IfOk-weaker}
+use Rattle.std.proofs.lemmas.Result.{IfOk-weaker, IfOk-from_err}
 use Rattle.sts_syntax.specs.declared.trees.Binding.{Binding}
 use Rattle.sts_syntax.specs.declared.trees.Stmt.{Stmt}
 use Rattle.sts_syntax.specs.declared.typed.TypedExpr.{TypedExpr}
@@ -768,3 +768,819 @@ build_calls::build_call-returns-in_ok-tree-in-Some-clause-function t c =
     let x = tree c.args.e.now in
     (head_built c.args.plan.now (s.site c.args.site.now) c.args.given x c.in-Some.head (v.value_type c.in_ok-ty-in-Some.ty) c.args.builder.now c.build_passed.new.builder (typed_trees c.in_ok-args-in-Some.args) (typed_tree c.in_ok-tree-in-Some.tree)
     (sym c.in_ok-head_of.ensures.head ∙ c.in-Some.is) c.in_ok-head_of.ensures.list (c.in_ok-ty-in-Some.ensures ∙ ap (λ k. call.type_noted c.args.given k x) c.in_ok-kind.ensures) c.in_ok-tree-in-Some.ensures c.in_ok-args-in-Some.ensures).1.1.1.1
+
+pub build_statements::build_body-returns-in_err-inside-clause-made : goal.build_statements::build_body-returns-in_err-inside-clause-made
+build_statements::build_body-returns-in_err-inside-clause-made t c = IfOk-from_err c.from_residual.result _ c.from_residual.ensures.0
+
+pub build_statements::build_body-returns-in_err-inside-clause-locals : goal.build_statements::build_body-returns-in_err-inside-clause-locals
+build_statements::build_body-returns-in_err-inside-clause-locals t c = IfOk-from_err c.from_residual.result _ c.from_residual.ensures.0
+
+pub build_statements::build_body-returns-in_err-inside-clause-routines : goal.build_statements::build_body-returns-in_err-inside-clause-routines
+build_statements::build_body-returns-in_err-inside-clause-routines t c = IfOk-from_err c.from_residual.result _ c.from_residual.ensures.0
+
+pub build_statements::build_body-returns-in_err-inside-clause-local : goal.build_statements::build_body-returns-in_err-inside-clause-local
+build_statements::build_body-returns-in_err-inside-clause-local t c = IfOk-from_err c.from_residual.result _ c.from_residual.ensures.0
+
+pub build_statements::build_body-returns-in_err-inside-clause-function : goal.build_statements::build_body-returns-in_err-inside-clause-function
+build_statements::build_body-returns-in_err-inside-clause-function t c = IfOk-from_err c.from_residual.result _ c.from_residual.ensures.0
+
+pub build_statements::build_branch-returns-in_err-made-clause-built : goal.build_statements::build_branch-returns-in_err-made-clause-built
+build_statements::build_branch-returns-in_err-made-clause-built t c = IfOk-from_err c.from_residual.result _ c.from_residual.ensures.0
+
+pub build_statements::build_branch-returns-in_err-made-clause-site : goal.build_statements::build_branch-returns-in_err-made-clause-site
+build_statements::build_branch-returns-in_err-made-clause-site t c = IfOk-from_err c.from_residual.result _ c.from_residual.ensures.0
+
+pub build_statements::build_turns-returns-in_err-test-clause-built : goal.build_statements::build_turns-returns-in_err-test-clause-built
+build_statements::build_turns-returns-in_err-test-clause-built t c = IfOk-from_err c.from_residual.result _ c.from_residual.ensures.0
+
+pub build_statements::build_turns-returns-in_err-test-clause-site : goal.build_statements::build_turns-returns-in_err-test-clause-site
+build_statements::build_turns-returns-in_err-test-clause-site t c = IfOk-from_err c.from_residual.result _ c.from_residual.ensures.0
+
+pub build_statements::build_turns-returns-in_err-test-2-clause-built : goal.build_statements::build_turns-returns-in_err-test-2-clause-built
+build_statements::build_turns-returns-in_err-test-2-clause-built t c = IfOk-from_err c.from_residual-in_err-test-2.result _ c.from_residual-in_err-test-2.ensures.0
+
+pub build_statements::build_turns-returns-in_err-test-2-clause-site : goal.build_statements::build_turns-returns-in_err-test-2-clause-site
+build_statements::build_turns-returns-in_err-test-2-clause-site t c = IfOk-from_err c.from_residual-in_err-test-2.result _ c.from_residual-in_err-test-2.ensures.0
+
+pub build_statements::build_turns-returns-in_err-test-3-clause-built : goal.build_statements::build_turns-returns-in_err-test-3-clause-built
+build_statements::build_turns-returns-in_err-test-3-clause-built t c = IfOk-from_err c.from_residual-in_err-test-3.result _ c.from_residual-in_err-test-3.ensures.0
+
+pub build_statements::build_turns-returns-in_err-test-3-clause-site : goal.build_statements::build_turns-returns-in_err-test-3-clause-site
+build_statements::build_turns-returns-in_err-test-3-clause-site t c = IfOk-from_err c.from_residual-in_err-test-3.result _ c.from_residual-in_err-test-3.ensures.0
+
+pub build_statements::build_if-returns-in_err-test-in-If-clause-built : goal.build_statements::build_if-returns-in_err-test-in-If-clause-built
+build_statements::build_if-returns-in_err-test-in-If-clause-built t c = IfOk-from_err c.from_residual.result _ c.from_residual.ensures.0
+
+pub build_statements::build_if-returns-in_err-test-in-If-clause-site : goal.build_statements::build_if-returns-in_err-test-in-If-clause-site
+build_statements::build_if-returns-in_err-test-in-If-clause-site t c = IfOk-from_err c.from_residual.result _ c.from_residual.ensures.0
+
+pub build_statements::build_if-returns-in_err-test-in-If-2-clause-built : goal.build_statements::build_if-returns-in_err-test-in-If-2-clause-built
+build_statements::build_if-returns-in_err-test-in-If-2-clause-built t c = IfOk-from_err c.from_residual-in_err-test-in-If-2.result _ c.from_residual-in_err-test-in-If-2.ensures.0
+
+pub build_statements::build_if-returns-in_err-test-in-If-2-clause-site : goal.build_statements::build_if-returns-in_err-test-in-If-2-clause-site
+build_statements::build_if-returns-in_err-test-in-If-2-clause-site t c = IfOk-from_err c.from_residual-in_err-test-in-If-2.result _ c.from_residual-in_err-test-in-If-2.ensures.0
+
+pub build_statements::build_if-returns-in_err-test-in-Some-clause-built : goal.build_statements::build_if-returns-in_err-test-in-Some-clause-built
+build_statements::build_if-returns-in_err-test-in-Some-clause-built t c = IfOk-from_err c.from_residual-in_err-test-in-Some.result _ c.from_residual-in_err-test-in-Some.ensures.0
+
+pub build_statements::build_if-returns-in_err-test-in-Some-clause-site : goal.build_statements::build_if-returns-in_err-test-in-Some-clause-site
+build_statements::build_if-returns-in_err-test-in-Some-clause-site t c = IfOk-from_err c.from_residual-in_err-test-in-Some.result _ c.from_residual-in_err-test-in-Some.ensures.0
+
+pub build_statements::build_while-returns-in_err-test-in-While-clause-built : goal.build_statements::build_while-returns-in_err-test-in-While-clause-built
+build_statements::build_while-returns-in_err-test-in-While-clause-built t c = IfOk-from_err c.from_residual.result _ c.from_residual.ensures.0
+
+pub build_statements::build_while-returns-in_err-test-in-While-clause-site : goal.build_statements::build_while-returns-in_err-test-in-While-clause-site
+build_statements::build_while-returns-in_err-test-in-While-clause-site t c = IfOk-from_err c.from_residual.result _ c.from_residual.ensures.0
+
+pub build_statements::build_while-returns-in_err-test-in-While-2-clause-built : goal.build_statements::build_while-returns-in_err-test-in-While-2-clause-built
+build_statements::build_while-returns-in_err-test-in-While-2-clause-built t c = IfOk-from_err c.from_residual-in_err-test-in-While-2.result _ c.from_residual-in_err-test-in-While-2.ensures.0
+
+pub build_statements::build_while-returns-in_err-test-in-While-2-clause-site : goal.build_statements::build_while-returns-in_err-test-in-While-2-clause-site
+build_statements::build_while-returns-in_err-test-in-While-2-clause-site t c = IfOk-from_err c.from_residual-in_err-test-in-While-2.result _ c.from_residual-in_err-test-in-While-2.ensures.0
+
+pub build_statements::build_while-returns-in_err-a-in-DoWhile-clause-built : goal.build_statements::build_while-returns-in_err-a-in-DoWhile-clause-built
+build_statements::build_while-returns-in_err-a-in-DoWhile-clause-built t c = IfOk-from_err c.from_residual-in_err-a-in-DoWhile.result _ c.from_residual-in_err-a-in-DoWhile.ensures.0
+
+pub build_statements::build_while-returns-in_err-a-in-DoWhile-clause-site : goal.build_statements::build_while-returns-in_err-a-in-DoWhile-clause-site
+build_statements::build_while-returns-in_err-a-in-DoWhile-clause-site t c = IfOk-from_err c.from_residual-in_err-a-in-DoWhile.result _ c.from_residual-in_err-a-in-DoWhile.ensures.0
+
+pub build_statements::build_while-returns-in_err-a-in-DoWhile-2-clause-built : goal.build_statements::build_while-returns-in_err-a-in-DoWhile-2-clause-built
+build_statements::build_while-returns-in_err-a-in-DoWhile-2-clause-built t c = IfOk-from_err c.from_residual-in_err-a-in-DoWhile-2.result _ c.from_residual-in_err-a-in-DoWhile-2.ensures.0
+
+pub build_statements::build_while-returns-in_err-a-in-DoWhile-2-clause-site : goal.build_statements::build_while-returns-in_err-a-in-DoWhile-2-clause-site
+build_statements::build_while-returns-in_err-a-in-DoWhile-2-clause-site t c = IfOk-from_err c.from_residual-in_err-a-in-DoWhile-2.result _ c.from_residual-in_err-a-in-DoWhile-2.ensures.0
+
+pub build_statements::build_for-returns-in_err-turns-in-None-clause-built : goal.build_statements::build_for-returns-in_err-turns-in-None-clause-built
+build_statements::build_for-returns-in_err-turns-in-None-clause-built t c = IfOk-from_err c.from_residual.result _ c.from_residual.ensures.0
+
+pub build_statements::build_for-returns-in_err-turns-in-None-clause-site : goal.build_statements::build_for-returns-in_err-turns-in-None-clause-site
+build_statements::build_for-returns-in_err-turns-in-None-clause-site t c = IfOk-from_err c.from_residual.result _ c.from_residual.ensures.0
+
+pub build_statements::build_for-returns-in_err-first-in-Some-clause-built : goal.build_statements::build_for-returns-in_err-first-in-Some-clause-built
+build_statements::build_for-returns-in_err-first-in-Some-clause-built t c = IfOk-from_err c.from_residual-in_err-first-in-Some.result _ c.from_residual-in_err-first-in-Some.ensures.0
+
+pub build_statements::build_for-returns-in_err-first-in-Some-clause-site : goal.build_statements::build_for-returns-in_err-first-in-Some-clause-site
+build_statements::build_for-returns-in_err-first-in-Some-clause-site t c = IfOk-from_err c.from_residual-in_err-first-in-Some.result _ c.from_residual-in_err-first-in-Some.ensures.0
+
+pub build_statements::build_for-returns-in_err-first-in-Some-2-clause-built : goal.build_statements::build_for-returns-in_err-first-in-Some-2-clause-built
+build_statements::build_for-returns-in_err-first-in-Some-2-clause-built t c = IfOk-from_err c.from_residual-in_err-first-in-Some-2.result _ c.from_residual-in_err-first-in-Some-2.ensures.0
+
+pub build_statements::build_for-returns-in_err-first-in-Some-2-clause-site : goal.build_statements::build_for-returns-in_err-first-in-Some-2-clause-site
+build_statements::build_for-returns-in_err-first-in-Some-2-clause-site t c = IfOk-from_err c.from_residual-in_err-first-in-Some-2.result _ c.from_residual-in_err-first-in-Some-2.ensures.0
+
+pub build_statements::build_for-returns-in_err-first-in-Some-3-clause-built : goal.build_statements::build_for-returns-in_err-first-in-Some-3-clause-built
+build_statements::build_for-returns-in_err-first-in-Some-3-clause-built t c = IfOk-from_err c.from_residual-in_err-first-in-Some-3.result _ c.from_residual-in_err-first-in-Some-3.ensures.0
+
+pub build_statements::build_for-returns-in_err-first-in-Some-3-clause-site : goal.build_statements::build_for-returns-in_err-first-in-Some-3-clause-site
+build_statements::build_for-returns-in_err-first-in-Some-3-clause-site t c = IfOk-from_err c.from_residual-in_err-first-in-Some-3.result _ c.from_residual-in_err-first-in-Some-3.ensures.0
+
+pub build_statements::build_for_of-returns-in_err-list-in-ForOf-clause-built : goal.build_statements::build_for_of-returns-in_err-list-in-ForOf-clause-built
+build_statements::build_for_of-returns-in_err-list-in-ForOf-clause-built t c = IfOk-from_err c.from_residual.result _ c.from_residual.ensures.0
+
+pub build_statements::build_for_of-returns-in_err-list-in-ForOf-clause-site : goal.build_statements::build_for_of-returns-in_err-list-in-ForOf-clause-site
+build_statements::build_for_of-returns-in_err-list-in-ForOf-clause-site t c = IfOk-from_err c.from_residual.result _ c.from_residual.ensures.0
+
+pub build_statements::build_for_of-returns-in_err-list-in-ForOf-2-clause-built : goal.build_statements::build_for_of-returns-in_err-list-in-ForOf-2-clause-built
+build_statements::build_for_of-returns-in_err-list-in-ForOf-2-clause-built t c = IfOk-from_err c.from_residual-in_err-list-in-ForOf-2.result _ c.from_residual-in_err-list-in-ForOf-2.ensures.0
+
+pub build_statements::build_for_of-returns-in_err-list-in-ForOf-2-clause-site : goal.build_statements::build_for_of-returns-in_err-list-in-ForOf-2-clause-site
+build_statements::build_for_of-returns-in_err-list-in-ForOf-2-clause-site t c = IfOk-from_err c.from_residual-in_err-list-in-ForOf-2.result _ c.from_residual-in_err-list-in-ForOf-2.ensures.0
+
+pub build_statements::build_for_of-returns-in_err-list-in-ForOf-3-clause-built : goal.build_statements::build_for_of-returns-in_err-list-in-ForOf-3-clause-built
+build_statements::build_for_of-returns-in_err-list-in-ForOf-3-clause-built t c = IfOk-from_err c.from_residual-in_err-list-in-ForOf-3.result _ c.from_residual-in_err-list-in-ForOf-3.ensures.0
+
+pub build_statements::build_for_of-returns-in_err-list-in-ForOf-3-clause-site : goal.build_statements::build_for_of-returns-in_err-list-in-ForOf-3-clause-site
+build_statements::build_for_of-returns-in_err-list-in-ForOf-3-clause-site t c = IfOk-from_err c.from_residual-in_err-list-in-ForOf-3.result _ c.from_residual-in_err-list-in-ForOf-3.ensures.0
+
+pub build_statements::build_for_of-returns-in_err-list-in-ForOf-4-clause-built : goal.build_statements::build_for_of-returns-in_err-list-in-ForOf-4-clause-built
+build_statements::build_for_of-returns-in_err-list-in-ForOf-4-clause-built t c = IfOk-from_err c.from_residual-in_err-list-in-ForOf-4.result _ c.from_residual-in_err-list-in-ForOf-4.ensures.0
+
+pub build_statements::build_for_of-returns-in_err-list-in-ForOf-4-clause-site : goal.build_statements::build_for_of-returns-in_err-list-in-ForOf-4-clause-site
+build_statements::build_for_of-returns-in_err-list-in-ForOf-4-clause-site t c = IfOk-from_err c.from_residual-in_err-list-in-ForOf-4.result _ c.from_residual-in_err-list-in-ForOf-4.ensures.0
+
+pub build_statements::build_statement-returns-in_err-all-in-Block-clause-built : goal.build_statements::build_statement-returns-in_err-all-in-Block-clause-built
+build_statements::build_statement-returns-in_err-all-in-Block-clause-built t c = IfOk-from_err c.from_residual.result _ c.from_residual.ensures.0
+
+pub build_statements::build_statement-returns-in_err-all-in-Block-clause-site : goal.build_statements::build_statement-returns-in_err-all-in-Block-clause-site
+build_statements::build_statement-returns-in_err-all-in-Block-clause-site t c = IfOk-from_err c.from_residual.result _ c.from_residual.ensures.0
+
+pub build_statements::build_statement-returns-in_err-each-in-Let-clause-built : goal.build_statements::build_statement-returns-in_err-each-in-Let-clause-built
+build_statements::build_statement-returns-in_err-each-in-Let-clause-built t c = IfOk-from_err c.from_residual-in_err-each-in-Let.result _ c.from_residual-in_err-each-in-Let.ensures.0
+
+pub build_statements::build_statement-returns-in_err-each-in-Let-clause-site : goal.build_statements::build_statement-returns-in_err-each-in-Let-clause-site
+build_statements::build_statement-returns-in_err-each-in-Let-clause-site t c = IfOk-from_err c.from_residual-in_err-each-in-Let.result _ c.from_residual-in_err-each-in-Let.ensures.0
+
+pub build_statements::build_statement-returns-in_err-value-in-Return-clause-built : goal.build_statements::build_statement-returns-in_err-value-in-Return-clause-built
+build_statements::build_statement-returns-in_err-value-in-Return-clause-built t c = IfOk-from_err c.from_residual-in_err-value-in-Return.result _ c.from_residual-in_err-value-in-Return.ensures.0
+
+pub build_statements::build_statement-returns-in_err-value-in-Return-clause-site : goal.build_statements::build_statement-returns-in_err-value-in-Return-clause-site
+build_statements::build_statement-returns-in_err-value-in-Return-clause-site t c = IfOk-from_err c.from_residual-in_err-value-in-Return.result _ c.from_residual-in_err-value-in-Return.ensures.0
+
+pub build_statements::build_statement-returns-in_err-e-in-Plain-clause-built : goal.build_statements::build_statement-returns-in_err-e-in-Plain-clause-built
+build_statements::build_statement-returns-in_err-e-in-Plain-clause-built t c = IfOk-from_err c.from_residual-in_err-e-in-Plain.result _ c.from_residual-in_err-e-in-Plain.ensures.0
+
+pub build_statements::build_statement-returns-in_err-e-in-Plain-clause-site : goal.build_statements::build_statement-returns-in_err-e-in-Plain-clause-site
+build_statements::build_statement-returns-in_err-e-in-Plain-clause-site t c = IfOk-from_err c.from_residual-in_err-e-in-Plain.result _ c.from_residual-in_err-e-in-Plain.ensures.0
+
+pub build_statements::build_statements-returns-in_err-a-clause-made : goal.build_statements::build_statements-returns-in_err-a-clause-made
+build_statements::build_statements-returns-in_err-a-clause-made t c = IfOk-from_err c.from_residual.result _ c.from_residual.ensures.0
+
+pub build_statements::build_statements-returns-in_err-a-clause-locals : goal.build_statements::build_statements-returns-in_err-a-clause-locals
+build_statements::build_statements-returns-in_err-a-clause-locals t c = IfOk-from_err c.from_residual.result _ c.from_residual.ensures.0
+
+pub build_statements::build_statements-returns-in_err-a-clause-routines : goal.build_statements::build_statements-returns-in_err-a-clause-routines
+build_statements::build_statements-returns-in_err-a-clause-routines t c = IfOk-from_err c.from_residual.result _ c.from_residual.ensures.0
+
+pub build_statements::build_statements-returns-in_err-a-clause-local : goal.build_statements::build_statements-returns-in_err-a-clause-local
+build_statements::build_statements-returns-in_err-a-clause-local t c = IfOk-from_err c.from_residual.result _ c.from_residual.ensures.0
+
+pub build_statements::build_statements-returns-in_err-a-clause-function : goal.build_statements::build_statements-returns-in_err-a-clause-function
+build_statements::build_statements-returns-in_err-a-clause-function t c = IfOk-from_err c.from_residual.result _ c.from_residual.ensures.0
+
+pub build_statements::build_statements-returns-in_err-a-clause-site : goal.build_statements::build_statements-returns-in_err-a-clause-site
+build_statements::build_statements-returns-in_err-a-clause-site t c = IfOk-from_err c.from_residual.result _ c.from_residual.ensures.0
+
+pub build_statements::build_statements-returns-in_err-push-clause-made : goal.build_statements::build_statements-returns-in_err-push-clause-made
+build_statements::build_statements-returns-in_err-push-clause-made t c = IfOk-from_err c.from_residual-in_err-push.result _ c.from_residual-in_err-push.ensures.0
+
+pub build_statements::build_statements-returns-in_err-push-clause-locals : goal.build_statements::build_statements-returns-in_err-push-clause-locals
+build_statements::build_statements-returns-in_err-push-clause-locals t c = IfOk-from_err c.from_residual-in_err-push.result _ c.from_residual-in_err-push.ensures.0
+
+pub build_statements::build_statements-returns-in_err-push-clause-routines : goal.build_statements::build_statements-returns-in_err-push-clause-routines
+build_statements::build_statements-returns-in_err-push-clause-routines t c = IfOk-from_err c.from_residual-in_err-push.result _ c.from_residual-in_err-push.ensures.0
+
+pub build_statements::build_statements-returns-in_err-push-clause-local : goal.build_statements::build_statements-returns-in_err-push-clause-local
+build_statements::build_statements-returns-in_err-push-clause-local t c = IfOk-from_err c.from_residual-in_err-push.result _ c.from_residual-in_err-push.ensures.0
+
+pub build_statements::build_statements-returns-in_err-push-clause-function : goal.build_statements::build_statements-returns-in_err-push-clause-function
+build_statements::build_statements-returns-in_err-push-clause-function t c = IfOk-from_err c.from_residual-in_err-push.result _ c.from_residual-in_err-push.ensures.0
+
+pub build_statements::build_statements-returns-in_err-push-clause-site : goal.build_statements::build_statements-returns-in_err-push-clause-site
+build_statements::build_statements-returns-in_err-push-clause-site t c = IfOk-from_err c.from_residual-in_err-push.result _ c.from_residual-in_err-push.ensures.0
+
+pub build_calls::build_argument-returns-in_err-x-in-Built : goal.build_calls::build_argument-returns-in_err-x-in-Built
+build_calls::build_argument-returns-in_err-x-in-Built t c = IfOk-from_err c.from_residual-in_err-x-in-Built.result _ c.from_residual-in_err-x-in-Built.ensures.0
+
+pub build_calls::build_arguments-returns-in_err-x : goal.build_calls::build_arguments-returns-in_err-x
+build_calls::build_arguments-returns-in_err-x t c = IfOk-from_err c.from_residual.result _ c.from_residual.ensures.0
+
+pub build_calls::build_arguments-returns-in_err-push : goal.build_calls::build_arguments-returns-in_err-push
+build_calls::build_arguments-returns-in_err-push t c = IfOk-from_err c.from_residual-in_err-push.result _ c.from_residual-in_err-push.ensures.0
+
+pub build_calls::build_object-returns-in_err-x-in-Member : goal.build_calls::build_object-returns-in_err-x-in-Member
+build_calls::build_object-returns-in_err-x-in-Member t c = IfOk-from_err c.from_residual.result _ c.from_residual.ensures.0
+
+pub build_calls::build_object-returns-in_err-push-in-Member : goal.build_calls::build_object-returns-in_err-push-in-Member
+build_calls::build_object-returns-in_err-push-in-Member t c = IfOk-from_err c.from_residual-in_err-push-in-Member.result _ c.from_residual-in_err-push-in-Member.ensures.0
+
+pub build_calls::build_passed-returns-in_err-object-in-Call : goal.build_calls::build_passed-returns-in_err-object-in-Call
+build_calls::build_passed-returns-in_err-object-in-Call t c = IfOk-from_err c.from_residual.result _ c.from_residual.ensures.0
+
+pub build_calls::build_call-returns-in_err-kind-clause-made : goal.build_calls::build_call-returns-in_err-kind-clause-made
+build_calls::build_call-returns-in_err-kind-clause-made t c = IfOk-from_err c.from_residual.result _ c.from_residual.ensures.0
+
+pub build_calls::build_call-returns-in_err-kind-clause-kind : goal.build_calls::build_call-returns-in_err-kind-clause-kind
+build_calls::build_call-returns-in_err-kind-clause-kind t c = IfOk-from_err c.from_residual.result _ c.from_residual.ensures.0
+
+pub build_calls::build_call-returns-in_err-kind-clause-locals : goal.build_calls::build_call-returns-in_err-kind-clause-locals
+build_calls::build_call-returns-in_err-kind-clause-locals t c = IfOk-from_err c.from_residual.result _ c.from_residual.ensures.0
+
+pub build_calls::build_call-returns-in_err-kind-clause-routines : goal.build_calls::build_call-returns-in_err-kind-clause-routines
+build_calls::build_call-returns-in_err-kind-clause-routines t c = IfOk-from_err c.from_residual.result _ c.from_residual.ensures.0
+
+pub build_calls::build_call-returns-in_err-kind-clause-local : goal.build_calls::build_call-returns-in_err-kind-clause-local
+build_calls::build_call-returns-in_err-kind-clause-local t c = IfOk-from_err c.from_residual.result _ c.from_residual.ensures.0
+
+pub build_calls::build_call-returns-in_err-kind-clause-function : goal.build_calls::build_call-returns-in_err-kind-clause-function
+build_calls::build_call-returns-in_err-kind-clause-function t c = IfOk-from_err c.from_residual.result _ c.from_residual.ensures.0
+
+pub build_calls::build_call-returns-in_err-head_of-clause-made : goal.build_calls::build_call-returns-in_err-head_of-clause-made
+build_calls::build_call-returns-in_err-head_of-clause-made t c = IfOk-from_err c.from_residual-in_err-head_of.result _ c.from_residual-in_err-head_of.ensures.0
+
+pub build_calls::build_call-returns-in_err-head_of-clause-kind : goal.build_calls::build_call-returns-in_err-head_of-clause-kind
+build_calls::build_call-returns-in_err-head_of-clause-kind t c = IfOk-from_err c.from_residual-in_err-head_of.result _ c.from_residual-in_err-head_of.ensures.0
+
+pub build_calls::build_call-returns-in_err-head_of-clause-locals : goal.build_calls::build_call-returns-in_err-head_of-clause-locals
+build_calls::build_call-returns-in_err-head_of-clause-locals t c = IfOk-from_err c.from_residual-in_err-head_of.result _ c.from_residual-in_err-head_of.ensures.0
+
+pub build_calls::build_call-returns-in_err-head_of-clause-routines : goal.build_calls::build_call-returns-in_err-head_of-clause-routines
+build_calls::build_call-returns-in_err-head_of-clause-routines t c = IfOk-from_err c.from_residual-in_err-head_of.result _ c.from_residual-in_err-head_of.ensures.0
+
+pub build_calls::build_call-returns-in_err-head_of-clause-local : goal.build_calls::build_call-returns-in_err-head_of-clause-local
+build_calls::build_call-returns-in_err-head_of-clause-local t c = IfOk-from_err c.from_residual-in_err-head_of.result _ c.from_residual-in_err-head_of.ensures.0
+
+pub build_calls::build_call-returns-in_err-head_of-clause-function : goal.build_calls::build_call-returns-in_err-head_of-clause-function
+build_calls::build_call-returns-in_err-head_of-clause-function t c = IfOk-from_err c.from_residual-in_err-head_of.result _ c.from_residual-in_err-head_of.ensures.0
+
+pub build_calls::build_call-returns-in_err-args-in-Some-clause-made : goal.build_calls::build_call-returns-in_err-args-in-Some-clause-made
+build_calls::build_call-returns-in_err-args-in-Some-clause-made t c = IfOk-from_err c.from_residual-in_err-args-in-Some.result _ c.from_residual-in_err-args-in-Some.ensures.0
+
+pub build_calls::build_call-returns-in_err-args-in-Some-clause-kind : goal.build_calls::build_call-returns-in_err-args-in-Some-clause-kind
+build_calls::build_call-returns-in_err-args-in-Some-clause-kind t c = IfOk-from_err c.from_residual-in_err-args-in-Some.result _ c.from_residual-in_err-args-in-Some.ensures.0
+
+pub build_calls::build_call-returns-in_err-args-in-Some-clause-locals : goal.build_calls::build_call-returns-in_err-args-in-Some-clause-locals
+build_calls::build_call-returns-in_err-args-in-Some-clause-locals t c = IfOk-from_err c.from_residual-in_err-args-in-Some.result _ c.from_residual-in_err-args-in-Some.ensures.0
+
+pub build_calls::build_call-returns-in_err-args-in-Some-clause-routines : goal.build_calls::build_call-returns-in_err-args-in-Some-clause-routines
+build_calls::build_call-returns-in_err-args-in-Some-clause-routines t c = IfOk-from_err c.from_residual-in_err-args-in-Some.result _ c.from_residual-in_err-args-in-Some.ensures.0
+
+pub build_calls::build_call-returns-in_err-args-in-Some-clause-local : goal.build_calls::build_call-returns-in_err-args-in-Some-clause-local
+build_calls::build_call-returns-in_err-args-in-Some-clause-local t c = IfOk-from_err c.from_residual-in_err-args-in-Some.result _ c.from_residual-in_err-args-in-Some.ensures.0
+
+pub build_calls::build_call-returns-in_err-args-in-Some-clause-function : goal.build_calls::build_call-returns-in_err-args-in-Some-clause-function
+build_calls::build_call-returns-in_err-args-in-Some-clause-function t c = IfOk-from_err c.from_residual-in_err-args-in-Some.result _ c.from_residual-in_err-args-in-Some.ensures.0
+
+pub build_calls::build_call-returns-in_err-ty-in-Some-clause-made : goal.build_calls::build_call-returns-in_err-ty-in-Some-clause-made
+build_calls::build_call-returns-in_err-ty-in-Some-clause-made t c = IfOk-from_err c.from_residual-in_err-ty-in-Some.result _ c.from_residual-in_err-ty-in-Some.ensures.0
+
+pub build_calls::build_call-returns-in_err-ty-in-Some-clause-kind : goal.build_calls::build_call-returns-in_err-ty-in-Some-clause-kind
+build_calls::build_call-returns-in_err-ty-in-Some-clause-kind t c = IfOk-from_err c.from_residual-in_err-ty-in-Some.result _ c.from_residual-in_err-ty-in-Some.ensures.0
+
+pub build_calls::build_call-returns-in_err-ty-in-Some-clause-locals : goal.build_calls::build_call-returns-in_err-ty-in-Some-clause-locals
+build_calls::build_call-returns-in_err-ty-in-Some-clause-locals t c = IfOk-from_err c.from_residual-in_err-ty-in-Some.result _ c.from_residual-in_err-ty-in-Some.ensures.0
+
+pub build_calls::build_call-returns-in_err-ty-in-Some-clause-routines : goal.build_calls::build_call-returns-in_err-ty-in-Some-clause-routines
+build_calls::build_call-returns-in_err-ty-in-Some-clause-routines t c = IfOk-from_err c.from_residual-in_err-ty-in-Some.result _ c.from_residual-in_err-ty-in-Some.ensures.0
+
+pub build_calls::build_call-returns-in_err-ty-in-Some-clause-local : goal.build_calls::build_call-returns-in_err-ty-in-Some-clause-local
+build_calls::build_call-returns-in_err-ty-in-Some-clause-local t c = IfOk-from_err c.from_residual-in_err-ty-in-Some.result _ c.from_residual-in_err-ty-in-Some.ensures.0
+
+pub build_calls::build_call-returns-in_err-ty-in-Some-clause-function : goal.build_calls::build_call-returns-in_err-ty-in-Some-clause-function
+build_calls::build_call-returns-in_err-ty-in-Some-clause-function t c = IfOk-from_err c.from_residual-in_err-ty-in-Some.result _ c.from_residual-in_err-ty-in-Some.ensures.0
+
+pub build_calls::build_call-returns-in_err-tree-in-Some-clause-made : goal.build_calls::build_call-returns-in_err-tree-in-Some-clause-made
+build_calls::build_call-returns-in_err-tree-in-Some-clause-made t c = IfOk-from_err c.from_residual-in_err-tree-in-Some.result _ c.from_residual-in_err-tree-in-Some.ensures.0
+
+pub build_calls::build_call-returns-in_err-tree-in-Some-clause-kind : goal.build_calls::build_call-returns-in_err-tree-in-Some-clause-kind
+build_calls::build_call-returns-in_err-tree-in-Some-clause-kind t c = IfOk-from_err c.from_residual-in_err-tree-in-Some.result _ c.from_residual-in_err-tree-in-Some.ensures.0
+
+pub build_calls::build_call-returns-in_err-tree-in-Some-clause-locals : goal.build_calls::build_call-returns-in_err-tree-in-Some-clause-locals
+build_calls::build_call-returns-in_err-tree-in-Some-clause-locals t c = IfOk-from_err c.from_residual-in_err-tree-in-Some.result _ c.from_residual-in_err-tree-in-Some.ensures.0
+
+pub build_calls::build_call-returns-in_err-tree-in-Some-clause-routines : goal.build_calls::build_call-returns-in_err-tree-in-Some-clause-routines
+build_calls::build_call-returns-in_err-tree-in-Some-clause-routines t c = IfOk-from_err c.from_residual-in_err-tree-in-Some.result _ c.from_residual-in_err-tree-in-Some.ensures.0
+
+pub build_calls::build_call-returns-in_err-tree-in-Some-clause-local : goal.build_calls::build_call-returns-in_err-tree-in-Some-clause-local
+build_calls::build_call-returns-in_err-tree-in-Some-clause-local t c = IfOk-from_err c.from_residual-in_err-tree-in-Some.result _ c.from_residual-in_err-tree-in-Some.ensures.0
+
+pub build_calls::build_call-returns-in_err-tree-in-Some-clause-function : goal.build_calls::build_call-returns-in_err-tree-in-Some-clause-function
+build_calls::build_call-returns-in_err-tree-in-Some-clause-function t c = IfOk-from_err c.from_residual-in_err-tree-in-Some.result _ c.from_residual-in_err-tree-in-Some.ensures.0
+
+pub build_operators::build_part-returns-in_err-x-clause-made : goal.build_operators::build_part-returns-in_err-x-clause-made
+build_operators::build_part-returns-in_err-x-clause-made t c = IfOk-from_err c.from_residual.result _ c.from_residual.ensures.0
+
+pub build_operators::build_part-returns-in_err-x-clause-kind : goal.build_operators::build_part-returns-in_err-x-clause-kind
+build_operators::build_part-returns-in_err-x-clause-kind t c = IfOk-from_err c.from_residual.result _ c.from_residual.ensures.0
+
+pub build_operators::build_part-returns-in_err-x-clause-locals : goal.build_operators::build_part-returns-in_err-x-clause-locals
+build_operators::build_part-returns-in_err-x-clause-locals t c = IfOk-from_err c.from_residual.result _ c.from_residual.ensures.0
+
+pub build_operators::build_part-returns-in_err-x-clause-routines : goal.build_operators::build_part-returns-in_err-x-clause-routines
+build_operators::build_part-returns-in_err-x-clause-routines t c = IfOk-from_err c.from_residual.result _ c.from_residual.ensures.0
+
+pub build_operators::build_part-returns-in_err-x-clause-local : goal.build_operators::build_part-returns-in_err-x-clause-local
+build_operators::build_part-returns-in_err-x-clause-local t c = IfOk-from_err c.from_residual.result _ c.from_residual.ensures.0
+
+pub build_operators::build_part-returns-in_err-x-clause-function : goal.build_operators::build_part-returns-in_err-x-clause-function
+build_operators::build_part-returns-in_err-x-clause-function t c = IfOk-from_err c.from_residual.result _ c.from_residual.ensures.0
+
+pub build_operators::build_part-returns-in_err-boxed-clause-made : goal.build_operators::build_part-returns-in_err-boxed-clause-made
+build_operators::build_part-returns-in_err-boxed-clause-made t c = IfOk-from_err c.from_residual-in_err-boxed.result _ c.from_residual-in_err-boxed.ensures.0
+
+pub build_operators::build_part-returns-in_err-boxed-clause-kind : goal.build_operators::build_part-returns-in_err-boxed-clause-kind
+build_operators::build_part-returns-in_err-boxed-clause-kind t c = IfOk-from_err c.from_residual-in_err-boxed.result _ c.from_residual-in_err-boxed.ensures.0
+
+pub build_operators::build_part-returns-in_err-boxed-clause-locals : goal.build_operators::build_part-returns-in_err-boxed-clause-locals
+build_operators::build_part-returns-in_err-boxed-clause-locals t c = IfOk-from_err c.from_residual-in_err-boxed.result _ c.from_residual-in_err-boxed.ensures.0
+
+pub build_operators::build_part-returns-in_err-boxed-clause-routines : goal.build_operators::build_part-returns-in_err-boxed-clause-routines
+build_operators::build_part-returns-in_err-boxed-clause-routines t c = IfOk-from_err c.from_residual-in_err-boxed.result _ c.from_residual-in_err-boxed.ensures.0
+
+pub build_operators::build_part-returns-in_err-boxed-clause-local : goal.build_operators::build_part-returns-in_err-boxed-clause-local
+build_operators::build_part-returns-in_err-boxed-clause-local t c = IfOk-from_err c.from_residual-in_err-boxed.result _ c.from_residual-in_err-boxed.ensures.0
+
+pub build_operators::build_part-returns-in_err-boxed-clause-function : goal.build_operators::build_part-returns-in_err-boxed-clause-function
+build_operators::build_part-returns-in_err-boxed-clause-function t c = IfOk-from_err c.from_residual-in_err-boxed.result _ c.from_residual-in_err-boxed.ensures.0
+
+pub build_operators::build_operation-returns-in_err-parts-in-Binary-clause-made : goal.build_operators::build_operation-returns-in_err-parts-in-Binary-clause-made
+build_operators::build_operation-returns-in_err-parts-in-Binary-clause-made t c = IfOk-from_err c.from_residual.result _ c.from_residual.ensures.0
+
+pub build_operators::build_operation-returns-in_err-parts-in-Binary-clause-kind : goal.build_operators::build_operation-returns-in_err-parts-in-Binary-clause-kind
+build_operators::build_operation-returns-in_err-parts-in-Binary-clause-kind t c = IfOk-from_err c.from_residual.result _ c.from_residual.ensures.0
+
+pub build_operators::build_operation-returns-in_err-parts-in-Binary-clause-locals : goal.build_operators::build_operation-returns-in_err-parts-in-Binary-clause-locals
+build_operators::build_operation-returns-in_err-parts-in-Binary-clause-locals t c = IfOk-from_err c.from_residual.result _ c.from_residual.ensures.0
+
+pub build_operators::build_operation-returns-in_err-parts-in-Binary-clause-routines : goal.build_operators::build_operation-returns-in_err-parts-in-Binary-clause-routines
+build_operators::build_operation-returns-in_err-parts-in-Binary-clause-routines t c = IfOk-from_err c.from_residual.result _ c.from_residual.ensures.0
+
+pub build_operators::build_operation-returns-in_err-parts-in-Binary-clause-local : goal.build_operators::build_operation-returns-in_err-parts-in-Binary-clause-local
+build_operators::build_operation-returns-in_err-parts-in-Binary-clause-local t c = IfOk-from_err c.from_residual.result _ c.from_residual.ensures.0
+
+pub build_operators::build_operation-returns-in_err-parts-in-Binary-clause-function : goal.build_operators::build_operation-returns-in_err-parts-in-Binary-clause-function
+build_operators::build_operation-returns-in_err-parts-in-Binary-clause-function t c = IfOk-from_err c.from_residual.result _ c.from_residual.ensures.0
+
+pub build_operators::build_operation-returns-in_err-ty-in-Binary-clause-made : goal.build_operators::build_operation-returns-in_err-ty-in-Binary-clause-made
+build_operators::build_operation-returns-in_err-ty-in-Binary-clause-made t c = IfOk-from_err c.from_residual-in_err-ty-in-Binary.result _ c.from_residual-in_err-ty-in-Binary.ensures.0
+
+pub build_operators::build_operation-returns-in_err-ty-in-Binary-clause-kind : goal.build_operators::build_operation-returns-in_err-ty-in-Binary-clause-kind
+build_operators::build_operation-returns-in_err-ty-in-Binary-clause-kind t c = IfOk-from_err c.from_residual-in_err-ty-in-Binary.result _ c.from_residual-in_err-ty-in-Binary.ensures.0
+
+pub build_operators::build_operation-returns-in_err-ty-in-Binary-clause-locals : goal.build_operators::build_operation-returns-in_err-ty-in-Binary-clause-locals
+build_operators::build_operation-returns-in_err-ty-in-Binary-clause-locals t c = IfOk-from_err c.from_residual-in_err-ty-in-Binary.result _ c.from_residual-in_err-ty-in-Binary.ensures.0
+
+pub build_operators::build_operation-returns-in_err-ty-in-Binary-clause-routines : goal.build_operators::build_operation-returns-in_err-ty-in-Binary-clause-routines
+build_operators::build_operation-returns-in_err-ty-in-Binary-clause-routines t c = IfOk-from_err c.from_residual-in_err-ty-in-Binary.result _ c.from_residual-in_err-ty-in-Binary.ensures.0
+
+pub build_operators::build_operation-returns-in_err-ty-in-Binary-clause-local : goal.build_operators::build_operation-returns-in_err-ty-in-Binary-clause-local
+build_operators::build_operation-returns-in_err-ty-in-Binary-clause-local t c = IfOk-from_err c.from_residual-in_err-ty-in-Binary.result _ c.from_residual-in_err-ty-in-Binary.ensures.0
+
+pub build_operators::build_operation-returns-in_err-ty-in-Binary-clause-function : goal.build_operators::build_operation-returns-in_err-ty-in-Binary-clause-function
+build_operators::build_operation-returns-in_err-ty-in-Binary-clause-function t c = IfOk-from_err c.from_residual-in_err-ty-in-Binary.result _ c.from_residual-in_err-ty-in-Binary.ensures.0
+
+pub build_operators::build_operation-returns-in_err-parts-in-Both-clause-made : goal.build_operators::build_operation-returns-in_err-parts-in-Both-clause-made
+build_operators::build_operation-returns-in_err-parts-in-Both-clause-made t c = IfOk-from_err c.from_residual-in_err-parts-in-Both.result _ c.from_residual-in_err-parts-in-Both.ensures.0
+
+pub build_operators::build_operation-returns-in_err-parts-in-Both-clause-kind : goal.build_operators::build_operation-returns-in_err-parts-in-Both-clause-kind
+build_operators::build_operation-returns-in_err-parts-in-Both-clause-kind t c = IfOk-from_err c.from_residual-in_err-parts-in-Both.result _ c.from_residual-in_err-parts-in-Both.ensures.0
+
+pub build_operators::build_operation-returns-in_err-parts-in-Both-clause-locals : goal.build_operators::build_operation-returns-in_err-parts-in-Both-clause-locals
+build_operators::build_operation-returns-in_err-parts-in-Both-clause-locals t c = IfOk-from_err c.from_residual-in_err-parts-in-Both.result _ c.from_residual-in_err-parts-in-Both.ensures.0
+
+pub build_operators::build_operation-returns-in_err-parts-in-Both-clause-routines : goal.build_operators::build_operation-returns-in_err-parts-in-Both-clause-routines
+build_operators::build_operation-returns-in_err-parts-in-Both-clause-routines t c = IfOk-from_err c.from_residual-in_err-parts-in-Both.result _ c.from_residual-in_err-parts-in-Both.ensures.0
+
+pub build_operators::build_operation-returns-in_err-parts-in-Both-clause-local : goal.build_operators::build_operation-returns-in_err-parts-in-Both-clause-local
+build_operators::build_operation-returns-in_err-parts-in-Both-clause-local t c = IfOk-from_err c.from_residual-in_err-parts-in-Both.result _ c.from_residual-in_err-parts-in-Both.ensures.0
+
+pub build_operators::build_operation-returns-in_err-parts-in-Both-clause-function : goal.build_operators::build_operation-returns-in_err-parts-in-Both-clause-function
+build_operators::build_operation-returns-in_err-parts-in-Both-clause-function t c = IfOk-from_err c.from_residual-in_err-parts-in-Both.result _ c.from_residual-in_err-parts-in-Both.ensures.0
+
+pub build_operators::build_operation-returns-in_err-parts-in-Either-clause-made : goal.build_operators::build_operation-returns-in_err-parts-in-Either-clause-made
+build_operators::build_operation-returns-in_err-parts-in-Either-clause-made t c = IfOk-from_err c.from_residual-in_err-parts-in-Either.result _ c.from_residual-in_err-parts-in-Either.ensures.0
+
+pub build_operators::build_operation-returns-in_err-parts-in-Either-clause-kind : goal.build_operators::build_operation-returns-in_err-parts-in-Either-clause-kind
+build_operators::build_operation-returns-in_err-parts-in-Either-clause-kind t c = IfOk-from_err c.from_residual-in_err-parts-in-Either.result _ c.from_residual-in_err-parts-in-Either.ensures.0
+
+pub build_operators::build_operation-returns-in_err-parts-in-Either-clause-locals : goal.build_operators::build_operation-returns-in_err-parts-in-Either-clause-locals
+build_operators::build_operation-returns-in_err-parts-in-Either-clause-locals t c = IfOk-from_err c.from_residual-in_err-parts-in-Either.result _ c.from_residual-in_err-parts-in-Either.ensures.0
+
+pub build_operators::build_operation-returns-in_err-parts-in-Either-clause-routines : goal.build_operators::build_operation-returns-in_err-parts-in-Either-clause-routines
+build_operators::build_operation-returns-in_err-parts-in-Either-clause-routines t c = IfOk-from_err c.from_residual-in_err-parts-in-Either.result _ c.from_residual-in_err-parts-in-Either.ensures.0
+
+pub build_operators::build_operation-returns-in_err-parts-in-Either-clause-local : goal.build_operators::build_operation-returns-in_err-parts-in-Either-clause-local
+build_operators::build_operation-returns-in_err-parts-in-Either-clause-local t c = IfOk-from_err c.from_residual-in_err-parts-in-Either.result _ c.from_residual-in_err-parts-in-Either.ensures.0
+
+pub build_operators::build_operation-returns-in_err-parts-in-Either-clause-function : goal.build_operators::build_operation-returns-in_err-parts-in-Either-clause-function
+build_operators::build_operation-returns-in_err-parts-in-Either-clause-function t c = IfOk-from_err c.from_residual-in_err-parts-in-Either.result _ c.from_residual-in_err-parts-in-Either.ensures.0
+
+pub build_operators::build_operation-returns-in_err-parts-in-Item-clause-made : goal.build_operators::build_operation-returns-in_err-parts-in-Item-clause-made
+build_operators::build_operation-returns-in_err-parts-in-Item-clause-made t c = IfOk-from_err c.from_residual-in_err-parts-in-Item.result _ c.from_residual-in_err-parts-in-Item.ensures.0
+
+pub build_operators::build_operation-returns-in_err-parts-in-Item-clause-kind : goal.build_operators::build_operation-returns-in_err-parts-in-Item-clause-kind
+build_operators::build_operation-returns-in_err-parts-in-Item-clause-kind t c = IfOk-from_err c.from_residual-in_err-parts-in-Item.result _ c.from_residual-in_err-parts-in-Item.ensures.0
+
+pub build_operators::build_operation-returns-in_err-parts-in-Item-clause-locals : goal.build_operators::build_operation-returns-in_err-parts-in-Item-clause-locals
+build_operators::build_operation-returns-in_err-parts-in-Item-clause-locals t c = IfOk-from_err c.from_residual-in_err-parts-in-Item.result _ c.from_residual-in_err-parts-in-Item.ensures.0
+
+pub build_operators::build_operation-returns-in_err-parts-in-Item-clause-routines : goal.build_operators::build_operation-returns-in_err-parts-in-Item-clause-routines
+build_operators::build_operation-returns-in_err-parts-in-Item-clause-routines t c = IfOk-from_err c.from_residual-in_err-parts-in-Item.result _ c.from_residual-in_err-parts-in-Item.ensures.0
+
+pub build_operators::build_operation-returns-in_err-parts-in-Item-clause-local : goal.build_operators::build_operation-returns-in_err-parts-in-Item-clause-local
+build_operators::build_operation-returns-in_err-parts-in-Item-clause-local t c = IfOk-from_err c.from_residual-in_err-parts-in-Item.result _ c.from_residual-in_err-parts-in-Item.ensures.0
+
+pub build_operators::build_operation-returns-in_err-parts-in-Item-clause-function : goal.build_operators::build_operation-returns-in_err-parts-in-Item-clause-function
+build_operators::build_operation-returns-in_err-parts-in-Item-clause-function t c = IfOk-from_err c.from_residual-in_err-parts-in-Item.result _ c.from_residual-in_err-parts-in-Item.ensures.0
+
+pub build_operators::build_operation-returns-in_err-ty-in-Item-clause-made : goal.build_operators::build_operation-returns-in_err-ty-in-Item-clause-made
+build_operators::build_operation-returns-in_err-ty-in-Item-clause-made t c = IfOk-from_err c.from_residual-in_err-ty-in-Item.result _ c.from_residual-in_err-ty-in-Item.ensures.0
+
+pub build_operators::build_operation-returns-in_err-ty-in-Item-clause-kind : goal.build_operators::build_operation-returns-in_err-ty-in-Item-clause-kind
+build_operators::build_operation-returns-in_err-ty-in-Item-clause-kind t c = IfOk-from_err c.from_residual-in_err-ty-in-Item.result _ c.from_residual-in_err-ty-in-Item.ensures.0
+
+pub build_operators::build_operation-returns-in_err-ty-in-Item-clause-locals : goal.build_operators::build_operation-returns-in_err-ty-in-Item-clause-locals
+build_operators::build_operation-returns-in_err-ty-in-Item-clause-locals t c = IfOk-from_err c.from_residual-in_err-ty-in-Item.result _ c.from_residual-in_err-ty-in-Item.ensures.0
+
+pub build_operators::build_operation-returns-in_err-ty-in-Item-clause-routines : goal.build_operators::build_operation-returns-in_err-ty-in-Item-clause-routines
+build_operators::build_operation-returns-in_err-ty-in-Item-clause-routines t c = IfOk-from_err c.from_residual-in_err-ty-in-Item.result _ c.from_residual-in_err-ty-in-Item.ensures.0
+
+pub build_operators::build_operation-returns-in_err-ty-in-Item-clause-local : goal.build_operators::build_operation-returns-in_err-ty-in-Item-clause-local
+build_operators::build_operation-returns-in_err-ty-in-Item-clause-local t c = IfOk-from_err c.from_residual-in_err-ty-in-Item.result _ c.from_residual-in_err-ty-in-Item.ensures.0
+
+pub build_operators::build_operation-returns-in_err-ty-in-Item-clause-function : goal.build_operators::build_operation-returns-in_err-ty-in-Item-clause-function
+build_operators::build_operation-returns-in_err-ty-in-Item-clause-function t c = IfOk-from_err c.from_residual-in_err-ty-in-Item.result _ c.from_residual-in_err-ty-in-Item.ensures.0
+
+pub build_operators::build_prefix-returns-in_err-x-in-Unary-clause-made : goal.build_operators::build_prefix-returns-in_err-x-in-Unary-clause-made
+build_operators::build_prefix-returns-in_err-x-in-Unary-clause-made t c = IfOk-from_err c.from_residual.result _ c.from_residual.ensures.0
+
+pub build_operators::build_prefix-returns-in_err-x-in-Unary-clause-kind : goal.build_operators::build_prefix-returns-in_err-x-in-Unary-clause-kind
+build_operators::build_prefix-returns-in_err-x-in-Unary-clause-kind t c = IfOk-from_err c.from_residual.result _ c.from_residual.ensures.0
+
+pub build_operators::build_prefix-returns-in_err-x-in-Unary-clause-locals : goal.build_operators::build_prefix-returns-in_err-x-in-Unary-clause-locals
+build_operators::build_prefix-returns-in_err-x-in-Unary-clause-locals t c = IfOk-from_err c.from_residual.result _ c.from_residual.ensures.0
+
+pub build_operators::build_prefix-returns-in_err-x-in-Unary-clause-routines : goal.build_operators::build_prefix-returns-in_err-x-in-Unary-clause-routines
+build_operators::build_prefix-returns-in_err-x-in-Unary-clause-routines t c = IfOk-from_err c.from_residual.result _ c.from_residual.ensures.0
+
+pub build_operators::build_prefix-returns-in_err-x-in-Unary-clause-local : goal.build_operators::build_prefix-returns-in_err-x-in-Unary-clause-local
+build_operators::build_prefix-returns-in_err-x-in-Unary-clause-local t c = IfOk-from_err c.from_residual.result _ c.from_residual.ensures.0
+
+pub build_operators::build_prefix-returns-in_err-x-in-Unary-clause-function : goal.build_operators::build_prefix-returns-in_err-x-in-Unary-clause-function
+build_operators::build_prefix-returns-in_err-x-in-Unary-clause-function t c = IfOk-from_err c.from_residual.result _ c.from_residual.ensures.0
+
+pub build_operators::build_prefix-returns-in_err-ty-in-Unary-clause-made : goal.build_operators::build_prefix-returns-in_err-ty-in-Unary-clause-made
+build_operators::build_prefix-returns-in_err-ty-in-Unary-clause-made t c = IfOk-from_err c.from_residual-in_err-ty-in-Unary.result _ c.from_residual-in_err-ty-in-Unary.ensures.0
+
+pub build_operators::build_prefix-returns-in_err-ty-in-Unary-clause-kind : goal.build_operators::build_prefix-returns-in_err-ty-in-Unary-clause-kind
+build_operators::build_prefix-returns-in_err-ty-in-Unary-clause-kind t c = IfOk-from_err c.from_residual-in_err-ty-in-Unary.result _ c.from_residual-in_err-ty-in-Unary.ensures.0
+
+pub build_operators::build_prefix-returns-in_err-ty-in-Unary-clause-locals : goal.build_operators::build_prefix-returns-in_err-ty-in-Unary-clause-locals
+build_operators::build_prefix-returns-in_err-ty-in-Unary-clause-locals t c = IfOk-from_err c.from_residual-in_err-ty-in-Unary.result _ c.from_residual-in_err-ty-in-Unary.ensures.0
+
+pub build_operators::build_prefix-returns-in_err-ty-in-Unary-clause-routines : goal.build_operators::build_prefix-returns-in_err-ty-in-Unary-clause-routines
+build_operators::build_prefix-returns-in_err-ty-in-Unary-clause-routines t c = IfOk-from_err c.from_residual-in_err-ty-in-Unary.result _ c.from_residual-in_err-ty-in-Unary.ensures.0
+
+pub build_operators::build_prefix-returns-in_err-ty-in-Unary-clause-local : goal.build_operators::build_prefix-returns-in_err-ty-in-Unary-clause-local
+build_operators::build_prefix-returns-in_err-ty-in-Unary-clause-local t c = IfOk-from_err c.from_residual-in_err-ty-in-Unary.result _ c.from_residual-in_err-ty-in-Unary.ensures.0
+
+pub build_operators::build_prefix-returns-in_err-ty-in-Unary-clause-function : goal.build_operators::build_prefix-returns-in_err-ty-in-Unary-clause-function
+build_operators::build_prefix-returns-in_err-ty-in-Unary-clause-function t c = IfOk-from_err c.from_residual-in_err-ty-in-Unary.result _ c.from_residual-in_err-ty-in-Unary.ensures.0
+
+pub build_operators::build_set-returns-in_err-parts-in-Set-clause-made : goal.build_operators::build_set-returns-in_err-parts-in-Set-clause-made
+build_operators::build_set-returns-in_err-parts-in-Set-clause-made t c = IfOk-from_err c.from_residual.result _ c.from_residual.ensures.0
+
+pub build_operators::build_set-returns-in_err-parts-in-Set-clause-kind : goal.build_operators::build_set-returns-in_err-parts-in-Set-clause-kind
+build_operators::build_set-returns-in_err-parts-in-Set-clause-kind t c = IfOk-from_err c.from_residual.result _ c.from_residual.ensures.0
+
+pub build_operators::build_set-returns-in_err-parts-in-Set-clause-locals : goal.build_operators::build_set-returns-in_err-parts-in-Set-clause-locals
+build_operators::build_set-returns-in_err-parts-in-Set-clause-locals t c = IfOk-from_err c.from_residual.result _ c.from_residual.ensures.0
+
+pub build_operators::build_set-returns-in_err-parts-in-Set-clause-routines : goal.build_operators::build_set-returns-in_err-parts-in-Set-clause-routines
+build_operators::build_set-returns-in_err-parts-in-Set-clause-routines t c = IfOk-from_err c.from_residual.result _ c.from_residual.ensures.0
+
+pub build_operators::build_set-returns-in_err-parts-in-Set-clause-local : goal.build_operators::build_set-returns-in_err-parts-in-Set-clause-local
+build_operators::build_set-returns-in_err-parts-in-Set-clause-local t c = IfOk-from_err c.from_residual.result _ c.from_residual.ensures.0
+
+pub build_operators::build_set-returns-in_err-parts-in-Set-clause-function : goal.build_operators::build_set-returns-in_err-parts-in-Set-clause-function
+build_operators::build_set-returns-in_err-parts-in-Set-clause-function t c = IfOk-from_err c.from_residual.result _ c.from_residual.ensures.0
+
+pub build_operators::build_set-returns-in_err-kind-in-Set-clause-made : goal.build_operators::build_set-returns-in_err-kind-in-Set-clause-made
+build_operators::build_set-returns-in_err-kind-in-Set-clause-made t c = IfOk-from_err c.from_residual-in_err-kind-in-Set.result _ c.from_residual-in_err-kind-in-Set.ensures.0
+
+pub build_operators::build_set-returns-in_err-kind-in-Set-clause-kind : goal.build_operators::build_set-returns-in_err-kind-in-Set-clause-kind
+build_operators::build_set-returns-in_err-kind-in-Set-clause-kind t c = IfOk-from_err c.from_residual-in_err-kind-in-Set.result _ c.from_residual-in_err-kind-in-Set.ensures.0
+
+pub build_operators::build_set-returns-in_err-kind-in-Set-clause-locals : goal.build_operators::build_set-returns-in_err-kind-in-Set-clause-locals
+build_operators::build_set-returns-in_err-kind-in-Set-clause-locals t c = IfOk-from_err c.from_residual-in_err-kind-in-Set.result _ c.from_residual-in_err-kind-in-Set.ensures.0
+
+pub build_operators::build_set-returns-in_err-kind-in-Set-clause-routines : goal.build_operators::build_set-returns-in_err-kind-in-Set-clause-routines
+build_operators::build_set-returns-in_err-kind-in-Set-clause-routines t c = IfOk-from_err c.from_residual-in_err-kind-in-Set.result _ c.from_residual-in_err-kind-in-Set.ensures.0
+
+pub build_operators::build_set-returns-in_err-kind-in-Set-clause-local : goal.build_operators::build_set-returns-in_err-kind-in-Set-clause-local
+build_operators::build_set-returns-in_err-kind-in-Set-clause-local t c = IfOk-from_err c.from_residual-in_err-kind-in-Set.result _ c.from_residual-in_err-kind-in-Set.ensures.0
+
+pub build_operators::build_set-returns-in_err-kind-in-Set-clause-function : goal.build_operators::build_set-returns-in_err-kind-in-Set-clause-function
+build_operators::build_set-returns-in_err-kind-in-Set-clause-function t c = IfOk-from_err c.from_residual-in_err-kind-in-Set.result _ c.from_residual-in_err-kind-in-Set.ensures.0
+
+pub build_operators::build_set-returns-in_err-ty-in-Set-clause-made : goal.build_operators::build_set-returns-in_err-ty-in-Set-clause-made
+build_operators::build_set-returns-in_err-ty-in-Set-clause-made t c = IfOk-from_err c.from_residual-in_err-ty-in-Set.result _ c.from_residual-in_err-ty-in-Set.ensures.0
+
+pub build_operators::build_set-returns-in_err-ty-in-Set-clause-kind : goal.build_operators::build_set-returns-in_err-ty-in-Set-clause-kind
+build_operators::build_set-returns-in_err-ty-in-Set-clause-kind t c = IfOk-from_err c.from_residual-in_err-ty-in-Set.result _ c.from_residual-in_err-ty-in-Set.ensures.0
+
+pub build_operators::build_set-returns-in_err-ty-in-Set-clause-locals : goal.build_operators::build_set-returns-in_err-ty-in-Set-clause-locals
+build_operators::build_set-returns-in_err-ty-in-Set-clause-locals t c = IfOk-from_err c.from_residual-in_err-ty-in-Set.result _ c.from_residual-in_err-ty-in-Set.ensures.0
+
+pub build_operators::build_set-returns-in_err-ty-in-Set-clause-routines : goal.build_operators::build_set-returns-in_err-ty-in-Set-clause-routines
+build_operators::build_set-returns-in_err-ty-in-Set-clause-routines t c = IfOk-from_err c.from_residual-in_err-ty-in-Set.result _ c.from_residual-in_err-ty-in-Set.ensures.0
+
+pub build_operators::build_set-returns-in_err-ty-in-Set-clause-local : goal.build_operators::build_set-returns-in_err-ty-in-Set-clause-local
+build_operators::build_set-returns-in_err-ty-in-Set-clause-local t c = IfOk-from_err c.from_residual-in_err-ty-in-Set.result _ c.from_residual-in_err-ty-in-Set.ensures.0
+
+pub build_operators::build_set-returns-in_err-ty-in-Set-clause-function : goal.build_operators::build_set-returns-in_err-ty-in-Set-clause-function
+build_operators::build_set-returns-in_err-ty-in-Set-clause-function t c = IfOk-from_err c.from_residual-in_err-ty-in-Set.result _ c.from_residual-in_err-ty-in-Set.ensures.0
+
+pub build_operators::build_set-returns-in_err-x-in-Bump-clause-made : goal.build_operators::build_set-returns-in_err-x-in-Bump-clause-made
+build_operators::build_set-returns-in_err-x-in-Bump-clause-made t c = IfOk-from_err c.from_residual-in_err-x-in-Bump.result _ c.from_residual-in_err-x-in-Bump.ensures.0
+
+pub build_operators::build_set-returns-in_err-x-in-Bump-clause-kind : goal.build_operators::build_set-returns-in_err-x-in-Bump-clause-kind
+build_operators::build_set-returns-in_err-x-in-Bump-clause-kind t c = IfOk-from_err c.from_residual-in_err-x-in-Bump.result _ c.from_residual-in_err-x-in-Bump.ensures.0
+
+pub build_operators::build_set-returns-in_err-x-in-Bump-clause-locals : goal.build_operators::build_set-returns-in_err-x-in-Bump-clause-locals
+build_operators::build_set-returns-in_err-x-in-Bump-clause-locals t c = IfOk-from_err c.from_residual-in_err-x-in-Bump.result _ c.from_residual-in_err-x-in-Bump.ensures.0
+
+pub build_operators::build_set-returns-in_err-x-in-Bump-clause-routines : goal.build_operators::build_set-returns-in_err-x-in-Bump-clause-routines
+build_operators::build_set-returns-in_err-x-in-Bump-clause-routines t c = IfOk-from_err c.from_residual-in_err-x-in-Bump.result _ c.from_residual-in_err-x-in-Bump.ensures.0
+
+pub build_operators::build_set-returns-in_err-x-in-Bump-clause-local : goal.build_operators::build_set-returns-in_err-x-in-Bump-clause-local
+build_operators::build_set-returns-in_err-x-in-Bump-clause-local t c = IfOk-from_err c.from_residual-in_err-x-in-Bump.result _ c.from_residual-in_err-x-in-Bump.ensures.0
+
+pub build_operators::build_set-returns-in_err-x-in-Bump-clause-function : goal.build_operators::build_set-returns-in_err-x-in-Bump-clause-function
+build_operators::build_set-returns-in_err-x-in-Bump-clause-function t c = IfOk-from_err c.from_residual-in_err-x-in-Bump.result _ c.from_residual-in_err-x-in-Bump.ensures.0
+
+pub build_operators::build_set-returns-in_err-kind-in-Bump-clause-made : goal.build_operators::build_set-returns-in_err-kind-in-Bump-clause-made
+build_operators::build_set-returns-in_err-kind-in-Bump-clause-made t c = IfOk-from_err c.from_residual-in_err-kind-in-Bump.result _ c.from_residual-in_err-kind-in-Bump.ensures.0
+
+pub build_operators::build_set-returns-in_err-kind-in-Bump-clause-kind : goal.build_operators::build_set-returns-in_err-kind-in-Bump-clause-kind
+build_operators::build_set-returns-in_err-kind-in-Bump-clause-kind t c = IfOk-from_err c.from_residual-in_err-kind-in-Bump.result _ c.from_residual-in_err-kind-in-Bump.ensures.0
+
+pub build_operators::build_set-returns-in_err-kind-in-Bump-clause-locals : goal.build_operators::build_set-returns-in_err-kind-in-Bump-clause-locals
+build_operators::build_set-returns-in_err-kind-in-Bump-clause-locals t c = IfOk-from_err c.from_residual-in_err-kind-in-Bump.result _ c.from_residual-in_err-kind-in-Bump.ensures.0
+
+pub build_operators::build_set-returns-in_err-kind-in-Bump-clause-routines : goal.build_operators::build_set-returns-in_err-kind-in-Bump-clause-routines
+build_operators::build_set-returns-in_err-kind-in-Bump-clause-routines t c = IfOk-from_err c.from_residual-in_err-kind-in-Bump.result _ c.from_residual-in_err-kind-in-Bump.ensures.0
+
+pub build_operators::build_set-returns-in_err-kind-in-Bump-clause-local : goal.build_operators::build_set-returns-in_err-kind-in-Bump-clause-local
+build_operators::build_set-returns-in_err-kind-in-Bump-clause-local t c = IfOk-from_err c.from_residual-in_err-kind-in-Bump.result _ c.from_residual-in_err-kind-in-Bump.ensures.0
+
+pub build_operators::build_set-returns-in_err-kind-in-Bump-clause-function : goal.build_operators::build_set-returns-in_err-kind-in-Bump-clause-function
+build_operators::build_set-returns-in_err-kind-in-Bump-clause-function t c = IfOk-from_err c.from_residual-in_err-kind-in-Bump.result _ c.from_residual-in_err-kind-in-Bump.ensures.0
+
+pub build_members::build_member-returns-in_err-x-in-Member-clause-made : goal.build_members::build_member-returns-in_err-x-in-Member-clause-made
+build_members::build_member-returns-in_err-x-in-Member-clause-made t c = IfOk-from_err c.from_residual.result _ c.from_residual.ensures.0
+
+pub build_members::build_member-returns-in_err-x-in-Member-clause-kind : goal.build_members::build_member-returns-in_err-x-in-Member-clause-kind
+build_members::build_member-returns-in_err-x-in-Member-clause-kind t c = IfOk-from_err c.from_residual.result _ c.from_residual.ensures.0
+
+pub build_members::build_member-returns-in_err-x-in-Member-clause-locals : goal.build_members::build_member-returns-in_err-x-in-Member-clause-locals
+build_members::build_member-returns-in_err-x-in-Member-clause-locals t c = IfOk-from_err c.from_residual.result _ c.from_residual.ensures.0
+
+pub build_members::build_member-returns-in_err-x-in-Member-clause-routines : goal.build_members::build_member-returns-in_err-x-in-Member-clause-routines
+build_members::build_member-returns-in_err-x-in-Member-clause-routines t c = IfOk-from_err c.from_residual.result _ c.from_residual.ensures.0
+
+pub build_members::build_member-returns-in_err-x-in-Member-clause-local : goal.build_members::build_member-returns-in_err-x-in-Member-clause-local
+build_members::build_member-returns-in_err-x-in-Member-clause-local t c = IfOk-from_err c.from_residual.result _ c.from_residual.ensures.0
+
+pub build_members::build_member-returns-in_err-x-in-Member-clause-function : goal.build_members::build_member-returns-in_err-x-in-Member-clause-function
+build_members::build_member-returns-in_err-x-in-Member-clause-function t c = IfOk-from_err c.from_residual.result _ c.from_residual.ensures.0
+
+pub build_members::build_member-returns-in_err-ty-in-Member-clause-made : goal.build_members::build_member-returns-in_err-ty-in-Member-clause-made
+build_members::build_member-returns-in_err-ty-in-Member-clause-made t c = IfOk-from_err c.from_residual-in_err-ty-in-Member.result _ c.from_residual-in_err-ty-in-Member.ensures.0
+
+pub build_members::build_member-returns-in_err-ty-in-Member-clause-kind : goal.build_members::build_member-returns-in_err-ty-in-Member-clause-kind
+build_members::build_member-returns-in_err-ty-in-Member-clause-kind t c = IfOk-from_err c.from_residual-in_err-ty-in-Member.result _ c.from_residual-in_err-ty-in-Member.ensures.0
+
+pub build_members::build_member-returns-in_err-ty-in-Member-clause-locals : goal.build_members::build_member-returns-in_err-ty-in-Member-clause-locals
+build_members::build_member-returns-in_err-ty-in-Member-clause-locals t c = IfOk-from_err c.from_residual-in_err-ty-in-Member.result _ c.from_residual-in_err-ty-in-Member.ensures.0
+
+pub build_members::build_member-returns-in_err-ty-in-Member-clause-routines : goal.build_members::build_member-returns-in_err-ty-in-Member-clause-routines
+build_members::build_member-returns-in_err-ty-in-Member-clause-routines t c = IfOk-from_err c.from_residual-in_err-ty-in-Member.result _ c.from_residual-in_err-ty-in-Member.ensures.0
+
+pub build_members::build_member-returns-in_err-ty-in-Member-clause-local : goal.build_members::build_member-returns-in_err-ty-in-Member-clause-local
+build_members::build_member-returns-in_err-ty-in-Member-clause-local t c = IfOk-from_err c.from_residual-in_err-ty-in-Member.result _ c.from_residual-in_err-ty-in-Member.ensures.0
+
+pub build_members::build_member-returns-in_err-ty-in-Member-clause-function : goal.build_members::build_member-returns-in_err-ty-in-Member-clause-function
+build_members::build_member-returns-in_err-ty-in-Member-clause-function t c = IfOk-from_err c.from_residual-in_err-ty-in-Member.result _ c.from_residual-in_err-ty-in-Member.ensures.0
+
+pub build_members::build_member-returns-in_err-tree-in-Member-clause-made : goal.build_members::build_member-returns-in_err-tree-in-Member-clause-made
+build_members::build_member-returns-in_err-tree-in-Member-clause-made t c = IfOk-from_err c.from_residual-in_err-tree-in-Member.result _ c.from_residual-in_err-tree-in-Member.ensures.0
+
+pub build_members::build_member-returns-in_err-tree-in-Member-clause-kind : goal.build_members::build_member-returns-in_err-tree-in-Member-clause-kind
+build_members::build_member-returns-in_err-tree-in-Member-clause-kind t c = IfOk-from_err c.from_residual-in_err-tree-in-Member.result _ c.from_residual-in_err-tree-in-Member.ensures.0
+
+pub build_members::build_member-returns-in_err-tree-in-Member-clause-locals : goal.build_members::build_member-returns-in_err-tree-in-Member-clause-locals
+build_members::build_member-returns-in_err-tree-in-Member-clause-locals t c = IfOk-from_err c.from_residual-in_err-tree-in-Member.result _ c.from_residual-in_err-tree-in-Member.ensures.0
+
+pub build_members::build_member-returns-in_err-tree-in-Member-clause-routines : goal.build_members::build_member-returns-in_err-tree-in-Member-clause-routines
+build_members::build_member-returns-in_err-tree-in-Member-clause-routines t c = IfOk-from_err c.from_residual-in_err-tree-in-Member.result _ c.from_residual-in_err-tree-in-Member.ensures.0
+
+pub build_members::build_member-returns-in_err-tree-in-Member-clause-local : goal.build_members::build_member-returns-in_err-tree-in-Member-clause-local
+build_members::build_member-returns-in_err-tree-in-Member-clause-local t c = IfOk-from_err c.from_residual-in_err-tree-in-Member.result _ c.from_residual-in_err-tree-in-Member.ensures.0
+
+pub build_members::build_member-returns-in_err-tree-in-Member-clause-function : goal.build_members::build_member-returns-in_err-tree-in-Member-clause-function
+build_members::build_member-returns-in_err-tree-in-Member-clause-function t c = IfOk-from_err c.from_residual-in_err-tree-in-Member.result _ c.from_residual-in_err-tree-in-Member.ensures.0
+
+pub build_members::build_three-returns-in_err-test-in-Choice-clause-test : goal.build_members::build_three-returns-in_err-test-in-Choice-clause-test
+build_members::build_three-returns-in_err-test-in-Choice-clause-test t c = IfOk-from_err c.from_residual.result _ c.from_residual.ensures.0
+
+pub build_members::build_three-returns-in_err-test-in-Choice-clause-first : goal.build_members::build_three-returns-in_err-test-in-Choice-clause-first
+build_members::build_three-returns-in_err-test-in-Choice-clause-first t c = IfOk-from_err c.from_residual.result _ c.from_residual.ensures.0
+
+pub build_members::build_three-returns-in_err-test-in-Choice-clause-second : goal.build_members::build_three-returns-in_err-test-in-Choice-clause-second
+build_members::build_three-returns-in_err-test-in-Choice-clause-second t c = IfOk-from_err c.from_residual.result _ c.from_residual.ensures.0
+
+pub build_members::build_three-returns-in_err-test-in-Choice-clause-test_kind : goal.build_members::build_three-returns-in_err-test-in-Choice-clause-test_kind
+build_members::build_three-returns-in_err-test-in-Choice-clause-test_kind t c = IfOk-from_err c.from_residual.result _ c.from_residual.ensures.0
+
+pub build_members::build_three-returns-in_err-test-in-Choice-clause-first_kind : goal.build_members::build_three-returns-in_err-test-in-Choice-clause-first_kind
+build_members::build_three-returns-in_err-test-in-Choice-clause-first_kind t c = IfOk-from_err c.from_residual.result _ c.from_residual.ensures.0
+
+pub build_members::build_three-returns-in_err-test-in-Choice-clause-second_kind : goal.build_members::build_three-returns-in_err-test-in-Choice-clause-second_kind
+build_members::build_three-returns-in_err-test-in-Choice-clause-second_kind t c = IfOk-from_err c.from_residual.result _ c.from_residual.ensures.0
+
+pub build_members::build_three-returns-in_err-test-in-Choice-clause-locals : goal.build_members::build_three-returns-in_err-test-in-Choice-clause-locals
+build_members::build_three-returns-in_err-test-in-Choice-clause-locals t c = IfOk-from_err c.from_residual.result _ c.from_residual.ensures.0
+
+pub build_members::build_three-returns-in_err-test-in-Choice-clause-routines : goal.build_members::build_three-returns-in_err-test-in-Choice-clause-routines
+build_members::build_three-returns-in_err-test-in-Choice-clause-routines t c = IfOk-from_err c.from_residual.result _ c.from_residual.ensures.0
+
+pub build_members::build_three-returns-in_err-test-in-Choice-clause-local : goal.build_members::build_three-returns-in_err-test-in-Choice-clause-local
+build_members::build_three-returns-in_err-test-in-Choice-clause-local t c = IfOk-from_err c.from_residual.result _ c.from_residual.ensures.0
+
+pub build_members::build_three-returns-in_err-test-in-Choice-clause-function : goal.build_members::build_three-returns-in_err-test-in-Choice-clause-function
+build_members::build_three-returns-in_err-test-in-Choice-clause-function t c = IfOk-from_err c.from_residual.result _ c.from_residual.ensures.0
+
+pub build_members::build_three-returns-in_err-parts-in-Choice-clause-test : goal.build_members::build_three-returns-in_err-parts-in-Choice-clause-test
+build_members::build_three-returns-in_err-parts-in-Choice-clause-test t c = IfOk-from_err c.from_residual-in_err-parts-in-Choice.result _ c.from_residual-in_err-parts-in-Choice.ensures.0
+
+pub build_members::build_three-returns-in_err-parts-in-Choice-clause-first : goal.build_members::build_three-returns-in_err-parts-in-Choice-clause-first
+build_members::build_three-returns-in_err-parts-in-Choice-clause-first t c = IfOk-from_err c.from_residual-in_err-parts-in-Choice.result _ c.from_residual-in_err-parts-in-Choice.ensures.0
+
+pub build_members::build_three-returns-in_err-parts-in-Choice-clause-second : goal.build_members::build_three-returns-in_err-parts-in-Choice-clause-second
+build_members::build_three-returns-in_err-parts-in-Choice-clause-second t c = IfOk-from_err c.from_residual-in_err-parts-in-Choice.result _ c.from_residual-in_err-parts-in-Choice.ensures.0
+
+pub build_members::build_three-returns-in_err-parts-in-Choice-clause-test_kind : goal.build_members::build_three-returns-in_err-parts-in-Choice-clause-test_kind
+build_members::build_three-returns-in_err-parts-in-Choice-clause-test_kind t c = IfOk-from_err c.from_residual-in_err-parts-in-Choice.result _ c.from_residual-in_err-parts-in-Choice.ensures.0
+
+pub build_members::build_three-returns-in_err-parts-in-Choice-clause-first_kind : goal.build_members::build_three-returns-in_err-parts-in-Choice-clause-first_kind
+build_members::build_three-returns-in_err-parts-in-Choice-clause-first_kind t c = IfOk-from_err c.from_residual-in_err-parts-in-Choice.result _ c.from_residual-in_err-parts-in-Choice.ensures.0
+
+pub build_members::build_three-returns-in_err-parts-in-Choice-clause-second_kind : goal.build_members::build_three-returns-in_err-parts-in-Choice-clause-second_kind
+build_members::build_three-returns-in_err-parts-in-Choice-clause-second_kind t c = IfOk-from_err c.from_residual-in_err-parts-in-Choice.result _ c.from_residual-in_err-parts-in-Choice.ensures.0
+
+pub build_members::build_three-returns-in_err-parts-in-Choice-clause-locals : goal.build_members::build_three-returns-in_err-parts-in-Choice-clause-locals
+build_members::build_three-returns-in_err-parts-in-Choice-clause-locals t c = IfOk-from_err c.from_residual-in_err-parts-in-Choice.result _ c.from_residual-in_err-parts-in-Choice.ensures.0
+
+pub build_members::build_three-returns-in_err-parts-in-Choice-clause-routines : goal.build_members::build_three-returns-in_err-parts-in-Choice-clause-routines
+build_members::build_three-returns-in_err-parts-in-Choice-clause-routines t c = IfOk-from_err c.from_residual-in_err-parts-in-Choice.result _ c.from_residual-in_err-parts-in-Choice.ensures.0
+
+pub build_members::build_three-returns-in_err-parts-in-Choice-clause-local : goal.build_members::build_three-returns-in_err-parts-in-Choice-clause-local
+build_members::build_three-returns-in_err-parts-in-Choice-clause-local t c = IfOk-from_err c.from_residual-in_err-parts-in-Choice.result _ c.from_residual-in_err-parts-in-Choice.ensures.0
+
+pub build_members::build_three-returns-in_err-parts-in-Choice-clause-function : goal.build_members::build_three-returns-in_err-parts-in-Choice-clause-function
+build_members::build_three-returns-in_err-parts-in-Choice-clause-function t c = IfOk-from_err c.from_residual-in_err-parts-in-Choice.result _ c.from_residual-in_err-parts-in-Choice.ensures.0
+
+pub build_members::build_choice-returns-in_err-three-in-Choice-clause-made : goal.build_members::build_choice-returns-in_err-three-in-Choice-clause-made
+build_members::build_choice-returns-in_err-three-in-Choice-clause-made t c = IfOk-from_err c.from_residual.result _ c.from_residual.ensures.0
+
+pub build_members::build_choice-returns-in_err-three-in-Choice-clause-kind : goal.build_members::build_choice-returns-in_err-three-in-Choice-clause-kind
+build_members::build_choice-returns-in_err-three-in-Choice-clause-kind t c = IfOk-from_err c.from_residual.result _ c.from_residual.ensures.0
+
+pub build_members::build_choice-returns-in_err-three-in-Choice-clause-locals : goal.build_members::build_choice-returns-in_err-three-in-Choice-clause-locals
+build_members::build_choice-returns-in_err-three-in-Choice-clause-locals t c = IfOk-from_err c.from_residual.result _ c.from_residual.ensures.0
+
+pub build_members::build_choice-returns-in_err-three-in-Choice-clause-routines : goal.build_members::build_choice-returns-in_err-three-in-Choice-clause-routines
+build_members::build_choice-returns-in_err-three-in-Choice-clause-routines t c = IfOk-from_err c.from_residual.result _ c.from_residual.ensures.0
+
+pub build_members::build_choice-returns-in_err-three-in-Choice-clause-local : goal.build_members::build_choice-returns-in_err-three-in-Choice-clause-local
+build_members::build_choice-returns-in_err-three-in-Choice-clause-local t c = IfOk-from_err c.from_residual.result _ c.from_residual.ensures.0
+
+pub build_members::build_choice-returns-in_err-three-in-Choice-clause-function : goal.build_members::build_choice-returns-in_err-three-in-Choice-clause-function
+build_members::build_choice-returns-in_err-three-in-Choice-clause-function t c = IfOk-from_err c.from_residual.result _ c.from_residual.ensures.0
+
+pub build_members::build_choice-returns-in_err-ty-in-Choice-clause-made : goal.build_members::build_choice-returns-in_err-ty-in-Choice-clause-made
+build_members::build_choice-returns-in_err-ty-in-Choice-clause-made t c = IfOk-from_err c.from_residual-in_err-ty-in-Choice.result _ c.from_residual-in_err-ty-in-Choice.ensures.0
+
+pub build_members::build_choice-returns-in_err-ty-in-Choice-clause-kind : goal.build_members::build_choice-returns-in_err-ty-in-Choice-clause-kind
+build_members::build_choice-returns-in_err-ty-in-Choice-clause-kind t c = IfOk-from_err c.from_residual-in_err-ty-in-Choice.result _ c.from_residual-in_err-ty-in-Choice.ensures.0
+
+pub build_members::build_choice-returns-in_err-ty-in-Choice-clause-locals : goal.build_members::build_choice-returns-in_err-ty-in-Choice-clause-locals
+build_members::build_choice-returns-in_err-ty-in-Choice-clause-locals t c = IfOk-from_err c.from_residual-in_err-ty-in-Choice.result _ c.from_residual-in_err-ty-in-Choice.ensures.0
+
+pub build_members::build_choice-returns-in_err-ty-in-Choice-clause-routines : goal.build_members::build_choice-returns-in_err-ty-in-Choice-clause-routines
+build_members::build_choice-returns-in_err-ty-in-Choice-clause-routines t c = IfOk-from_err c.from_residual-in_err-ty-in-Choice.result _ c.from_residual-in_err-ty-in-Choice.ensures.0
+
+pub build_members::build_choice-returns-in_err-ty-in-Choice-clause-local : goal.build_members::build_choice-returns-in_err-ty-in-Choice-clause-local
+build_members::build_choice-returns-in_err-ty-in-Choice-clause-local t c = IfOk-from_err c.from_residual-in_err-ty-in-Choice.result _ c.from_residual-in_err-ty-in-Choice.ensures.0
+
+pub build_members::build_choice-returns-in_err-ty-in-Choice-clause-function : goal.build_members::build_choice-returns-in_err-ty-in-Choice-clause-function
+build_members::build_choice-returns-in_err-ty-in-Choice-clause-function t c = IfOk-from_err c.from_residual-in_err-ty-in-Choice.result _ c.from_residual-in_err-ty-in-Choice.ensures.0
+
+pub build_locals::build_value-returns-in_err-e-in-Some : goal.build_locals::build_value-returns-in_err-e-in-Some
+build_locals::build_value-returns-in_err-e-in-Some t c = IfOk-from_err c.from_residual.result _ c.from_residual.ensures.0
+
+pub build_locals::build_initial-returns-in_err-written-clause-built : goal.build_locals::build_initial-returns-in_err-written-clause-built
+build_locals::build_initial-returns-in_err-written-clause-built t c = IfOk-from_err c.from_residual.result _ c.from_residual.ensures.0
+
+pub build_locals::build_initial-returns-in_err-written-clause-kind : goal.build_locals::build_initial-returns-in_err-written-clause-kind
+build_locals::build_initial-returns-in_err-written-clause-kind t c = IfOk-from_err c.from_residual.result _ c.from_residual.ensures.0
+
+pub build_locals::build_initial-returns-in_err-noted-in-Some-clause-built : goal.build_locals::build_initial-returns-in_err-noted-in-Some-clause-built
+build_locals::build_initial-returns-in_err-noted-in-Some-clause-built t c = IfOk-from_err c.from_residual-in_err-noted-in-Some.result _ c.from_residual-in_err-noted-in-Some.ensures.0
+
+pub build_locals::build_initial-returns-in_err-noted-in-Some-clause-kind : goal.build_locals::build_initial-returns-in_err-noted-in-Some-clause-kind
+build_locals::build_initial-returns-in_err-noted-in-Some-clause-kind t c = IfOk-from_err c.from_residual-in_err-noted-in-Some.result _ c.from_residual-in_err-noted-in-Some.ensures.0
+
+pub build_locals::build_local-returns-in_err-initial-clause-built : goal.build_locals::build_local-returns-in_err-initial-clause-built
+build_locals::build_local-returns-in_err-initial-clause-built t c = IfOk-from_err c.from_residual.result _ c.from_residual.ensures.0
+
+pub build_locals::build_local-returns-in_err-initial-clause-site : goal.build_locals::build_local-returns-in_err-initial-clause-site
+build_locals::build_local-returns-in_err-initial-clause-site t c = IfOk-from_err c.from_residual.result _ c.from_residual.ensures.0
+
+pub build_locals::build_local-returns-in_err-first-clause-built : goal.build_locals::build_local-returns-in_err-first-clause-built
+build_locals::build_local-returns-in_err-first-clause-built t c = IfOk-from_err c.from_residual-in_err-first.result _ c.from_residual-in_err-first.ensures.0
+
+pub build_locals::build_local-returns-in_err-first-clause-site : goal.build_locals::build_local-returns-in_err-first-clause-site
+build_locals::build_local-returns-in_err-first-clause-site t c = IfOk-from_err c.from_residual-in_err-first.result _ c.from_residual-in_err-first.ensures.0
+
+pub build_locals::build_local-returns-in_err-first-2-clause-built : goal.build_locals::build_local-returns-in_err-first-2-clause-built
+build_locals::build_local-returns-in_err-first-2-clause-built t c = IfOk-from_err c.from_residual-in_err-first-2.result _ c.from_residual-in_err-first-2.ensures.0
+
+pub build_locals::build_local-returns-in_err-first-2-clause-site : goal.build_locals::build_local-returns-in_err-first-2-clause-site
+build_locals::build_local-returns-in_err-first-2-clause-site t c = IfOk-from_err c.from_residual-in_err-first-2.result _ c.from_residual-in_err-first-2.ensures.0
+
+pub build_locals::build_locals-returns-in_err-a-clause-built : goal.build_locals::build_locals-returns-in_err-a-clause-built
+build_locals::build_locals-returns-in_err-a-clause-built t c = IfOk-from_err c.from_residual.result _ c.from_residual.ensures.0
+
+pub build_locals::build_locals-returns-in_err-a-clause-site : goal.build_locals::build_locals-returns-in_err-a-clause-site
+build_locals::build_locals-returns-in_err-a-clause-site t c = IfOk-from_err c.from_residual.result _ c.from_residual.ensures.0
+
+pub build_locals::build_locals-returns-in_err-push-clause-built : goal.build_locals::build_locals-returns-in_err-push-clause-built
+build_locals::build_locals-returns-in_err-push-clause-built t c = IfOk-from_err c.from_residual-in_err-push.result _ c.from_residual-in_err-push.ensures.0
+
+pub build_locals::build_locals-returns-in_err-push-clause-site : goal.build_locals::build_locals-returns-in_err-push-clause-site
+build_locals::build_locals-returns-in_err-push-clause-site t c = IfOk-from_err c.from_residual-in_err-push.result _ c.from_residual-in_err-push.ensures.0
+
+pub build_routines::build_inner-returns-in_err-one_more-clause-own : goal.build_routines::build_inner-returns-in_err-one_more-clause-own
+build_routines::build_inner-returns-in_err-one_more-clause-own t c = IfOk-from_err c.from_residual.result _ c.from_residual.ensures.0
+
+pub build_routines::build_inner-returns-in_err-one_more-clause-inner : goal.build_routines::build_inner-returns-in_err-one_more-clause-inner
+build_routines::build_inner-returns-in_err-one_more-clause-inner t c = IfOk-from_err c.from_residual.result _ c.from_residual.ensures.0
+
+pub build_routines::build_inner-returns-in_err-one_more-clause-behind : goal.build_routines::build_inner-returns-in_err-one_more-clause-behind
+build_routines::build_inner-returns-in_err-one_more-clause-behind t c = IfOk-from_err c.from_residual.result _ c.from_residual.ensures.0
+
+pub build_routines::build_inner-returns-in_err-stmts-clause-own : goal.build_routines::build_inner-returns-in_err-stmts-clause-own
+build_routines::build_inner-returns-in_err-stmts-clause-own t c = IfOk-from_err c.from_residual-in_err-stmts.result _ c.from_residual-in_err-stmts.ensures.0
+
+pub build_routines::build_inner-returns-in_err-stmts-clause-inner : goal.build_routines::build_inner-returns-in_err-stmts-clause-inner
+build_routines::build_inner-returns-in_err-stmts-clause-inner t c = IfOk-from_err c.from_residual-in_err-stmts.result _ c.from_residual-in_err-stmts.ensures.0
+
+pub build_routines::build_inner-returns-in_err-stmts-clause-behind : goal.build_routines::build_inner-returns-in_err-stmts-clause-behind
+build_routines::build_inner-returns-in_err-stmts-clause-behind t c = IfOk-from_err c.from_residual-in_err-stmts.result _ c.from_residual-in_err-stmts.ensures.0
+
+pub build_routines::build_handler-returns-in_err-inner-in-Handler-clause-made : goal.build_routines::build_handler-returns-in_err-inner-in-Handler-clause-made
+build_routines::build_handler-returns-in_err-inner-in-Handler-clause-made t c = IfOk-from_err c.from_residual.result _ c.from_residual.ensures.0
+
+pub build_routines::build_handler-returns-in_err-inner-in-Handler-clause-kind : goal.build_routines::build_handler-returns-in_err-inner-in-Handler-clause-kind
+build_routines::build_handler-returns-in_err-inner-in-Handler-clause-kind t c = IfOk-from_err c.from_residual.result _ c.from_residual.ensures.0
+
+pub build_routines::build_handler-returns-in_err-inner-in-Handler-clause-locals : goal.build_routines::build_handler-returns-in_err-inner-in-Handler-clause-locals
+build_routines::build_handler-returns-in_err-inner-in-Handler-clause-locals t c = IfOk-from_err c.from_residual.result _ c.from_residual.ensures.0
+
+pub build_routines::build_handler-returns-in_err-inner-in-Handler-clause-routines : goal.build_routines::build_handler-returns-in_err-inner-in-Handler-clause-routines
+build_routines::build_handler-returns-in_err-inner-in-Handler-clause-routines t c = IfOk-from_err c.from_residual.result _ c.from_residual.ensures.0
+
+pub build_routines::build_handler-returns-in_err-inner-in-Handler-clause-local : goal.build_routines::build_handler-returns-in_err-inner-in-Handler-clause-local
+build_routines::build_handler-returns-in_err-inner-in-Handler-clause-local t c = IfOk-from_err c.from_residual.result _ c.from_residual.ensures.0
+
+pub build_routines::build_handler-returns-in_err-inner-in-Handler-clause-function : goal.build_routines::build_handler-returns-in_err-inner-in-Handler-clause-function
+build_routines::build_handler-returns-in_err-inner-in-Handler-clause-function t c = IfOk-from_err c.from_residual.result _ c.from_residual.ensures.0
+
+pub build_routines::build_handler-returns-in_err-add-in-Handler-clause-made : goal.build_routines::build_handler-returns-in_err-add-in-Handler-clause-made
+build_routines::build_handler-returns-in_err-add-in-Handler-clause-made t c = IfOk-from_err c.from_residual-in_err-add-in-Handler.result _ c.from_residual-in_err-add-in-Handler.ensures.0
+
+pub build_routines::build_handler-returns-in_err-add-in-Handler-clause-kind : goal.build_routines::build_handler-returns-in_err-add-in-Handler-clause-kind
+build_routines::build_handler-returns-in_err-add-in-Handler-clause-kind t c = IfOk-from_err c.from_residual-in_err-add-in-Handler.result _ c.from_residual-in_err-add-in-Handler.ensures.0
+
+pub build_routines::build_handler-returns-in_err-add-in-Handler-clause-locals : goal.build_routines::build_handler-returns-in_err-add-in-Handler-clause-locals
+build_routines::build_handler-returns-in_err-add-in-Handler-clause-locals t c = IfOk-from_err c.from_residual-in_err-add-in-Handler.result _ c.from_residual-in_err-add-in-Handler.ensures.0
+
+pub build_routines::build_handler-returns-in_err-add-in-Handler-clause-routines : goal.build_routines::build_handler-returns-in_err-add-in-Handler-clause-routines
+build_routines::build_handler-returns-in_err-add-in-Handler-clause-routines t c = IfOk-from_err c.from_residual-in_err-add-in-Handler.result _ c.from_residual-in_err-add-in-Handler.ensures.0
+
+pub build_routines::build_handler-returns-in_err-add-in-Handler-clause-local : goal.build_routines::build_handler-returns-in_err-add-in-Handler-clause-local
+build_routines::build_handler-returns-in_err-add-in-Handler-clause-local t c = IfOk-from_err c.from_residual-in_err-add-in-Handler.result _ c.from_residual-in_err-add-in-Handler.ensures.0
+
+pub build_routines::build_handler-returns-in_err-add-in-Handler-clause-function : goal.build_routines::build_handler-returns-in_err-add-in-Handler-clause-function
+build_routines::build_handler-returns-in_err-add-in-Handler-clause-function t c = IfOk-from_err c.from_residual-in_err-add-in-Handler.result _ c.from_residual-in_err-add-in-Handler.ensures.0

@@ -19,6 +19,8 @@ use Rattle.type_derive.specs.Naming.{naming}
 use Rattle.type_check.specs.Contexts.{fault, seen_of, taken, handler_fault, statement_fault, statements_fault, declarations_fault, all_declared, after}
 use Rattle.type_check.proofs.Found.{part_kind, part_fault, found_one, found_two, found_three, trees_first, args_step, args_kept, kinds_more, untyped, member_board, member_found, call_found, call_typed, make_found, make_typed, super_found, super_typed, items_found, items_typed}
 use Rattle.type_check.proofs.Steps.{return_is, statements_kept, extends_after, for_is, for_of_step, returned_step, returned_found, first_extends}
+use Rattle.std.proofs.lemmas.Result.{IfOk-from_err}
+use Rattle.type_check.proofs.Handed.{first_part, second_part, third_part}
 use Rattle.type_check.proofs.fault.+walk.Goals as goal
 
 pub operation-returns-in_ok-u-in-Binary-clause-found : goal.operation-returns-in_ok-u-in-Binary-clause-found
@@ -478,3 +480,576 @@ statement-returns-in-Some-clause-found t c =
     let z = c.args.context.now in
     let p = place c.args.scope.now in
     subst (λ x. Finds c.returned.result (statement_fault z p x)) (sym (return_is c.args.s.now c.in-Return.value _ c.in-Return.is c.in-Some.is)) c.returned.ensures
+
+pub operation-returns-in_err-s-in-Unary-clause-seen : goal.operation-returns-in_err-s-in-Unary-clause-seen
+operation-returns-in_err-s-in-Unary-clause-seen t c = IfOk-from_err c.from_residual.result _ c.from_residual.ensures.0
+
+pub operation-returns-in_err-s-in-Unary-clause-found : goal.operation-returns-in_err-s-in-Unary-clause-found
+operation-returns-in_err-s-in-Unary-clause-found t c =
+    let z = c.args.context.now in
+    let p = place c.args.scope.now in
+    first_part z p c.from_residual.result c.in_err-s-in-Unary.field-0.0 _ _ Free c.deref.result.now c.in-Unary.a.value c.from_residual.ensures
+    c.in_err-s-in-Unary.ensures.found c.deref.ensures (ap (fault z p c.args.role) (ap (node_tree c.args.e.now.at) c.in-Unary.is))
+
+pub operation-returns-in_err-s-in-Binary-clause-seen : goal.operation-returns-in_err-s-in-Binary-clause-seen
+operation-returns-in_err-s-in-Binary-clause-seen t c = IfOk-from_err c.from_residual-in_err-s-in-Binary.result _ c.from_residual-in_err-s-in-Binary.ensures.0
+
+pub operation-returns-in_err-s-in-Binary-clause-found : goal.operation-returns-in_err-s-in-Binary-clause-found
+operation-returns-in_err-s-in-Binary-clause-found t c =
+    let z = c.args.context.now in
+    let p = place c.args.scope.now in
+    first_part z p c.from_residual-in_err-s-in-Binary.result c.in_err-s-in-Binary.field-0.0 _ _ Free c.deref-in-Binary.result.now c.in-Binary.a.value c.from_residual-in_err-s-in-Binary.ensures
+    c.in_err-s-in-Binary.ensures.found c.deref-in-Binary.ensures (ap (fault z p c.args.role) (ap (node_tree c.args.e.now.at) c.in-Binary.is))
+
+pub operation-returns-in_err-u-in-Binary-clause-seen : goal.operation-returns-in_err-u-in-Binary-clause-seen
+operation-returns-in_err-u-in-Binary-clause-seen t c = IfOk-from_err c.from_residual-in_err-u-in-Binary.result _ c.from_residual-in_err-u-in-Binary.ensures.0
+
+pub operation-returns-in_err-u-in-Binary-clause-found : goal.operation-returns-in_err-u-in-Binary-clause-found
+operation-returns-in_err-u-in-Binary-clause-found t c =
+    let z = c.args.context.now in
+    let p = place c.args.scope.now in
+    second_part z p c.from_residual-in_err-u-in-Binary.result c.in_err-u-in-Binary.field-0.0 _ _ _ Free c.deref-in-Binary-2.result.now c.in-Binary.b.value c.from_residual-in_err-u-in-Binary.ensures
+    (part_fault z p Free c.deref-in-Binary.result.now c.in-Binary.a.value c.in_ok-s-in-Binary.ensures.found c.deref-in-Binary.ensures) c.in_err-u-in-Binary.ensures.found c.deref-in-Binary-2.ensures (ap (fault z p c.args.role) (ap (node_tree c.args.e.now.at) c.in-Binary.is))
+
+pub operation-returns-in_err-s-in-Both-clause-seen : goal.operation-returns-in_err-s-in-Both-clause-seen
+operation-returns-in_err-s-in-Both-clause-seen t c = IfOk-from_err c.from_residual-in_err-s-in-Both.result _ c.from_residual-in_err-s-in-Both.ensures.0
+
+pub operation-returns-in_err-s-in-Both-clause-found : goal.operation-returns-in_err-s-in-Both-clause-found
+operation-returns-in_err-s-in-Both-clause-found t c =
+    let z = c.args.context.now in
+    let p = place c.args.scope.now in
+    first_part z p c.from_residual-in_err-s-in-Both.result c.in_err-s-in-Both.field-0.0 _ _ Free c.deref-in-Both.result.now c.in-Both.a.value c.from_residual-in_err-s-in-Both.ensures
+    c.in_err-s-in-Both.ensures.found c.deref-in-Both.ensures (ap (fault z p c.args.role) (ap (node_tree c.args.e.now.at) c.in-Both.is))
+
+pub operation-returns-in_err-u-in-Both-clause-seen : goal.operation-returns-in_err-u-in-Both-clause-seen
+operation-returns-in_err-u-in-Both-clause-seen t c = IfOk-from_err c.from_residual-in_err-u-in-Both.result _ c.from_residual-in_err-u-in-Both.ensures.0
+
+pub operation-returns-in_err-u-in-Both-clause-found : goal.operation-returns-in_err-u-in-Both-clause-found
+operation-returns-in_err-u-in-Both-clause-found t c =
+    let z = c.args.context.now in
+    let p = place c.args.scope.now in
+    second_part z p c.from_residual-in_err-u-in-Both.result c.in_err-u-in-Both.field-0.0 _ _ _ Free c.deref-in-Both-2.result.now c.in-Both.b.value c.from_residual-in_err-u-in-Both.ensures
+    (part_fault z p Free c.deref-in-Both.result.now c.in-Both.a.value c.in_ok-s-in-Both.ensures.found c.deref-in-Both.ensures) c.in_err-u-in-Both.ensures.found c.deref-in-Both-2.ensures (ap (fault z p c.args.role) (ap (node_tree c.args.e.now.at) c.in-Both.is))
+
+pub operation-returns-in_err-s-in-Either-clause-seen : goal.operation-returns-in_err-s-in-Either-clause-seen
+operation-returns-in_err-s-in-Either-clause-seen t c = IfOk-from_err c.from_residual-in_err-s-in-Either.result _ c.from_residual-in_err-s-in-Either.ensures.0
+
+pub operation-returns-in_err-s-in-Either-clause-found : goal.operation-returns-in_err-s-in-Either-clause-found
+operation-returns-in_err-s-in-Either-clause-found t c =
+    let z = c.args.context.now in
+    let p = place c.args.scope.now in
+    first_part z p c.from_residual-in_err-s-in-Either.result c.in_err-s-in-Either.field-0.0 _ _ Free c.deref-in-Either.result.now c.in-Either.a.value c.from_residual-in_err-s-in-Either.ensures
+    c.in_err-s-in-Either.ensures.found c.deref-in-Either.ensures (ap (fault z p c.args.role) (ap (node_tree c.args.e.now.at) c.in-Either.is))
+
+pub operation-returns-in_err-u-in-Either-clause-seen : goal.operation-returns-in_err-u-in-Either-clause-seen
+operation-returns-in_err-u-in-Either-clause-seen t c = IfOk-from_err c.from_residual-in_err-u-in-Either.result _ c.from_residual-in_err-u-in-Either.ensures.0
+
+pub operation-returns-in_err-u-in-Either-clause-found : goal.operation-returns-in_err-u-in-Either-clause-found
+operation-returns-in_err-u-in-Either-clause-found t c =
+    let z = c.args.context.now in
+    let p = place c.args.scope.now in
+    second_part z p c.from_residual-in_err-u-in-Either.result c.in_err-u-in-Either.field-0.0 _ _ _ Free c.deref-in-Either-2.result.now c.in-Either.b.value c.from_residual-in_err-u-in-Either.ensures
+    (part_fault z p Free c.deref-in-Either.result.now c.in-Either.a.value c.in_ok-s-in-Either.ensures.found c.deref-in-Either.ensures) c.in_err-u-in-Either.ensures.found c.deref-in-Either-2.ensures (ap (fault z p c.args.role) (ap (node_tree c.args.e.now.at) c.in-Either.is))
+
+pub operation-returns-in_err-s-in-Item-clause-seen : goal.operation-returns-in_err-s-in-Item-clause-seen
+operation-returns-in_err-s-in-Item-clause-seen t c = IfOk-from_err c.from_residual-in_err-s-in-Item.result _ c.from_residual-in_err-s-in-Item.ensures.0
+
+pub operation-returns-in_err-s-in-Item-clause-found : goal.operation-returns-in_err-s-in-Item-clause-found
+operation-returns-in_err-s-in-Item-clause-found t c =
+    let z = c.args.context.now in
+    let p = place c.args.scope.now in
+    first_part z p c.from_residual-in_err-s-in-Item.result c.in_err-s-in-Item.field-0.0 _ _ Free c.deref-in-Item.result.now c.in-Item.a.value c.from_residual-in_err-s-in-Item.ensures
+    c.in_err-s-in-Item.ensures.found c.deref-in-Item.ensures (ap (fault z p c.args.role) (ap (node_tree c.args.e.now.at) c.in-Item.is))
+
+pub operation-returns-in_err-u-in-Item-clause-seen : goal.operation-returns-in_err-u-in-Item-clause-seen
+operation-returns-in_err-u-in-Item-clause-seen t c = IfOk-from_err c.from_residual-in_err-u-in-Item.result _ c.from_residual-in_err-u-in-Item.ensures.0
+
+pub operation-returns-in_err-u-in-Item-clause-found : goal.operation-returns-in_err-u-in-Item-clause-found
+operation-returns-in_err-u-in-Item-clause-found t c =
+    let z = c.args.context.now in
+    let p = place c.args.scope.now in
+    second_part z p c.from_residual-in_err-u-in-Item.result c.in_err-u-in-Item.field-0.0 _ _ _ Free c.deref-in-Item-2.result.now c.in-Item.i.value c.from_residual-in_err-u-in-Item.ensures
+    (part_fault z p Free c.deref-in-Item.result.now c.in-Item.a.value c.in_ok-s-in-Item.ensures.found c.deref-in-Item.ensures) c.in_err-u-in-Item.ensures.found c.deref-in-Item-2.ensures (ap (fault z p c.args.role) (ap (node_tree c.args.e.now.at) c.in-Item.is))
+
+pub choice-returns-in_err-v-in-Choice-clause-seen : goal.choice-returns-in_err-v-in-Choice-clause-seen
+choice-returns-in_err-v-in-Choice-clause-seen t c = IfOk-from_err c.from_residual.result _ c.from_residual.ensures.0
+
+pub choice-returns-in_err-v-in-Choice-clause-found : goal.choice-returns-in_err-v-in-Choice-clause-found
+choice-returns-in_err-v-in-Choice-clause-found t c =
+    let z = c.args.context.now in
+    let p = place c.args.scope.now in
+    first_part z p c.from_residual.result c.in_err-v-in-Choice.field-0.0 _ _ Free c.deref.result.now c.in-Choice.q.value c.from_residual.ensures
+    c.in_err-v-in-Choice.ensures.found c.deref.ensures (ap (fault z p c.args.role) (ap (node_tree c.args.e.now.at) c.in-Choice.is))
+
+pub choice-returns-in_err-s-in-Choice-clause-seen : goal.choice-returns-in_err-s-in-Choice-clause-seen
+choice-returns-in_err-s-in-Choice-clause-seen t c = IfOk-from_err c.from_residual-in_err-s-in-Choice.result _ c.from_residual-in_err-s-in-Choice.ensures.0
+
+pub choice-returns-in_err-s-in-Choice-clause-found : goal.choice-returns-in_err-s-in-Choice-clause-found
+choice-returns-in_err-s-in-Choice-clause-found t c =
+    let z = c.args.context.now in
+    let p = place c.args.scope.now in
+    second_part z p c.from_residual-in_err-s-in-Choice.result c.in_err-s-in-Choice.field-0.0 _ _ _ Free c.deref-in-Choice.result.now c.in-Choice.a.value c.from_residual-in_err-s-in-Choice.ensures
+    (part_fault z p Free c.deref.result.now c.in-Choice.q.value c.in_ok-v-in-Choice.ensures.found c.deref.ensures) c.in_err-s-in-Choice.ensures.found c.deref-in-Choice.ensures (ap (fault z p c.args.role) (ap (node_tree c.args.e.now.at) c.in-Choice.is))
+
+pub choice-returns-in_err-u-in-Choice-clause-seen : goal.choice-returns-in_err-u-in-Choice-clause-seen
+choice-returns-in_err-u-in-Choice-clause-seen t c = IfOk-from_err c.from_residual-in_err-u-in-Choice.result _ c.from_residual-in_err-u-in-Choice.ensures.0
+
+pub choice-returns-in_err-u-in-Choice-clause-found : goal.choice-returns-in_err-u-in-Choice-clause-found
+choice-returns-in_err-u-in-Choice-clause-found t c =
+    let z = c.args.context.now in
+    let p = place c.args.scope.now in
+    third_part z p c.from_residual-in_err-u-in-Choice.result c.in_err-u-in-Choice.field-0.0 _ _ _ _ Free c.deref-in-Choice-2.result.now c.in-Choice.b.value c.from_residual-in_err-u-in-Choice.ensures
+    (part_fault z p Free c.deref.result.now c.in-Choice.q.value c.in_ok-v-in-Choice.ensures.found c.deref.ensures) (part_fault z p Free c.deref-in-Choice.result.now c.in-Choice.a.value c.in_ok-s-in-Choice.ensures.found c.deref-in-Choice.ensures) c.in_err-u-in-Choice.ensures.found c.deref-in-Choice-2.ensures (ap (fault z p c.args.role) (ap (node_tree c.args.e.now.at) c.in-Choice.is))
+
+pub setting-returns-in_err-u-in-Set-clause-seen : goal.setting-returns-in_err-u-in-Set-clause-seen
+setting-returns-in_err-u-in-Set-clause-seen t c = IfOk-from_err c.from_residual.result _ c.from_residual.ensures.0
+
+pub setting-returns-in_err-u-in-Set-clause-found : goal.setting-returns-in_err-u-in-Set-clause-found
+setting-returns-in_err-u-in-Set-clause-found t c =
+    let z = c.args.context.now in
+    let p = place c.args.scope.now in
+    first_part z p c.from_residual.result c.in_err-u-in-Set.field-0.0 _ _ Free c.deref.result.now c.in-Set.x.value c.from_residual.ensures
+    c.in_err-u-in-Set.ensures.found c.deref.ensures (ap (fault z p c.args.role) (ap (node_tree c.args.e.now.at) c.in-Set.is))
+
+pub setting-returns-in_err-s-in-Set-clause-seen : goal.setting-returns-in_err-s-in-Set-clause-seen
+setting-returns-in_err-s-in-Set-clause-seen t c = IfOk-from_err c.from_residual-in_err-s-in-Set.result _ c.from_residual-in_err-s-in-Set.ensures.0
+
+pub setting-returns-in_err-s-in-Set-clause-found : goal.setting-returns-in_err-s-in-Set-clause-found
+setting-returns-in_err-s-in-Set-clause-found t c =
+    let z = c.args.context.now in
+    let p = place c.args.scope.now in
+    second_part z p c.from_residual-in_err-s-in-Set.result c.in_err-s-in-Set.field-0.0 _ _ _ Given c.deref-in-Set.result.now c.in-Set.a.value c.from_residual-in_err-s-in-Set.ensures
+    (part_fault z p Free c.deref.result.now c.in-Set.x.value c.in_ok-u-in-Set.ensures.found c.deref.ensures) c.in_err-s-in-Set.ensures.found c.deref-in-Set.ensures (ap (fault z p c.args.role) (ap (node_tree c.args.e.now.at) c.in-Set.is))
+
+pub bumping-returns-in_err-u-in-Bump-clause-seen : goal.bumping-returns-in_err-u-in-Bump-clause-seen
+bumping-returns-in_err-u-in-Bump-clause-seen t c = IfOk-from_err c.from_residual.result _ c.from_residual.ensures.0
+
+pub bumping-returns-in_err-u-in-Bump-clause-found : goal.bumping-returns-in_err-u-in-Bump-clause-found
+bumping-returns-in_err-u-in-Bump-clause-found t c =
+    let z = c.args.context.now in
+    let p = place c.args.scope.now in
+    first_part z p c.from_residual.result c.in_err-u-in-Bump.field-0.0 _ _ Free c.deref.result.now c.in-Bump.target.value c.from_residual.ensures
+    c.in_err-u-in-Bump.ensures.found c.deref.ensures (ap (fault z p c.args.role) (ap (node_tree c.args.e.now.at) c.in-Bump.is))
+
+pub member-returns-in_err-unless-in-Member-clause-seen : goal.member-returns-in_err-unless-in-Member-clause-seen
+member-returns-in_err-unless-in-Member-clause-seen t c = IfOk-from_err c.from_residual.result _ c.from_residual.ensures.0
+
+pub member-returns-in_err-s-in-Member-clause-seen : goal.member-returns-in_err-s-in-Member-clause-seen
+member-returns-in_err-s-in-Member-clause-seen t c = IfOk-from_err c.from_residual-in_err-s-in-Member.result _ c.from_residual-in_err-s-in-Member.ensures.0
+
+pub serving-returns-in_err-handler-in-Handler-clause-seen : goal.serving-returns-in_err-handler-in-Handler-clause-seen
+serving-returns-in_err-handler-in-Handler-clause-seen t c = IfOk-from_err c.from_residual.result _ c.from_residual.ensures.0
+
+pub serving-returns-in_err-unless-in-Handler-clause-seen : goal.serving-returns-in_err-unless-in-Handler-clause-seen
+serving-returns-in_err-unless-in-Handler-clause-seen t c = IfOk-from_err c.from_residual-in_err-unless-in-Handler.result _ c.from_residual-in_err-unless-in-Handler.ensures.0
+
+pub kinds_of-returns-in_err-s-clause-kinds : goal.kinds_of-returns-in_err-s-clause-kinds
+kinds_of-returns-in_err-s-clause-kinds t c = IfOk-from_err c.from_residual.result _ c.from_residual.ensures.0
+
+pub kinds_of-returns-in_err-add-clause-kinds : goal.kinds_of-returns-in_err-add-clause-kinds
+kinds_of-returns-in_err-add-clause-kinds t c = IfOk-from_err c.from_residual-in_err-add.result _ c.from_residual-in_err-add.ensures.0
+
+pub items-returns-in_err-s-in-len1-up-clause-seen : goal.items-returns-in_err-s-in-len1-up-clause-seen
+items-returns-in_err-s-in-len1-up-clause-seen t c = IfOk-from_err c.from_residual.result _ c.from_residual.ensures.0
+
+pub items-returns-in_err-kinds-in-len1-up-clause-seen : goal.items-returns-in_err-kinds-in-len1-up-clause-seen
+items-returns-in_err-kinds-in-len1-up-clause-seen t c = IfOk-from_err c.from_residual-in_err-kinds-in-len1-up.result _ c.from_residual-in_err-kinds-in-len1-up.ensures.0
+
+pub call-returns-in_err-kinds-in-Some-clause-seen : goal.call-returns-in_err-kinds-in-Some-clause-seen
+call-returns-in_err-kinds-in-Some-clause-seen t c = IfOk-from_err c.from_residual.result _ c.from_residual.ensures.0
+
+pub call-returns-in_err-s-in-None-clause-seen : goal.call-returns-in_err-s-in-None-clause-seen
+call-returns-in_err-s-in-None-clause-seen t c = IfOk-from_err c.from_residual-in_err-s-in-None.result _ c.from_residual-in_err-s-in-None.ensures.0
+
+pub call-returns-in_err-kinds-in-None-clause-seen : goal.call-returns-in_err-kinds-in-None-clause-seen
+call-returns-in_err-kinds-in-None-clause-seen t c = IfOk-from_err c.from_residual-in_err-kinds-in-None.result _ c.from_residual-in_err-kinds-in-None.ensures.0
+
+pub super_call-returns-in_err-kinds-clause-seen : goal.super_call-returns-in_err-kinds-clause-seen
+super_call-returns-in_err-kinds-clause-seen t c = IfOk-from_err c.from_residual.result _ c.from_residual.ensures.0
+
+pub make-returns-in_err-kinds-clause-seen : goal.make-returns-in_err-kinds-clause-seen
+make-returns-in_err-kinds-clause-seen t c = IfOk-from_err c.from_residual.result _ c.from_residual.ensures.0
+
+pub statements-returns-in_err-statement-clause-place : goal.statements-returns-in_err-statement-clause-place
+statements-returns-in_err-statement-clause-place t c = IfOk-from_err c.from_residual.result _ c.from_residual.ensures.0
+
+pub nested-returns-in_err-statement-clause-place : goal.nested-returns-in_err-statement-clause-place
+nested-returns-in_err-statement-clause-place t c = IfOk-from_err c.from_residual.result _ c.from_residual.ensures.0
+
+pub block-returns-in_err-statements-clause-place : goal.block-returns-in_err-statements-clause-place
+block-returns-in_err-statements-clause-place t c = IfOk-from_err c.from_residual.result _ c.from_residual.ensures.0
+
+pub statement-returns-in_err-expression-in-Plain-clause-place : goal.statement-returns-in_err-expression-in-Plain-clause-place
+statement-returns-in_err-expression-in-Plain-clause-place t c = IfOk-from_err c.from_residual.result _ c.from_residual.ensures.0
+
+pub tested-returns-in_err-s-in-If-clause-place : goal.tested-returns-in_err-s-in-If-clause-place
+tested-returns-in_err-s-in-If-clause-place t c = IfOk-from_err c.from_residual.result _ c.from_residual.ensures.0
+
+pub tested-returns-in_err-nested-in-If-clause-place : goal.tested-returns-in_err-nested-in-If-clause-place
+tested-returns-in_err-nested-in-If-clause-place t c = IfOk-from_err c.from_residual-in_err-nested-in-If.result _ c.from_residual-in_err-nested-in-If.ensures.0
+
+pub tested-returns-in_err-s-in-While-clause-place : goal.tested-returns-in_err-s-in-While-clause-place
+tested-returns-in_err-s-in-While-clause-place t c = IfOk-from_err c.from_residual-in_err-s-in-While.result _ c.from_residual-in_err-s-in-While.ensures.0
+
+pub tested-returns-in_err-nested-in-While-clause-place : goal.tested-returns-in_err-nested-in-While-clause-place
+tested-returns-in_err-nested-in-While-clause-place t c = IfOk-from_err c.from_residual-in_err-nested-in-While.result _ c.from_residual-in_err-nested-in-While.ensures.0
+
+pub tested-returns-in_err-nested-in-DoWhile-clause-place : goal.tested-returns-in_err-nested-in-DoWhile-clause-place
+tested-returns-in_err-nested-in-DoWhile-clause-place t c = IfOk-from_err c.from_residual-in_err-nested-in-DoWhile.result _ c.from_residual-in_err-nested-in-DoWhile.ensures.0
+
+pub tested-returns-in_err-s-in-DoWhile-clause-place : goal.tested-returns-in_err-s-in-DoWhile-clause-place
+tested-returns-in_err-s-in-DoWhile-clause-place t c = IfOk-from_err c.from_residual-in_err-s-in-DoWhile.result _ c.from_residual-in_err-s-in-DoWhile.ensures.0
+
+pub for_loop-returns-in_err-first_of-clause-place : goal.for_loop-returns-in_err-first_of-clause-place
+for_loop-returns-in_err-first_of-clause-place t c = IfOk-from_err c.from_residual.result _ c.from_residual.ensures.0
+
+pub for_loop-returns-in_err-tests-clause-place : goal.for_loop-returns-in_err-tests-clause-place
+for_loop-returns-in_err-tests-clause-place t c = IfOk-from_err c.from_residual-in_err-tests.result _ c.from_residual-in_err-tests.ensures.0
+
+pub for_loop-returns-in_err-optional-clause-place : goal.for_loop-returns-in_err-optional-clause-place
+for_loop-returns-in_err-optional-clause-place t c = IfOk-from_err c.from_residual-in_err-optional.result _ c.from_residual-in_err-optional.ensures.0
+
+pub for_loop-returns-in_err-nested-clause-place : goal.for_loop-returns-in_err-nested-clause-place
+for_loop-returns-in_err-nested-clause-place t c = IfOk-from_err c.from_residual-in_err-nested.result _ c.from_residual-in_err-nested.ensures.0
+
+pub for_loop-returns-in_err-unless-clause-place : goal.for_loop-returns-in_err-unless-clause-place
+for_loop-returns-in_err-unless-clause-place t c = IfOk-from_err c.from_residual-in_err-unless.result _ c.from_residual-in_err-unless.ensures.0
+
+pub optional-returns-in_err-s-in-Some-clause-tests : goal.optional-returns-in_err-s-in-Some-clause-tests
+optional-returns-in_err-s-in-Some-clause-tests t c = IfOk-from_err c.from_residual.result _ c.from_residual.ensures.0
+
+pub for_of-returns-in_err-s-clause-place : goal.for_of-returns-in_err-s-clause-place
+for_of-returns-in_err-s-clause-place t c = IfOk-from_err c.from_residual.result _ c.from_residual.ensures.0
+
+pub for_of-returns-in_err-mark-clause-place : goal.for_of-returns-in_err-mark-clause-place
+for_of-returns-in_err-mark-clause-place t c = IfOk-from_err c.from_residual-in_err-mark.result _ c.from_residual-in_err-mark.ensures.0
+
+pub for_of-returns-in_err-nested-clause-place : goal.for_of-returns-in_err-nested-clause-place
+for_of-returns-in_err-nested-clause-place t c = IfOk-from_err c.from_residual-in_err-nested.result _ c.from_residual-in_err-nested.ensures.0
+
+pub for_of-returns-in_err-unless-clause-place : goal.for_of-returns-in_err-unless-clause-place
+for_of-returns-in_err-unless-clause-place t c = IfOk-from_err c.from_residual-in_err-unless.result _ c.from_residual-in_err-unless.ensures.0
+
+pub for_of-returns-in_err-unless-2-clause-place : goal.for_of-returns-in_err-unless-2-clause-place
+for_of-returns-in_err-unless-2-clause-place t c = IfOk-from_err c.from_residual-in_err-unless-2.result _ c.from_residual-in_err-unless-2.ensures.0
+
+pub initial-returns-in_err-s-in-Some-clause-kind : goal.initial-returns-in_err-s-in-Some-clause-kind
+initial-returns-in_err-s-in-Some-clause-kind t c = IfOk-from_err c.from_residual.result _ c.from_residual.ensures.0
+
+pub declaration_fault-returns-in_err-check_written-clause-place : goal.declaration_fault-returns-in_err-check_written-clause-place
+declaration_fault-returns-in_err-check_written-clause-place t c = IfOk-from_err c.from_residual.result _ c.from_residual.ensures.0
+
+pub declaration_fault-returns-in_err-first-clause-place : goal.declaration_fault-returns-in_err-first-clause-place
+declaration_fault-returns-in_err-first-clause-place t c = IfOk-from_err c.from_residual-in_err-first.result _ c.from_residual-in_err-first.ensures.0
+
+pub declaration_fault-returns-in_err-check_local-clause-place : goal.declaration_fault-returns-in_err-check_local-clause-place
+declaration_fault-returns-in_err-check_local-clause-place t c = IfOk-from_err c.from_residual-in_err-check_local.result _ c.from_residual-in_err-check_local.ensures.0
+
+pub declaration_fault-returns-in_err-kind-clause-place : goal.declaration_fault-returns-in_err-kind-clause-place
+declaration_fault-returns-in_err-kind-clause-place t c = IfOk-from_err c.from_residual-in_err-kind.result _ c.from_residual-in_err-kind.ensures.0
+
+pub declarations_fault-returns-in_err-declaration_fault-clause-place : goal.declarations_fault-returns-in_err-declaration_fault-clause-place
+declarations_fault-returns-in_err-declaration_fault-clause-place t c = IfOk-from_err c.from_residual.result _ c.from_residual.ensures.0
+
+pub block-returns-clause-found : goal.block-returns-clause-found
+block-returns-clause-found t c = grind (arith, common_steps)
+
+pub block-returns-clause-place : goal.block-returns-clause-place
+block-returns-clause-place t c = grind (arith, common_steps)
+
+pub block-returns-in_err-statements-clause-found : goal.block-returns-in_err-statements-clause-found
+block-returns-in_err-statements-clause-found t c = grind (arith, common_steps)
+
+pub bumping-returns-in_ok-u-in-Bump-clause-seen : goal.bumping-returns-in_ok-u-in-Bump-clause-seen
+bumping-returns-in_ok-u-in-Bump-clause-seen t c = grind (arith, common_steps)
+
+pub call-returns-in_err-kinds-in-None-clause-found : goal.call-returns-in_err-kinds-in-None-clause-found
+call-returns-in_err-kinds-in-None-clause-found t c = grind (arith, common_steps)
+
+pub call-returns-in_err-kinds-in-Some-clause-found : goal.call-returns-in_err-kinds-in-Some-clause-found
+call-returns-in_err-kinds-in-Some-clause-found t c = grind (arith, common_steps)
+
+pub call-returns-in_err-s-in-None-clause-found : goal.call-returns-in_err-s-in-None-clause-found
+call-returns-in_err-s-in-None-clause-found t c = grind (arith, common_steps)
+
+pub call-returns-in_ok-kinds-in-Some-clause-found : goal.call-returns-in_ok-kinds-in-Some-clause-found
+call-returns-in_ok-kinds-in-Some-clause-found t c = grind (arith, common_steps)
+
+pub call-returns-in_ok-kinds-in-Some-clause-seen : goal.call-returns-in_ok-kinds-in-Some-clause-seen
+call-returns-in_ok-kinds-in-Some-clause-seen t c = grind (arith, common_steps)
+
+pub choice-returns-in_ok-u-in-Choice-clause-seen : goal.choice-returns-in_ok-u-in-Choice-clause-seen
+choice-returns-in_ok-u-in-Choice-clause-seen t c = grind (arith, common_steps)
+
+pub declarations_fault-loop-i-init : goal.declarations_fault-loop-i-init
+declarations_fault-loop-i-init t c = grind (arith, common_steps)
+
+pub declarations_fault-loop-i-preserved : goal.declarations_fault-loop-i-preserved
+declarations_fault-loop-i-preserved t c = grind (arith, common_steps)
+
+pub declarations_fault-returns-clause-found : goal.declarations_fault-returns-clause-found
+declarations_fault-returns-clause-found t c = grind (arith, common_steps)
+
+pub declarations_fault-returns-clause-place : goal.declarations_fault-returns-clause-place
+declarations_fault-returns-clause-place t c = grind (arith, common_steps)
+
+pub declarations_fault-returns-in_err-declaration_fault-clause-found : goal.declarations_fault-returns-in_err-declaration_fault-clause-found
+declarations_fault-returns-in_err-declaration_fault-clause-found t c = grind (arith, common_steps)
+
+pub expression-returns-then-room-eq0-clause-found : goal.expression-returns-then-room-eq0-clause-found
+expression-returns-then-room-eq0-clause-found t c = grind (arith, common_steps)
+
+pub expression-returns-then-room-eq0-clause-seen : goal.expression-returns-then-room-eq0-clause-seen
+expression-returns-then-room-eq0-clause-seen t c = grind (arith, common_steps)
+
+pub first_of-returns-in-None-clause-found : goal.first_of-returns-in-None-clause-found
+first_of-returns-in-None-clause-found t c = grind (arith, common_steps)
+
+pub first_of-returns-in-None-clause-place : goal.first_of-returns-in-None-clause-place
+first_of-returns-in-None-clause-place t c = grind (arith, common_steps)
+
+pub first_of-returns-in-Some-clause-found : goal.first_of-returns-in-Some-clause-found
+first_of-returns-in-Some-clause-found t c = grind (arith, common_steps)
+
+pub first_of-returns-in-Some-clause-place : goal.first_of-returns-in-Some-clause-place
+first_of-returns-in-Some-clause-place t c = grind (arith, common_steps)
+
+pub for_loop-returns-clause-found : goal.for_loop-returns-clause-found
+for_loop-returns-clause-found t c = grind (arith, common_steps)
+
+pub for_loop-returns-in_err-first_of-clause-found : goal.for_loop-returns-in_err-first_of-clause-found
+for_loop-returns-in_err-first_of-clause-found t c = grind (arith, common_steps)
+
+pub for_loop-returns-in_err-nested-clause-found : goal.for_loop-returns-in_err-nested-clause-found
+for_loop-returns-in_err-nested-clause-found t c = grind (arith, common_steps)
+
+pub for_loop-returns-in_err-optional-clause-found : goal.for_loop-returns-in_err-optional-clause-found
+for_loop-returns-in_err-optional-clause-found t c = grind (arith, common_steps)
+
+pub for_loop-returns-in_err-tests-clause-found : goal.for_loop-returns-in_err-tests-clause-found
+for_loop-returns-in_err-tests-clause-found t c = grind (arith, common_steps)
+
+pub for_loop-returns-in_err-unless-clause-found : goal.for_loop-returns-in_err-unless-clause-found
+for_loop-returns-in_err-unless-clause-found t c = grind (arith, common_steps)
+
+pub for_of-returns-clause-place : goal.for_of-returns-clause-place
+for_of-returns-clause-place t c = grind (arith, common_steps)
+
+pub for_of-returns-in_err-mark-clause-found : goal.for_of-returns-in_err-mark-clause-found
+for_of-returns-in_err-mark-clause-found t c = grind (arith, common_steps)
+
+pub for_of-returns-in_err-s-clause-found : goal.for_of-returns-in_err-s-clause-found
+for_of-returns-in_err-s-clause-found t c = grind (arith, common_steps)
+
+pub for_of-returns-in_err-unless-2-clause-found : goal.for_of-returns-in_err-unless-2-clause-found
+for_of-returns-in_err-unless-2-clause-found t c = grind (arith, common_steps)
+
+pub handler-returns-in_err-gives : goal.handler-returns-in_err-gives
+handler-returns-in_err-gives t c = grind (arith, common_steps)
+
+pub handler-returns-in_err-inside : goal.handler-returns-in_err-inside
+handler-returns-in_err-inside t c = grind (arith, common_steps)
+
+pub initial-returns-in-None-clause-found : goal.initial-returns-in-None-clause-found
+initial-returns-in-None-clause-found t c = grind (arith, common_steps)
+
+pub initial-returns-in-None-clause-kind : goal.initial-returns-in-None-clause-kind
+initial-returns-in-None-clause-kind t c = grind (arith, common_steps)
+
+pub initial-returns-in_err-s-in-Some-clause-found : goal.initial-returns-in_err-s-in-Some-clause-found
+initial-returns-in_err-s-in-Some-clause-found t c = grind (arith, common_steps)
+
+pub initial-returns-in_ok-s-in-Some-clause-found : goal.initial-returns-in_ok-s-in-Some-clause-found
+initial-returns-in_ok-s-in-Some-clause-found t c = grind (arith, common_steps)
+
+pub initial-returns-in_ok-s-in-Some-clause-kind : goal.initial-returns-in_ok-s-in-Some-clause-kind
+initial-returns-in_ok-s-in-Some-clause-kind t c = grind (arith, common_steps)
+
+pub kinds_of-loop-i-init : goal.kinds_of-loop-i-init
+kinds_of-loop-i-init t c = grind (arith, common_steps)
+
+pub kinds_of-returns-clause-found : goal.kinds_of-returns-clause-found
+kinds_of-returns-clause-found t c = grind (arith, common_steps)
+
+pub kinds_of-returns-clause-kinds : goal.kinds_of-returns-clause-kinds
+kinds_of-returns-clause-kinds t c = grind (arith, common_steps)
+
+pub kinds_of-returns-in_err-add-clause-found : goal.kinds_of-returns-in_err-add-clause-found
+kinds_of-returns-in_err-add-clause-found t c = grind (arith, common_steps)
+
+pub make-returns-in_err-kinds-clause-found : goal.make-returns-in_err-kinds-clause-found
+make-returns-in_err-kinds-clause-found t c = grind (arith, common_steps)
+
+pub member-returns-in_err-s-in-Member-clause-found : goal.member-returns-in_err-s-in-Member-clause-found
+member-returns-in_err-s-in-Member-clause-found t c = grind (arith, common_steps)
+
+pub member-returns-in_err-unless-in-Member-clause-found : goal.member-returns-in_err-unless-in-Member-clause-found
+member-returns-in_err-unless-in-Member-clause-found t c = grind (arith, common_steps)
+
+pub member-returns-then-is_some-2-clause-found : goal.member-returns-then-is_some-2-clause-found
+member-returns-then-is_some-2-clause-found t c = grind (arith, common_steps)
+
+pub member-returns-then-is_some-clause-found : goal.member-returns-then-is_some-clause-found
+member-returns-then-is_some-clause-found t c = grind (arith, common_steps)
+
+pub member-returns-then-is_some-clause-seen : goal.member-returns-then-is_some-clause-seen
+member-returns-then-is_some-clause-seen t c = grind (arith, common_steps)
+
+pub nested-returns-clause-found : goal.nested-returns-clause-found
+nested-returns-clause-found t c = grind (arith, common_steps)
+
+pub nested-returns-in_err-statement-clause-found : goal.nested-returns-in_err-statement-clause-found
+nested-returns-in_err-statement-clause-found t c = grind (arith, common_steps)
+
+pub operation-returns-in_ok-s-in-Unary-clause-found : goal.operation-returns-in_ok-s-in-Unary-clause-found
+operation-returns-in_ok-s-in-Unary-clause-found t c = grind (arith, common_steps)
+
+pub operation-returns-in_ok-s-in-Unary-clause-seen : goal.operation-returns-in_ok-s-in-Unary-clause-seen
+operation-returns-in_ok-s-in-Unary-clause-seen t c = grind (arith, common_steps)
+
+pub operation-returns-in_ok-u-in-Binary-clause-seen : goal.operation-returns-in_ok-u-in-Binary-clause-seen
+operation-returns-in_ok-u-in-Binary-clause-seen t c = grind (arith, common_steps)
+
+pub operation-returns-in_ok-u-in-Both-clause-seen : goal.operation-returns-in_ok-u-in-Both-clause-seen
+operation-returns-in_ok-u-in-Both-clause-seen t c = grind (arith, common_steps)
+
+pub operation-returns-in_ok-u-in-Either-clause-seen : goal.operation-returns-in_ok-u-in-Either-clause-seen
+operation-returns-in_ok-u-in-Either-clause-seen t c = grind (arith, common_steps)
+
+pub operation-returns-in_ok-u-in-Item-clause-seen : goal.operation-returns-in_ok-u-in-Item-clause-seen
+operation-returns-in_ok-u-in-Item-clause-seen t c = grind (arith, common_steps)
+
+pub optional-returns-in-None-clause-found : goal.optional-returns-in-None-clause-found
+optional-returns-in-None-clause-found t c = grind (arith, common_steps)
+
+pub optional-returns-in-None-clause-tests : goal.optional-returns-in-None-clause-tests
+optional-returns-in-None-clause-tests t c = grind (arith, common_steps)
+
+pub optional-returns-in_err-s-in-Some-clause-found : goal.optional-returns-in_err-s-in-Some-clause-found
+optional-returns-in_err-s-in-Some-clause-found t c = grind (arith, common_steps)
+
+pub optional-returns-in_ok-s-in-Some-clause-found : goal.optional-returns-in_ok-s-in-Some-clause-found
+optional-returns-in_ok-s-in-Some-clause-found t c = grind (arith, common_steps)
+
+pub optional-returns-in_ok-s-in-Some-clause-tests : goal.optional-returns-in_ok-s-in-Some-clause-tests
+optional-returns-in_ok-s-in-Some-clause-tests t c = grind (arith, common_steps)
+
+pub serving-returns-in_err-handler-in-Handler-clause-found : goal.serving-returns-in_err-handler-in-Handler-clause-found
+serving-returns-in_err-handler-in-Handler-clause-found t c = grind (arith, common_steps)
+
+pub serving-returns-in_err-unless-in-Handler-clause-found : goal.serving-returns-in_err-unless-in-Handler-clause-found
+serving-returns-in_err-unless-in-Handler-clause-found t c = grind (arith, common_steps)
+
+pub serving-returns-in_ok-unless-in-Handler-clause-found : goal.serving-returns-in_ok-unless-in-Handler-clause-found
+serving-returns-in_ok-unless-in-Handler-clause-found t c = grind (arith, common_steps)
+
+pub serving-returns-in_ok-unless-in-Handler-clause-seen : goal.serving-returns-in_ok-unless-in-Handler-clause-seen
+serving-returns-in_ok-unless-in-Handler-clause-seen t c = grind (arith, common_steps)
+
+pub setting-returns-in_ok-s-in-Set-clause-seen : goal.setting-returns-in_ok-s-in-Set-clause-seen
+setting-returns-in_ok-s-in-Set-clause-seen t c = grind (arith, common_steps)
+
+pub statement-returns-in-Block-clause-place : goal.statement-returns-in-Block-clause-place
+statement-returns-in-Block-clause-place t c = grind (arith, common_steps)
+
+pub statement-returns-in-Break-clause-found : goal.statement-returns-in-Break-clause-found
+statement-returns-in-Break-clause-found t c = grind (arith, common_steps)
+
+pub statement-returns-in-Break-clause-place : goal.statement-returns-in-Break-clause-place
+statement-returns-in-Break-clause-place t c = grind (arith, common_steps)
+
+pub statement-returns-in-Continue-clause-found : goal.statement-returns-in-Continue-clause-found
+statement-returns-in-Continue-clause-found t c = grind (arith, common_steps)
+
+pub statement-returns-in-Continue-clause-place : goal.statement-returns-in-Continue-clause-place
+statement-returns-in-Continue-clause-place t c = grind (arith, common_steps)
+
+pub statement-returns-in-Empty-clause-found : goal.statement-returns-in-Empty-clause-found
+statement-returns-in-Empty-clause-found t c = grind (arith, common_steps)
+
+pub statement-returns-in-Empty-clause-place : goal.statement-returns-in-Empty-clause-place
+statement-returns-in-Empty-clause-place t c = grind (arith, common_steps)
+
+pub statement-returns-in-For-clause-place : goal.statement-returns-in-For-clause-place
+statement-returns-in-For-clause-place t c = grind (arith, common_steps)
+
+pub statement-returns-in-ForOf-clause-found : goal.statement-returns-in-ForOf-clause-found
+statement-returns-in-ForOf-clause-found t c = grind (arith, common_steps)
+
+pub statement-returns-in-ForOf-clause-place : goal.statement-returns-in-ForOf-clause-place
+statement-returns-in-ForOf-clause-place t c = grind (arith, common_steps)
+
+pub statement-returns-in-None-clause-found : goal.statement-returns-in-None-clause-found
+statement-returns-in-None-clause-found t c = grind (arith, common_steps)
+
+pub statement-returns-in-None-clause-place : goal.statement-returns-in-None-clause-place
+statement-returns-in-None-clause-place t c = grind (arith, common_steps)
+
+pub statement-returns-in-Some-clause-place : goal.statement-returns-in-Some-clause-place
+statement-returns-in-Some-clause-place t c = grind (arith, common_steps)
+
+pub statement-returns-in_err-expression-in-Plain-clause-found : goal.statement-returns-in_err-expression-in-Plain-clause-found
+statement-returns-in_err-expression-in-Plain-clause-found t c = grind (arith, common_steps)
+
+pub statement-returns-in_ok-expression-in-Plain-clause-found : goal.statement-returns-in_ok-expression-in-Plain-clause-found
+statement-returns-in_ok-expression-in-Plain-clause-found t c = grind (arith, common_steps)
+
+pub statement-returns-in_ok-expression-in-Plain-clause-place : goal.statement-returns-in_ok-expression-in-Plain-clause-place
+statement-returns-in_ok-expression-in-Plain-clause-place t c = grind (arith, common_steps)
+
+pub statement-returns-then-room-eq0-clause-found : goal.statement-returns-then-room-eq0-clause-found
+statement-returns-then-room-eq0-clause-found t c = grind (arith, common_steps)
+
+pub statement-returns-then-room-eq0-clause-place : goal.statement-returns-then-room-eq0-clause-place
+statement-returns-then-room-eq0-clause-place t c = grind (arith, common_steps)
+
+pub statements-loop-i-init : goal.statements-loop-i-init
+statements-loop-i-init t c = grind (arith, common_steps)
+
+pub statements-returns-clause-found : goal.statements-returns-clause-found
+statements-returns-clause-found t c = grind (arith, common_steps)
+
+pub statements-returns-clause-place : goal.statements-returns-clause-place
+statements-returns-clause-place t c = grind (arith, common_steps)
+
+pub statements-returns-in_err-statement-clause-found : goal.statements-returns-in_err-statement-clause-found
+statements-returns-in_err-statement-clause-found t c = grind (arith, common_steps)
+
+pub super_call-returns-in-None-clause-found : goal.super_call-returns-in-None-clause-found
+super_call-returns-in-None-clause-found t c = grind (arith, common_steps)
+
+pub super_call-returns-in-None-clause-seen : goal.super_call-returns-in-None-clause-seen
+super_call-returns-in-None-clause-seen t c = grind (arith, common_steps)
+
+pub super_call-returns-in_err-kinds-clause-found : goal.super_call-returns-in_err-kinds-clause-found
+super_call-returns-in_err-kinds-clause-found t c = grind (arith, common_steps)
+
+pub tested-returns-in_err-nested-in-DoWhile-clause-found : goal.tested-returns-in_err-nested-in-DoWhile-clause-found
+tested-returns-in_err-nested-in-DoWhile-clause-found t c = grind (arith, common_steps)
+
+pub tested-returns-in_err-nested-in-If-clause-found : goal.tested-returns-in_err-nested-in-If-clause-found
+tested-returns-in_err-nested-in-If-clause-found t c = grind (arith, common_steps)
+
+pub tested-returns-in_err-nested-in-While-clause-found : goal.tested-returns-in_err-nested-in-While-clause-found
+tested-returns-in_err-nested-in-While-clause-found t c = grind (arith, common_steps)
+
+pub tested-returns-in_err-s-in-DoWhile-clause-found : goal.tested-returns-in_err-s-in-DoWhile-clause-found
+tested-returns-in_err-s-in-DoWhile-clause-found t c = grind (arith, common_steps)
+
+pub tested-returns-in_err-s-in-If-clause-found : goal.tested-returns-in_err-s-in-If-clause-found
+tested-returns-in_err-s-in-If-clause-found t c = grind (arith, common_steps)
+
+pub tested-returns-in_err-s-in-While-clause-found : goal.tested-returns-in_err-s-in-While-clause-found
+tested-returns-in_err-s-in-While-clause-found t c = grind (arith, common_steps)
+
+pub tested-returns-in_ok-nested-in-While-clause-found : goal.tested-returns-in_ok-nested-in-While-clause-found
+tested-returns-in_ok-nested-in-While-clause-found t c = grind (arith, common_steps)
+
+pub tested-returns-in_ok-nested-in-While-clause-place : goal.tested-returns-in_ok-nested-in-While-clause-place
+tested-returns-in_ok-nested-in-While-clause-place t c = grind (arith, common_steps)
+
+pub tested-returns-in_ok-s-in-DoWhile-clause-found : goal.tested-returns-in_ok-s-in-DoWhile-clause-found
+tested-returns-in_ok-s-in-DoWhile-clause-found t c = grind (arith, common_steps)
+
+pub tested-returns-in_ok-s-in-DoWhile-clause-place : goal.tested-returns-in_ok-s-in-DoWhile-clause-place
+tested-returns-in_ok-s-in-DoWhile-clause-place t c = grind (arith, common_steps)

@@ -1,0 +1,16 @@
+basic.forever(function () {
+    basic.showLeds(`
+        .....
+        .#.#.
+        .###.
+        ..#..
+        .....
+    `)
+    basic.showLeds(`
+        .#.#.
+        #####
+        #####
+        .###.
+        ..#..
+    `)
+})
