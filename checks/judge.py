@@ -4,6 +4,7 @@
 
 The last line is 'judge: N things looked at, K wrong'.
 """
+import contextlib
 import glob
 import json
 import os
@@ -134,6 +135,7 @@ def look_at_odd_folders():
     for stem in ("counter-a", "counter-b"):
         put_counter(f"odd/{stem}", ts=None)
     put_counter("odd/two  words & <signs>")
+    put_counter("odd/caf\u00e9 \x1b")
     put_counter("odd/windows", txt=COUNTER["txt"].replace(b"\n", b"\r\n"))
     put_counter("odd/no end", txt=COUNTER["txt"][:-1])
     put_counter("odd/t")
@@ -145,16 +147,18 @@ def look_at_odd_folders():
         put(f"odd/{name}", b"\0\xff")
     os.mkdir(f"{FOLDER}/odd/folder.ts")
     status, said, found, programs = judged("odd")
-    expect("odd files", (status, found), (0, counts(passed=9)))
+    expect("odd files", (status, found), (0, counts(passed=10)))
     expect("two scripts", [it["name"] for it in programs["counter.ts"]["runs"]], ["counter-a.json", "counter-b.json"])
     os.symlink("nowhere.ts", f"{FOLDER}/odd/dangling.ts")
     put_counter("odd/windows-2", ts=None, json=None)
     os.mkfifo(f"{FOLDER}/odd/t-pipe.txt")
     put("odd/t-pipe.json", COUNTER["json"])
     put_counter("odd/large", ts=b"//" + b" " * 1048576)
+    put_counter("odd/\udcff")
     status, said, found, programs = judged("odd")
-    expect("files that can't be read", (status, found), (1, counts(passed=7, not_run=4)))
-    for name, says in (("dangling.ts", "the text or the script is missing"), ("windows.ts", "there is no script windows-2.json"), ("t.ts", "t-pipe.txt: it is no file"),
+    expect("files that can't be read", (status, found), (1, counts(passed=8, not_run=5)))
+    expect("names beyond ASCII", programs["caf\u00e9 \\x1b.ts"]["verdict"], "passed")
+    for name, says in (("\\xff.ts", "sts takes no name that isn't UTF-8"), ("dangling.ts", "the text or the script is missing"), ("windows.ts", "there is no script windows-2.json"), ("t.ts", "t-pipe.txt: it is no file"),
                        ("large.ts", "the text or the script has more than 1,048,576 bytes")):
         expect(name, [it["says"] for it in programs[name]["runs"] if it["verdict"] != "passed"], [says])
 
@@ -237,8 +241,10 @@ def look_at_killed_runs():
     child, killed = begin("many", "--json", "out.json"), 0
     while killed < 3 and child.poll() is None:
         for it in list(children_of(child.pid))[:1]:
-            os.kill(it, signal.SIGKILL)
-            killed += 1
+            # (it may have ended by now)
+            with contextlib.suppress(ProcessLookupError):
+                os.kill(it, signal.SIGKILL)
+                killed += 1
         time.sleep(0.1)
     said, error = (it.decode() for it in child.communicate(timeout=300))
     with open(f"{FOLDER}/out.json", encoding="utf-8") as file:
