@@ -1,0 +1,350 @@
+"""Tries bin/judge as checks/judge.sh says.
+
+    checks/judge.py PROGRAM FOLDER
+
+The last line is 'judge: N things looked at, K wrong'.
+"""
+import contextlib
+import glob
+import json
+import os
+import pty
+import re
+import resource
+import shutil
+import signal
+import subprocess
+import sys
+import time
+from xml.etree import ElementTree
+
+TOP = os.path.dirname(os.path.dirname(os.path.abspath(__file__)))
+PROGRAM, FOLDER = os.path.abspath(sys.argv[1]), sys.argv[2]
+JUDGE = f"{TOP}/bin/judge"
+COUNTER = {end: open(f"{TOP}/examples/counter.{end}", "rb").read() for end in ("ts", "json", "txt")}
+looked, wrong = 0, 0
+
+
+def expect(what, had, wanted):
+    global looked, wrong
+    looked += 1
+    if had != wanted:
+        wrong += 1
+        print(f"judge: {what}: {had!r} in place of {wanted!r}")
+
+
+def expect_in(what, part, whole):
+    expect(f"{what}: {part!r} is in {whole[-2000:]!r}", part in whole, True)
+
+
+def judge(*words, program=PROGRAM, seconds=120):
+    """Runs the judge, and gives its status, what it says and what stands on standard error."""
+    ran = subprocess.run([JUDGE, *words, "--program", program], stdout=subprocess.PIPE, stderr=subprocess.PIPE, cwd=FOLDER, timeout=seconds, check=False)
+    return ran.returncode, ran.stdout.decode(), ran.stderr.decode()
+
+
+def put(path, content):
+    path = f"{FOLDER}/{path}"
+    os.makedirs(os.path.dirname(path), exist_ok=True)
+    with open(path, "wb") as file:
+        file.write(content if isinstance(content, bytes) else content.encode())
+    return path
+
+
+def put_counter(name, **changed):
+    """Puts the example that counts presses under a name, with other content for some of its files, or without a file where that is None."""
+    for end, content in {**COUNTER, **changed}.items():
+        if content is not None:
+            put(f"{name}.{end}", content)
+
+
+def stub(name, text):
+    """Puts a shell script that stands for the program sts."""
+    path = put(f"{name}", f"#!/bin/sh\n{text}\n")
+    os.chmod(path, 0o755)
+    return path
+
+
+def counts(**numbers):
+    return {**{it: 0 for it in ("passed", "failed", "no wanted file", "refused", "timed out", "crashed", "not run")}, **{key.replace("_", " "): it for key, it in numbers.items()}}
+
+
+def judged(folder, *words, **more):
+    """Judges a folder, and gives the status, what is said, the counts of the JSON file, and its programs by their names."""
+    status, said, _ = judge(folder, *words, "--json", f"{FOLDER}/out.json", "--junit", f"{FOLDER}/out.xml", **more)
+    with open(f"{FOLDER}/out.json", encoding="utf-8") as file:
+        found = json.load(file)
+    return status, said, found["programs"], {os.path.basename(it["name"]): it for it in found["judged"]}
+
+
+def look_at_examples():
+    many = len([it for it in glob.glob(f"{TOP}/examples/*.ts") if not it.endswith(".d.ts")])
+    status, said, found, _ = judged(f"{TOP}/examples")
+    expect("examples", (status, found), (0, counts(passed=many)))
+    expect("examples, lines", len(re.findall(r"(?m)^passed +\S+/examples/\w+\.ts: 1 of 1 runs as wanted$", said)), many)
+    suites = ElementTree.parse(f"{FOLDER}/out.xml").getroot()
+    expect("examples, JUnit", [(it.get("tests"), it.get("failures"), it.get("errors"), it.get("skipped"), len(it)) for it in suites], [("1", "0", "0", "0", 1)] * many)
+
+
+def wrong_copies():
+    """The copies, each with what is told of it: the verdict, the sentence, the number of the line, and what is wanted there and what came."""
+    text = COUNTER["txt"]
+    lines = text.splitlines(keepends=True)
+    return {
+        "frame": ({"txt": text.replace(b"..#../.##..", b"..#../.###.")}, ("failed", "line 3 differs", 3, "180 display ..#../.###./..#../..#../.###.", "180 display ..#../.##../..#../..#../.###.")),
+        "byte": ({"txt": text.replace(b"760 serial 32", b"760 serial 33")}, ("failed", "line 4 differs", 4, "760 serial 33", "760 serial 32")),
+        "time": ({"txt": text.replace(b"1160 serial 33", b"1161 serial 33")}, ("failed", "line 7 differs", 7, "1161 serial 33", "1160 serial 33")),
+        "fewer": ({"txt": b"".join(lines[:1] + lines[2:])}, ("failed", "line 2 is one too many", 2, lines[2].decode()[:-1], "180 serial 0a")),
+        "more": ({"txt": b"".join(lines[:1] * 2 + lines[1:])}, ("failed", "line 2 is missing", 2, "180 serial 31", "180 serial 0a")),
+        "behind": ({"txt": text + b"3000 serial 31\n"}, ("failed", "line 14 is missing", 14, "3000 serial 31", None)),
+        "short": ({"txt": b"".join(lines[:-1])}, ("failed", "line 13 is one too many", 13, None, "end 2500 quiet")),
+        "empty": ({"txt": b""}, ("failed", "line 1 is one too many", 1, None, "180 serial 31")),
+        "status": ({"txt": text.replace(b"end 2500 quiet", b"panic 2500 7")}, ("failed", "line 13 differs", 13, "panic 2500 7", "end 2500 quiet")),
+        "bytes": ({"txt": b"\xff\x1b\xc3\xa9\n"}, ("failed", "line 1 differs", 1, "\\xff\\x1b\u00e9", "180 serial 31")),
+        "no script": ({"json": None}, ("failed", "line 1 differs", 1, "180 serial 31", "end 0 quiet")),
+        "no wish": ({"txt": None}, ("no wanted file", "there is no transcript to compare with; its last line is 'end 2500 quiet'", 0, None, None)),
+        "text": ({"ts": b"let a = 1\nlet b =\n"}, ("refused", "refused by code 6 at line 3, column 1", 0, None, None)),
+        "other place": ({"ts": b"let b =\n", "txt": b"refused 6 1 1\n"}, ("refused", "refused by code 6 at line 2, column 1", 1, "refused 6 1 1", "refused 6 2 1")),
+        "broken script": ({"json": b"{"}, ("refused", "script refused 1", 0, None, None)),
+    }
+
+
+def look_at_wrong_copies():
+    copies = wrong_copies()
+    for name, (changed, _) in copies.items():
+        put_counter(f"wrong/{name}", **changed)
+    status, said, found, programs = judged("wrong")
+    expect("wrong copies", (status, found), (1, counts(failed=11, no_wanted_file=1, refused=3)))
+    for name, (_, wanted) in copies.items():
+        program = programs[f"{name}.ts"]
+        expect(name, [(it["verdict"], it["says"], it["line"], it["wanted"], it["came"]) for it in program["runs"]], [wanted])
+        expect_in(name, f"{wanted[0]:16}wrong/{name}.ts: 0 of 1 runs as wanted\n", said)
+    expect_in("frames as pictures", "        wanted        came\n        ····██····    ····██····\n        ··██████··    ··████····\n        ····██····    ····██····\n", said)
+    expect_in("serial bytes as text", '        wanted  760 serial 33    "3"\n        came    760 serial 32    "2"\n', said)
+    expect_in("a run without a script", "    no script.txt, without a script: line 1 differs\n", said)
+    suites = {it.get("name"): it for it in ElementTree.parse(f"{FOLDER}/out.xml").getroot()}
+    for name, (_, wanted) in copies.items():
+        tag = "skipped" if wanted[0] == "no wanted file" else "failure"
+        expect(f"{name}, JUnit", [(it.tag, it.get("type"), it.get("message")) for it in suites[f"wrong/{name}.ts"][0]], [(tag, wanted[0], wanted[1])])
+
+
+def look_at_odd_folders():
+    """Files that are as wanted though they look otherwise, and files that can't be read."""
+    put_counter("odd/count")
+    put_counter("odd/counter", json=None, txt=None)
+    for stem in ("counter-a", "counter-b"):
+        put_counter(f"odd/{stem}", ts=None)
+    put_counter("odd/two  words & <signs>")
+    put_counter("odd/caf\u00e9 \x1b")
+    put_counter("odd/windows", txt=COUNTER["txt"].replace(b"\n", b"\r\n"))
+    put_counter("odd/no end", txt=COUNTER["txt"][:-1])
+    put_counter("odd/t")
+    put_counter("odd/refused", ts=b"let b =\n", json=None, txt=b"refused 6 2 1\n")
+    put_counter("odd/panics", ts=b"control.panic(7)\n", json=None, txt=b"panic 0 7\n")
+    for end in COUNTER:
+        os.symlink(f"count.{end}", f"{FOLDER}/odd/link.{end}")
+    for name in ("tsconfig.json", "._count.ts", "board.d.ts", "list.txt", "notes.md"):
+        put(f"odd/{name}", b"\0\xff")
+    os.mkdir(f"{FOLDER}/odd/folder.ts")
+    status, said, found, programs = judged("odd")
+    expect("odd files", (status, found), (0, counts(passed=10)))
+    expect("two scripts", [it["name"] for it in programs["counter.ts"]["runs"]], ["counter-a.json", "counter-b.json"])
+    os.symlink("nowhere.ts", f"{FOLDER}/odd/dangling.ts")
+    put_counter("odd/windows-2", ts=None, json=None)
+    os.mkfifo(f"{FOLDER}/odd/t-pipe.txt")
+    put("odd/t-pipe.json", COUNTER["json"])
+    put_counter("odd/large", ts=b"//" + b" " * 1048576)
+    put_counter("odd/\udcff")
+    status, said, found, programs = judged("odd")
+    expect("files that can't be read", (status, found), (1, counts(passed=8, not_run=5)))
+    expect("names beyond ASCII", programs["caf\u00e9 \\x1b.ts"]["verdict"], "passed")
+    for name, says in (("\\xff.ts", "sts takes no name that isn't UTF-8"), ("dangling.ts", "the text or the script is missing"), ("windows.ts", "there is no script windows-2.json"), ("t.ts", "t-pipe.txt: it is no file"),
+                       ("large.ts", "the text or the script has more than 1,048,576 bytes")):
+        expect(name, [it["says"] for it in programs[name]["runs"] if it["verdict"] != "passed"], [says])
+
+
+def look_at_stubs():
+    """Programs that crash, hang, end otherwise, or write much."""
+    put_counter("stubs/one")
+    answer = f"cat {FOLDER}/stubs/one.txt"
+    for name, text, verdict, says in (
+        ("crash", f"{answer}; kill -SEGV $$", "crashed", "killed by SIGSEGV"),
+        ("abort", "exit 101", "crashed", "it ended with status 101, as no run does"),
+        ("memory", "exit 30", "crashed", "there was no memory"),
+        ("other", f"{answer}; exit 3", "failed", "it ended with status 3, which isn't that of its last line, 'end 2500 quiet'"),
+        ("hang", f"{answer}; sleep 100", "timed out", "killed after 1 seconds"),
+        ("silent", f"{answer}; exec >&- 2>&-; sleep 100", "timed out", "killed after 1 seconds"),
+        ("left", f"{answer}; sleep 100 & exit 0", "timed out", "killed after 1 seconds"),
+        ("killed", "kill -KILL $$", "crashed", "killed by SIGKILL"),
+        ("long line", "head -c 3000000 /dev/zero; echo; echo end 1 quiet", "failed", "line 1 differs"),
+        ("much", "yes '0 serial 31' | head -n 2000000; echo end 0 quiet", "failed", "line 1 differs"),
+        ("bytes", "head -c 100000 /dev/urandom; echo; echo end 0 quiet", "failed", "line 1 differs"),
+        ("right", answer, "passed", ""),
+    ):
+        status, said, _, programs = judged("stubs", "--seconds", "1" if verdict == "timed out" else "60", program=stub(f"stub {name}", text))
+        run = programs["one.ts"]["runs"][0]
+        expect(f"stub {name}", (status, run["verdict"], run["says"]), (int(verdict != "passed"), verdict, says))
+        expect(f"stub {name}, length", len(said) < 3000, True)
+    expect("memory", resource.getrusage(resource.RUSAGE_CHILDREN).ru_maxrss < 200_000, True)
+    os.chmod(stub("no program", "exit 0"), 0o644)
+    for name in ("no program", "nothing"):
+        expect(name, judge("stubs", program=f"{FOLDER}/{name}")[0], 2)
+    os.chmod(put("no format", b"\x7fELF"), 0o755)
+    status, _, found, _ = judged("stubs", program=f"{FOLDER}/no format")
+    expect("a program that can't be started", (status, found), (1, counts(not_run=1)))
+
+
+def look_at_loops():
+    put("loops/loop.ts", "while (true) { }\n")
+    put("loops/loop.txt", "end 0 quiet\n")
+    status, _, _, programs = judged("loops", "--seconds", "1", "--budget", "2147483648")
+    expect("a loop", (status, programs["loop.ts"]["runs"][0]["verdict"], programs["loop.ts"]["runs"][0]["says"]), (1, "timed out", "killed after 1 seconds"))
+    status, _, _, programs = judged("loops", "--budget", "1000")
+    expect("a loop within a budget", (status, programs["loop.ts"]["runs"][0]["came"], programs["loop.ts"]["runs"][0]["status"]), (1, "budget 0", 4))
+
+
+def look_at_words():
+    put("none/notes.txt", "")
+    for words in ((), ("nowhere",), ("none/notes.txt",), ("none",), ("none", "none"), ("stubs", "--budget", "0"), ("stubs", "--budget", "2147483649"), ("stubs", "--budget", "x"),
+                  ("stubs", "--jobs", "0"), ("stubs", "--seconds", "-1"), ("stubs", "--junit"), ("stubs", "--junit", "nowhere/file"), ("stubs", "--json", "stubs"), ("stubs", "--bud", "5"),
+                  ("stubs", "--hosts", "nowhere")):
+        status, said, error = judge(*words)
+        expect(f"words {words}", (status, said, bool(error)), (2, "", True))
+    expect_in("no programs", "none: it has no .ts files", judge("none")[2])
+    status, said, error = judge("stubs", "./stubs/", f"{FOLDER}/stubs")
+    expect("a folder named three times", (status, said.count("one.ts"), error.count("it is taken once")), (0, 1, 2))
+    status, said, _ = judge("stubs", "none")
+    expect_in("one folder without programs", "not run         none: it has no .ts files\n", said)
+    expect("one folder without programs", status, 1)
+    expect("a report that is written to a full device", judge("stubs", "--json", "/dev/full")[0], 1)
+    expect("--help", judge("--help")[0], 0)
+
+
+def children_of(parent):
+    for it in glob.glob("/proc/[0-9]*/stat"):
+        try:
+            with open(it, encoding="utf-8", errors="replace") as file:
+                words = file.read().rpartition(")")[2].split()
+        except OSError:
+            continue
+        if int(words[1]) == parent and words[0] != "Z":
+            yield int(it.split("/")[2])
+
+
+def begin(*words, program=PROGRAM, **streams):
+    return subprocess.Popen([JUDGE, *words, "--program", program], cwd=FOLDER, **{"stdout": subprocess.PIPE, "stderr": subprocess.PIPE, **streams})
+
+
+def look_at_killed_runs():
+    for at in range(200):
+        put_counter(f"many/p{at:03}")
+    child, killed = begin("many", "--json", "out.json"), 0
+    while killed < 3 and child.poll() is None:
+        for it in list(children_of(child.pid))[:1]:
+            # (it may have ended by now)
+            with contextlib.suppress(ProcessLookupError):
+                os.kill(it, signal.SIGKILL)
+                killed += 1
+        time.sleep(0.1)
+    said, error = (it.decode() for it in child.communicate(timeout=300))
+    with open(f"{FOLDER}/out.json", encoding="utf-8") as file:
+        found = json.load(file)
+    expect("three killed of 200", (child.returncode, killed, found["programs"], len(re.findall("(?m)^passed .*p[0-9]{3}.ts: 1 of 1", said))), (0, 3, counts(passed=200), 200))
+    # (one that had written everything may be killed in vain)
+    expect("told of the killed", error.count("was killed, and is run once more") in (1, 2, 3), True)
+
+
+def look_at_a_part():
+    """A program of which some runs are done where it is interrupted."""
+    put_counter("parts/a")
+    for at in range(200):
+        put_counter(f"parts/a{at}", ts=None)
+    put("begun", "")
+    child = begin("parts", "--jobs", "1", program=stub("counted", f'echo >>"{FOLDER}/begun"; exec "{PROGRAM}" "$@"'))
+    while os.path.getsize(f"{FOLDER}/begun") < 5 and child.poll() is None:
+        time.sleep(0.01)
+    child.send_signal(signal.SIGINT)
+    said = child.communicate(timeout=60)[0].decode()
+    done = int((re.search(r"\ninterrupted: (\d+) of 201 runs were done\n$", said) or [0, 0])[1])
+    expect("a part, done", (child.returncode, 3 <= done < 201), (130, True))
+    expect_in("a part", f"not run         parts/a.ts: {done} of 201 runs as wanted, {201 - done} not done\n", said)
+
+
+def look_at_interrupts():
+    for how, status in ((signal.SIGINT, 130), (signal.SIGTERM, 143)):
+        child = begin("many", "--json", "out.json", "--jobs", "1")
+        lines = [child.stdout.readline().decode() for _ in range(3)]
+        child.send_signal(how)
+        said = "".join(lines) + child.communicate(timeout=60)[0].decode()
+        with open(f"{FOLDER}/out.json", encoding="utf-8") as file:
+            found = json.load(file)
+        done = said.count("1 of 1 runs as wanted")
+        expect(f"{how.name}", (child.returncode, found["complete"], found["programs"]["passed"], 3 <= done < 200), (status, False, done, True))
+        expect_in(f"{how.name}", f"interrupted: {done} of 200 runs were done\n", said)
+        expect(f"{how.name}, left running", list(children_of(child.pid)), [])
+    look_at_a_part()
+    child = begin("many", "--jobs", "1")
+    child.stdout.readline()
+    child.stdout.close()
+    expect("nobody reads", (child.wait(60), child.stderr.read()), (1, b""))
+
+
+def look_at_terminal():
+    master, slave = pty.openpty()
+    child = begin("stubs", f"{TOP}/examples", "--jobs", "1", stderr=slave, stdout=subprocess.DEVNULL)
+    os.close(slave)
+    shown = b""
+    try:
+        while part := os.read(master, 4096):
+            shown += part
+    except OSError:
+        pass
+    expect("how far it is", (child.wait(60), re.search(rb"\d+ of 12 programs, \d+ of 12 runs, 0 not as wanted, about \d+ s left", shown) is not None), (0, True))
+
+
+def look_at_hosts():
+    put("hosts", ":\n")
+    asked = shutil.which("parallel") and subprocess.run(["parallel", "--version"], stdout=subprocess.PIPE, stderr=subprocess.DEVNULL, check=False).stdout
+    if not (asked and asked.startswith(b"GNU parallel")):
+        expect_in("--hosts without GNU parallel", "Debian's package parallel", judge("stubs", "--hosts", "hosts")[2])
+        print("judge: GNU parallel is missing (package parallel), so that --hosts wasn't tried")
+        return
+    status, _, found, programs = judged("wrong", "--hosts", "hosts", "--jobs", "2")
+    expect("--hosts", (status, found), (1, counts(failed=11, no_wanted_file=1, refused=3)))
+    expect("--hosts, a line", programs["frame.ts"]["runs"][0]["says"], "line 3 differs")
+    path = os.environ["PATH"]
+    stub("path/ssh", "exit 255")
+    put("hosts", "1/gone\n")
+    os.environ["PATH"] = f"{FOLDER}/path:{path}"
+    status, said, error = judge("stubs", "--hosts", "hosts")
+    os.environ["PATH"] = path
+    expect("a machine that isn't there", (status, said.count("1 of 1 runs as wanted")), (0, 1))
+    expect_in("a machine that isn't there", "1 runs came to no end on the other machines, and are done here", error)
+
+
+def look_at_documents():
+    """What the documents show behind `$ bin/judge` is what it writes."""
+    shutil.copytree(f"{TOP}/examples", f"{FOLDER}/as/examples")
+    os.mkdir(f"{FOLDER}/as/bin")
+    shutil.copy(JUDGE, f"{FOLDER}/as/bin/judge")
+    stub("as/bin/program", f"echo '{PROGRAM}'")
+    shown = 0
+    for document in [f"{TOP}/README.md", *sorted(glob.glob(f"{TOP}/docs/*.md"))]:
+        with open(document, encoding="utf-8") as file:
+            blocks = re.split(r"\n(?! {4}|\n {4})", file.read())
+        for block in blocks:
+            lines = [it.removeprefix("    ") for it in block.split("\n")]
+            begins = [at for at, it in enumerate(lines) if it.startswith("$ ")]
+            for at, end in zip(begins, [*begins[1:], len(lines)]):
+                if "bin/judge" in lines[at]:
+                    ran = subprocess.run(["sh", "-c", lines[at][2:]], cwd=f"{FOLDER}/as", stdout=subprocess.PIPE, stderr=subprocess.DEVNULL, timeout=120, check=False)
+                    expect(f"{document}: {lines[at]}", ran.stdout.decode().rstrip("\n"), "\n".join(lines[at + 1 : end]).rstrip("\n"))
+                    shown += 1
+    expect("commands in the documents", shown > 0, True)
+
+
+for look in (look_at_examples, look_at_wrong_copies, look_at_odd_folders, look_at_stubs, look_at_loops, look_at_words, look_at_killed_runs, look_at_interrupts, look_at_terminal, look_at_hosts,
+             look_at_documents):
+    look()
+print(f"judge: {looked} things looked at, {wrong} wrong")
+sys.exit(1 if wrong else 0)

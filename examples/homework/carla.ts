@@ -1,0 +1,9 @@
+// Button A shows a heart for half a second. Button B writes "hello".
+input.onButtonPressed(Button.A, function () {
+    basic.showIcon(IconNames.Heart)
+    basic.pause(500)
+    basic.clearScreen()
+})
+input.onButtonPressed(Button.B, function () {
+    serial.writeLine("hello")
+})

@@ -1,0 +1,17 @@
+// Button A shows a heart for half a second. Button B writes "hello".
+input.onButtonPressed(Button.A, function () {
+    basic.showLeds(`
+        . # . # .
+        # # # # #
+        # # # # #
+        . # # # .
+        . . # . .
+    `)
+    let from = input.runningTime()
+    while (input.runningTime() < from + 500) {
+    }
+    basic.clearScreen()
+})
+input.onButtonPressed(Button.B, function () {
+    serial.writeLine("hello")
+})
