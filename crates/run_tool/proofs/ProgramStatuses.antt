@@ -52,7 +52,7 @@ module _ (one : OneAnswer) (text : List ℕ) (answers : TypedProgram → List By
 pub statuses : (one : OneAnswer) (told : List ℕ → Option (Option (List ℕ))) (text : List ℕ) → ProgramStatuses told text
 statuses one told text = record {
   checked = λ tables P number a is. is.2 ∙ ap number_of (over one text SaysAccepted is.0 tables P a is.1).2;
-  built = λ tables P number a is. is.2 ∙ ap number_of (over one text WritesImage is.0 tables P a is.1).2.2;
+  built = λ tables P number a is. is.2 ∙ ap number_of (over one text WritesImage is.0 tables P a is.1).2.3;
   ran = λ tables P budget stats image number a is.
       (let o = over one text (λ Q texts. OverScript told ⊥ None (λ read. RunsProgram Q texts read budget stats image)) is.0 tables P a is.1 in program-number o.0 o.1 default_script budget stats image is.0 number o.2 is.2);
   not_checked = λ code at number r is. denied one text SaysAccepted is.0 code at number r is.1 is.2;
