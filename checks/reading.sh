@@ -1,5 +1,5 @@
 #!/bin/sh
-# docs/READING.md is true of the tree: the definitions that the clause `ends` of sts_main cites, and what these cite in turn, stand in the files of its
+# docs/READING.md is true of the tree: the definitions that the clauses `headline` and `ends` of sts_main cite, and what these cite in turn, stand in the files of its
 # tables, and in no others, in so many lines as the tables say, give or take a tenth and two lines; so do the types of code that they cite. The parts of its
 # way of two hours have at most 2,500 lines. Lines are those of the definitions with their comments, without imports and empty lines.
 # usage: checks/reading.sh                looks whether the document is true
@@ -114,7 +114,7 @@ def cited(lines, names, modules, here):
 
 with open(CLAUSE, encoding="utf-8") as text:
     clause = text.read()
-contract = re.search(r"pub fn sts_main.*?ensures ends \{(.*?)\n    ensures", clause, re.S).group(1)
+contract = re.search(r"pub fn sts_main.*?ensures headline \{(.*?)\n    ensures completes", clause, re.S).group(1)
 waiting = cited(contract.split("\n"), *named(clause.split("\n")), None)
 way = set()
 while waiting:

@@ -215,7 +215,7 @@ no-check : (t : Status → Bool) (text : List ℕ) (answer : Answer) → t statu
 no-check t text answer f g i h = no-output t SaysAccepted text answer f g i (λ P texts e. (codes "accepted\n", e)) h
 
 no-build : (t : Status → Bool) (text : List ℕ) (answer : Answer) → t status.Refused ≡ false → t status.Done ≡ false → t (status_of answer) ≡ true → BuildsText text answer → ⊥
-no-build t text answer f g i h = no-output t WritesImage text answer f g i (λ P texts e. (hextext e.0, e.2)) h
+no-build t text answer f g i h = no-output t WritesImage text answer f g i (λ P texts e. (hextext e.0, e.3)) h
 
 -- only words of `run-hex` have answers with these
 image-status : (told : List ℕ → Option (Option (List ℕ))) (rose : Type 0) (asked : Asked) (text : List ℕ) (answer : Answer) → of_image (status_of answer) ≡ true → AnswersText told rose asked text answer → AsksForImage (Some asked)

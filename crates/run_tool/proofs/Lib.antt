@@ -6,3 +6,5 @@ mod ImageRuns
 mod ProgramRuns
 mod Statuses
 mod ProgramStatuses
+mod Headlines
+mod Complete

@@ -13,6 +13,7 @@ use Rattle.board_world.specs.Board.{Board}
 use Rattle.board_world.specs.Invariants.{SoundEnd}
 use Rattle.board_outside.specs.Moves.{Move, Seen, Unplugged, HasMet}
 use Rattle.board_outside.specs.Cuts.{text_due}
+use Rattle.hex_image.specs.Laws.{IsImage}
 use Rattle.hex_image.specs.Writing.{hextext}
 use Rattle.sts_syntax.specs.TypedTrees.{TypedProgram}
 use Rattle.sts_implements.specs.Images.{ImageImplements, LooksLike}
@@ -43,7 +44,7 @@ behind-both true true s hex e f = refl
 behind-both false also s hex e f = absurd cc
 behind-both true false s hex e f = absurd cc
 
-module _ (P : TypedProgram) (texts : List ByteList) (image : List ℕ) (implements : ImageImplements P texts image) (script : ReadScript) (budget : ℕ) (stats with_image : Bool) where
+module _ (P : TypedProgram) (texts : List ByteList) (image : List ℕ) (is_image : IsImage image) (implements : ImageImplements P texts image) (script : ReadScript) (budget : ℕ) (stats with_image : Bool) where
   -- the answer by the board on which the run stands
   abbrev answer_on : Board → ℕ → List Move → Answer
   answer_on b executed moves = runs (run_status b.end) moves (closing_line b.clock b.end ++ asked_behind stats with_image b executed image)
@@ -65,6 +66,7 @@ module _ (P : TypedProgram) (texts : List ByteList) (image : List ℕ) (implemen
       let s = reaches P texts image implements script free budget executed e in
       record {
         image = image;
+        is_image = is_image;
         implements = implements;
         free = free;
         executed = executed;
@@ -80,7 +82,7 @@ module _ (P : TypedProgram) (texts : List ByteList) (image : List ℕ) (implemen
   some-run =
       let m = run_exists P texts image implements script [] budget in (
         answer_on (source_after P texts script m.steps).board m.executed m.moves,
-        record { image = image; implements = implements; free = []; executed = m.executed; steps = m.steps; reaches = m.reaches; moves = m.moves; met = m.met; is = refl },
+        record { image = image; is_image = is_image; implements = implements; free = []; executed = m.executed; steps = m.steps; reaches = m.reaches; moves = m.moves; met = m.met; is = refl },
       )
 
   counted-same : (s : Stats) (b : Board) (executed : ℕ) (hex : List ℕ) → s ≡ counted_on b executed → (with_image ≡ true → hex ≡ hextext image)

@@ -1,5 +1,5 @@
 -- The statuses of answers over a program.
-use Rattle.std.proofs.Common.{◌≡◌, ◌⊎◌, ℕ, Bool, List, inl, inr, ap, sym, subst, ◌∙◌}
+use Rattle.std.proofs.Common.{◌≡◌, ℕ, Bool, List, inl, inr, ap, sym, subst, ◌∙◌}
 use Rattle.std.specs.Prelude.{Option, Some, None}
 use Rattle.sts_base.specs.declared.refused.Code.{Code}
 use Rattle.sts_base.specs.declared.tables.Tables.{Tables}
@@ -18,14 +18,12 @@ use Rattle.run_tool.specs.Check.{SaysAccepted}
 use Rattle.run_tool.specs.Build.{WritesImage}
 use Rattle.run_tool.specs.Run.{RunsProgram}
 use Rattle.run_tool.specs.Laws.{ProgramStatuses}
-
-abbrev IsRunNumber : ℕ → Type 0
-IsRunNumber number = (number ≡ 0) ⊎ ((number ≡ 3) ⊎ (number ≡ 4))
+use Rattle.run_tool.specs.Completeness.{IsProgramStatus}
 
 abbrev number_of : Answer → ℕ
 number_of answer = status_number (status_of answer)
 
-run-number : (end : Option End) (number : ℕ) → SoundEnd (λ kind address. ⊥) end → number ≡ status_number (run_status end) → IsRunNumber number
+run-number : (end : Option End) (number : ℕ) → SoundEnd (λ kind address. ⊥) end → number ≡ status_number (run_status end) → IsProgramStatus number
 run-number None number s e = inr (inr e)
 run-number (Some Quietly) number s e = inl e
 run-number (Some By_script) number s e = inl e
@@ -33,8 +31,8 @@ run-number (Some (Panicked code)) number s e = inr (inl e)
 run-number (Some (Faulted kind address)) number s e = absurd s
 
 -- a run of a program ends by no fault
-program-number : (P : TypedProgram) (texts : List ByteList) (script : Script) (budget : ℕ) (stats image : Bool) (answer : Answer) (number : ℕ) → RunsProgram P texts script budget stats image answer
-    → number ≡ number_of answer → IsRunNumber number
+pub program-number : (P : TypedProgram) (texts : List ByteList) (script : Script) (budget : ℕ) (stats image : Bool) (answer : Answer) (number : ℕ) → RunsProgram P texts script budget stats image answer
+    → number ≡ number_of answer → IsProgramStatus number
 program-number P texts script budget stats image answer number r e =
     run-number _ number (subst (λ (o : Option End). SoundEnd (λ kind address. ⊥) o) (sym r.reaches.alike.end) (faultless P texts r.image r.implements script r.free r.executed)) (e ∙ ap number_of r.is)
 
@@ -52,7 +50,7 @@ module _ (one : OneAnswer) (text : List ℕ) (answers : TypedProgram → List By
 pub statuses : (one : OneAnswer) (told : List ℕ → Option (Option (List ℕ))) (text : List ℕ) → ProgramStatuses told text
 statuses one told text = record {
   checked = λ tables P number a is. is.2 ∙ ap number_of (over one text SaysAccepted is.0 tables P a is.1).2;
-  built = λ tables P number a is. is.2 ∙ ap number_of (over one text WritesImage is.0 tables P a is.1).2.2;
+  built = λ tables P number a is. is.2 ∙ ap number_of (over one text WritesImage is.0 tables P a is.1).2.3;
   ran = λ tables P budget stats image number a is.
       (let o = over one text (λ Q texts. OverScript told ⊥ None (λ read. RunsProgram Q texts read budget stats image)) is.0 tables P a is.1 in program-number o.0 o.1 default_script budget stats image is.0 number o.2 is.2);
   not_checked = λ code at number r is. denied one text SaysAccepted is.0 code at number r is.1 is.2;

@@ -1,5 +1,5 @@
 -- The statuses of answers of `run-hex`.
-use Rattle.std.proofs.Common.{◌≡◌, ◌⊎◌, ℕ, List, inl, inr, ap, ◌∙◌}
+use Rattle.std.proofs.Common.{◌≡◌, ℕ, List, inl, inr, ap, ◌∙◌}
 use Rattle.std.specs.Prelude.{Option, Some, None}
 use Rattle.board_world.specs.Observations.{End, Quietly, By_script, Panicked, Faulted}
 use Rattle.hex_image.specs.declared.refused.HexCode.{HexCode}
@@ -9,11 +9,9 @@ use Rattle.run_tool.specs.Answers.{Answer, status_of, status_number}
 use Rattle.run_tool.specs.Runs.{run_status}
 use Rattle.run_tool.specs.RunHex.{RunsHex}
 use Rattle.run_tool.specs.Laws.{HexStatuses}
+use Rattle.run_tool.specs.Completeness.{IsImageStatus}
 
-abbrev IsRunNumber : ℕ → Type 0
-IsRunNumber number = (number ≡ 0) ⊎ ((number ≡ 3) ⊎ ((number ≡ 4) ⊎ (number ≡ 13)))
-
-run-number : (end : Option End) (number : ℕ) → number ≡ status_number (run_status end) → IsRunNumber number
+pub run-number : (end : Option End) (number : ℕ) → number ≡ status_number (run_status end) → IsImageStatus number
 run-number None number e = inr (inr (inl e))
 run-number (Some Quietly) number e = inl e
 run-number (Some By_script) number e = inl e
@@ -21,7 +19,7 @@ run-number (Some (Panicked code)) number e = inr (inl e)
 run-number (Some (Faulted kind address)) number e = inr (inr (inr e))
 
 spelled : (told : List ℕ → Option (Option (List ℕ))) (budget : ℕ) (text image : List ℕ) (number : ℕ) (answer : Answer) → Spells text image → RunsHex told ⊥ None budget text answer
-    → number ≡ status_number (status_of answer) → IsRunNumber number
+    → number ≡ status_number (status_of answer) → IsImageStatus number
 spelled told budget text image number answer s (inl h) e = run-number _ number (e ∙ ap (λ a. status_number (status_of a)) h.2.is)
 spelled told budget text image number answer s (inr h) e = absurd ((one_reading-of text).not_both image h.0 s h.1)
 

@@ -2,10 +2,13 @@
 use Rattle.std.specs.Prelude.{◌≡◌, ◌⊎◌, ℕ, Bool, List, Option, None}
 use Rattle.sts_base.specs.declared.refused.Code.{Code}
 use Rattle.sts_base.specs.declared.tables.Tables.{Tables}
+use Rattle.board_world.specs.Observations.{ByteList}
 use Rattle.sts_syntax.specs.TypedTrees.{TypedProgram}
+use Rattle.sts_implements.specs.Images.{ImageImplements}
 use Rattle.sts_whole.specs.Accepting.{Accepts, IsRefusedFor}
 use Rattle.hex_image.specs.declared.refused.HexCode.{HexCode}
 use Rattle.hex_image.specs.Spells.{Spells, Breaks}
+use Rattle.run_tool.specs.Answers.{Answer, output_of}
 use Rattle.run_tool.specs.Check.{ChecksText}
 use Rattle.run_tool.specs.Build.{BuildsText}
 use Rattle.run_tool.specs.Run.{RunsText}
@@ -29,3 +32,10 @@ pub record ProgramStatuses (told : List ℕ → Option (Option (List ℕ))) (tex
   pub not_built : (code : Code) (at number : ℕ) → IsRefusedFor text code at → IsStatusOf (BuildsText text) number → number ≡ 10
   pub not_run : (code : Code) (at : ℕ) (script : Option (List ℕ)) (budget : ℕ) (stats image : Bool) (number : ℕ) → IsRefusedFor text code at
       → IsStatusOf (RunsText told ⊥ script budget stats image text) number → number ≡ 10
+
+-- What `build` writes of a program spells an image that implements it, and no other image.
+pub record WritesReadable (P : TypedProgram) (texts : List ByteList) (answer : Answer) : Type 0 where
+  pub image : List ℕ
+  pub implements : ImageImplements P texts image
+  pub spelled : Spells (output_of answer) image
+  pub only : (other : List ℕ) → Spells (output_of answer) other → other ≡ image

@@ -11,4 +11,6 @@ pub mod Scripts
 pub mod Runs
 pub mod RunHex
 pub mod Orders
+pub mod Headline
+pub mod Completeness
 pub mod Laws

@@ -5,6 +5,7 @@ use Rattle.board_world.specs.Transcript.{closing_line, count_text, stats_line}
 use Rattle.board_world.specs.Board.{Board, stats_of}
 use Rattle.sts_syntax.specs.TypedTrees.{TypedProgram}
 use Rattle.event_script.specs.declared.script.Script.{Script}
+use Rattle.hex_image.specs.Laws.{IsImage}
 use Rattle.hex_image.specs.Writing.{hextext}
 use Rattle.tool_io.specs.Putting.{Puts}
 use Rattle.tool_io.specs.declared.sink.PutFailed.{PutFailed}
@@ -47,9 +48,10 @@ Finishes taken taken' fs fs' Cut behind ending = (taken' ≡ taken) × (fs' ≡ 
 Finishes taken taken' fs fs' NoMemory behind ending = (taken' ≡ taken) × (fs' ≡ fs) × (ending ≡ NoMemory)
 
 -- The answer is the run of a program on a script within a budget of instructions: what the program's source has met after some counted steps, its closing line, and what is asked for behind
--- it, with the status of its end. An image implements the program, whose run within the budget reaches these counted steps, for some list of free words.
+-- it, with the status of its end. An image of bytes that fits into flash implements the program, and its run within the budget reaches these counted steps, for some list of free words.
 pub record RunsProgram (P : TypedProgram) (texts : List ByteList) (script : Script) (budget : ℕ) (stats with_image : Bool) (answer : Answer) : Type 0 where
   pub image : List ℕ
+  pub is_image : IsImage image
   pub implements : ImageImplements P texts image
   pub free : List ℕ
   pub executed : ℕ

@@ -1,9 +1,13 @@
 // The command `build`.
-ghost use Rattle.std.specs.Prelude.{◌≡◌, ◌≤◌, IfOk, IfErr, OnOk};
+ghost use Rattle.std.specs.Prelude.{◌≡◌, ◌≤◌, List, vec_len, IfOk, IfErr, OnOk};
+ghost use Rattle.thumb_code.specs.Map.{flash_end};
+ghost use Rattle.board_world.specs.Observations.{ByteList};
+ghost use Rattle.sts_syntax.specs.TypedTrees.{TypedProgram};
+ghost use Rattle.sts_implements.specs.Images.{ImageImplements};
 ghost use Rattle.sts_whole.specs.Built.{Builds};
 ghost use Rattle.run_tool.specs.Answers.{GivesOneOf};
 ghost use Rattle.run_tool.specs.Programs.{OverProgram, none_to_programs};
-ghost use Rattle.run_tool.specs.Build.{BuildsText};
+ghost use Rattle.run_tool.specs.Build.{BuildsText, WritesImage};
 ghost use Rattle.run_tool.specs.Files.{OverFile};
 
 use crate::ending::{Ending, Status};
@@ -27,15 +31,23 @@ pub fn image_of<K: Sink>(alloc: Global, text: &[u8], out: &mut K) -> Result<Vec<
     }
 }
 
+/// Writes an image that implements a program as HEX.
+fn write_image<K: Sink>(alloc: Global, image: Vec<u8>, out: &mut K) -> Ending
+    requires size { vec_len image ≤ flash_end }
+    ensures { (P : TypedProgram) (texts : List ByteList) → ImageImplements P texts image.items → GivesOneOf K.taken K.faults out.old out.new (WritesImage P texts) result }
+{
+    match write_hex(alloc, &image) {
+        Ok(hex) => say(out, Status::Done, &hex),
+        Err(NoMemory) => Ending::NoMemory,
+    }
+}
+
 /// Writes the image that is built of a text as HEX.
 fn build_text<K: Sink>(alloc: Global, text: &[u8], out: &mut K) -> Ending
     ensures { GivesOneOf K.taken K.faults out.old out.new (BuildsText text.now) result }
 {
     match image_of(alloc, text, out) {
-        Ok(image) => match write_hex(alloc, &image) {
-            Ok(hex) => say(out, Status::Done, &hex),
-            Err(NoMemory) => Ending::NoMemory,
-        },
+        Ok(image) => write_image(alloc, image, out),
         Err(ending) => ending,
     }
 }

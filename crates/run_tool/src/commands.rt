@@ -5,6 +5,8 @@ ghost use Rattle.run_tool.specs.declared.ending.Ending.{Ending};
 ghost use Rattle.sts_words.specs.Words.{order_of};
 ghost use Rattle.run_tool.specs.Answers.{Concludes, ending_number};
 ghost use Rattle.run_tool.specs.Orders.{AnswersOrder, AnswersWords, Completes, AsksForImage, AsksForProgram, NamesScript, lead_of};
+ghost use Rattle.run_tool.specs.Headline.{Headline};
+ghost use Rattle.run_tool.specs.Completeness.{IsComplete};
 ghost use Rattle.sts_words.specs.Orders.{IsInRange, order_view};
 
 use crate::big::big;
@@ -18,6 +20,7 @@ use board_ports::Device;
 use command_line::read_command_line;
 use std::alloc::Global;
 use sts_base::NoMemory;
+use sts_whole::one_answer;
 use sts_words::Order;
 use tool_io::{Folder, Sink};
 
@@ -125,6 +128,9 @@ fn perform<F: Folder, K: Sink, D: Device>(
 /// - 23, `too long`, where the file has more than 1,048,576 bytes;
 /// - 30 for want of memory, before anything was written, or behind the line `big N` alone.
 ///
+/// Where each file that the words name is told and is what the command wants, and no count of faults rises, `check` and `build` end with 0, `run` and `big` with 0, 3 or 4, and `run-hex` with 0, 3, 4
+/// or 13; or with 30.
+///
 /// The devices are as the run left them, and stay as they are with every other answer.
 pub fn sts_main<F: Folder, K: Sink>(
     alloc: Global,
@@ -133,10 +139,14 @@ pub fn sts_main<F: Folder, K: Sink>(
     out: &mut K,
     plugs: &mut Vec<Option<Box<dyn Device>>>,
 ) -> u8
+    ensures headline { Headline ⟦<Box<dyn Device> as Device>⟧.log ⟦<Box<dyn Device> as Device>⟧.faults (F.holds folder.old) (order_of (map string_bytes words.now))
+        (Rose (F.faults folder.old) (F.faults folder.new)) (Rose (K.faults out.old) (K.faults out.new)) (K.taken out.old) (K.taken out.new) plugs.old.items plugs.new.items result }
     ensures ends { (ending : Ending) × (result ≡ ending_number ending)
         × Concludes K.taken K.faults out.old out.new ⟦<Box<dyn Device> as Device>⟧.log ⟦<Box<dyn Device> as Device>⟧.faults plugs.old.items plugs.new.items
         (lead_of (order_of (map string_bytes words.now))) (AnswersWords F.holds F.faults folder.old folder.new (map string_bytes words.now)) ending }
     ensures completes { Completes (F.holds folder.old) (order_of (map string_bytes words.now))
+        (Rose (F.faults folder.old) (F.faults folder.new)) (Rose (K.faults out.old) (K.faults out.new)) result }
+    ensures complete { IsComplete (F.holds folder.old) (order_of (map string_bytes words.now))
         (Rose (F.faults folder.old) (F.faults folder.new)) (Rose (K.faults out.old) (K.faults out.new)) result }
     ensures refused { result ≡ 10 → AsksForProgram (order_of (map string_bytes words.now)) }
     ensures script_refused { result ≡ 11 → NamesScript (order_of (map string_bytes words.now)) }
@@ -146,5 +156,6 @@ pub fn sts_main<F: Folder, K: Sink>(
     ensures sink_failed { result ≡ 22 → Rose (K.faults out.old) (K.faults out.new) }
     ensures untouched { order_of (map string_bytes words.now) ≡ None → folder.new ≡ folder.old }
 {
+    one_answer();
     perform(alloc, words, folder, out, plugs).number()
 }

@@ -1,8 +1,13 @@
 // Laws of answers.
 ghost use Rattle.std.specs.Prelude.{ℕ, List};
 ghost use Rattle.std.specs.declared.option.Option.{Option};
-ghost use Rattle.run_tool.specs.Laws.{HexStatuses, ProgramStatuses};
+ghost use Rattle.board_world.specs.Observations.{ByteList};
+ghost use Rattle.sts_syntax.specs.TypedTrees.{TypedProgram};
+ghost use Rattle.run_tool.specs.Answers.{Answer};
+ghost use Rattle.run_tool.specs.Build.{WritesImage};
+ghost use Rattle.run_tool.specs.Laws.{HexStatuses, ProgramStatuses, WritesReadable};
 
+use hex_image::round_trip;
 use sts_whole::one_answer;
 
 /// The status of an answer of `run-hex` where nothing fails is 0, 3, 4 or 13 where the text spells an image and no script is named, and 12
@@ -17,4 +22,11 @@ pub fn statuses_of_programs()
     ensures { (told : List ℕ → Option (Option (List ℕ))) (text : List ℕ) → ProgramStatuses told text }
 {
     one_answer();
+}
+
+/// What `build` writes of a program is read back by `read_hex` as an image that implements the program, and as no other.
+pub fn built_texts_are_read_back()
+    ensures { (P : TypedProgram) (texts : List ByteList) (answer : Answer) → WritesImage P texts answer → WritesReadable P texts answer }
+{
+    round_trip();
 }

@@ -16,4 +16,4 @@ mod script;
 pub use big::big_text;
 pub use commands::sts_main;
 pub use ending::{Ending, Status};
-pub use laws::{statuses_of_programs, statuses_of_run_hex};
+pub use laws::{built_texts_are_read_back, statuses_of_programs, statuses_of_run_hex};

@@ -1,4 +1,5 @@
-use Rattle.std.proofs.Common.{subst, refl, []}
+use Rattle.std.proofs.Common.{subst, refl, [], rules, All, ◌<◌, ◌≤◌, length}
+use Rattle.hex_image.specs.Spells.{flash_bytes}
 use Rattle.run_tool.specs.Answers.{Concludes}
 use Rattle.run_tool.specs.Big.{big_line}
 use Rattle.run_tool.specs.Run.{RunsProgram}
@@ -18,6 +19,8 @@ returns-in-Ok g c = λ P texts implements.
 pub returns-in-Err : goal.returns-in-Err
 returns-in-Err g c = λ P texts implements.
     let m = c.args.manner in
-    let due = some-run P texts c.args.image.items implements default_script m.budget m.stats m.image in
+    let fits : length c.args.image.items ≤ flash_bytes = search rules in
+    let bytes : All (λ b. b < 256) c.args.image.items = search rules in
+    let due = some-run P texts c.args.image.items (record { fits = fits; bytes = bytes }) implements default_script m.budget m.stats m.image in
     lead-concludes g.D.Device.log g.D.Device.faults c.args.places.now.items c.args.places.now.items refl (big_line c.args.size) (RunsProgram P texts default_script m.budget m.stats m.image) due.0 due.1
     c.in-Err.ensures.part c.in-Err.ensures.later c.in-Err.ensures.failed
