@@ -1,7 +1,7 @@
 -- What writes do to the bytes that a stream holds and to those that are held back for it.
 use Rattle.std.proofs.Common.{inl, inr, ◌≡◌, ℕ, ◌+◌, List, [], ◌++◌, sym, ap, subst, append-nil, append_assoc, ◌∙◌, refl, arith, length, take, drop, ◌-◌, length-drop}
 use Rattle.std.specs.Prelude.{Option, Some, None, Result, Ok, Err, OnOk, OnErr, ◌⊎◌}
-use Rattle.std.specs.Io.KnownBytes.{Appends, Keeps, WriteAppends, append_known}
+use Rattle.std.specs.Io.KnownBytes.{Appends, Keeps, append_known}
 use Rattle.std.proofs.Math.Seq.{take-add}
 use Rattle.std.proofs.lemmas.List.{take-append-drop, take_all}
 use Rattle.buffered_stream.specs.Pieces.{AppendsFront, IsSuffix}

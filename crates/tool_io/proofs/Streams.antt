@@ -1,6 +1,6 @@
 -- What a stream behind a buffer has, as what a sink has taken, and where its lines end.
 use Rattle.std.proofs.Common.{◌≡◌, ◌≢◌, ℕ, ◌+◌, zero, suc, length-append, List, [], ◌∷◌, ◌++◌, sym, ap, subst, append-nil, ◌∙◌, refl, arith, length, take, drop, ◌-◌}
-use Rattle.std.specs.Prelude.{Option, Some, None, Result, Ok, Err, OnOk, OnErr, slice_get}
+use Rattle.std.specs.Prelude.{Option, Some, None, Result, Ok, Err, OnErr, slice_get}
 use Rattle.std.specs.Io.KnownBytes.{Appends, Keeps}
 use Rattle.std.proofs.lemmas.List.{take-append-drop}
 use Rattle.buffered_stream.specs.Pieces.{AppendsFront, IsSuffix}
