@@ -7,7 +7,7 @@ ghost use Rattle.fiber_pool.specs.Kept.{kept_at};
 ghost use Rattle.fiber_queues.specs.Lists.{Leads};
 ghost use Rattle.fiber_runtime.specs.declared.turning.Turning.{Turning};
 ghost use Rattle.fiber_runtime.specs.Moves.{Blocked, Resumed};
-ghost use Rattle.thumb_switch.specs.Routine.{routine_bytes};
+ghost use Rattle.thumb_switch.specs.Routine.{routine_bytes, routine_steps};
 ghost use Rattle.thumb_switch.specs.Space.{called, most_instructions};
 ghost use Rattle.thumb_switch.specs.Switching.{Held, counted, depth, BlockedBy, ResumedBy};
 
@@ -134,15 +134,15 @@ impl Switch {
         requires keyed { IfSome runtime.old.running (λ t. IsSome t.key) }
         requires inside { IsInside runtime.old.machine.registers.sp runtime.old.machine.memory.base }
         requires early { now ≤ end_limit }
-        requires room { self.old.count + 8232 < 2 ^ 64 }
         ensures any { (key : ℕ) (t : Turning) → runtime.old.running ≡ Some t → t.key ≡ Some key → BlockedBy key t why now self.old self.new runtime.old runtime.new }
         ensures routine { self.old.bytes ≡ routine_bytes → (key : ℕ) (t : Turning) → runtime.old.running ≡ Some t → t.key ≡ Some key → Blocked key t why now runtime.old runtime.new }
+        ensures exact { self.old.bytes ≡ routine_bytes → self.new ≡ counted self.old (routine_steps (depth runtime.old.machine)) }
         ensures bytes { self.new.bytes ≡ self.old.bytes }
         ensures most { self.new.count ≤ self.old.count + most_instructions (depth runtime.old.machine) }
         ensures few { self.new.count ≤ self.old.count + 8232 }
     {
         let steps = block_by(self.bytes.as_slice(), runtime, why, now);
-        self.count += u64::from(steps);
+        self.count = self.count.saturating_add(u64::from(steps));
     }
 
     /// The first ready fiber becomes the running one: its registers and base are put into the machine, and the held bytes are executed to copy
@@ -150,12 +150,12 @@ impl Switch {
     pub fn resume(&mut self, runtime: &mut Runtime) -> bool
         requires idle { runtime.old.running ≡ None }
         requires alone { runtime.old.raisers ≡ [] }
-        requires room { self.old.count + 8232 < 2 ^ 64 }
         ensures none { OnFalse result (runtime.old.lists.ready ≡ []) }
         ensures same { OnFalse result (runtime.new ≡ runtime.old) }
         ensures still { OnFalse result (self.new ≡ self.old) }
         ensures any { OnTrue result (ResumedBy self.old self.new runtime.old runtime.new) }
         ensures routine { self.old.bytes ≡ routine_bytes → OnTrue result (Resumed runtime.old runtime.new) }
+        ensures exact { self.old.bytes ≡ routine_bytes → (key : ℕ) → Leads key runtime.old.lists.ready → self.new ≡ counted self.old (routine_steps (length (kept_at runtime.old.pool key).words)) }
         ensures bytes { self.new.bytes ≡ self.old.bytes }
         ensures most { (key : ℕ) → Leads key runtime.old.lists.ready → self.new.count ≤ self.old.count + most_instructions (length (kept_at runtime.old.pool key).words) }
         ensures few { self.new.count ≤ self.old.count + 8232 }
@@ -164,7 +164,7 @@ impl Switch {
             None => false,
             Some(key) => {
                 let steps = resume_by(self.bytes.as_slice(), runtime, key);
-                self.count += u64::from(steps);
+                self.count = self.count.saturating_add(u64::from(steps));
                 true
             }
         }
