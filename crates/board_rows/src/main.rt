@@ -2,6 +2,10 @@
 //! hexadecimal digits. The output is the transcript of its run, and a line of how many instructions the board's switch executed.
 #![tactic(auto)]
 
+ghost use Rattle.std.specs.Prelude.{◌≤◌};
+ghost use Rattle.board_world.specs.Limits.{end_limit};
+ghost use Rattle.event_script.specs.Sound.{IsSound};
+
 use anyhow::anyhow;
 use board_ports::SureDevice;
 use board_run::{Board, End};
@@ -20,15 +24,23 @@ const LATEST_END: u32 = 2_000_000_000;
 /// The most instructions of a run.
 const BUDGET: u32 = 2_147_483_648;
 
+/// A script without entries.
+fn quiet_script(alloc: Global, end: u32) -> Script
+    requires { end ≤ end_limit }
+    ensures { IsSound result }
+{
+    Script {
+        end,
+        entries: Seq::new(alloc),
+    }
+}
+
 /// Runs an image on a board, up to a moment.
 fn run_image<K: Sink>(alloc: Global, end: u32, image: Vec<u8>, out: &mut K) -> anyhow::Result<()> {
     if end > LATEST_END || image.len() > FLASH_BYTES {
         return Err(anyhow!("the script or the image is too long"));
     }
-    let script = Script {
-        end,
-        entries: Seq::new(alloc),
-    };
+    let script = quiet_script(alloc, end);
     let Ok(mut board) = Board::<SureDevice>::mount(alloc, image, script, Vec::new(alloc)) else {
         return Err(anyhow!("no memory"));
     };
