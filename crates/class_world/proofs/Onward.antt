@@ -104,10 +104,10 @@ arrive_script act es b = by_act act
     by_act : (act : Act) → arrive act (record b { script = es }) ≡ record (arrive act b) { script = es }
     by_act (Down n) =
         if_scripted es (n == 1) _ _ (record (went_down 1 b.a_since b) { a_since = held_since b.clock b.a_since }) (record (went_down 2 b.b_since b) { b_since = held_since b.clock b.b_since })
-            (ap (λ (c : Board). record c { a_since = held_since b.clock b.a_since }) (of_down 1 b.a_since)) (ap (λ (c : Board). record c { b_since = held_since b.clock b.b_since }) (of_down 2 b.b_since))
+        (ap (λ (c : Board). record c { a_since = held_since b.clock b.a_since }) (of_down 1 b.a_since)) (ap (λ (c : Board). record c { b_since = held_since b.clock b.b_since }) (of_down 2 b.b_since))
     by_act (Up n) =
         if_scripted es (n == 1) _ _ (record (went_up 1 b.a_since b) { a_since = None }) (record (went_up 2 b.b_since b) { b_since = None })
-            (ap (λ (c : Board). record c { a_since = None }) (of_up 1 b.a_since)) (ap (λ (c : Board). record c { b_since = None }) (of_up 2 b.b_since))
+        (ap (λ (c : Board). record c { a_since = None }) (of_up 1 b.a_since)) (ap (λ (c : Board). record c { b_since = None }) (of_up 2 b.b_since))
     by_act (Raise e) = of_raised e b
     by_act (Unplug port) = refl
 
