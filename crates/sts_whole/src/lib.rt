@@ -17,7 +17,9 @@ mod program;
 mod reaching;
 mod refused_places;
 
-pub use accepted_programs::{accepted_programs_are_buildable, one_answer};
+pub use accepted_programs::{
+    accepted_programs_are_buildable, one_answer, texts_with_tokens_have_an_answer,
+};
 pub use accepting::accept;
 pub use board::run_image;
 pub use compiled::compiled_images_implement_their_programs;
