@@ -22,6 +22,7 @@ pub use accepted_programs::{
 };
 pub use accepting::accept;
 pub use board::run_image;
+pub use checking::check;
 pub use compiled::compiled_images_implement_their_programs;
 pub use program::{build, run_text};
 pub use reaching::runs_reach_their_sources;
