@@ -74,8 +74,8 @@ abbrev pub is_unplugged : List (ℕ × ℕ) → ℕ → Bool
 is_unplugged unplugs port = list_any (λ unplug. unplug.0 == port) unplugs
 
 -- First. What was written is the transcript of the source's first counted steps: their lines, and its own closing line where it has ended by then, else the line of the budget; then what is
--- asked for. They are no more than instructions of the budget. For each n with 512 n in the budget it is the whole transcript where the source ends within n steps, and that of at least n
--- where it hasn't ended. The status is that of the closing line, and the devices have the words.
+-- asked for, where the number of instructions and the image are those of the second part. The steps are no more than instructions of the budget. For each n with 512 n in the budget it is the
+-- whole transcript where the source ends within n steps, and that of at least n where it hasn't ended. The status is that of the closing line, and the devices have the words.
 pub record IsTranscript {B : Type 0} (log : B → Option (List (ℕ × ℕ))) (faults : B → ℕ) (r : AskedRun) (a : Aftermath B) (steps executed : ℕ) (image : List ℕ) : Type 0 where
   pub written : (let b = source_board r steps in a.written ≡ r.lead ++ (lines b.seen ++ (closing_line b.clock b.end ++ asked_behind r.stats r.image b executed image)))
   pub at_most : steps ≤ r.budget
