@@ -1,8 +1,6 @@
 #!/bin/sh
-# Each definition that a document names by its file, as in (`IsPlace` in crates/sts_base/specs/Places.antt), stands there, where a path that begins with
-# specs/ belongs to the crate named before; each crate of crates.txt stands once in the table of docs/ARCHITECTURE.md, with the length of the longest
-# chain of crates up to it, at most eight, and there is no other; each lemma of another crate is cited from its proofs/Laws.antt; and each file that a
-# link leads to is there.
+# Each definition that a document names by its file, as in (`IsPlace` in crates/sts_base/specs/Places.antt), stands there, where a path that begins with specs/ belongs to the crate named
+# before; each lemma of another crate is cited from its proofs/Laws.antt; and each file that a link leads to is there.
 # usage: checks/documents.sh
 set -eu
 cd "$(dirname "$0")/.."
@@ -37,19 +35,7 @@ for document in ["README.md", *sorted(glob.glob("docs/*.md")), *sorted(glob.glob
             if not re.search(rf"(?<![\w-]){re.escape(name)}(?![\w-])", definitions):
                 wrong.append(f"{document}: `{name}` isn't in {path}")
 
-lines = [line.partition("#")[0].partition(":") for line in open("crates.txt", encoding="utf-8")]
-used = {head.split()[0]: below.split() for head, _, below in lines if head.strip()}
-
-
-def depth(crate):
-    return 1 + max((depth(it) for it in used[crate] if it in used), default=0)
-
-
-rows = [(name, int(number)) for number, name in re.findall(r"^\| (\d+) \| `(\w+)` \|", open("docs/ARCHITECTURE.md", encoding="utf-8").read(), re.M)]
-wanted = [(it, depth(it)) for it in used]
-wrong += [f"docs/ARCHITECTURE.md: there is no row `{name}` with {number}" for name, number in wanted if (name, number) not in rows]
-wrong += [f"docs/ARCHITECTURE.md: the row of `{name}` with {number} is one too many" for name, number in rows if (name, number) not in wanted or rows.count((name, number)) > 1]
-wrong += [f"crates.txt: a chain of {number} crates ends at {name}" for name, number in wanted if number > 8]
+used = {line.split()[0].rstrip(":") for line in open("crates.txt", encoding="utf-8") if line.partition("#")[0].strip()}
 cited = 0
 for file in sorted(glob.glob("crates/*/src/**/*.rt", recursive=True) + glob.glob("crates/*/[ps]*/**/*.antt", recursive=True)):
     for crate, module in re.findall(r"(?<![\w.:])(?:Rattle\.)?(\w+)(?:\.|::)proofs(?:\.|::)(\w+)", open(file, encoding="utf-8").read()):
@@ -59,6 +45,6 @@ for file in sorted(glob.glob("crates/*/src/**/*.rt", recursive=True) + glob.glob
                 wrong.append(f"{file}: cites {module} of {crate}, which isn't its Laws")
 for it in wrong:
     print(f"documents: {it}")
-print(f"documents: {names} names, {links} links, {len(rows)} crates, {cited} citations, {len(wrong)} wrong")
+print(f"documents: {names} names, {links} links, {cited} citations, {len(wrong)} wrong")
 sys.exit(1 if wrong or not names or not links or not cited else 0)
 PYTHON

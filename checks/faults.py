@@ -2,7 +2,7 @@
 
 `sts`: where memory is refused it ends with status 30 and has written nothing, or the line `big 1` alone. Where a file fails it writes `folder failed`, with status 20. Where standard
 output fails it ends with status 22: what was written begins the output, and standard error has the raw bytes of the whole lines at the serial port. Where standard error fails, which is the
-device at that port, the output stays, and no byte follows. Calls that are interrupted, or move one byte, change nothing.
+device at that port, the output stays, and no byte follows: each text is one write. Calls that are interrupted, or move one byte, change nothing.
 
 `tool_rows` makes the top call over four devices in memory, each told a word before: where memory is refused it says that the call answered 30, that the sink took no more than that, and that the
 devices are as they were.
@@ -117,10 +117,15 @@ class Faults:
         return count
 
 
-def raw(out):
-    """The bytes at the serial port of the whole lines of an output."""
+def texts(out):
+    """The texts at the serial port of the whole lines of an output."""
     lines = [line.split(" ") for line in out.split("\n")[:-1]]
-    return "".join(bytes.fromhex(line[2]).decode() for line in lines if line[1:2] == ["serial"])
+    return [bytes.fromhex(line[2]).decode() for line in lines if line[1:2] == ["serial"]]
+
+
+def raw(out):
+    """The bytes of those texts."""
+    return "".join(texts(out))
 
 
 def commands_fail(faults, sts):
@@ -143,7 +148,7 @@ def commands_fail(faults, sts):
             return status == 22 and whole[1].startswith(out) and out != whole[1] and err == (raw(out) if whole[2] else "") if number else (status, out, err) == whole
 
         def device_fails(number, *came):
-            return came == (0, whole[1], whole[2][: number - 1] if number else whole[2])
+            return came == (0, whole[1], "".join(texts(whole[1])[: number - 1]) if number else whole[2])
 
         memory = faults.memory(sts, words, lambda *came: came == whole, lambda status, out, err: status == 30 and out in before and not err)
         told[words] = [memory] + [faults.each(sts, words, call, way, is_right) for call, way, is_right in (

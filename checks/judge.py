@@ -23,6 +23,8 @@ PROGRAM, FOLDER = os.path.abspath(sys.argv[1]), sys.argv[2]
 JUDGE = f"{TOP}/bin/judge"
 COUNTER = {end: open(f"{TOP}/examples/counter.{end}", "rb").read() for end in ("ts", "json", "txt")}
 looked, wrong = 0, 0
+# A check that a script runs in the background has SIGINT ignored, and so would the judges that it begins.
+signal.signal(signal.SIGINT, signal.default_int_handler)
 
 
 def expect(what, had, wanted):

@@ -3,3 +3,4 @@ mod Texts
 mod Words
 mod Moving
 mod Meeting
+mod Waiting

@@ -2,3 +2,4 @@ pub mod Moves
 pub mod Ports
 pub mod Sights
 pub mod Cuts
+pub mod Waiting

@@ -1,7 +1,9 @@
 // The lines of a transcript.
-ghost use Rattle.std.specs.Prelude.{◌≡◌, ◌<◌, ◌≤◌, ◌^◌, ◌++◌, ◌∷◌, [], List, ℕ, All, codes, length};
+ghost use Rattle.std.specs.Prelude.{◌≡◌, ◌<◌, ◌≤◌, ◌^◌, ◌+◌, ◌++◌, ◌∷◌, [], List, ℕ, All, codes, length};
 ghost use Rattle.std.specs.declared.option.Option.{Option};
+ghost use Rattle.arrayvec.specs.ArrayVec.{array_vec_len};
 ghost use Rattle.tool_io.specs.Putting.{Puts};
+ghost use Rattle.board_outside.specs.Waiting.{PutsBut};
 ghost use Rattle.board_world.specs.Observations.{Show, Serial, Pin, Radio, Quietly, By_script, Panicked, Faulted};
 ghost use Rattle.thumb_code.specs.Map.{flash_end};
 ghost use Rattle.armv6m_machine.specs.Answers.{number_of};
@@ -10,6 +12,7 @@ ghost use Rattle.board_world.specs.Transcript.{hex_digit, hex_text, lights, fram
 
 use crate::flash::{flash_byte, flash_number};
 use armv6m_machine::{Fault, Machine, number};
+use arrayvec::ArrayVec;
 use itoa::Buffer;
 use tool_io::{PutFailed, Sink, then_put, then_put_decimal};
 
@@ -25,17 +28,44 @@ fn hex_digit(digit: u8) -> u8
     }
 }
 
-/// Puts a byte as two hexadecimal digits.
-fn then_put_hex_byte<K: Sink>(
+/// So many digits wait at most, until they are put together.
+const DIGITS: usize = 512;
+
+/// Puts the digits that wait, where there is no room for two more.
+fn then_make_room<K: Sink>(
     before: Result<(), PutFailed>,
     out: &mut K,
+    waiting: &mut ArrayVec<u8, DIGITS>,
+) -> Result<(), PutFailed>
+    ensures puts { (taken : Option (List ℕ)) (faults : ℕ) (text : List ℕ)
+        → PutsBut waiting.old.items taken (K.taken out.old) faults (K.faults out.old) text before
+        → PutsBut waiting.new.items taken (K.taken out.new) faults (K.faults out.new) text result }
+    ensures room { array_vec_len waiting.new + 2 ≤ 512 }
+{
+    if waiting.remaining_capacity() >= 2 {
+        return before;
+    }
+    let put = then_put(before, out, waiting.as_slice());
+    waiting.truncate(0);
+    put
+}
+
+/// Goes on with a byte as two hexadecimal digits, which wait with the digits before them; where there is no room for them, those before are
+/// put first.
+fn then_hex_byte<K: Sink>(
+    before: Result<(), PutFailed>,
+    out: &mut K,
+    waiting: &mut ArrayVec<u8, DIGITS>,
     byte: u8,
 ) -> Result<(), PutFailed>
     ensures { (taken : Option (List ℕ)) (faults : ℕ) (text : List ℕ)
-        → Puts taken (K.taken out.old) faults (K.faults out.old) text before
-        → Puts taken (K.taken out.new) faults (K.faults out.new) (text ++ hex_text (byte ∷ [])) result }
+        → PutsBut waiting.old.items taken (K.taken out.old) faults (K.faults out.old) text before
+        → PutsBut waiting.new.items taken (K.taken out.new) faults (K.faults out.new) (text ++ hex_text (byte ∷ [])) result }
 {
-    then_put(before, out, &[hex_digit(byte / 16), hex_digit(byte % 16)])
+    let put = then_make_room(before, out, waiting);
+    waiting.push(hex_digit(byte / 16));
+    waiting.push(hex_digit(byte % 16));
+    put
 }
 
 /// Puts bytes as hexadecimal text, two digits each.
@@ -48,11 +78,12 @@ fn then_put_hex<K: Sink>(
         → Puts taken (K.taken out.old) faults (K.faults out.old) text before
         → Puts taken (K.taken out.new) faults (K.faults out.new) (text ++ hex_text bytes.now) result }
 {
+    let mut waiting = ArrayVec::new();
     let mut put = before;
     for byte in bytes {
-        put = then_put_hex_byte(put, out, *byte);
+        put = then_hex_byte(put, out, &mut waiting, *byte);
     }
-    put
+    then_put(put, out, waiting.as_slice())
 }
 
 /// Puts the line of bytes that were written to the serial port at a moment.
@@ -87,11 +118,17 @@ fn then_put_flash_hex<K: Sink>(
         → Puts taken (K.taken out.old) faults (K.faults out.old) text before
         → Puts taken (K.taken out.new) faults (K.faults out.new) (text ++ hex_text (flash_bytes machine.now.memory.flash count at)) result }
 {
+    let mut waiting = ArrayVec::new();
     let mut put = before;
     for i in 0..count {
-        put = then_put_hex_byte(put, out, flash_byte(machine, at + u64::from(i)));
+        put = then_hex_byte(
+            put,
+            out,
+            &mut waiting,
+            flash_byte(machine, at + u64::from(i)),
+        );
     }
-    put
+    then_put(put, out, waiting.as_slice())
 }
 
 /// Puts the line of a text in flash that was written to the serial port at a moment.

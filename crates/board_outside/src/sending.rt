@@ -5,7 +5,8 @@ ghost use Rattle.std.specs.Int.{cast_unsigned, w32};
 ghost use Rattle.thumb_code.specs.Map.{flash_end};
 ghost use Rattle.bank_model.specs.Texts.{flash_bytes, text_at};
 ghost use Rattle.board_ports.specs.History.{PortMove, Word, Follows};
-ghost use Rattle.board_outside.specs.Ports.{bytes_sent};
+ghost use Rattle.board_outside.specs.Ports.{serial_port, bytes_sent};
+ghost use Rattle.board_ports.specs.Plugged.{SettledAt};
 
 use crate::flash::{flash_byte, flash_number};
 use armv6m_machine::Machine;
@@ -14,35 +15,51 @@ use board_ports::{Device, Plugs};
 /// The port of the serial line.
 const SERIAL: usize = 1;
 
-/// Sends bytes to the serial port, a word for each.
+/// Sends bytes to the serial port, a word for each, and lets the device there settle.
 pub fn send_bytes<D: Device>(plugs: &mut Plugs<D>, now: u32, bytes: &[u8])
-    ensures { (moves : List PortMove) (start : List (Option D)) → Follows D.log D.faults moves start plugs.old
+    ensures settled { SettledAt D.settled serial_port plugs.new }
+    ensures sends { (moves : List PortMove) (start : List (Option D)) → Follows D.log D.faults moves start plugs.old
         → Follows D.log D.faults (moves ++ bytes_sent now bytes.now) start plugs.new }
 {
     for byte in bytes {
         let _ = plugs.send(SERIAL, now, u32::from(*byte));
     }
+    plugs.settle(SERIAL);
 }
 
-/// Sends bytes of flash to the serial port, from an address on.
+/// Sends bytes of flash to the serial port, from an address on, and lets the device there settle.
 fn send_flash<D: Device>(plugs: &mut Plugs<D>, now: u32, machine: &Machine, at: u64, count: u32)
     requires small { at < 2 ^ 33 }
     requires size { length machine.now.memory.flash ≤ flash_end }
     requires bytes { All (λ b. b < 256) machine.now.memory.flash }
-    ensures { (moves : List PortMove) (start : List (Option D)) → Follows D.log D.faults moves start plugs.old
+    ensures settled { SettledAt D.settled serial_port plugs.new }
+    ensures sends { (moves : List PortMove) (start : List (Option D)) → Follows D.log D.faults moves start plugs.old
         → Follows D.log D.faults (moves ++ bytes_sent now (flash_bytes machine.now.memory.flash count at)) start plugs.new }
 {
     for i in 0..count {
         let byte = flash_byte(machine, at + u64::from(i));
         let _ = plugs.send(SERIAL, now, u32::from(byte));
     }
+    plugs.settle(SERIAL);
+}
+
+/// Sends a word to a port, and lets the device there settle.
+pub fn send_word<D: Device>(plugs: &mut Plugs<D>, port: usize, now: u32, word: u32)
+    requires { port < 4 }
+    ensures settled { SettledAt D.settled port plugs.new }
+    ensures sends { (moves : List PortMove) (start : List (Option D)) → Follows D.log D.faults moves start plugs.old
+        → Follows D.log D.faults (moves ++ Word port now word ∷ []) start plugs.new }
+{
+    let _ = plugs.send(port, now, word);
+    plugs.settle(port);
 }
 
 /// Sends the text at an address of flash to the serial port.
 pub fn send_text<D: Device>(plugs: &mut Plugs<D>, now: u32, machine: &Machine, address: u32)
     requires size { length machine.now.memory.flash ≤ flash_end }
     requires bytes { All (λ b. b < 256) machine.now.memory.flash }
-    ensures { (moves : List PortMove) (start : List (Option D)) → Follows D.log D.faults moves start plugs.old
+    ensures settled { SettledAt D.settled serial_port plugs.new }
+    ensures sends { (moves : List PortMove) (start : List (Option D)) → Follows D.log D.faults moves start plugs.old
         → Follows D.log D.faults (moves ++ bytes_sent now (text_at machine.now.memory.flash address)) start plugs.new }
 {
     let count = flash_number(machine, u64::from(address));

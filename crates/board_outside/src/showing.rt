@@ -8,13 +8,14 @@ ghost use Rattle.std.specs.Int.{cast_unsigned, w32};
 ghost use Rattle.board_world.specs.Observations.{Serial, Radio};
 ghost use Rattle.board_ports.specs.History.{PortMove, Word, Follows};
 ghost use Rattle.board_outside.specs.Moves.{seen_of};
-ghost use Rattle.board_outside.specs.Ports.{radio_port, bytes_sent, port_moves};
-ghost use Rattle.board_outside.specs.Sights.{moves_of, IsSeen};
+ghost use Rattle.board_outside.specs.Ports.{serial_port, radio_port, bytes_sent, port_moves};
+ghost use Rattle.board_ports.specs.Plugged.{SettledAt};
+ghost use Rattle.board_outside.specs.Sights.{moves_of, IsSeen, HasSettled};
 
 use crate::lines::{
     then_put_display, then_put_pin, then_put_radio, then_put_serial, then_put_text,
 };
-use crate::sending::{send_bytes, send_text};
+use crate::sending::{send_bytes, send_text, send_word};
 use crate::sight::Sight;
 use armv6m_machine::Machine;
 use board_ports::{Device, Plugs};
@@ -61,7 +62,8 @@ fn put_sight<K: Sink>(
 
 /// Sends the bytes of a number's decimal text.
 fn send_number<D: Device>(now: u32, number: i32, plugs: &mut Plugs<D>)
-    ensures { (moves : List PortMove) (start : List (Option D)) → Follows D.log D.faults moves start plugs.old
+    ensures settled { SettledAt D.settled serial_port plugs.new }
+    ensures sends { (moves : List PortMove) (start : List (Option D)) → Follows D.log D.faults moves start plugs.old
         → Follows D.log D.faults (moves ++ (bytes_sent now (decimal_text number) ++ [])) start plugs.new }
 {
     let mut buffer = Buffer::new();
@@ -70,34 +72,33 @@ fn send_number<D: Device>(now: u32, number: i32, plugs: &mut Plugs<D>)
 
 /// Sends a number's word by radio.
 fn send_radio<D: Device>(now: u32, number: i32, plugs: &mut Plugs<D>)
-    ensures { (moves : List PortMove) (start : List (Option D)) → Follows D.log D.faults moves start plugs.old
+    ensures settled { SettledAt D.settled radio_port plugs.new }
+    ensures sends { (moves : List PortMove) (start : List (Option D)) → Follows D.log D.faults moves start plugs.old
         → Follows D.log D.faults (moves ++ Word radio_port now (cast_unsigned w32 number) ∷ []) start plugs.new }
 {
-    let _ = plugs.send(3, now, number.cast_unsigned());
+    send_word(plugs, 3, now, number.cast_unsigned());
 }
 
-/// Sends the words of what was seen at a moment.
+/// Sends the words of what was seen at a moment, and lets the device that they go to settle.
 fn send_sight<D: Device>(sight: Sight, now: u32, machine: &Machine, plugs: &mut Plugs<D>)
     requires size { length machine.now.memory.flash ≤ flash_end }
     requires bytes { All (λ b. b < 256) machine.now.memory.flash }
-    ensures { (moves : List PortMove) (start : List (Option D)) → Follows D.log D.faults moves start plugs.old
+    ensures settled { HasSettled D.settled sight plugs.new }
+    ensures sends { (moves : List PortMove) (start : List (Option D)) → Follows D.log D.faults moves start plugs.old
         → Follows D.log D.faults (moves ++ port_moves (moves_of machine.now.memory.flash now sight)) start plugs.new }
 {
     match sight {
         Sight::Nothing => {}
-        Sight::Frame(frame) => {
-            let _ = plugs.send(0, now, frame);
-        }
+        Sight::Frame(frame) => send_word(plugs, 0, now, frame),
         Sight::Number(number) => send_number(now, number, plugs),
         Sight::Text(address) => send_text(plugs, now, machine, address),
-        Sight::Pin(pin, level) => {
-            let _ = plugs.send(2, now, 2 * u32::from(pin) + u32::from(level));
-        }
+        Sight::Pin(pin, level) => send_word(plugs, 2, now, 2 * u32::from(pin) + u32::from(level)),
         Sight::Radio(number) => send_radio(now, number, plugs),
     }
 }
 
-/// Puts the line of what was seen at a moment, in milliseconds, and then sends its words to the devices. Where the sink fails, no device is
+/// Puts the line of what was seen at a moment, in milliseconds, and then sends its words to the devices, of which none holds a word of it back
+/// then. Where the sink fails, no device is
 /// touched.
 pub fn show<K: Sink, D: Device>(
     sight: Sight,
@@ -112,6 +113,7 @@ pub fn show<K: Sink, D: Device>(
         (lines (seen_of (moves_of machine.now.memory.flash now sight))) result }
     ensures sends { OnOk result ((moves : List PortMove) (start : List (Option D)) → Follows D.log D.faults moves start plugs.old
         → Follows D.log D.faults (moves ++ port_moves (moves_of machine.now.memory.flash now sight)) start plugs.new) }
+    ensures settled { OnOk result (HasSettled D.settled sight plugs.new) }
     ensures stays { OnErr result (plugs.new ≡ plugs.old) }
     ensures seen { OnErr result (IsSeen machine.now.memory.flash now sight) }
 {

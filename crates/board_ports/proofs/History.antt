@@ -7,7 +7,7 @@ use Rattle.std.proofs.lemmas.Bool.Decides.{Decides-eqb}
 use Rattle.std.proofs.Math.Bool.{or-false, or-true}
 use Rattle.sts_base.specs.Faults.{Rose}
 use Rattle.board_ports.specs.Logs.{Logs}
-use Rattle.board_ports.specs.Plugged.{Plugged, device_at, mark_at, OthersStay, Written, Failed, Sends, SendsAt}
+use Rattle.board_ports.specs.Plugged.{Plugged, device_at, mark_at, OthersStay, Written, Failed, Sends, SendsAt, Settles, SettlesAt, SettledAt}
 use Rattle.board_ports.specs.History.{PortMove, Word, Unplug, entries_of, unplugs, entries_at, unplugged_at, Served, PlaceAfter, PlacesAfter, Taking, PlaceFollows, Follows}
 use Rattle.board_ports.specs.declared.sent.Sent.{Sent}
 use Rattle.board_ports.specs.declared.sent.Sent.TheVariants.{Went, Nobody, Lost}
@@ -91,6 +91,42 @@ module _ {B : Type 0} (log : B → Option (List (ℕ × ℕ))) (faults : B → �
   place_sent entries entry u (Some old) (Some mid) true None mark' Went k s = absurd s
   place_sent entries entry u (Some old) (Some mid) true None mark' Lost k s = absurd s
 
+  taking_settled : (entries : List (ℕ × ℕ)) (old mid new : B) → Taking log faults entries false old mid → log new ≡ log mid → faults mid ≤ faults new → Taking log faults entries false old new
+  taking_settled entries old mid new t same h =
+      record {
+        given = t.given;
+        in_order = t.in_order;
+        logged = λ had e. same ∙ t.logged had e;
+        later = omega (arith, t.later, h);
+        unmarked = t.unmarked;
+        marked = λ e. absurd (cc);
+      }
+
+  taking_failed : (entries : List (ℕ × ℕ)) (old mid new : B) → Taking log faults entries false old mid → Failed log faults mid new → Taking log faults entries true old new
+  taking_failed entries old mid new t w =
+      record {
+        given = t.given;
+        in_order = t.in_order;
+        logged = λ had h. w.stays ∙ t.logged had h;
+        later = omega (arith, t.later, w.later);
+        unmarked = λ e. absurd (cc);
+        marked = λ _. rose_before (faults old) (faults mid) (faults new) t.later w.rose;
+      }
+
+  -- a place settles
+  place_settled : (settled : B → Type 0) (entries : List (ℕ × ℕ)) (u : Bool) (old mid : Option B) (mark : Bool) (new : Option B) (mark' : Bool)
+      → PlaceFollows log faults entries u mark old mid → Settles settled log faults mid mark new mark' → PlaceFollows log faults entries u mark' old new
+  place_settled settled entries u None None mark new mark' k s = s.0
+  place_settled settled entries u None (Some mid) mark new mark' k s = none_is_not_some mid (sym k)
+  place_settled settled entries u (Some old) None mark new mark' k s =
+      subst (λ n. PlaceFollows log faults entries u mark' (Some old) n) (sym s.0) k
+  place_settled settled entries u (Some old) (Some mid) true new mark' k s =
+      subst (λ m. PlaceFollows log faults entries u m (Some old) new) (sym s.1)
+      (subst (λ n. PlaceFollows log faults entries u true (Some old) n) (sym s.0) k)
+  place_settled settled entries u (Some old) (Some mid) false (Some new) false k s = (k.0, taking_settled entries old mid new k.1 s.1 s.2)
+  place_settled settled entries u (Some old) (Some mid) false (Some new) true k s = (k.0, taking_failed entries old mid new k.1 s)
+  place_settled settled entries u (Some old) (Some mid) false None mark' k s = absurd s
+
   -- a place is unplugged
   place_unplugged : (entries : List (ℕ × ℕ)) (u mark mark' : Bool) (old mid new : Option B) → new ≡ None → PlaceFollows log faults entries true mark' old new
   place_unplugged entries u mark mark' None mid new e = e
@@ -168,6 +204,30 @@ module _ {B : Type 0} (log : B → Option (List (ℕ × ℕ))) (faults : B → �
             (place_sent log faults (entries_at moves port) (at, word) (unplugged_at moves port) (device_at start port) (device_at old.places port) (mark_at old.marks port) (device_at new.places port) (mark_at new.marks port) sent (f.ports port h) s))
             (λ k apart h. place_as _ _ _ _ _ _ _ _ _ (entries_there moves port at word k apart) (unplugged_by_word moves port at word k) (others.marks k apart) (others.places k apart) (f.ports k h));
       }
+
+  -- a port's device has settled
+  pub follows_settle : (settled : B → Type 0) (moves : List PortMove) (start : List (Option B)) (old new : Plugged B) (port : ℕ)
+      → port < 4 → SettlesAt settled log faults port old new → OthersStay port old new → Follows log faults moves start old → Follows log faults moves start new
+  follows_settle settled moves start old new port small s others f =
+      record {
+        same_length = others.same_length ∙ f.same_length;
+        above = λ k h. others.places k (λ e. absurd (omega arith)) ∙ f.above k h;
+        ports = by_port (λ k. k < 4 → PlaceFollows log faults (entries_at moves k) (unplugged_at moves k) (mark_at new.marks k) (device_at start k) (device_at new.places k)) port
+            (λ h. place_settled log faults settled (entries_at moves port) (unplugged_at moves port) (device_at start port) (device_at old.places port) (mark_at old.marks port) (device_at new.places port) (mark_at new.marks port) (f.ports port h) s)
+            (λ k apart h. place_as _ _ _ _ _ _ _ _ _ refl refl (others.marks k apart) (others.places k apart) (f.ports k h));
+      }
+
+  -- what has settled holds nothing back
+  place_holds : (settled : B → Type 0) (old : Option B) (mark : Bool) (new : Option B) (mark' : Bool) → Settles settled log faults old mark new mark'
+      → (b : B) → new ≡ Some b → mark' ≡ false → settled b
+  place_holds settled None mark new mark' s b e m = none_is_not_some b (sym s.0 ∙ e)
+  place_holds settled (Some old) true new mark' s b e m = absurd (cc)
+  place_holds settled (Some old) false (Some new) false s b e m = let same : new ≡ b = cc in subst settled same s.0
+  place_holds settled (Some old) false (Some new) true s b e m = absurd (cc)
+  place_holds settled (Some old) false None mark' s b e m = absurd s
+
+  pub settles_settled : (settled : B → Type 0) (old new : Plugged B) (port : ℕ) → SettlesAt settled log faults port old new → SettledAt settled port new
+  settles_settled settled old new port s b e m = place_holds settled (device_at old.places port) (mark_at old.marks port) (device_at new.places port) (mark_at new.marks port) s b e m
 
   -- a port was unplugged
   pub follows_unplug : (moves : List PortMove) (start : List (Option B)) (old new : Plugged B) (port : ℕ)

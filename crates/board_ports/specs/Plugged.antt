@@ -56,3 +56,21 @@ Sends log faults entry old mark new mark' _ = ⊥
 abbrev pub SendsAt : {B : Type 0} → (B → Option (List (ℕ × ℕ))) → (B → ℕ) → ℕ × ℕ → ℕ → Plugged B → Plugged B → Sent → Type 0
 SendsAt log faults entry port old new sent =
     Sends log faults entry (device_at old.places port) (mark_at old.marks port) (device_at new.places port) (mark_at new.marks port) sent
+
+-- What becomes of a place whose device hears that its words have all been sent. A place without a device and one with a mark stay as they are.
+-- The device holds none back any more, or it failed and is marked.
+abbrev pub Settles : {B : Type 0} → (B → Type 0) → (B → Option (List (ℕ × ℕ))) → (B → ℕ) → Option B → Bool → Option B → Bool → Type 0
+Settles settled log faults None mark new mark' = (new ≡ None) × (mark' ≡ mark)
+Settles settled log faults (Some old) true new mark' = (new ≡ Some old) × (mark' ≡ true)
+Settles settled log faults (Some old) false (Some new) false = settled new × (log new ≡ log old) × (faults old ≤ faults new)
+Settles settled log faults (Some old) false (Some new) true = Failed log faults old new
+Settles settled log faults (Some old) false None mark' = ⊥
+
+-- the same of all that is plugged in, before and after
+abbrev pub SettlesAt : {B : Type 0} → (B → Type 0) → (B → Option (List (ℕ × ℕ))) → (B → ℕ) → ℕ → Plugged B → Plugged B → Type 0
+SettlesAt settled log faults port old new =
+    Settles settled log faults (device_at old.places port) (mark_at old.marks port) (device_at new.places port) (mark_at new.marks port)
+
+-- The device at the port, if one stands there without a mark, holds no word back.
+abbrev pub SettledAt : {B : Type 0} → (B → Type 0) → ℕ → Plugged B → Type 0
+SettledAt {B} settled port p = (b : B) → device_at p.places port ≡ Some b → mark_at p.marks port ≡ false → settled b

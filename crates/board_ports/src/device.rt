@@ -14,6 +14,9 @@ pub trait Device: Drop {
     /// How often the device has failed.
     ghost faults: { Self → ℕ };
 
+    /// The device holds no word back. One that doesn't say otherwise never does.
+    ghost settled: { Self → Type 0 } = { λ _. Unit {0} };
+
     /// The moment and the word at a place of the log. None comes exactly past its end, and always where the device
     /// tells no log.
     fn logged(&self, at: usize) -> Option<(u32, u32)>
@@ -27,6 +30,14 @@ pub trait Device: Drop {
         ensures stays { OnFalse result (log self.new ≡ log self.old) }
         ensures later { faults self.old ≤ faults self.new }
         ensures failed { OnFalse result (Rose (faults self.old) (faults self.new)) };
+
+    /// Hears that the words of one output have all been written: a device that holds words back lets them go. The log is unchanged. Where
+    /// it answers true it holds none back any more, and it answers false only where the count of faults rose.
+    fn settle(&mut self) -> bool
+        ensures settled { OnTrue result (settled self.new) }
+        ensures stays { log self.new ≡ log self.old }
+        ensures later { faults self.old ≤ faults self.new }
+        ensures failed { OnFalse result (Rose (faults self.old) (faults self.new)) };
 }
 
 /// A box of a device is that device, so that code over one type of device serves a list of boxes.
@@ -35,11 +46,17 @@ impl Device for Box<dyn Device> {
 
     ghost faults = { λ boxed. (Device-box boxed).faults boxed.value };
 
+    ghost settled = { λ boxed. (Device-box boxed).settled boxed.value };
+
     fn logged(&self, at: usize) -> Option<(u32, u32)> {
         (**self).logged(at)
     }
 
     fn write(&mut self, now: u32, word: u32) -> bool {
         (**self).write(now, word)
+    }
+
+    fn settle(&mut self) -> bool {
+        (**self).settle()
     }
 }

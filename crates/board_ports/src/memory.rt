@@ -1,5 +1,5 @@
 // A device in memory, which fails at the calls that it is told to and past its room.
-ghost use Rattle.std.specs.Prelude.{◌≡◌, ◌≤◌, ◌<◌, ◌∷◌, [], ◌↔◌, Some, IfOk, Contains, length, vec_capacity, slice_get, IsTrue};
+ghost use Rattle.std.specs.Prelude.{◌≡◌, ◌≤◌, ◌<◌, ◌∷◌, [], ◌↔◌, Some, IfOk, Contains, length, vec_capacity, slice_get, IsTrue, true};
 ghost use Rattle.std.specs.Bool.{OnTrue, OnFalse};
 ghost use Rattle.sts_base.specs.Faults.{Rose};
 ghost use Rattle.board_ports.specs.Counts.{one_more};
@@ -83,5 +83,12 @@ impl Device for MemoryDevice {
             Ok(()) => true,
             Err(_) => unreachable!(),
         }
+    }
+
+    fn settle(&mut self) -> bool
+        ensures sure { result ≡ true }
+        ensures unchanged { self.new ≡ self.old }
+    {
+        true
     }
 }

@@ -1,7 +1,7 @@
 // Devices in their places, and a mark for each port whose device has failed.
 ghost use Rattle.std.specs.Prelude.{◌≡◌, ◌<◌, ◌∷◌, ◌++◌, [], ◌↔◌, ◌⊎◌, List, ℕ, None, true, false};
 ghost use Rattle.std.specs.declared.option.Option.{Option};
-ghost use Rattle.board_ports.specs.Plugged.{Sends};
+ghost use Rattle.board_ports.specs.Plugged.{Sends, Settles};
 
 use crate::{Device, Sent};
 use std::marker::Model;
@@ -44,8 +44,18 @@ fn deliver<D: Device>(place: &mut Option<D>, mark: &mut bool, now: u32, word: u3
     }
 }
 
+/// Lets the device in a place hear that its words have all been sent, unless the place's mark stands.
+fn settle_place<D: Device>(place: &mut Option<D>, mark: &mut bool)
+    ensures { Settles D.settled D.log D.faults place.old mark.old place.new mark.new }
+{
+    match place {
+        Some(device) if !*mark => *mark = !device.settle(),
+        _ => {}
+    }
+}
+
 impl<D: Device> Plugs<D> {
-    ghost use Rattle.board_ports.specs.Plugged.{OthersStay, SendsAt, device_at, mark_at};
+    ghost use Rattle.board_ports.specs.Plugged.{OthersStay, SendsAt, SettlesAt, SettledAt, device_at, mark_at};
     ghost use Rattle.board_ports.specs.History.{PortMove, Word, Unplug, Follows, PlacesAfter, entries_at, unplugged_at};
 
     /// These places, and no mark. It is what no move has changed yet.
@@ -88,6 +98,23 @@ impl<D: Device> Plugs<D> {
             return Sent::Nobody;
         }
         deliver(&mut self.places[port], &mut self.marks[port], now, word)
+    }
+
+    /// Lets the device at a port hear that the words of one output have all been sent: it holds none back any more then. If it fails, its count
+    /// of faults rose in this call, and the port is marked. Other ports are untouched.
+    pub fn settle(&mut self, port: usize)
+        requires { port < 4 }
+        ensures settles { SettlesAt D.settled D.log D.faults port self.old self.new }
+        ensures settled { SettledAt D.settled port self.new }
+        ensures others { OthersStay port self.old self.new }
+        ensures follows { (moves : List PortMove) (start : List (Option D))
+            → Follows D.log D.faults moves start self.old
+            → Follows D.log D.faults moves start self.new }
+    {
+        if port >= self.places.len() {
+            return;
+        }
+        settle_place(&mut self.places[port], &mut self.marks[port]);
     }
 
     /// Drops the device at a port, if there is one. The mark and the other ports are untouched.

@@ -30,4 +30,10 @@ impl Device for SureDevice {
     {
         true
     }
+
+    fn settle(&mut self) -> bool
+        ensures sure { result ≡ true }
+    {
+        true
+    }
 }

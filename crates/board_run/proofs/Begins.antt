@@ -10,11 +10,14 @@ use Rattle.message_bus.specs.ListenerState.{ListenerState}
 use Rattle.message_bus.specs.Agreement.{hearings}
 use Rattle.fiber_runtime.specs.declared.turning.Turning.{Turning}
 use Rattle.fiber_runtime.specs.declared.turning.Raiser.{Raiser}
+use Rattle.fiber_pool.specs.Kept.{kept_at}
+use Rattle.fiber_queues.specs.Lists.{Leads}
 use Rattle.fiber_runtime.specs.State.{State}
 use Rattle.fiber_runtime.specs.Moves.{Resumed, Reinstated, started, reinstated}
 use Rattle.fork_on_block.specs.Handlers.{base_for, invoked as invoked_state}
 use Rattle.board_run.specs.declared.engine.Engine.{Engine}
 use Rattle.board_run.specs.Places.{Place, ArePlaces, IsSpent, Takes}
+use Rattle.board_run.specs.Blocking.{copied_behind, IsFromRecord, IsCopiedIn}
 use Rattle.board_run.specs.Shown.{handler_turning}
 use Rattle.board_run.specs.Represents.{BoardState, Represents}
 use Rattle.board_run.specs.Run.{Comes}
@@ -100,3 +103,22 @@ begun_is old mid new entry entry' at e s n p =
     n (record { key = None; value = e.value; listener = None }) (ap (λ (x : State). x.running) s)
     ∙ ap (λ (x : State). record x { running = Some (record { key = None; value = e.value; listener = Some at }) }) s
     ∙ ap (λ x. started x (base_for old.machine.memory.flash old.raisers) (handler_turning e at) old) p
+
+-- who is copied in by the switch
+none_spent : (x : Event) (at : ℕ) (old new : List Place) → Takes x at old new → IsSpent old → ⊥
+none_spent x at old new k h = (let z : at ∷ k.rest ≡ [] = subst IsSpent k.was h in absurd (cc))
+
+on_true : (b : Bool) (P : Type 0) → P → OnTrue b P
+on_true true P h = h
+on_true false P h = tt
+
+pub handler_stands : (e new : Engine) (x : Event) (at : ℕ) (places : List Place) → Takes x at e.places places → new.switch ≡ e.switch → IsCopiedIn e new
+handler_stands e new x at places k same = record { copied = λ key from leads. absurd (none_spent x at e.places places k from.0); stands = λ h. same }
+
+pub raiser_stands : (e new : Engine) (s : State) → Reinstated e.runtime s → new.switch ≡ e.switch → IsCopiedIn e new
+raiser_stands e new s k same = record { copied = λ key from leads. absurd (let z : k.first ∷ k.others ≡ [] = sym k.was ∙ from.1 in cc); stands = λ h. same }
+
+pub record_copied : (e new : Engine) (s : State) (found : Bool) → s ≡ e.runtime → IsFromRecord e
+    → ((key : ℕ) → Leads key s.lists.ready → new.switch ≡ copied_behind (length (kept_at s.pool key).words) e) → OnTrue found (IsCopiedIn e new)
+record_copied e new s found same from counted = on_true found (IsCopiedIn e new)
+    (record { copied = subst (λ (x : State). (key : ℕ) → IsFromRecord e → Leads key x.lists.ready → new.switch ≡ copied_behind (length (kept_at x.pool key).words) e) same (λ key f leads. counted key leads); stands = λ h. absurd (h from) })

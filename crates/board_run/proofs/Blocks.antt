@@ -20,7 +20,8 @@ use Rattle.board_run.specs.declared.engine.Served.TheVariants.{Goes}
 use Rattle.board_run.specs.Represents.{BoardState, Represents, behind}
 use Rattle.board_run.specs.Serving.{turned}
 use Rattle.board_run.specs.Served.{IsServed}
-use Rattle.board_run.specs.Blocking.{blocks_for, Rests}
+use Rattle.thumb_switch.specs.Switching.{depth as fiber_depth}
+use Rattle.board_run.specs.Blocking.{blocks_for, Rests, copied_behind}
 use Rattle.board_run.specs.View.{state_of}
 use Rattle.board_run.proofs.Goes.{current, asks_to, blocked, forked}
 use Rattle.board_run.proofs.Acting.{Leaves}
@@ -88,8 +89,8 @@ module _ (e : Engine) (why : Why) (inside : IsInside e.runtime.machine.registers
       let y2 = subst (λ n. P (e.counts.blocked + 1) n n words) taken y1 in
       let y3 = subst (λ n. P (e.counts.blocked + 1) n (slab_len mid.pool) words) still y2 in
       let y4 = subst (λ n. P (e.counts.blocked + 1) (slab_len e3.runtime.pool) (slab_len mid.pool) n) deep y3 in
-      let all : e3 ≡ record e { runtime = e3.runtime; counts = record e.counts { blocked = e.counts.blocked + 1; most = max e.counts.most (slab_len mid.pool); words = e.counts.words + length (words_in mid.machine.memory.stack mid.machine.registers.sp mid.machine.memory.base) } } =
-      r.rest ∙ ap (λ (y : Engine). record y { runtime = e3.runtime; counts = record y.counts { words = y.counts.words + length (words_in y.runtime.machine.memory.stack y.runtime.machine.registers.sp y.runtime.machine.memory.base) } }) is in
+      let all : e3 ≡ record e { runtime = e3.runtime; switch = e3.switch; counts = record e.counts { blocked = e.counts.blocked + 1; most = max e.counts.most (slab_len mid.pool); words = e.counts.words + length (words_in mid.machine.memory.stack mid.machine.registers.sp mid.machine.memory.base) } } =
+      r.rest ∙ ap (λ (y : Engine). record y { runtime = e3.runtime; switch = e3.switch; counts = record y.counts { words = y.counts.words + length (words_in y.runtime.machine.memory.stack y.runtime.machine.registers.sp y.runtime.machine.memory.base) } }) is in
       let seats : w.board.seats ≡ slab_len e.runtime.pool = ap (λ (y : Board). y.seats) h.board in
       let room : nat_le seat_limit w.board.seats ≡ false = (let l : w.board.seats < 24 = omega (arith, seats, a.claims.room) in grind (arith, nat_tests, l)) in
       rested e image t runs w h why (state_of e3) false (ap is_some none) (λ z. room) (subst (λ (y : Engine). Represents image (state_of y) V) (sym all) y4)
@@ -98,3 +99,16 @@ module _ (e : Engine) (why : Why) (inside : IsInside e.runtime.machine.registers
 pub forked_key : {E : Type 0} (r : Result ℕ E) (P : ℕ → Type 0) → is_err r ≡ false → IfOk r P → (k : ℕ) × P k
 forked_key (Ok k) P e h = (k, h)
 forked_key (Err x) P e h = absurd (cc)
+
+pub runner_of : (o : Option Turning) → IsSome o → (t : Turning) × (o ≡ Some t)
+runner_of (Some t) h = (t, refl)
+runner_of None h = absurd (cc)
+
+-- a fork leaves the machine and the switch
+pub forked_copied : (e e2 e3 : Engine) (mid : State) (key : ℕ) → IsSome e.runtime.running → ((t : Turning) → e.runtime.running ≡ Some t → Adopted key t e.runtime mid)
+    → e2 ≡ record e { runtime = mid; counts = record e.counts { blocked = e.counts.blocked + 1; most = max e.counts.most (slab_len mid.pool) } } → e3.switch ≡ copied_behind (fiber_depth e2.runtime.machine) e2
+    → e3.switch ≡ copied_behind (fiber_depth e.runtime.machine) e
+forked_copied e e2 e3 mid key runs adopts is copied =
+    let t = runner_of e.runtime.running runs in
+    let a = adopts t.0 t.1 in
+    copied ∙ (ap (λ (y : Engine). copied_behind (fiber_depth y.runtime.machine) y) is ∙ ap (λ (y : State). copied_behind (fiber_depth y.machine) e) a.rest)

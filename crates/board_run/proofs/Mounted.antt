@@ -78,9 +78,10 @@ drop_nothing [] = refl
 drop_nothing (e ∷ es) = refl
 
 -- an engine of fresh parts
-abbrev fresh_from : State → Script → Engine
-fresh_from s script = record {
+abbrev fresh_from : State → ℕ → Script → Engine
+fresh_from s switch script = record {
   runtime = s;
+  switch = switch;
   bus = record { listeners = []; queue = [] };
   places = at_first;
   buttons = all_up;
@@ -93,21 +94,21 @@ fresh_from s script = record {
   end = None;
 }
 
-state_is : (image : List ℕ) (s : State) (script : Script) → HasMain (reset image) s → state_of (fresh_from s script) ≡ mounted image script.end (world_entries script.entries) s
-state_is image s script m =
+state_is : (image : List ℕ) (s : State) (switch : ℕ) (script : Script) → HasMain (reset image) s → state_of (fresh_from s switch script) ≡ mounted image script.end (world_entries script.entries) s
+state_is image s switch script m =
     let seats : slab_len s.pool ≡ 1 = m.live in
     let rest : world_entries (drop 0 script.entries) ≡ world_entries script.entries = ap world_entries (drop_nothing script.entries) in
     rw (seats, rest) refl
 
-is_mounted : (image : List ℕ) (script : Script) (s : State) → HasMain (reset image) s → IsSound script → length image ≤ flash_end → All (λ b. b < 256) image → IsMounted image script (fresh_from s script)
-is_mounted image script s m sound size bytes =
-    let at = state_is image s script m in
-    let shows : (free : List ℕ) → Represents image (state_of (fresh_from s script)) (bank_start image script.end (world_entries script.entries) free) =
+is_mounted : (image : List ℕ) (script : Script) (switch : ℕ) (s : State) → HasMain (reset image) s → IsSound script → length image ≤ flash_end → All (λ b. b < 256) image → IsMounted image script (fresh_from s switch script)
+is_mounted image script switch s m sound size bytes =
+    let at = state_is image s switch script m in
+    let shows : (free : List ℕ) → Represents image (state_of (fresh_from s switch script)) (bank_start image script.end (world_entries script.entries) free) =
     λ free. subst (λ (b : BoardState). Represents image b (bank_start image script.end (world_entries script.entries) free)) (sym at) (mounts image script.end (world_entries script.entries) s free m) in
     let flash : s.machine.memory.flash ≡ image = (shows []).flash in
     record {
       whole = record {
-        shown = record { world = bank_start image script.end (world_entries script.entries) []; shows = subst (λ i. Represents i (state_of (fresh_from s script)) (bank_start image script.end (world_entries script.entries) [])) (sym flash) (shows []) };
+        shown = record { world = bank_start image script.end (world_entries script.entries) []; shows = subst (λ i. Represents i (state_of (fresh_from s switch script)) (bank_start image script.end (world_entries script.entries) [])) (sym flash) (shows []) };
         script = sound;
         within = omega arith;
         early = omega arith;
@@ -120,9 +121,9 @@ is_mounted image script s m sound size bytes =
       begins = shows;
     }
 
-pub mounted_as : (image : List ℕ) (script : Script) (machine : Machine) (s : State) (bus : BusState) (places : List Place) (buttons : Since) (display arena : ℕ) → machine ≡ reset image → HasMain machine s
+pub mounted_as : (image : List ℕ) (script : Script) (machine : Machine) (s : State) (switch : ℕ) (bus : BusState) (places : List Place) (buttons : Since) (display arena : ℕ) → machine ≡ reset image → HasMain machine s
     → (let none : BusState = record { listeners = []; queue = [] } in bus ≡ none) → places ≡ at_first → buttons ≡ all_up → display ≡ 0 → arena ≡ 0 → IsSound script → length image ≤ flash_end → All (λ b. b < 256) image
-    → IsMounted image script (record { runtime = s; bus = bus; places = places; buttons = buttons; display = display; arena = arena; script = script; next = 0; clock = 0; counts = record { spawned = 1; blocked = 0; words = 0; most = 1 }; end = None })
-mounted_as image script machine s bus places buttons display arena mi m b p u d a sound size bytes =
-    let x = is_mounted image script s (subst (λ (k : Machine). HasMain k s) mi m) sound size bytes in
+    → IsMounted image script (record { runtime = s; switch = switch; bus = bus; places = places; buttons = buttons; display = display; arena = arena; script = script; next = 0; clock = 0; counts = record { spawned = 1; blocked = 0; words = 0; most = 1 }; end = None })
+mounted_as image script machine s switch bus places buttons display arena mi m b p u d a sound size bytes =
+    let x = is_mounted image script switch s (subst (λ (k : Machine). HasMain k s) mi m) sound size bytes in
     rw (b, p, u, d, a) x

@@ -99,7 +99,7 @@ module _ {B : Type 0} where
   pub stands_then : (a b c : Board B) → Stands a b → Stands b c → Stands a c
   stands_then a b c f g = record { kept = g.kept ∙ f.kept; clock = g.clock ∙ f.clock; script = g.script ∙ f.script; next = g.next ∙ f.next }
 
-  pub step_stands : (old new : Board B) (mid told : Engine) → Steps old.engine mid → told ≡ mid → new.engine ≡ record told { runtime = new.engine.runtime; bus = new.engine.bus; places = new.engine.places } → new.kept ≡ old.kept
+  pub step_stands : (old new : Board B) (mid told : Engine) → Steps old.engine mid → told ≡ mid → new.engine ≡ record told { runtime = new.engine.runtime; switch = new.engine.switch; bus = new.engine.bus; places = new.engine.places } → new.kept ≡ old.kept
       → Stands old new
   step_stands old new mid told s same stays kept = record {
     kept = kept;
@@ -189,7 +189,7 @@ module _ {B : Type 0} (log : B → Option (List (ℕ × ℕ))) (faults : B → �
         }
 
     pub step_stays_whole : (n : ℕ) (told new : Engine) → IsWhole old.engine n → Steps old.engine mid → told ≡ mid → ((image : List ℕ) → Comes image 0 [] (state_of told) (state_of new))
-        → new ≡ record told { runtime = new.runtime; bus = new.bus; places = new.places } → IsWhole new (n + 1)
+        → new ≡ record told { runtime = new.runtime; switch = new.switch; bus = new.bus; places = new.places } → IsWhole new (n + 1)
     step_stays_whole n told new w s same stay stays =
         let a = old.engine in
         let within : new.next ≤ length told.script.entries =

@@ -40,7 +40,7 @@ module _ {B : Type 0} (log : B → Option (List (ℕ × ℕ))) (faults : B → �
   settling_start e p s l = record { idles = still_idles log faults (state_of e) (state_of e) p (λ image. stutters image (state_of e) (state_of e) refl (λ w h. h)); shown = s; script = refl; within = l; counts = refl; early = λ x. x }
 
   -- somebody begins
-  pub settling_begun : (old mid new : Engine) (p q : Plugged B) → Settling old mid p q → ((image : List ℕ) → Comes image 0 [] (state_of mid) (state_of new)) → new ≡ record mid { runtime = new.runtime; places = new.places } → Settling old new p q
+  pub settling_begun : (old mid new : Engine) (p q : Plugged B) → Settling old mid p q → ((image : List ℕ) → Comes image 0 [] (state_of mid) (state_of new)) → new ≡ record mid { runtime = new.runtime; switch = new.switch; places = new.places } → Settling old new p q
   settling_begun old mid new p q s comes stays =
       let one = still_idles log faults (state_of mid) (state_of new) q comes in
       record {

@@ -8,6 +8,7 @@ ghost use Rattle.fork_on_block.specs.Handlers.{base_for};
 ghost use Rattle.board_run.specs.Shown.{handler_turning};
 ghost use Rattle.board_run.specs.Represents.{IsShown};
 ghost use Rattle.board_run.specs.Run.{Comes};
+ghost use Rattle.board_run.specs.Blocking.{IsCopiedIn};
 ghost use Rattle.board_run.specs.Idling.{IsEmpty};
 ghost use Rattle.board_run.specs.View.{state_of};
 
@@ -33,16 +34,17 @@ fn begin_handler(runtime: &mut Runtime, bus: &Bus, event: Event, at: u32)
 }
 
 impl Engine {
-    /// The next handler begins, or the innermost raiser goes on, or the first ready fiber is copied in. False exactly where none of them
+    /// The next handler begins, or the innermost raiser goes on, or the first ready fiber is copied in by the switch. False exactly where none of them
     /// is there; then nothing changes.
     pub fn begin(&mut self) -> bool
         requires idle { self.old.runtime.running ≡ None }
         requires shown { IsShown (state_of self.old) }
         ensures comes { (image : List ℕ) → Comes image 0 [] (state_of self.old) (state_of self.new) }
-        ensures stays { self.new ≡ record self.old { runtime = self.new.runtime; places = self.new.places } }
+        ensures stays { self.new ≡ record self.old { runtime = self.new.runtime; switch = self.new.switch; places = self.new.places } }
         ensures runs { OnTrue result (IsSome self.new.runtime.running) }
         ensures same { OnFalse result (self.new ≡ self.old) }
         ensures nobody { OnFalse result (IsEmpty (state_of self.old)) }
+        ensures copied { OnTrue result (IsCopiedIn self.old self.new) }
     {
         match self.places.take_next() {
             Some((event, at)) => {
@@ -54,7 +56,7 @@ impl Engine {
                     self.places.pop();
                     true
                 } else {
-                    self.runtime.resume()
+                    self.switch.resume(&mut self.runtime)
                 }
             }
         }

@@ -7,7 +7,8 @@ ghost use Rattle.bank_model.specs.Standing.{IsInside, words_in};
 ghost use Rattle.board_world.specs.Kinds.{Listens};
 ghost use Rattle.board_run.specs.Served.{IsServed, Keeps};
 ghost use Rattle.fiber_runtime.specs.declared.turning.Turning.{Turning};
-ghost use Rattle.board_run.specs.Blocking.{blocks_for, Rests};
+ghost use Rattle.thumb_switch.specs.Switching.{depth};
+ghost use Rattle.board_run.specs.Blocking.{blocks_for, Rests, copied_behind, IsCopiedOut};
 
 use crate::arguments::{number, word};
 use crate::end::Stop;
@@ -37,7 +38,7 @@ impl Engine {
         self.counts.most = self.counts.most.max(seats);
     }
 
-    /// The running fiber, which has a record, is copied into it, and its words are counted.
+    /// The running fiber, which has a record, is copied into it by the switch, and its words are counted.
     fn rest(&mut self, why: Why)
         requires runs { IsSome self.old.runtime.running }
         requires keyed { IfSome self.old.runtime.running (λ t. IsSome t.key) }
@@ -47,10 +48,11 @@ impl Engine {
         requires words { self.old.counts.words + 1024 < 2 ^ 64 }
         ensures rests { (key : ℕ) (t : Turning) → self.old.runtime.running ≡ Some t → t.key ≡ Some key → Rests key t why self.old self.new }
         ensures few { self.new.counts.words ≤ self.old.counts.words + 1024 }
-        ensures stays { self.new ≡ record self.old { runtime = self.new.runtime; counts = record self.old.counts { words = self.new.counts.words } } }
+        ensures copied { self.new.switch ≡ copied_behind (depth self.old.runtime.machine) self.old }
+        ensures stays { self.new ≡ record self.old { runtime = self.new.runtime; switch = self.new.switch; counts = record self.old.counts { words = self.new.counts.words } } }
     {
         self.counts.words += u64::from(depth(&self.runtime));
-        self.runtime.block(why, self.clock);
+        self.switch.block(&mut self.runtime, why, self.clock);
     }
 
     /// Services 2 and 3: the fiber sleeps or waits. A handler gets a record at its first block.
@@ -62,6 +64,7 @@ impl Engine {
         requires blocked { self.old.counts.blocked + 1 < 2 ^ 64 }
         requires words { self.old.counts.words + 1024 < 2 ^ 64 }
         ensures served { IsServed (λ image. blocks_for why) result self.old self.new }
+        ensures copied { IsCopiedOut result self.old self.new }
         ensures keeps { Keeps self.old self.new }
     {
         if self.runtime.running().is_some() {

@@ -30,6 +30,7 @@ use fiber_runtime::Runtime;
 use message_bus::Bus;
 use std::alloc::Global;
 use sts_base::NoMemory;
+use thumb_switch::Copier;
 use tool_io::{PutFailed, Sink};
 
 /// A board with an image in flash, a script, and devices in their places. All memory of a run is taken by `mount`.
@@ -69,14 +70,17 @@ pub struct Stats {
 fn fresh_engine(alloc: Global, image: Vec<u8>, script: Script) -> Result<Engine, NoMemory>
     requires size { vec_len image ≤ flash_end }
     requires script { IsSound script }
-    ensures { IfOk result (IsMounted image.items script) }
+    ensures mounted { IfOk result (IsMounted image.items script) }
+    ensures switched { IfOk result (λ engine. engine.switch ≡ 0) }
 {
     let machine = Machine::reset(alloc, image)?;
     let runtime = Runtime::new(alloc, machine)?;
+    let switch = Copier::new(alloc)?;
     let bus = Bus::new(alloc)?;
     let places = Places::new(alloc)?;
     Ok(Engine {
         runtime,
+        switch,
         bus,
         places,
         buttons: Buttons::new(),
@@ -104,6 +108,7 @@ fn fresh_parts(
     requires size { vec_len image ≤ flash_end }
     requires script { IsSound script }
     ensures mounted { IfOk result (λ parts. IsMounted image.items script parts.0) }
+    ensures switched { IfOk result (λ parts. parts.0.switch ≡ 0) }
     ensures none { IfOk result (λ parts. (parts.1 ≡ []) × (parts.2 ≡ [])) }
 {
     let engine = fresh_engine(alloc, image, script)?;
@@ -150,6 +155,7 @@ impl<D: Device> Board<D> {
         ensures mounted { IfOk result (λ board. IsMounted image.items script board.engine) }
         ensures plugged { IfOk result (λ board. (board.plugs.places ≡ places.items) × Follows D.log D.faults [] places.items board.plugs) }
         ensures counted { IfOk result (λ board. board.instructions ≡ 0) }
+        ensures switched { IfOk result (λ board. board.engine.switch ≡ 0) }
         ensures none { IfOk result (λ board. (board.kept ≡ []) × (board.sent ≡ [])) }
         ensures back { IfErr result (λ refused. refused.places.items ≡ places.items) }
     {
@@ -263,6 +269,14 @@ impl<D: Device> Board<D> {
             seats: self.engine.counts.most,
             instructions: self.instructions,
         }
+    }
+
+    /// How many instructions the switch executed, which copies the words of fibers that block and are resumed. They are no fiber's: neither the
+    /// budget nor `instructions` counts them.
+    pub fn switched(&self) -> u64
+        ensures { result ≡ self.now.engine.switch }
+    {
+        self.engine.switch.count()
     }
 
     /// The devices in their places.

@@ -8,12 +8,15 @@ use board_outside::Sight;
 use event_script::Script;
 use fiber_runtime::Runtime;
 use message_bus::Bus;
+use thumb_switch::Copier;
 
-/// All that a board is, apart from the devices at its ports: the machine with its fibers, the bus, the dispatch places, the drivers, the
-/// arena's count, the script with the place of the entry that comes next, the clock in milliseconds, the counts, and how the run ended.
+/// All that a board is, apart from the devices at its ports: the machine with its fibers, the switch that copies their words, the bus, the
+/// dispatch places, the drivers, the arena's count, the script with the place of the entry that comes next, the clock in milliseconds, the
+/// counts, and how the run ended.
 #[derive(Drop)]
 pub struct Engine {
     pub runtime: Runtime,
+    pub switch: Copier,
     pub bus: Bus,
     pub places: Places,
     pub buttons: Buttons,

@@ -129,7 +129,7 @@ impl Engine {
     fn run_next(&mut self) -> bool
         requires shown { IsShown (state_of self.old) }
         ensures comes { (image : List ℕ) → Comes image 0 [] (state_of self.old) (state_of self.new) }
-        ensures stays { self.new ≡ record self.old { runtime = self.new.runtime; places = self.new.places } }
+        ensures stays { self.new ≡ record self.old { runtime = self.new.runtime; switch = self.new.switch; places = self.new.places } }
         ensures runs { OnTrue result (IsSome self.new.runtime.running) }
         ensures same { OnFalse result (self.new ≡ self.old) }
         ensures nobody { OnFalse result (IsEmpty (state_of self.old)) }
@@ -144,7 +144,7 @@ impl Engine {
     pub fn stay(&mut self)
         requires shown { IsShown (state_of self.old) }
         ensures comes { (image : List ℕ) → Comes image 0 [] (state_of self.old) (state_of self.new) }
-        ensures stays { self.new ≡ record self.old { runtime = self.new.runtime; bus = self.new.bus; places = self.new.places } }
+        ensures stays { self.new ≡ record self.old { runtime = self.new.runtime; switch = self.new.switch; bus = self.new.bus; places = self.new.places } }
         ensures rests { self.new.end ≡ None → IsSome self.new.runtime.running ⊎ (IsEmpty (state_of self.new) × (self.new.bus.queue ≡ [])) }
     {
         while self.end.is_none() && !self.runtime.is_running() {

@@ -6,8 +6,6 @@ mod form;
 mod order;
 mod script;
 mod shapes;
-#[cfg(test)]
-mod tests;
 mod trees;
 mod verdict;
 

@@ -16,6 +16,10 @@ fn show<W: Write>(alloc: Global, out: &mut W, row: &str) -> io::Result<()> {
             let bytes = spelled::spelled(alloc, text)?;
             shown::show_class(alloc, out, bytes.as_slice())?;
         }
+        Some(("script", text)) => {
+            let bytes = spelled::spelled(alloc, text)?;
+            shown::show_script(alloc, out, bytes.as_slice())?;
+        }
         Some(("arrivals", text)) => {
             let bytes = spelled::spelled(alloc, text)?;
             shown::show_arrivals(alloc, out, bytes.as_slice())?;

@@ -2,7 +2,7 @@
 
 use arrival_file::{Arrival, ArrivalRefused, read_arrivals};
 use class_file::{ClassRefused, Loss, read_class};
-use event_script::Act;
+use event_script::{Act, Entry, ScriptRefused, read_script};
 use std::alloc::Global;
 use std::io;
 use std::io::Write;
@@ -44,15 +44,45 @@ pub fn show_class<W: Write>(alloc: Global, out: &mut W, bytes: &[u8]) -> io::Res
     }
 }
 
-/// Writes an arrival.
-fn show_arrival<W: Write>(out: &mut W, arrival: &Arrival) -> io::Result<()> {
-    write!(out, " {}", arrival.after)?;
-    match arrival.act {
+/// Writes an act.
+fn show_act<W: Write>(out: &mut W, act: &Act) -> io::Result<()> {
+    match act {
         Act::Down(button) => write!(out, " down {button}"),
         Act::Up(button) => write!(out, " up {button}"),
         Act::Raise(event) => write!(out, " raise {} {}", event.source, event.value),
         Act::Unplug(port) => write!(out, " unplug {port}"),
     }
+}
+
+/// Writes an entry of a script.
+fn show_entry<W: Write>(out: &mut W, entry: &Entry) -> io::Result<()> {
+    write!(out, " {}", entry.at)?;
+    show_act(out, &entry.act)
+}
+
+/// Reads a script, and writes its end, how many entries there are, and the first and the last of them.
+pub fn show_script<W: Write>(alloc: Global, out: &mut W, bytes: &[u8]) -> io::Result<()> {
+    match read_script(alloc, bytes) {
+        Ok(script) => {
+            write!(out, "{}; {}", script.end, script.entries.len())?;
+            if let Some(first) = script.entries.as_slice().first() {
+                show_entry(out, first)?;
+            }
+            if let [_, .., last] = script.entries.as_slice() {
+                write!(out, ",")?;
+                show_entry(out, last)?;
+            }
+            Ok(())
+        }
+        Err(ScriptRefused::Script(code)) => write!(out, "refused {}", code.number()),
+        Err(ScriptRefused::NoMemory) => Err(io::ErrorKind::OutOfMemory)?,
+    }
+}
+
+/// Writes an arrival.
+fn show_arrival<W: Write>(out: &mut W, arrival: &Arrival) -> io::Result<()> {
+    write!(out, " {}", arrival.after)?;
+    show_act(out, &arrival.act)
 }
 
 /// Reads arrivals, and writes how many there are, and the first and the last of them.

@@ -30,33 +30,61 @@ impl<W: Write> Write for Narrow<'_, W> {
     }
 }
 
-/// Writes each word to the device, whose bytes stand between bars, and then what each write answered.
-fn show_words<W: Write>(
+/// Writes the words of each output to the device, which settles behind each. Its bytes stand between bars, and then how many words it took and how
+/// often it settled.
+fn show_outputs<W: Write>(
     out: &mut W,
     room: usize,
     error: ErrorKind,
-    words: &[u32],
+    outputs: &[&[u32]],
 ) -> io::Result<()> {
     out.write_all(b"|")?;
     let mut taken = 0u64;
+    let mut settled = 0u64;
     let mut device = EchoDevice::new(Narrow {
         below: out,
         room,
         writes: 0,
         error,
     });
-    for word in words {
-        if device.write(5, *word) {
-            taken = taken.saturating_add(1);
+    for words in outputs {
+        for word in *words {
+            if device.write(5, *word) {
+                taken = taken.saturating_add(1);
+            }
+        }
+        if device.settle() {
+            settled = settled.saturating_add(1);
         }
     }
     let told = device.logged(0).is_some();
     drop(device);
-    writeln!(out, "| {taken} taken, log {told}")
+    writeln!(out, "| {taken} taken, {settled} settled, log {told}")
 }
 
-/// An interrupted write is tried again; another error is a fault, and so is a write that takes nothing. The low byte of a word is written.
+/// Writes more words than the device holds back, over a stream that takes nothing.
+fn show_full<W: Write>(out: &mut W) -> io::Result<()> {
+    let mut taken = 0u64;
+    let mut device = EchoDevice::new(Narrow {
+        below: out,
+        room: 0,
+        writes: 0,
+        error: ErrorKind::Interrupted,
+    });
+    for _ in 0..40_000 {
+        if device.write(5, 120) {
+            taken = taken.saturating_add(1);
+        }
+    }
+    drop(device);
+    writeln!(out, "{taken} of 40000 taken")
+}
+
+/// An interrupted write is tried again; another error is a fault, and so is a write that takes nothing. What was held back then still is. The low byte
+/// of a word is written.
 pub fn show<W: Write>(out: &mut W) -> io::Result<()> {
-    show_words(out, 3, ErrorKind::Interrupted, &[104, 361, 33, 63])?;
-    show_words(out, 3, ErrorKind::BrokenPipe, &[104, 105, 106])
+    show_outputs(out, 3, ErrorKind::Interrupted, &[&[104, 361], &[33, 63]])?;
+    show_outputs(out, 3, ErrorKind::BrokenPipe, &[&[104, 105, 106], &[107]])?;
+    show_outputs(out, 9, ErrorKind::Interrupted, &[&[], &[104, 10, 105]])?;
+    show_full(out)
 }

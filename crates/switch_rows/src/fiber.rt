@@ -110,7 +110,7 @@ fn is_inside(runtime: &Runtime) -> bool
 
 /// The running fiber blocks for a moment by the switch, where it may.
 pub fn block_by(switch: &mut Switch, runtime: &mut Runtime) -> bool {
-    if !is_inside(runtime) || switch.count() >= 1 << 63 {
+    if !is_inside(runtime) {
         return false;
     }
     match runtime.running() {
@@ -139,7 +139,7 @@ pub fn block(runtime: &mut Runtime) -> bool {
 /// The fiber wakes and is resumed by the switch, where it may.
 pub fn resume_by(switch: &mut Switch, runtime: &mut Runtime) -> bool {
     runtime.wake_due(1);
-    if runtime.is_running() || runtime.raiser_sp().is_some() || switch.count() >= 1 << 63 {
+    if runtime.is_running() || runtime.raiser_sp().is_some() {
         return false;
     }
     switch.resume(runtime)

@@ -1,5 +1,5 @@
 -- A switch that holds the routine's bytes.
-use Rattle.std.proofs.Common.{zero, suc, ◌≡◌, ◌≢◌, ℕ, ◌+◌, ◌*◌, ◌-◌, ◌/◌, ◌%◌, ◌^◌, ◌<◌, ◌≤◌, List, [], ◌∷◌, length, take, drop, replicate, Option, Some, None, is_some, IsSome, true, false, nat_lt, inl, inr, refl, sym, ap, ◌∙◌, subst, arith, slice_index, slice_index_or, slice_set, length-append, length-take, length-drop, min, cond}
+use Rattle.std.proofs.Common.{zero, suc, ◌≡◌, ◌≢◌, ℕ, ◌+◌, ◌*◌, ◌-◌, ◌/◌, ◌%◌, ◌^◌, ◌<◌, ◌≤◌, List, [], ◌∷◌, length, take, drop, replicate, Option, Some, None, is_some, IsSome, IfSome, true, false, nat_lt, inl, inr, refl, sym, ap, ◌∙◌, subst, arith, slice_index, slice_index_or, slice_set, length-append, length-take, length-drop, min, cond}
 use Rattle.std.proofs.lemmas.List.{ext_get_or, get_or-take, get_or-drop, length-replicate, set-get_or}
 use Rattle.std.proofs.lemmas.Bool.Decides.{nat_tests}
 use Rattle.std.proofs.lemmas.Bool.{false≢true}
@@ -7,8 +7,10 @@ use Rattle.slab.specs.Slab.{Slab, get, slab_len, ContainsKey, with_value, Update
 use Rattle.std.proofs.lemmas.List.Sums.{sum_by-set}
 use Rattle.slab.proofs.SlabLemmas.{ContainsKey-within}
 use Rattle.thumb_code.specs.Map.{stack_at, ram_end, place}
+use Rattle.thumb_code.specs.Machine.{State as Machine}
 use Rattle.bank_model.specs.Standing.{words_in, IsInside}
-use Rattle.fiber_pool.specs.Kept.{Kept, kept_at, sized}
+use Rattle.fiber_pool.specs.Kept.{Kept, kept_at, or_unused, sized}
+use Rattle.fiber_queues.specs.Lists.{ListsOf, Leads}
 use Rattle.fiber_runtime.specs.declared.turning.Turning.{Turning}
 use Rattle.fiber_runtime.specs.declared.blocking.Why.{Why}
 use Rattle.fiber_runtime.specs.Words.{Fits, kept_of}
@@ -16,10 +18,10 @@ use Rattle.fiber_runtime.specs.State.{State}
 use Rattle.fiber_runtime.specs.Moves.{Blocked, Resumed, joined, turning_of}
 use Rattle.fiber_runtime.specs.Copying.{Put, Taken}
 use Rattle.fiber_runtime.proofs.Laws.{taken_is_resumed}
-use Rattle.thumb_switch.specs.Routine.{routine_bytes}
+use Rattle.thumb_switch.specs.Routine.{routine_bytes, routine_steps}
 use Rattle.thumb_switch.specs.Space.{Space, record_at, switched}
-use Rattle.thumb_switch.specs.Copies.{word_at, IsPlace, AreRanges, AreCopied}
-use Rattle.thumb_switch.specs.Switching.{Held, depth, over, out_by, in_by, with_stack, BlockedBy, ResumedBy}
+use Rattle.thumb_switch.specs.Copies.{word_at, IsPlace, AreRanges, AreCopied, Copies}
+use Rattle.thumb_switch.specs.Switching.{Held, counted, depth, over, out_by, in_by, with_stack, BlockedBy, ResumedBy}
 use Rattle.thumb_switch.proofs.Whole.{copies}
 
 zeros : (k : ℕ) (z : List ℕ) → z ≡ replicate k 0 → length z ≡ k
@@ -161,6 +163,23 @@ len_same pool key k l = by_slot (get pool key) refl l
         let w = sum_by-set (λ (o : Option Kept). cond (is_some o) 1 0) pool.slots key (Some k) None (ContainsKey-within pool key l) in
         back (slab_len (with_value pool key k)) (slab_len pool) _ w one
 
+-- how the routine executes where a fiber blocks
+module _ (m : Machine) (words : List ℕ) (size : length m.memory.stack ≡ 1024) (i : IsInside m.registers.sp m.memory.base) where
+  abbrev before : Space
+  before = over routine_bytes m.memory.stack (sized (depth m) words)
+
+  pub out_copies : Copies m.registers.sp record_at (depth m) before
+  out_copies =
+      let ls = length_sized (depth m) words in
+      let few : depth m < 2 ^ 12 = (let h = i.high in let l = i.low in omega arith) in
+      copies m.registers.sp record_at (depth m) before refl size (out_ranges before m.registers.sp m.memory.base i ls) few
+
+  pub out_steps : (bytes : List ℕ) (steps : ℕ) (u : Space) → bytes ≡ routine_bytes → out_by bytes m words ≡ (steps, u) → steps ≡ routine_steps (depth m)
+  out_steps bytes steps u held x =
+      let c = out_copies in
+      let same : (c.steps, c.left) ≡ (steps, u) = sym c.executes ∙ (ap (λ b. out_by b m words) (sym held) ∙ x) in
+      ap (λ (e : ℕ × Space). e.0) (sym same) ∙ c.exact
+
 pub blocked_by_routine : (key now : ℕ) (t : Turning) (why : Why) (h h' : Held) (old new : State) → h.bytes ≡ routine_bytes → length old.machine.memory.stack ≡ 1024
     → IsInside old.machine.registers.sp old.machine.memory.base → BlockedBy key t why now h h' old new → Blocked key t why now old new
 blocked_by_routine key now t why h h' old new held size i b =
@@ -169,8 +188,7 @@ blocked_by_routine key now t why h h' old new held size i b =
     let words = (kept_at old.pool key).words in
     let s = over routine_bytes m.memory.stack (sized n words) in
     let ls = length_sized n words in
-    let few : n < 2 ^ 12 = (let h = i.high in let l = i.low in omega arith) in
-    let c = copies m.registers.sp record_at n s refl size (out_ranges s m.registers.sp m.memory.base i ls) few in
+    let c = out_copies m words size i in
     let same : (c.steps, c.left) ≡ (b.steps, b.left) = sym c.executes ∙ (ap (λ bytes. out_by bytes m words) (sym held) ∙ b.executes) in
     let left : c.left ≡ b.left = ap (λ (e : ℕ × Space). e.1) same in
     let copied = subst (AreCopied m.registers.sp record_at n s) left c.copied in
@@ -229,17 +247,17 @@ module _ (k : Kept) (stack : List ℕ) (fits : Fits k) (size : length stack ≡ 
   none_moved : (a b : ℕ) → AreRanges s a b 0
   none_moved a b = record { sources = λ i l. absurd (omega arith); targets = λ i l. absurd (omega arith); apart = λ i j l m. absurd (omega arith) }
 
-  pub came : (n : ℕ) → length k.words ≡ n → (steps : ℕ) × (u : Space) × (switched record_at k.registers.sp (length k.words) s ≡ (steps, u)) × (steps ≤ 4 * length k.words + 5) × Left k stack u
+  pub came : (n : ℕ) → length k.words ≡ n → (steps : ℕ) × (u : Space) × (switched record_at k.registers.sp (length k.words) s ≡ (steps, u)) × (steps ≡ routine_steps (length k.words)) × Left k stack u
   came zero e =
       let c = copies record_at k.registers.sp (length k.words) s refl size (subst (AreRanges s record_at k.registers.sp) (sym e) (none_moved record_at k.registers.sp)) (omega arith) in
-      (c.steps, c.left, c.executes, c.few, none_left c.left e c.copied)
+      (c.steps, c.left, c.executes, c.exact, none_left c.left e c.copied)
   came (suc n) e =
       let i = fits.inside (omega arith) in
       let span = fits.span in
       let m : length k.words ≡ (k.base - k.registers.sp) / 4 = omega arith in
       let few : length k.words < 2 ^ 12 = (let h = i.high in let l = i.low in omega arith) in
       let c = copies record_at k.registers.sp (length k.words) s refl size (subst (AreRanges s record_at k.registers.sp) (sym m) (in_ranges s k.registers.sp k.base i m)) few in
-      (c.steps, c.left, c.executes, c.few, some_left c.left i m (subst (λ j. AreCopied record_at k.registers.sp j s c.left) m c.copied))
+      (c.steps, c.left, c.executes, c.exact, some_left c.left i m (subst (λ j. AreCopied record_at k.registers.sp j s c.left) m c.copied))
 
 pub resumed_by_routine : (h h' : Held) (old new : State) → h.bytes ≡ routine_bytes → length old.machine.memory.stack ≡ 1024 → ResumedBy h h' old new → Resumed old new
 resumed_by_routine h h' old new held size r =
@@ -263,3 +281,32 @@ resumed_by_routine h h' old new held size r =
       }) pool;
     } in
     taken_is_resumed old new r.left.stack taken r.fits l.put
+
+-- and counts the routine's instructions
+pub block_counts : (key now : ℕ) (t : Turning) (why : Why) (h h' : Held) (old new : State) → h.bytes ≡ routine_bytes → length old.machine.memory.stack ≡ 1024
+    → IsInside old.machine.registers.sp old.machine.memory.base → BlockedBy key t why now h h' old new → h' ≡ counted h (routine_steps (depth old.machine))
+block_counts key now t why h h' old new held size i b = b.counts ∙ ap (counted h) (out_steps old.machine (kept_at old.pool key).words size i h.bytes b.steps b.left held b.executes)
+
+pub resume_counts : (h h' : Held) (old new : State) → h.bytes ≡ routine_bytes → length old.machine.memory.stack ≡ 1024 → (r : ResumedBy h h' old new) → h' ≡ counted h (routine_steps (length r.kept.words))
+resume_counts h h' old new held size r =
+    let k = r.kept in
+    let stack = old.machine.memory.stack in
+    let c = came k stack r.fits size (length k.words) refl in
+    let same : (c.0, c.1) ≡ (r.steps, r.left) = sym c.2 ∙ (ap (λ bytes. in_by bytes stack k) (sym held) ∙ r.executes) in
+    let steps : r.steps ≡ routine_steps (length k.words) = ap (λ (e : ℕ × Space). e.0) (sym same) ∙ c.3 in
+    r.counts ∙ ap (counted h) steps
+
+-- whoever runs and has a record
+pub who_blocks : (o : Option Turning) → IsSome o → IfSome o (λ t. IsSome t.key) → (t : Turning) × (key : ℕ) × (o ≡ Some t) × (t.key ≡ Some key)
+who_blocks None r k = absurd (false≢true r)
+who_blocks (Some t) r k = by_key t.key refl k
+  where
+    by_key : (o : Option ℕ) → t.key ≡ o → IsSome o → (u : Turning) × (key : ℕ) × (Some t ≡ Some u) × (u.key ≡ Some key)
+    by_key (Some key) e s = (t, key, refl, e)
+    by_key None e s = absurd (false≢true s)
+
+-- the words of the first ready fiber
+pub first_words : (h h' : Held) (old new : State) (r : ResumedBy h h' old new) (key : ℕ) → Leads key old.lists.ready → length r.kept.words ≡ length (kept_at old.pool key).words
+first_words h h' old new r key leads =
+    let e : key ≡ r.key = subst (Leads key) (ap (λ (q : ListsOf ℕ). q.ready) r.first) leads in
+    sym (ap (λ j. length (kept_at old.pool j).words) e ∙ ap (λ o. length (or_unused o).words) r.found)

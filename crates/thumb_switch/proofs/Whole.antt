@@ -5,7 +5,7 @@ use Rattle.std.proofs.lemmas.Bool.Decides.{nat_tests}
 use Rattle.thumb_code.specs.declared.register_file.Registers.{Registers}
 use Rattle.thumb_code.specs.RegisterFile.{word}
 use Rattle.thumb_code.specs.Arithmetic.{sum_flags, inverted}
-use Rattle.thumb_switch.specs.Routine.{routine_bytes}
+use Rattle.thumb_switch.specs.Routine.{routine_bytes, routine_steps}
 use Rattle.thumb_switch.specs.Space.{Space, back_at, executed, called, most_instructions}
 use Rattle.thumb_switch.specs.Copies.{IsPlace, AreRanges, AreCopied, Passes, Pass, Copies}
 use Rattle.thumb_switch.proofs.Words.{in_stack_bounds, in_record_bounds}
@@ -169,7 +169,7 @@ tail (suc m) t code size f a b c d e g h l r =
 
 -- from the entry to the last instruction
 abbrev Way : ℕ → ℕ → ℕ → Space → Type 0
-Way a b count t = (k : ℕ) × (k ≤ 4 * count + 4) × (n : ℕ) × Copying count k t (called a b count) 24 a b n
+Way a b count t = (k : ℕ) × (k + 1 ≡ routine_steps count) × (n : ℕ) × Copying count k t (called a b count) 24 a b n
 
 way_by : (a b count : ℕ) (t : Space) → t.code ≡ routine_bytes → length t.stack ≡ 1024 → AreRanges t a b count → count < 2 ^ 12 → (few : Bool) → nat_lt count 5 ≡ few → Way a b count t
 way_by a b count t code size r x true e =
@@ -225,7 +225,7 @@ copies a b count t code size r x =
     let last = back z.u (z.copied.code ∙ code) (z.copied.stack ∙ size) y.f (a + 4 * count) (b + 4 * count) w.2 y.c y.d y.e y.g y.h in
     let all = steps_then w.0 1 t z.u z.u _ _ _ y.steps (step_one z.u z.u _ _ last) in
     let rest = most_instructions count - (w.0 + 1) in
-    let few = w.1 in
+    let exact = w.1 in
     let k : most_instructions count ≡ w.0 + 1 + rest = omega arith in
     let zero : w.0 + 1 + 0 ≡ w.0 + 1 = omega arith in
     record {
@@ -235,7 +235,7 @@ copies a b count t code size r x =
       executes = ap (λ n. executed n (called a b count) t) k ∙ (executed_steps (w.0 + 1) rest t z.u _ _ all ∙ (ap (λ e. (w.0 + 1 + e.0, e.1)) (executed_back rest z.u _ refl) ∙ ap (λ n. (n, z.u)) zero));
       pass = all;
       returns = refl;
-      few = omega arith;
+      exact = w.1;
       copied = z.copied;
     }
 

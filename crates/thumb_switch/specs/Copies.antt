@@ -1,8 +1,9 @@
 -- What the routine does.
-use Rattle.std.specs.Prelude.{◌≡◌, ◌≢◌, ℕ, zero, suc, ◌+◌, ◌*◌, ◌%◌, ◌<◌, ◌≤◌, ◌⊎◌, ◌==◌, length, true, false}
+use Rattle.std.specs.Prelude.{◌≡◌, ◌≢◌, ℕ, zero, suc, ◌+◌, ◌*◌, ◌%◌, ◌<◌, ◌⊎◌, ◌==◌, length, true, false}
 use Rattle.thumb_code.specs.declared.register_file.Registers.{Registers}
 use Rattle.thumb_code.specs.Forms.{Access}
 use Rattle.thumb_code.specs.Step.{On}
+use Rattle.thumb_switch.specs.Routine.{routine_steps}
 use Rattle.thumb_switch.specs.Space.{Space, back_at, in_stack, in_record, space_load, step_in, called, switched}
 
 abbrev pub whole : ℕ → Access
@@ -50,5 +51,5 @@ pub record Copies (source target count : ℕ) (t : Space) : Type 0 where
   pub executes : switched source target count t ≡ (steps, left)
   pub pass : Pass steps t (called source target count) left registers
   pub returns : registers.pc ≡ back_at
-  pub few : steps ≤ 4 * count + 5
+  pub exact : steps ≡ routine_steps count
   pub copied : AreCopied source target count t left

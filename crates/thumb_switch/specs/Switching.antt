@@ -1,5 +1,5 @@
 -- What a switch that holds some bytes does to a runtime.
-use Rattle.std.specs.Prelude.{◌≡◌, ℕ, ◌+◌, ◌-◌, ◌/◌, List, ◌∷◌, length, Some, None}
+use Rattle.std.specs.Prelude.{◌≡◌, ℕ, ◌+◌, ◌-◌, ◌/◌, ◌^◌, min, List, ◌∷◌, length, Some, None}
 use Rattle.slab.specs.Slab.{get, with_value, Updates, slab_len}
 use Rattle.thumb_code.specs.Machine.{State as Machine}
 use Rattle.fiber_pool.specs.Kept.{Kept, kept_at, sized}
@@ -34,9 +34,13 @@ pub record Held : Type 0 where
   pub bytes : List ℕ
   pub count : ℕ  -- how many instructions were executed so far
 
+-- a count behind so many more instructions: it stands still at its type's end
+abbrev pub count_behind : ℕ → ℕ → ℕ
+count_behind count steps = min (count + steps) (2 ^ 64 - 1)
+
 -- so many more instructions were executed
 abbrev pub counted : Held → ℕ → Held
-counted h steps = record h { count = h.count + steps }
+counted h steps = record h { count = count_behind h.count steps }
 
 -- The running fiber blocks: the held bytes are executed, and then its registers and base are kept and it joins a list.
 pub record BlockedBy (key : ℕ) (t : Turning) (why : Why) (now : ℕ) (h h' : Held) (old new : State) : Type 0 where

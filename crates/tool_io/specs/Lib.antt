@@ -1,3 +1,4 @@
 pub mod Fetching
 pub mod Putting
+pub mod Lines
 pub mod Memory

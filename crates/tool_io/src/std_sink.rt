@@ -1,66 +1,81 @@
 // Standard output, or another stream of the operating system.
-ghost use Rattle.std.specs.Prelude.{◌≡◌, ◌≢◌, OnOk, OnErr, IfErr};
+ghost use Rattle.std.specs.Prelude.{◌≡◌, ◌≢◌, ◌↔◌, [], true, OnOk, OnErr, IfErr};
 ghost use Rattle.std.specs.IoError.{error_kind};
-ghost use Rattle.tool_io.specs.Putting.{Took, TookPart};
+ghost use Rattle.std.specs.Io.KnownBytes.{append_known};
+ghost use Rattle.tool_io.specs.Memory.{one_more};
+ghost use Rattle.tool_io.specs.Putting.{Took, TookPart, Puts};
+ghost use Rattle.tool_io.specs.Lines.{EndsLine};
 
 use crate::{PutFailed, Sink};
+use buffered_stream::BufferedStream;
 use std::io;
 use std::io::{ErrorKind, Write};
 
-/// A stream, such as standard output. It tells what the stream tells of its bytes, which is nothing of one of the
-/// operating system. A write that takes nothing of a piece that isn't empty is a fault, and so is every error but an
-/// interruption, after which the write is tried again.
+/// A stream, such as standard output. Pieces are gathered until one ends a line, or no room is left, and then written in one piece. What it has
+/// taken is what the stream holds and then what is gathered: it tells that where the stream tells, which one of the operating system doesn't.
+/// While no write has failed, all that was taken up to a line's end is on the stream. A write that takes nothing is a fault, and so is every
+/// error but an interruption, after which the write is tried again.
 #[derive(Drop)]
 pub struct StdSink<W: Write + Drop> {
-    writer: W,
+    stream: BufferedStream<W>,
     faults: u64,
+    ghost written: { faults ≡ 0 → EndsLine stream.held.items → ⊥ },
 }
 
 impl<W: Write + Drop> StdSink<W> {
     /// The sink, without faults.
     pub fn new(writer: W) -> StdSink<W>
-        ensures writer { result.writer ≡ writer }
+        ensures writer { result.stream.writer ≡ writer }
+        ensures nothing { result.stream.held.items ≡ [] }
         ensures faults { result.faults ≡ 0 }
     {
-        StdSink { writer, faults: 0 }
+        StdSink {
+            stream: BufferedStream::new(writer),
+            faults: 0,
+        }
     }
 }
 
-/// The error of a stream that takes nothing more.
-fn takes_nothing() -> io::Error
-    ensures { error_kind result ≡ ErrorKind.WriteZero }
+/// Whether a text ends with a line's end.
+fn ends_line(text: &[u8]) -> bool
+    ensures { (result ≡ true) ↔ EndsLine text.now }
 {
-    io::Error::new(ErrorKind::WriteZero, "the stream takes nothing more")
+    match text.last() {
+        Some(byte) => *byte == b'\n',
+        None => false,
+    }
 }
 
-/// Writes a piece to its end, or a prefix of it.
-fn write_whole<W: Write>(writer: &mut W, piece: &[u8]) -> io::Result<()>
-    ensures took { OnOk result (Took (W.contents writer.old) (W.contents writer.new) piece.now) }
-    ensures part { OnErr result (TookPart (W.contents writer.old) (W.contents writer.new) piece.now) }
+/// Appends a piece, and writes out what is held back where the piece ends a line.
+fn write_lines<W: Write + Drop>(stream: &mut BufferedStream<W>, piece: &[u8]) -> io::Result<()>
+    ensures took { OnOk result (Took (append_known (W.contents stream.old.writer) stream.old.held.items)
+        (append_known (W.contents stream.new.writer) stream.new.held.items) piece.now) }
+    ensures part { OnErr result (TookPart (append_known (W.contents stream.old.writer) stream.old.held.items)
+        (append_known (W.contents stream.new.writer) stream.new.held.items) piece.now) }
+    ensures line { OnOk result (EndsLine piece.now → stream.new.held.items ≡ []) }
+    ensures written { OnOk result (EndsLine stream.new.held.items → EndsLine stream.old.held.items) }
     ensures retried { IfErr result (λ error. error_kind error ≢ ErrorKind.Interrupted) }
 {
-    let mut done = 0;
-    'writing: for _ in 0..u64::MAX {
-        if done == piece.len() {
-            return Ok(());
-        }
-        match writer.write(&piece[done..]) {
-            Ok(0) => return Err(takes_nothing()),
-            Ok(count) => done += count,
-            Err(error) if error.kind() == ErrorKind::Interrupted => continue 'writing,
-            Err(error) => return Err(error),
-        }
+    stream.append(piece)?;
+    if ends_line(piece) {
+        stream.write_out()?;
     }
-    Err(takes_nothing())
+    Ok(())
 }
 
 impl<W: Write + Drop> Sink for StdSink<W> {
-    ghost taken = { λ sink. W.contents sink.writer };
+    ghost taken = { λ sink. append_known (W.contents sink.stream.writer) sink.stream.held.items };
 
     ghost faults = { λ sink. sink.faults };
 
-    fn put(&mut self, piece: &[u8]) -> Result<(), PutFailed> {
-        match write_whole(&mut self.writer, piece) {
+    fn put(&mut self, piece: &[u8]) -> Result<(), PutFailed>
+        ensures puts { Puts (append_known (W.contents self.old.stream.writer) self.old.stream.held.items)
+            (append_known (W.contents self.new.stream.writer) self.new.stream.held.items) self.old.faults self.new.faults piece.now result }
+        ensures line { OnOk result (EndsLine piece.now → self.new.stream.held.items ≡ []) }
+        ensures counted { OnErr result (self.new.faults ≡ one_more self.old.faults) }
+        ensures uncounted { OnOk result (self.new.faults ≡ self.old.faults) }
+    {
+        match write_lines(&mut self.stream, piece) {
             Ok(()) => Ok(()),
             Err(_) => {
                 self.faults = self.faults.saturating_add(1);

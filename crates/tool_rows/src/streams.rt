@@ -1,11 +1,10 @@
 //! Streams that give and take little at a time, are interrupted, or fail.
 
 use crate::folders::show_found;
-use crate::sinks::show_puts;
 use std::alloc::Global;
 use std::io;
 use std::io::{ErrorKind, Read, Write};
-use tool_io::{FetchFault, StdSink, read_up_to};
+use tool_io::{FetchFault, Sink, StdSink, read_up_to};
 
 /// A reader of ten bytes that gives three at a time, and fails so at every other read.
 #[derive(Drop)]
@@ -52,18 +51,20 @@ fn show_read<W: Write>(
 
 /// A writer that takes so many bytes, one at a time, and is interrupted before each; then it takes none.
 #[derive(Drop)]
-struct Narrow {
+struct Narrow<'a, W: Write> {
+    below: &'a mut W,
     room: usize,
     writes: u64,
 }
 
-impl Write for Narrow {
+impl<W: Write> Write for Narrow<'_, W> {
     fn write(&mut self, buf: &[u8]) -> io::Result<usize> {
         self.writes = self.writes.saturating_add(1);
         if self.writes % 2 == 1 {
             return Err(io::Error::from(ErrorKind::Interrupted));
         }
         let count = self.room.min(buf.len()).min(1);
+        self.below.write_all(&buf[..count])?;
         self.room -= count;
         Ok(count)
     }
@@ -71,6 +72,51 @@ impl Write for Narrow {
     fn flush(&mut self) -> io::Result<()> {
         Ok(())
     }
+}
+
+/// Puts each piece to a stream that takes so many bytes. What it took stands between bars, and then how many puts were refused.
+fn show_stream<W: Write>(out: &mut W, room: usize, pieces: &[&str]) -> io::Result<()> {
+    out.write_all(b"|")?;
+    let mut refused = 0u64;
+    let mut sink = StdSink::new(Narrow {
+        below: out,
+        room,
+        writes: 0,
+    });
+    for piece in pieces {
+        if sink.put(piece.as_bytes()).is_err() {
+            refused = refused.saturating_add(1);
+        }
+    }
+    drop(sink);
+    writeln!(out, "| {refused} refused")
+}
+
+/// Puts pieces of a thousand bytes to a stream that takes nothing, until one is refused.
+fn show_full<W: Write>(out: &mut W) -> io::Result<()> {
+    let mut taken = 0u64;
+    let mut sink = StdSink::new(Narrow {
+        below: out,
+        room: 0,
+        writes: 0,
+    });
+    for _ in 0..100 {
+        if sink.put(&[b'x'; 1000]).is_ok() {
+            taken = taken.saturating_add(1);
+        }
+    }
+    drop(sink);
+    writeln!(out, "{taken} of 100 taken")
+}
+
+/// Puts that end no line, one that does, and one behind it; a stream that ends in the middle of a line; and one that takes nothing.
+fn show_streams<W: Write>(out: &mut W) -> io::Result<()> {
+    show_stream(out, 9, &["abc", "", "def"])?;
+    show_stream(out, 9, &["abc", "", "d\n", "ef"])?;
+    show_stream(out, 9, &["abc\n", "\n", "a\nb"])?;
+    show_stream(out, 5, &["ab\n", "cd", "ef\n", "g", ""])?;
+    show_stream(out, 5, &["ab\n", "cd", "ef\n", "g", "\n"])?;
+    show_full(out)
 }
 
 /// Reads that are short and interrupted are gone on with; other errors end them. So of writes.
@@ -81,6 +127,5 @@ pub fn show<W: Write>(alloc: Global, out: &mut W) -> io::Result<()> {
     show_read(alloc, out, ErrorKind::Interrupted, 0)?;
     show_read(alloc, out, ErrorKind::NotFound, 10)?;
     show_read(alloc, out, ErrorKind::OutOfMemory, 10)?;
-    let mut sink = StdSink::new(Narrow { room: 5, writes: 0 });
-    show_puts(out, &mut sink, &["abc", "", "def", ""])
+    show_streams(out)
 }

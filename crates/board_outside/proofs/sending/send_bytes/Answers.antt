@@ -13,6 +13,7 @@ loop-byte-preserved g c = λ moves start f.
     (ap (λ b. (moves ++ bytes_sent c.args.now (take c.loop-byte.byte-index c.args.bytes.now)) ++ Word 1 c.args.now b ∷ []) c.from.ensures ∙ sent-one-more moves c.args.now c.args.bytes.now c.loop-byte.byte-index (search rules))
     (c.send.ensures.follows _ start (c.loop-byte.invariant moves start f))
 
-pub returns : goal.returns
-returns g c = λ moves start f.
-    subst (λ ms. Follows g.D.Device.log g.D.Device.faults ms start c.loop-byte.plugs) (sent-all moves c.args.now c.args.bytes.now c.loop-byte.byte-index (search rules)) (c.loop-byte.invariant moves start f)
+pub returns-clause-sends : goal.returns-clause-sends
+returns-clause-sends g c = λ moves start f.
+    c.settle.ensures.follows _ start
+    (subst (λ ms. Follows g.D.Device.log g.D.Device.faults ms start c.loop-byte.plugs) (sent-all moves c.args.now c.args.bytes.now c.loop-byte.byte-index (search rules)) (c.loop-byte.invariant moves start f))

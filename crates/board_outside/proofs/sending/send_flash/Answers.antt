@@ -17,7 +17,8 @@ loop-i-preserved g c = λ moves start f.
     ∙ sent-flash-more moves c.args.now flash c.args.at c.loop-i.i)
     (c.send.ensures.follows _ start (c.loop-i.invariant moves start f))
 
-pub returns : goal.returns
-returns g c = λ moves start f.
+pub returns-clause-sends : goal.returns-clause-sends
+returns-clause-sends g c = λ moves start f.
     let same : c.loop-i.i ≡ c.args.count = search rules in
-    subst (λ n. Follows g.D.Device.log g.D.Device.faults (moves ++ bytes_sent c.args.now (flash_bytes c.args.machine.now.memory.flash n c.args.at)) start c.loop-i.plugs) same (c.loop-i.invariant moves start f)
+    c.settle.ensures.follows _ start
+    (subst (λ n. Follows g.D.Device.log g.D.Device.faults (moves ++ bytes_sent c.args.now (flash_bytes c.args.machine.now.memory.flash n c.args.at)) start c.loop-i.plugs) same (c.loop-i.invariant moves start f))

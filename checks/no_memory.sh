@@ -1,0 +1,65 @@
+#!/bin/sh
+# Where code answers that there was no memory, an allocation was refused: whatever the answer is decided by (the condition, what is matched, what `let .. else` or `map_err` is over) is a call
+# that takes memory, or hands on such an answer. Places where it is something else, as a number that would pass its type or a form that never comes, stand in checks/no_memory.txt, each with
+# its function; no line is to be added there, and one that is no longer true goes.
+# usage: checks/no_memory.sh            looks for places that aren't allowed
+#        checks/no_memory.sh --list     the lines as checks/no_memory.txt would have them
+set -eu
+cd "$(dirname "$0")/.."
+exec python3 - "$@" <<'PYTHON'
+import glob
+import re
+import sys
+
+# Calls that take memory, and answers that say so.
+TAKES = re.compile(
+    r"\.(push|insert|append|extend_from_slice|push_str|try_reserve|reserve)\(|\b(with_capacity|from_slice|from_str|from_array)\(|\bBox::new\(|\bvec!\[|\b\w+\((&|&mut )?(\w+, )*alloc\b|\.is_memory\(\)|OutOfMemory|NoMemory|NotMounted"
+)
+MADE = re.compile(r"\bNoMemory\b")
+NOT_MADE = re.compile(r"^\s*(ghost use|ghost |use|pub use|ensures|requires|pub (enum|struct|fn)|fn) |NoMemory>|^\s*NoMemory,|-> |NoMemory\)? =>|NoMemory\)? \|")
+DECIDES = re.compile(r"\b(if|match|else if)\b|let (Some|Ok|\(|Form)")
+
+
+def deciding(lines, at):
+    """Returns the text that decides whether the line at that place is come to: from where the condition or the match begins."""
+    line = lines[at]
+    if re.search(r"\.(map_err|ok_or|or)\(", line) or re.search(r"\bif\b.*\{.*NoMemory", line):
+        return line.partition(".map_err")[0]
+    depth = len(line) - len(line.lstrip())
+    for back in range(at - 1, -1, -1):
+        other = lines[back]
+        if other.strip() and len(other) - len(other.lstrip()) < depth and DECIDES.search(other):
+            return "\n".join(lines[back:at])
+        if re.match(r"\s*(pub )?fn ", other):
+            return "\n".join(lines[back:at])
+    return ""
+
+
+found = []
+for file in sorted(glob.glob("crates/*/src/**/*.rt", recursive=True)):
+    if re.search(r"_rows/|/tests\.rt$", file):
+        continue
+    lines = [it.partition("//")[0].rstrip() for it in open(file, encoding="utf-8").read().split("\n")]
+    function, converts = "", False
+    for at, line in enumerate(lines):
+        converts = converts and not line.startswith("}")
+        function = (re.search(r"\bfn (\w+)", line) or [0, function])[1]
+        if line.startswith("impl "):
+            converts = re.match(r"impl From<(NoMemory|AllocError)> for ", line) is not None
+        if MADE.search(line) and not NOT_MADE.search(line) and not converts:
+            by = deciding(lines, at)
+            arm = line.partition("=>")[0] if "=>" in line else ""
+            # (`None` and `_` are no refused allocations)
+            if re.search(r"\b(None|_)\s*$", arm.rstrip()) or re.search(r"ok_or\(|\.or\(Err", line) or re.search(r"\btry_from\(|\bchecked_\w+\(", by.partition("\n")[0]) or not TAKES.search(by):
+                found.append(f"{file}: {function}")
+allowed = [it.rstrip("\n") for it in open("checks/no_memory.txt", encoding="utf-8")]
+wrong = [f"{it}: answers NoMemory, and no allocation was refused" for it in sorted(set(found)) if found.count(it) > allowed.count(it)]
+wrong += [f"checks/no_memory.txt: {it}: {allowed.count(it)} times, and found {found.count(it)} times" for it in sorted(set(allowed)) if allowed.count(it) > found.count(it)]
+if sys.argv[1:] == ["--list"]:
+    print("\n".join(sorted(found)))
+    sys.exit(0)
+for it in wrong:
+    print(it)
+print(f"no_memory: {len(found)} places where no allocation is refused, {len(wrong)} wrong")
+sys.exit(1 if wrong else 0)
+PYTHON

@@ -1,0 +1,109 @@
+// A stream, and the bytes for it that are held back.
+ghost use Rattle.std.specs.Prelude.{◌≡◌, ◌≢◌, ◌≤◌, ◌+◌, ◌++◌, ◌⊎◌, [], drop, OnOk, OnErr, IfErr, length};
+ghost use Rattle.std.specs.IoError.{error_kind};
+ghost use Rattle.std.specs.Io.KnownBytes.{Appends, Keeps, append_known};
+ghost use Rattle.buffered_stream.specs.Pieces.{AppendsFront, IsSuffix};
+
+use crate::writing::write_front;
+use arrayvec::ArrayVec;
+use std::io;
+use std::io::{ErrorKind, Write};
+
+/// So many bytes are held back at most.
+pub const ROOM: usize = 4096;
+
+/// A stream, and the bytes that are for it and not yet written. Whoever owns it says when they are written out; before that they are where
+/// there is no room for more. After an error the bytes that weren't written are still held back, and the next call tries them again.
+#[derive(Drop)]
+pub struct BufferedStream<W: Write + Drop> {
+    writer: W,
+    held: ArrayVec<u8, ROOM>,
+}
+
+impl<W: Write + Drop> BufferedStream<W> {
+    /// The stream, with nothing held back.
+    pub fn new(writer: W) -> BufferedStream<W>
+        ensures writer { result.writer ≡ writer }
+        ensures nothing { result.held.items ≡ [] }
+    {
+        BufferedStream {
+            writer,
+            held: ArrayVec::new(),
+        }
+    }
+
+    /// Makes room for so many bytes, or has nothing held back where the room is less than that.
+    fn make_room(&mut self, bytes: usize) -> io::Result<()>
+        ensures stays { Keeps (append_known (W.contents self.old.writer) self.old.held.items)
+            (append_known (W.contents self.new.writer) self.new.held.items) }
+        ensures room { OnOk result ((length self.new.held.items + bytes ≤ ROOM) ⊎ (self.new.held.items ≡ [])) }
+        ensures held { OnOk result ((self.new.held.items ≡ self.old.held.items) ⊎ (self.new.held.items ≡ [])) }
+        ensures retried { IfErr result (λ error. error_kind error ≢ ErrorKind.Interrupted) }
+    {
+        if self.held.remaining_capacity() >= bytes {
+            return Ok(());
+        }
+        self.write_out()
+    }
+
+    /// Writes a piece, where nothing is held back.
+    fn write_past(&mut self, piece: &[u8]) -> io::Result<()>
+        requires { self.now.held.items ≡ [] }
+        ensures appended { OnOk result (Appends (append_known (W.contents self.old.writer) self.old.held.items)
+            (append_known (W.contents self.new.writer) self.new.held.items) piece.now) }
+        ensures front { OnErr result (AppendsFront (append_known (W.contents self.old.writer) self.old.held.items)
+            (append_known (W.contents self.new.writer) self.new.held.items) piece.now) }
+        ensures held { self.new.held.items ≡ [] }
+        ensures retried { IfErr result (λ error. error_kind error ≢ ErrorKind.Interrupted) }
+    {
+        let (_, result) = write_front(&mut self.writer, piece);
+        result
+    }
+
+    /// Appends a piece to what is held back. Where there is no room, what is held back is written out before, and a piece that is longer
+    /// than the room is written at once. After an error nothing of the piece was appended where it fits the room, and else its front.
+    pub fn append(&mut self, piece: &[u8]) -> io::Result<()>
+        ensures appended { OnOk result (Appends (append_known (W.contents self.old.writer) self.old.held.items)
+            (append_known (W.contents self.new.writer) self.new.held.items) piece.now) }
+        ensures front { OnErr result (AppendsFront (append_known (W.contents self.old.writer) self.old.held.items)
+            (append_known (W.contents self.new.writer) self.new.held.items) piece.now) }
+        ensures nothing { OnErr result (length piece.now ≤ ROOM → Keeps (append_known (W.contents self.old.writer) self.old.held.items)
+            (append_known (W.contents self.new.writer) self.new.held.items)) }
+        ensures held { OnOk result (IsSuffix self.new.held.items (self.old.held.items ++ piece.now)) }
+        ensures retried { IfErr result (λ error. error_kind error ≢ ErrorKind.Interrupted) }
+    {
+        self.make_room(piece.len())?;
+        match self.held.try_extend_from_slice(piece) {
+            Ok(()) => Ok(()),
+            Err(_) => self.write_past(piece),
+        }
+    }
+
+    /// Writes out what is held back. After an error the rest of it still is.
+    pub fn write_out(&mut self) -> io::Result<()>
+        ensures stays { Keeps (append_known (W.contents self.old.writer) self.old.held.items)
+            (append_known (W.contents self.new.writer) self.new.held.items) }
+        ensures written { OnOk result (self.new.held.items ≡ []) }
+        ensures retried { IfErr result (λ error. error_kind error ≢ ErrorKind.Interrupted) }
+    {
+        let (done, result) = write_front(&mut self.writer, self.held.as_slice());
+        forget_front(&mut self.held, done);
+        result
+    }
+}
+
+/// Takes so many bytes away from the front.
+fn forget_front(held: &mut ArrayVec<u8, ROOM>, count: usize)
+    requires { count ≤ length held.now.items }
+    ensures { held.new.items ≡ drop count held.old.items }
+{
+    if count == held.len() {
+        held.clear();
+        return;
+    }
+    let mut left = ArrayVec::new();
+    match left.try_extend_from_slice(&held.as_slice()[count..]) {
+        Ok(()) => *held = left,
+        Err(_) => unreachable!(),
+    }
+}
