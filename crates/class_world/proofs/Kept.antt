@@ -16,11 +16,11 @@ use Rattle.class_world.proofs.Scripts.{early, late, rising_heard, early_heard, l
 use Rattle.class_world.proofs.Once.{world_early}
 
 -- events of a moment aren't before it
-early_raised : (t : ℕ) (es : List Event) → early t (raised_at t es) ≡ []
+pub early_raised : (t : ℕ) (es : List Event) → early t (raised_at t es) ≡ []
 early_raised t [] = refl
 early_raised t (e ∷ es) = (let test : nat_lt t t ≡ false = grind (arith, nat_tests) in rw test (early_raised t es))
 
-late_raised : (t : ℕ) (es : List Event) (own : List Entry) → IsRisingFrom 0 own → late t (with_heard (raised_at t es) own) ≡ with_heard (raised_at t es) (late t own)
+pub late_raised : (t : ℕ) (es : List Event) (own : List Entry) → IsRisingFrom 0 own → late t (with_heard (raised_at t es) own) ≡ with_heard (raised_at t es) (late t own)
 late_raised t [] own h = refl
 late_raised t (e ∷ es) own h =
     (let x : Entry = record { at = t; act = Raise e } in
@@ -40,7 +40,7 @@ raised_behind t (e ∷ es) xs ys h =
     (let x : Entry = record { at = t; act = Raise e } in
     ap (with_heard (raised_at t es)) (placed_behind t x xs ys (omega arith) h) ∙ raised_behind t es xs (placed x ys) h)
 
-each_early : (t : ℕ) (es : List Entry) → Each (λ e. e.at < t) (early t es)
+pub each_early : (t : ℕ) (es : List Entry) → Each (λ e. e.at < t) (early t es)
 each_early t [] = tt
 each_early t (e ∷ es) = by_test (nat_lt e.at t) refl (each_early t es)
   where

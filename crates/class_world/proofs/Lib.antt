@@ -10,4 +10,7 @@ mod Arriving
 mod Stepped
 mod Standing
 mod Giving
+mod Heard
+mod Later
+mod Onward
 pub mod Laws

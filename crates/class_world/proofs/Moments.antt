@@ -58,7 +58,7 @@ module _ (P : ℕ → ℕ → List Entry → List Observation → Type 0) where
     now_ends None a others again s w h = h
     now_ends (Some i) a others again s w h = now_ends_with (held_by i w.listeners) i a others again s w h
 
-    now_acted : (a : Activity A) (others : List (Activity A)) (w : World A S) (turn : Turn A S) → Holds w → Adds w.board → Holds (acted K a others w turn)
+    pub now_acted : (a : Activity A) (others : List (Activity A)) (w : World A S) (turn : Turn A S) → Holds w → Adds w.board → Holds (acted K a others w turn)
     now_acted a others w (Goes self s) h k = h
     now_acted a others w (Asks q next) h k = now_answer q a.value w.board h k
     now_acted a others w (Takes n next) h k = if_keeps Holds (nat_le (w.board.used + n) arena_limit) _ _ h h
@@ -97,7 +97,7 @@ seen_arrive act b = by_act act
     by_act (Raise e) = of_raised e b refl
     by_act (Unplug port) = refl
 
-seen_all : (s : ℕ) (es : List Entry) (b : Board) → (arrive_all s es b).seen ≡ b.seen
+pub seen_all : (s : ℕ) (es : List Entry) (b : Board) → (arrive_all s es b).seen ≡ b.seen
 seen_all s [] b = refl
 seen_all s (e ∷ es) b = if_keeps (λ (c : Board). c.seen ≡ b.seen) (e.at == s) _ _ (seen_all s es (arrive e.act b) ∙ seen_arrive e.act b) refl
 
@@ -268,7 +268,7 @@ module _ {A S : Type 0} (K : Kind A S) where
             ]
 
     -- and all idle moves go on from there
-    idle_goes_on : (n : ℕ) (xs : List (Activity A)) (w : World A S) → w.ready ≡ xs → idled K (idle_before K t n xs w) ≡ idled K w
+    pub idle_goes_on : (n : ℕ) (xs : List (Activity A)) (w : World A S) → w.ready ≡ xs → idled K (idle_before K t n xs w) ≡ idled K w
     idle_goes_on zero xs w e = refl
     idle_goes_on (suc n) (x ∷ xs) w e = refl
     idle_goes_on (suc n) [] w e = by_test (over w.board) (moves_before t w.board.queue w) refl refl (idle_goes_on n (moved K w.board.queue w).ready (moved K w.board.queue w) refl)
@@ -283,13 +283,13 @@ module _ {A S : Type 0} (K : Kind A S) where
         by_test false true o m ih = ih ∙ sym (idled_first K w o e)
 
 -- what was seen before a moment
-before_split : (t : ℕ) (xs ys : List Observation) → before t (xs ++ ys) ≡ before t xs ++ before t ys
+pub before_split : (t : ℕ) (xs ys : List Observation) → before t (xs ++ ys) ≡ before t xs ++ before t ys
 before_split t [] ys = refl
 before_split t (x ∷ xs) ys =
     elim (nat_lt (moment_of x) t) as (λ c. (if c then x ∷ before t (xs ++ ys) else before t (xs ++ ys)) ≡ (if c then x ∷ before t xs else before t xs) ++ before t ys)
     [ true ↦ ap (λ (l : List Observation). x ∷ l) (before_split t xs ys) | false ↦ before_split t xs ys ]
 
-before_later : (t : ℕ) (o : Observation) (xs : List Observation) → t ≤ moment_of o → before t (xs ++ o ∷ []) ≡ before t xs
+pub before_later : (t : ℕ) (o : Observation) (xs : List Observation) → t ≤ moment_of o → before t (xs ++ o ∷ []) ≡ before t xs
 before_later t o xs h =
     (let none : before t (o ∷ []) ≡ [] = (let late : nat_lt (moment_of o) t ≡ false = grind (arith, nat_tests) in rw late refl) in
     before_split t xs (o ∷ []) ∙ ap (λ (l : List Observation). before t xs ++ l) none ∙ append-nil (before t xs))
@@ -322,7 +322,7 @@ module _ {A S : Type 0} (K : Kind A S) (t : ℕ) where
       by_ready [] = h
       by_ready (a ∷ rest) = (let v = acted K a rest w (K.step a.self w.shared) in early_idle (idle_bound v.board) v.ready v (early_acted a rest w (K.step a.self w.shared) h))
 
-  early_run : (n : ℕ) (w : World A S) → IsEarly w → IsEarly (run_before K t n w)
+  pub early_run : (n : ℕ) (w : World A S) → IsEarly w → IsEarly (run_before K t n w)
   early_run zero w h = h
   early_run (suc n) w h = early_tick (run_before K t n w) (early_run n w h)
 

@@ -1,0 +1,4 @@
+mod Looking
+mod Alike
+mod Ending
+pub mod Laws

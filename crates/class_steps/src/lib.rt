@@ -1,0 +1,6 @@
+//! A class of boards that are stepped moment by moment: what is known of them between two moments, and what they have written. No code but laws.
+#![tactic(auto)]
+
+mod stepping;
+
+pub use stepping::boards_that_wait_have_ended;
