@@ -8,6 +8,7 @@ mod Mapped
 mod Bytes
 mod StackWords
 mod Alone
+mod ReadOnce
 mod Going
 mod Blocking
 mod Resuming

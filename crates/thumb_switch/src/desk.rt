@@ -1,8 +1,9 @@
 // The memory that the switch executes over: the held bytes, the stack region, and the words of one record.
-ghost use Rattle.std.specs.Prelude.{◌≡◌, ◌+◌, ◌*◌, ◌/◌, ◌%◌, ◌<◌, ◌≤◌, ◌^◌, ◌==◌, length, slice_index_or, None, refl};
-ghost use Rattle.thumb_code.specs.Map.{flash_word, stack_at, ram_end};
+ghost use Rattle.std.specs.Prelude.{◌≡◌, ◌+◌, ◌*◌, ◌/◌, ◌%◌, ◌<◌, ◌≤◌, ◌^◌, ◌==◌, length, slice_index, slice_index_or, None, refl};
+ghost use Rattle.slab.specs.Slab.{ContainsKey};
+ghost use Rattle.thumb_code.specs.Map.{flash_word, stack_at, ram_end, word_in};
 ghost use Rattle.armv6m_machine.specs.Answers.{IsSize};
-ghost use Rattle.thumb_switch.specs.Space.{space_word, space_fault, in_stack, in_record, in_code, replaced};
+ghost use Rattle.thumb_switch.specs.Space.{space_word, space_fault, in_stack, in_record, in_code, merged_in, replaced};
 ghost use Rattle.thumb_switch.specs.Switching.{with_stack};
 ghost use Rattle.thumb_switch.specs.Desk.{on_desk, words_of, desk_memory, IsHeld};
 ghost use Rattle.thumb_switch.specs.DeskLaws.{fault_stays};
@@ -44,7 +45,7 @@ fn byte(code: &[u8], at: usize) -> u32
 }
 
 /// Four bytes of the code, the low one first.
-fn code_word(code: &[u8], at: u32) -> u32
+pub fn code_word(code: &[u8], at: u32) -> u32
     requires { at < 2 ^ 31 }
     ensures { result ≡ flash_word code.now at }
 {
@@ -92,6 +93,38 @@ fn word(desk: &Desk, address: u32) -> u32
     }
 }
 
+/// What a store makes of the word of the stack region at an address. Where all its bytes are stored the old word isn't read.
+fn stack_word(machine: &Machine, address: u32, bytes: u8, word: u32) -> u32
+    requires size { IsSize bytes }
+    requires aligned { address % bytes ≡ 0 }
+    requires low { stack_at ≤ address }
+    requires high { address < ram_end }
+    ensures { result ≡ merged_in (record { at = address; bytes = bytes }) word (word_in machine.now.memory.stack stack_at address) }
+{
+    if bytes == 4 {
+        return word;
+    }
+    match machine.word(address / 4 * 4) {
+        Some(old) => merged(old, address, bytes, word),
+        None => unreachable!(),
+    }
+}
+
+/// The same of a word of the record.
+fn record_word(desk: &Desk, at: usize, address: u32, bytes: u8, word: u32) -> u32
+    requires size { IsSize bytes }
+    requires aligned { address % bytes ≡ 0 }
+    requires live { ContainsKey desk.now.runtime.now.pool desk.now.key }
+    requires there { at < length (words_of desk.now.runtime.now desk.now.key) }
+    ensures { result ≡ merged_in (record { at = address; bytes = bytes }) word (slice_index (words_of desk.now.runtime.now desk.now.key) at) }
+{
+    if bytes == 4 {
+        return word;
+    }
+    let old = desk.runtime.word(desk.key, at);
+    merged(old, address, bytes, word)
+}
+
 /// Sets bytes of the stack region.
 fn put_stack(machine: &mut Machine, address: u32, bytes: u8, word: u32)
     requires size { IsSize bytes }
@@ -102,12 +135,8 @@ fn put_stack(machine: &mut Machine, address: u32, bytes: u8, word: u32)
     ensures whole { length machine.old.memory.stack ≡ 1024 }
 {
     let _ = machine.stack();
-    match machine.word(address / 4 * 4) {
-        Some(old) => {
-            let _ = machine.set_word(address / 4 * 4, merged(old, address, bytes, word));
-        }
-        None => unreachable!(),
-    }
+    let whole = stack_word(machine, address, bytes, word);
+    let _ = machine.set_word(address / 4 * 4, whole);
 }
 
 impl<'c, 'r> Memory for Desk<'c, 'r> {
@@ -124,12 +153,18 @@ impl<'c, 'r> Memory for Desk<'c, 'r> {
     fn check(&self, address: u32, bytes: u8, store: bool) -> Option<Fault> {
         if !is_aligned(address, bytes) {
             Some(Fault::Unaligned)
-        } else if is_stack(address) || is_record(self.runtime.words(self.key), address) {
+        } else if is_stack(address) {
             None
-        } else if store || !is_code(self.code.len(), address, bytes) {
-            Some(Fault::OutOfMap)
+        } else if address < STACK {
+            if store || !is_code(self.code.len(), address, bytes) {
+                Some(Fault::OutOfMap)
+            } else {
+                None
+            }
+        } else if is_record(self.runtime.words(self.key), address) {
+            None
         } else {
-            None
+            Some(Fault::OutOfMap)
         }
     }
 
@@ -143,9 +178,8 @@ impl<'c, 'r> Memory for Desk<'c, 'r> {
             put_stack(self.runtime.machine(), address, bytes, word);
         } else {
             let at = ((address - RECORD) / 4) as usize;
-            let old = self.runtime.word(self.key, at);
-            self.runtime
-                .set_word(self.key, at, merged(old, address, bytes, word));
+            let whole = record_word(self, at, address, bytes, word);
+            self.runtime.set_word(self.key, at, whole);
         }
     }
 

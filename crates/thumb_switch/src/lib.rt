@@ -7,6 +7,7 @@ mod copying;
 mod desk;
 mod parts;
 mod running;
+mod slots;
 mod space;
 mod switch;
 mod theorems;

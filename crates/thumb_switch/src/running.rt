@@ -5,9 +5,11 @@ ghost use Rattle.thumb_code.specs.Table.{Fits};
 ghost use Rattle.thumb_code.specs.Step.{Found, behind};
 ghost use Rattle.thumb_switch.specs.Space.{has_half, half_in, fetched_in, executed};
 ghost use Rattle.thumb_switch.specs.Desk.{on_desk};
+ghost use Rattle.thumb_switch.specs.ReadOnce.{AreRead};
 ghost use Rattle.thumb_switch.specs.Running.{IsMissed, IsKnown};
 
 use crate::desk::Desk;
+use crate::slots::Slot;
 use crate::space::BACK;
 use armv6m_machine::{Memory, Turn, execute};
 use thumb_code::{Instr, Registers, decode, is_wide};
@@ -23,15 +25,18 @@ fn half(desk: &mut Desk, at: u32) -> Option<u16>
     }
 }
 
-/// The instruction at PC, and whether it is two halfwords. None exactly where there is none.
-fn fetch(desk: &mut Desk, pc: u32) -> Option<(Instr, bool)>
+/// The instruction at PC, and whether it is two halfwords, read anew. None exactly where there is none.
+fn read(desk: &mut Desk, pc: u32) -> Option<(Instr, bool)>
     ensures found { IfSome result (λ x. (fetched_in (on_desk desk.old) pc ≡ Found x.0 (behind pc x.1)) × Fits x.0) }
     ensures missed { IfNone result (IsMissed (fetched_in (on_desk desk.old) pc)) }
     ensures same { desk.new ≡ desk.old }
 {
-    // A record has at most as many words as the stack region, so nothing stands from BACK on.
-    let _count = desk.runtime.words(desk.key);
-    if pc % 2 == 1 || pc >= BACK {
+    if pc % 2 == 1 {
+        return None;
+    }
+    if pc >= BACK {
+        // A record has at most as many words as the stack region, so nothing stands from BACK on.
+        let _count = desk.runtime.words(desk.key);
         return None;
     }
     let first = half(desk, pc)?;
@@ -43,9 +48,25 @@ fn fetch(desk: &mut Desk, pc: u32) -> Option<(Instr, bool)>
     }
 }
 
+/// The instruction at PC, and whether it is two halfwords: of the first places what was read of them. None exactly where there is none.
+fn fetch(desk: &mut Desk, slots: &[Slot], pc: u32) -> Option<(Instr, bool)>
+    requires { AreRead desk.old.code.now slots.now }
+    ensures found { IfSome result (λ x. (fetched_in (on_desk desk.old) pc ≡ Found x.0 (behind pc x.1)) × Fits x.0) }
+    ensures missed { IfNone result (IsMissed (fetched_in (on_desk desk.old) pc)) }
+    ensures same { desk.new ≡ desk.old }
+{
+    if pc % 2 == 0 {
+        if let Some(Some(found)) = slots.get((pc / 2) as usize) {
+            return Some(*found);
+        }
+    }
+    read(desk, pc)
+}
+
 /// Executes at most so many instructions; how many they were.
-pub fn run(desk: &mut Desk, registers: Registers, most: u32) -> u32
-    requires { ContainsKey desk.old.runtime.now.pool desk.old.key }
+pub fn run(desk: &mut Desk, slots: &[Slot], registers: Registers, most: u32) -> u32
+    requires read { AreRead desk.old.code.now slots.now }
+    requires live { ContainsKey desk.old.runtime.now.pool desk.old.key }
     ensures executes { executed most registers (on_desk desk.old) ≡ (result, on_desk desk.new) }
     ensures known { IsKnown desk.old desk.new }
     ensures region { length (on_desk desk.old).stack ≡ 1024 }
@@ -57,7 +78,7 @@ pub fn run(desk: &mut Desk, registers: Registers, most: u32) -> u32
         if r.pc == BACK {
             return done;
         }
-        match fetch(desk, r.pc) {
+        match fetch(desk, slots, r.pc) {
             None => return done,
             Some((instr, wide)) => match execute(instr, wide, &mut r, desk) {
                 Turn::Went => {}

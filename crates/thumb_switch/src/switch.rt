@@ -7,6 +7,7 @@ ghost use Rattle.fiber_pool.specs.Kept.{kept_at};
 ghost use Rattle.fiber_queues.specs.Lists.{Leads};
 ghost use Rattle.fiber_runtime.specs.declared.turning.Turning.{Turning};
 ghost use Rattle.fiber_runtime.specs.Moves.{Blocked, Resumed};
+ghost use Rattle.thumb_switch.specs.ReadOnce.{AreRead};
 ghost use Rattle.thumb_switch.specs.Routine.{routine_bytes, routine_steps};
 ghost use Rattle.thumb_switch.specs.Space.{called, most_instructions};
 ghost use Rattle.thumb_switch.specs.Switching.{Held, counted, depth, BlockedBy, ResumedBy};
@@ -14,6 +15,7 @@ ghost use Rattle.thumb_switch.specs.Switching.{Held, counted, depth, BlockedBy, 
 use crate::copying::routine;
 use crate::desk::Desk;
 use crate::running::run;
+use crate::slots::{COUNT, Slot, slots_of};
 use crate::space::{BACK, RAM_END, RECORD};
 use fiber_runtime::{Runtime, Why};
 use std::alloc::Global;
@@ -25,15 +27,20 @@ use thumb_code::Registers;
 #[derive(Drop)]
 pub struct Switch {
     bytes: Seq<u8>,
+    /// What stands at the first places of the bytes, read once.
+    slots: [Slot; COUNT],
     count: u64,
 }
 
 impl Model for Switch {
     ghost use Rattle.thumb_switch.specs.Switching.{Held};
+    ghost use Rattle.thumb_switch.specs.ReadOnce.{AreRead};
 
     ghost Value = { Held };
 
     ghost view = { λ s. record { bytes = s.bytes; count = s.count } };
+
+    ghost invariant = { λ s. AreRead s.bytes s.slots };
 }
 
 /// The registers with which an execution begins.
@@ -54,7 +61,8 @@ fn call(source: u32, target: u32, count: u32) -> Registers
 }
 
 /// The running fiber blocks by these bytes. How many instructions were executed.
-fn block_by(bytes: &[u8], runtime: &mut Runtime, why: Why, now: u32) -> u32
+fn block_by(bytes: &[u8], slots: &[Slot], runtime: &mut Runtime, why: Why, now: u32) -> u32
+    requires read { AreRead bytes.now slots.now }
     requires runs { IsSome runtime.old.running }
     requires keyed { IfSome runtime.old.running (λ t. IsSome t.key) }
     requires inside { IsInside runtime.old.machine.registers.sp runtime.old.machine.memory.base }
@@ -75,7 +83,7 @@ fn block_by(bytes: &[u8], runtime: &mut Runtime, why: Why, now: u32) -> u32
                 runtime,
                 key,
             };
-            let steps = run(&mut desk, call(sp, RECORD, words), 8 * words + 40);
+            let steps = run(&mut desk, slots, call(sp, RECORD, words), 8 * words + 40);
             desk.runtime.park(why, now);
             steps
         }
@@ -83,7 +91,8 @@ fn block_by(bytes: &[u8], runtime: &mut Runtime, why: Why, now: u32) -> u32
 }
 
 /// The first ready fiber is resumed by these bytes. How many instructions were executed.
-fn resume_by(bytes: &[u8], runtime: &mut Runtime, key: usize) -> u32
+fn resume_by(bytes: &[u8], slots: &[Slot], runtime: &mut Runtime, key: usize) -> u32
+    requires read { AreRead bytes.now slots.now }
     requires idle { runtime.old.running ≡ None }
     requires alone { runtime.old.raisers ≡ [] }
     requires first { Leads key runtime.old.lists.ready }
@@ -100,7 +109,7 @@ fn resume_by(bytes: &[u8], runtime: &mut Runtime, key: usize) -> u32
         runtime,
         key,
     };
-    run(&mut desk, call(RECORD, sp, words), 8 * words + 40)
+    run(&mut desk, slots, call(RECORD, sp, words), 8 * words + 40)
 }
 
 impl Switch {
@@ -109,7 +118,12 @@ impl Switch {
         ensures { IfOk result (λ s. s ≡ record { bytes = routine_bytes; count = 0 }) }
     {
         let bytes = routine(alloc)?;
-        Ok(Switch { bytes, count: 0 })
+        let slots = slots_of(bytes.as_slice());
+        Ok(Switch {
+            bytes,
+            slots,
+            count: 0,
+        })
     }
 
     /// Holds these bytes.
@@ -117,7 +131,12 @@ impl Switch {
         requires { length bytes ≤ 65536 }
         ensures { result ≡ record { bytes = bytes; count = 0 } }
     {
-        Switch { bytes, count: 0 }
+        let slots = slots_of(bytes.as_slice());
+        Switch {
+            bytes,
+            slots,
+            count: 0,
+        }
     }
 
     /// How many instructions were executed so far.
@@ -141,7 +160,7 @@ impl Switch {
         ensures most { self.new.count ≤ self.old.count + most_instructions (depth runtime.old.machine) }
         ensures few { self.new.count ≤ self.old.count + 8232 }
     {
-        let steps = block_by(self.bytes.as_slice(), runtime, why, now);
+        let steps = block_by(self.bytes.as_slice(), &self.slots, runtime, why, now);
         self.count = self.count.saturating_add(u64::from(steps));
     }
 
@@ -163,7 +182,7 @@ impl Switch {
         match runtime.next_key() {
             None => false,
             Some(key) => {
-                let steps = resume_by(self.bytes.as_slice(), runtime, key);
+                let steps = resume_by(self.bytes.as_slice(), &self.slots, runtime, key);
                 self.count = self.count.saturating_add(u64::from(steps));
                 true
             }

@@ -5,8 +5,8 @@ use Rattle.thumb_switch.specs.Switching.{counted, BlockedBy}
 use Rattle.thumb_switch.proofs.Blocking.{live_resized, blocked_from, key_same, sized_left, runs_on, few_steps}
 use Rattle.thumb_switch.proofs.switch.block_by.Goals as goal
 
-pub run-steps-requires : goal.run-steps-requires
-run-steps-requires c = live_resized _ c.args.runtime.now c.in-Some.key ((c.base.result - c.registers-sp.result.sp) / 4) c.size.ensures.live c.size.ensures.sized
+pub run-steps-requires-clause-live : goal.run-steps-requires-clause-live
+run-steps-requires-clause-live c = live_resized _ c.args.runtime.now c.in-Some.key ((c.base.result - c.registers-sp.result.sp) / 4) c.size.ensures.live c.size.ensures.sized
 
 pub park-requires-clause-sized : goal.park-requires-clause-sized
 park-requires-clause-sized c = sized_left _ _ c.args.runtime.now _ c.registers-sp.result.sp c.base.result _ _ c.size.ensures.live c.requires.inside (ap (λ (r : Registers). r.sp) c.registers-sp.ensures) c.base.ensures c.size.ensures.sized c.run-steps.ensures.executes c.run-steps.ensures.known c.running.ensures.key c.in-Some.is

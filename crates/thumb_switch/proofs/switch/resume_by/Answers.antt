@@ -7,8 +7,8 @@ use Rattle.thumb_switch.specs.Switching.{counted, ResumedBy}
 use Rattle.thumb_switch.proofs.Resuming.{taken_live, pool_is, resumed_by, few_in}
 use Rattle.thumb_switch.proofs.switch.resume_by.Goals as goal
 
-pub run-requires : goal.run-requires
-run-requires c = taken_live c.args.runtime.now _ c.args.key c.take.ensures.taken c.requires.first
+pub run-requires-clause-live : goal.run-requires-clause-live
+run-requires-clause-live c = taken_live c.args.runtime.now _ c.args.key c.take.ensures.taken c.requires.first
 
 pub returns-clause-any : goal.returns-clause-any
 returns-clause-any c h held =
