@@ -2,9 +2,14 @@
 //! hexadecimal digits. The output is the transcript of its run, and a line of how many instructions the board's switch executed.
 #![tactic(auto)]
 
+ghost use Rattle.std.specs.Prelude.{◌≤◌};
+ghost use Rattle.board_world.specs.Limits.{end_limit};
+ghost use Rattle.event_script.specs.Sound.{IsSound};
+
 use anyhow::anyhow;
 use board_ports::SureDevice;
 use board_run::{Board, End};
+use board_world::END_LIMIT;
 use event_script::Script;
 use std::alloc::Global;
 use std::io::{self, BufRead, BufReader};
@@ -14,21 +19,26 @@ use tool_io::{Sink, StdSink};
 /// The most bytes of an image.
 const FLASH_BYTES: usize = 262_144;
 
-/// The latest end of a script.
-const LATEST_END: u32 = 2_000_000_000;
-
 /// The most instructions of a run.
 const BUDGET: u32 = 2_147_483_648;
 
-/// Runs an image on a board, up to a moment.
-fn run_image<K: Sink>(alloc: Global, end: u32, image: Vec<u8>, out: &mut K) -> anyhow::Result<()> {
-    if end > LATEST_END || image.len() > FLASH_BYTES {
-        return Err(anyhow!("the script or the image is too long"));
-    }
-    let script = Script {
+/// A script without entries.
+fn quiet_script(alloc: Global, end: u32) -> Script
+    requires { end ≤ end_limit }
+    ensures { IsSound result }
+{
+    Script {
         end,
         entries: Seq::new(alloc),
-    };
+    }
+}
+
+/// Runs an image on a board, up to a moment.
+fn run_image<K: Sink>(alloc: Global, end: u32, image: Vec<u8>, out: &mut K) -> anyhow::Result<()> {
+    if end > END_LIMIT || image.len() > FLASH_BYTES {
+        return Err(anyhow!("the script or the image is too long"));
+    }
+    let script = quiet_script(alloc, end);
     let Ok(mut board) = Board::<SureDevice>::mount(alloc, image, script, Vec::new(alloc)) else {
         return Err(anyhow!("no memory"));
     };
