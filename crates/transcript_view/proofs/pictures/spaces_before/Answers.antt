@@ -1,0 +1,6 @@
+use Rattle.std.proofs.Common.{◌≡◌, ◌++◌, ◌∷◌, ◌+◌, ◌-◌, ◌<◌, ◌≤◌, ◌==◌, ℕ, List, [], take, drop, length, map, min, true, false, ap, ◌∙◌, sym, refl, arith}
+use Rattle.transcript_view.proofs.Cuts.{spaces-left}
+use Rattle.transcript_view.proofs.pictures.spaces_before.Goals as goal
+
+pub returns : goal.returns
+returns c = rw c.min.ensures (spaces-left c.args.length)
