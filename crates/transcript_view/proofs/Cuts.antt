@@ -9,8 +9,9 @@ drop-none n xs h = nil_from_length (drop n xs) (length-drop n xs ∙ omega arith
 drop-less : (n : ℕ) (xs : List ℕ) → drop (min (length xs) n) xs ≡ drop n xs
 drop-less n xs =
     elim (cases_lt n (length xs)) [
-      inl lt ↦ ap (λ m. drop m xs) (omega arith)
-    | inr le ↦ ap (λ m. drop m xs) (omega arith) ∙ drop-none (length xs) xs (omega arith) ∙ sym (drop-none n xs le) ]
+      | inl lt ↦ ap (λ m. drop m xs) (omega arith)
+      | inr le ↦ ap (λ m. drop m xs) (omega arith) ∙ drop-none (length xs) xs (omega arith) ∙ sym (drop-none n xs le)
+    ]
 
 pub drop-rest : (n : ℕ) (xs : List ℕ) → take (length xs - min (length xs) n) (drop (min (length xs) n) xs) ≡ drop n xs
 drop-rest n xs = take_rest xs (min (length xs) n) ∙ drop-less n xs

@@ -17,7 +17,7 @@ pub line-found : (text : List ℕ) (at d : ℕ) → at < length text → get_or 
     → lines_in text ≡ take at text ∷ lines_in (take (length text - (at + 1)) (drop (at + 1) text))
 line-found text at d lt h all =
     let parts : take at text ++ 10 ∷ drop (at + 1) text ≡ text =
-            ap (λ b. take at text ++ b ∷ drop (at + 1) text) (sym h) ∙ ap (λ t. take at text ++ t) (sym (drop_more text at d lt)) ∙ take-append-drop at text in
+    ap (λ b. take at text ++ b ∷ drop (at + 1) text) (sym h) ∙ ap (λ t. take at text ++ t) (sym (drop_more text at d lt)) ∙ take-append-drop at text in
     ap lines_in (sym parts) ∙ line-ends (take at text) (drop (at + 1) text) all ∙ ap (λ t. take at text ∷ lines_in t) (sym (take_rest text (at + 1)))
 
 pub line-left : (text : List ℕ) (at : ℕ) → 0 < length text → length text ≤ at → All (λ b. (b == 10) ≡ false) (take at text) → lines_in text ≡ text ∷ []

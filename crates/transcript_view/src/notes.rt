@@ -43,7 +43,7 @@ fn fits(note: &Note, told: &[u8]) -> bool
 
 /// Adds what a table says of a line that tells this.
 pub fn push_note(out: &mut Vec<u8>, notes: &[Note], told: &[u8]) -> Result<(), AllocError>
-    ensures { OnOk result (out.new.items ≡ out.old.items ++ spec.said_by notes.now told.now) }
+    ensures { OnOk result (out.new.items ≡ out.old.items ++ spec.note_said notes.now told.now) }
 {
     for note in notes {
         if fits(note, told) {

@@ -61,7 +61,7 @@ fn lead_size(line: &[u8]) -> usize
 
 /// The lead of a line.
 pub fn lead(line: &[u8]) -> &[u8]
-    ensures { result.now ≡ spec.lead_of line.now }
+    ensures { result.now ≡ spec.line_lead line.now }
 {
     &line[..lead_size(line)]
 }

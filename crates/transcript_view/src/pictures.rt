@@ -1,8 +1,8 @@
 // Pictures and texts in lines.
 ghost use Rattle.std.specs.Prelude.{◌≡◌, ◌≤◌, ◌<◌, ◌-◌, ◌*◌, ◌+◌, ◌++◌, ◌∷◌, [], OnOk, length, map, replicate, flat_map, true};
 ghost use Rattle.std.specs.List.{list_all};
-ghost use Rattle.view_forms.specs.Parts.{lead_of};
-ghost use Rattle.view_forms.specs.Shown.{shown};
+ghost use Rattle.view_forms.specs.Parts.{line_lead};
+ghost use Rattle.view_forms.specs.Shown.{shown_bytes};
 ghost use Rattle.view_forms.specs.Rows.{text_of_rows};
 ghost use Rattle.view_forms.specs.Pictures as spec;
 
@@ -114,7 +114,7 @@ fn push_at_right(out: &mut Vec<u8>, text: &[u8]) -> Result<(), AllocError>
 
 /// Adds the moments of pictures side by side.
 fn push_moments(out: &mut Vec<u8>, lines: &[&[u8]]) -> Result<(), AllocError>
-    ensures { OnOk result (out.new.items ≡ out.old.items ++ flat_map (λ line. spec.at_right (lead_of line)) (map (λ line. line.now) lines.now)) }
+    ensures { OnOk result (out.new.items ≡ out.old.items ++ flat_map (λ line. spec.at_right (line_lead line)) (map (λ line. line.now) lines.now)) }
 {
     for line in lines {
         push_at_right(out, lead(line))?;

@@ -1,14 +1,14 @@
 // Bytes as people see them.
 ghost use Rattle.std.specs.Prelude.{◌≡◌, ◌<◌, ◌++◌, ◌∷◌, OnOk, true, false};
 ghost use Rattle.std.specs.Fmt.{digit_glyph};
-ghost use Rattle.view_forms.specs.Shown.{is_plain, hex_pair, shown_byte, shown, nibble, bytes_of_hex};
+ghost use Rattle.view_forms.specs.Shown.{is_shown_plain, hex_pair, shown_byte, shown_bytes, nibble, bytes_of_hex};
 ghost use Rattle.view_forms.specs.Pictures.{is_low_hex, is_hex_text};
 
 use std::alloc::AllocError;
 
 /// Whether a terminal prints a byte as it is, and it isn't one that escapes are written with.
 pub fn is_plain(byte: u8) -> bool
-    ensures { result ≡ is_plain byte }
+    ensures { result ≡ is_shown_plain byte }
 {
     32 <= byte && byte < 127 && !(byte == b'"' || byte == b'\\')
 }
@@ -50,7 +50,7 @@ fn push_shown_byte(out: &mut Vec<u8>, byte: u8) -> Result<(), AllocError>
 
 /// Adds bytes as people see them.
 pub fn push_shown(out: &mut Vec<u8>, bytes: &[u8]) -> Result<(), AllocError>
-    ensures { OnOk result (out.new.items ≡ out.old.items ++ shown bytes.now) }
+    ensures { OnOk result (out.new.items ≡ out.old.items ++ shown_bytes bytes.now) }
 {
     for byte in bytes {
         push_shown_byte(out, *byte)?;
@@ -91,7 +91,7 @@ pub fn is_hex_text(digits: &[u8]) -> bool
 /// Adds the bytes of a text of such digits as people see them.
 pub fn push_hex_text(out: &mut Vec<u8>, digits: &[u8]) -> Result<(), AllocError>
     requires { is_hex_text digits.now ≡ true }
-    ensures { OnOk result (out.new.items ≡ out.old.items ++ shown (bytes_of_hex digits.now)) }
+    ensures { OnOk result (out.new.items ≡ out.old.items ++ shown_bytes (bytes_of_hex digits.now)) }
 {
     let mut left = digits;
     while let [high, low, rest @ ..] = left {

@@ -2,7 +2,7 @@
 ghost use Rattle.std.specs.Prelude.{◌≡◌, ◌≤◌, ◌++◌, ◌∷◌, [], ℕ, List, OnOk, OnErr, IsErrOf, IfOk, length, map, max};
 ghost use Rattle.tool_io.specs.Putting.{Took, TookPart, Puts};
 ghost use Rattle.sts_base.specs.Faults.{Rose};
-ghost use Rattle.view_forms.specs.Rows.{literal, row_of, rows_from, text_of_rows, text_view};
+ghost use Rattle.view_forms.specs.Rows.{literal, line_row, rows_from, text_of_rows, text_view};
 
 use crate::notes::push_note;
 use crate::parts::{first_line, told};
@@ -35,7 +35,7 @@ fn push_literal(out: &mut Vec<u8>, line: &[u8]) -> Result<(), AllocError>
 
 /// Adds the row of a line that shows no picture.
 fn push_row(out: &mut Vec<u8>, notes: &[Note], line: &[u8]) -> Result<(), AllocError>
-    ensures { OnOk result (out.new.items ≡ out.old.items ++ (row_of notes.now line.now ++ 10 ∷ [])) }
+    ensures { OnOk result (out.new.items ≡ out.old.items ++ (line_row notes.now line.now ++ 10 ∷ [])) }
 {
     if shows_text(line) {
         push_text(out, line)?;

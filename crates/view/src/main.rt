@@ -16,9 +16,13 @@ use words::{Asked, read_words};
 
 /// The statuses are those of `sts`.
 const USAGE: u8 = 2;
+
 const FOLDER_FAILED: u8 = 20;
+
 const MISSING: u8 = 21;
+
 const SINK_FAILED: u8 = 22;
+
 const NO_MEMORY: u8 = 30;
 
 /// The words behind the program's name, or none where some word isn't text. Nothing where there is no memory for them.

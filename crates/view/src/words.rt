@@ -6,6 +6,7 @@ use sts_base::NoMemory;
 
 /// How many columns a view has where none are given, and at most.
 const COLUMNS: usize = 80;
+
 const MOST_COLUMNS: usize = 100_000;
 
 /// What is asked for: the file that is read, if it isn't standard input; how wide the text is; whether it is a page.
@@ -55,10 +56,7 @@ fn matches_of<'a>(alloc: Global, words: &'a [String]) -> Result<ArgMatches<'a>, 
 }
 
 /// What the words behind the program's name ask for, if they are taken.
-pub fn read_words<'a>(
-    alloc: Global,
-    words: &'a [String],
-) -> Result<Option<Asked<'a>>, NoMemory> {
+pub fn read_words<'a>(alloc: Global, words: &'a [String]) -> Result<Option<Asked<'a>>, NoMemory> {
     match matches_of(alloc, words) {
         Ok(matches) => Ok(asked_by(&matches)),
         Err(error) if error.kind() == ErrorKind::OutOfMemory => Err(NoMemory),

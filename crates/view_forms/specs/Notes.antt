@@ -19,6 +19,6 @@ fits_note note told =
     && (is_sentence note.says.now && (let rest = drop (length note.begins.now) told in ends_by note.ends.now rest && list_all is_number_sign (take (length rest - length note.ends.now) rest)))
 
 -- what the first row says that fits, behind a tab; nothing where none does
-abbrev pub said_by : List Note → List ℕ → List ℕ
-said_by [] told = []
-said_by (note ∷ notes) told = if fits_note note told then 9 ∷ note.says.now else said_by notes told
+abbrev pub note_said : List Note → List ℕ → List ℕ
+note_said [] told = []
+note_said (note ∷ notes) told = if fits_note note told then 9 ∷ note.says.now else note_said notes told

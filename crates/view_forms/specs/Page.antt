@@ -1,6 +1,6 @@
 -- The view of a transcript as a page, and how the transcript is read from it.
 use Rattle.std.specs.Prelude.{ℕ, ◌==◌, Bool, not, ◌&&◌, ◌||◌, if◌then◌else◌, List, [], ◌∷◌, ◌++◌, length, drop, flat_map}
-use Rattle.view_forms.specs.Shown.{is_plain, hex_pair}
+use Rattle.view_forms.specs.Shown.{is_shown_plain, hex_pair}
 use Rattle.view_forms.specs.Reading.{unshown, before_byte}
 
 -- a sign of markup: < > & " '
@@ -9,7 +9,7 @@ is_markup b = (b == 60) || ((b == 62) || ((b == 38) || ((b == 34) || (b == 39)))
 
 -- a byte that stands in a page as it is: a line feed, and what a terminal prints too, but for markup; every other byte stands as in a text for people
 abbrev pub stays_in_page : ℕ → Bool
-stays_in_page b = (b == 10) || (is_plain b && not (is_markup b))
+stays_in_page b = (b == 10) || (is_shown_plain b && not (is_markup b))
 
 abbrev pub page_byte : ℕ → List ℕ
 page_byte b = if stays_in_page b then b ∷ [] else 92 ∷ (120 ∷ hex_pair b)

@@ -20,8 +20,8 @@ number_size line = let n = prefix_len is_ascii_digit line in if nat_le 1 n && (n
 abbrev pub lead_size : List ℕ → ℕ
 lead_size line = if number_size line == 1 then (if number_size (drop 2 line) == 0 then 1 else number_size (drop 2 line) + 2) else number_size line
 
-abbrev pub lead_of : List ℕ → List ℕ
-lead_of line = take (lead_size line) line
+abbrev pub line_lead : List ℕ → List ℕ
+line_lead line = take (lead_size line) line
 
 -- what stands behind the lead and its space: the whole line where there is no lead
 abbrev pub told_of : List ℕ → List ℕ

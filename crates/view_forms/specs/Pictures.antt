@@ -1,8 +1,8 @@
 -- Lines that show a picture or a text, and how they stand in a view.
 use Rattle.std.specs.Prelude.{ℕ, zero, suc, ◌+◌, ◌-◌, ◌*◌, ◌/◌, ◌==◌, bytes_eq, nat_lt, nat_le, Bool, true, false, not, ◌&&◌, ◌||◌, if◌then◌else◌, List, [], ◌∷◌, ◌++◌, length, get_or, take, drop, replicate, flat_map, codes}
 use Rattle.std.specs.List.{list_all}
-use Rattle.view_forms.specs.Shown.{shown, bytes_of_hex}
-use Rattle.view_forms.specs.Parts.{lead_size, lead_of, told_of, begins_by}
+use Rattle.view_forms.specs.Shown.{shown_bytes, bytes_of_hex}
+use Rattle.view_forms.specs.Parts.{lead_size, line_lead, told_of, begins_by}
 
 -- a light of a picture: # is lit and . is dark
 abbrev pub is_light : ℕ → Bool
@@ -47,7 +47,7 @@ text_of_serial line = bytes_of_hex (drop 7 (told_of line))
 
 -- such a line with its bytes as people see them, between quotation marks
 abbrev pub text_row : List ℕ → List ℕ
-text_row line = lead_of line ++ (codes " serial \"" ++ (shown (text_of_serial line) ++ codes "\""))
+text_row line = line_lead line ++ (codes " serial \"" ++ (shown_bytes (text_of_serial line) ++ codes "\""))
 
 -- two squares for a light: full ones where it is lit, else two dots
 abbrev pub squares : ℕ → List ℕ
@@ -63,7 +63,7 @@ at_right text = replicate (picture_columns - length text) 32 ++ text
 
 -- over pictures side by side stand their leads
 abbrev pub heading : List (List ℕ) → List ℕ
-heading lines = flat_map (λ line. at_right (lead_of line)) lines ++ codes " ms"
+heading lines = flat_map (λ line. at_right (line_lead line)) lines ++ codes " ms"
 
 -- and below that their rows
 abbrev pub squares_cell : ℕ → List ℕ → List ℕ

@@ -3,18 +3,18 @@ use Rattle.std.specs.Prelude.{ℕ, ◌+◌, ◌-◌, ◌*◌, ◌/◌, ◌%◌, 
 use Rattle.std.specs.Fmt.{digit_glyph}
 
 -- what ASCII prints, but for the quotation mark and the backslash
-abbrev pub is_plain : ℕ → Bool
-is_plain b = nat_le 32 b && (nat_lt b 127 && not (b == 34 || b == 92))
+abbrev pub is_shown_plain : ℕ → Bool
+is_shown_plain b = nat_le 32 b && (nat_lt b 127 && not (b == 34 || b == 92))
 
 -- the two hexadecimal digits of a byte, in lower case
 abbrev pub hex_pair : ℕ → List ℕ
 hex_pair b = digit_glyph false (b / 16) ∷ (digit_glyph false (b % 16) ∷ [])
 
 abbrev pub shown_byte : ℕ → List ℕ
-shown_byte b = if is_plain b then b ∷ [] else 92 ∷ (120 ∷ hex_pair b)
+shown_byte b = if is_shown_plain b then b ∷ [] else 92 ∷ (120 ∷ hex_pair b)
 
-abbrev pub shown : List ℕ → List ℕ
-shown = flat_map shown_byte
+abbrev pub shown_bytes : List ℕ → List ℕ
+shown_bytes = flat_map shown_byte
 
 -- the value of a hexadecimal digit in lower case
 abbrev pub nibble : ℕ → ℕ

@@ -1,6 +1,6 @@
 use Rattle.std.proofs.Common.{◌≡◌, ◌++◌, ◌+◌, ◌==◌, ◌≤◌, ℕ, take, drop, length, map, List, [], true, false}
-use Rattle.view_forms.specs.Notes.{said_by}
+use Rattle.view_forms.specs.Notes.{note_said}
 use Rattle.transcript_view.proofs.notes.push_note.Given as goal
 
 abbrev pub invariant-loop-note : goal.invariant-loop-note
-invariant-loop-note l = (l.out.items ≡ l.fn.out.items) × (said_by (drop l.note-index l.notes) l.told ≡ said_by l.notes l.told)
+invariant-loop-note l = (l.out.items ≡ l.fn.out.items) × (note_said (drop l.note-index l.notes) l.told ≡ note_said l.notes l.told)

@@ -89,8 +89,9 @@ pub lines-lack : (bs : List ℕ) → list_all (lacks 10) (lines_in bs) ≡ true
 lines-lack [] = refl
 lines-lack (b ∷ bs) =
     elim (cases_Bool (b == 10)) [
-      inl e ↦ rw e (lines-lack bs)
-    | inr e ↦ rw e (onto-lack b (lines_in bs) (not_from_false (b == 10) e) (lines-lack bs)) ]
+      | inl e ↦ rw e (lines-lack bs)
+      | inr e ↦ rw e (onto-lack b (lines_in bs) (not_from_false (b == 10) e) (lines-lack bs))
+    ]
 
 onto-all : (p : ℕ → Bool) (b : ℕ) (ls : List (List ℕ)) → p b ≡ true → list_all (list_all p) ls ≡ true → list_all (list_all p) (before_lines b ls) ≡ true
 onto-all p b [] h k = rw h refl
@@ -101,5 +102,6 @@ lines-all p [] h = refl
 lines-all p (b ∷ bs) h =
     let q = and_parts (p b) (list_all p bs) h in
     elim (cases_Bool (b == 10)) [
-      inl e ↦ rw e (lines-all p bs q.1)
-    | inr e ↦ rw e (onto-all p b (lines_in bs) q.0 (lines-all p bs q.1)) ]
+      | inl e ↦ rw e (lines-all p bs q.1)
+      | inr e ↦ rw e (onto-all p b (lines_in bs) q.0 (lines-all p bs q.1))
+    ]

@@ -6,10 +6,10 @@ use Rattle.std.specs.Char.{is_ascii_digit}
 use Rattle.std.proofs.lemmas.Bool.{and_parts, and_from, cases_Bool, cases_lt, false≢true, cond-true, cond-false}
 use Rattle.std.proofs.lemmas.Bool.Decides.{nat_tests}
 use Rattle.std.proofs.lemmas.List.{take_at, drop_at, append_assoc, append-nil, length-append, length-replicate, length-drop, take_all, drop-drop, get_or-drop, get_or_append_left}
-use Rattle.view_forms.specs.Parts.{lead_size, lead_of, told_of, begins_by}
+use Rattle.view_forms.specs.Parts.{lead_size, line_lead, told_of, begins_by}
 use Rattle.view_forms.specs.Pictures.{is_light, is_light_row, picture_row, is_picture, shows_picture, picture_of, squares, at_right, heading, squares_cell, squares_row, picture_rows, picture_rows_of}
 use Rattle.view_forms.specs.Reading.{without_spaces, light_of_byte, halved, lights_in, pictures_read, light_row, pictures_under, lines_of_row, rows_read}
-use Rattle.view_laws.proofs.Parts.{cut-at, leads, lead-told, lead-digit, lead-short, digit-some, digit-no_space, begins-is}
+use Rattle.view_forms.proofs.Parts.{cut-at, leads, lead-told, lead-digit, lead-short, digit-some, digit-no_space, begins-is}
 
 same-number : (a b : ℕ) → (a == b) ≡ true → a ≡ b
 same-number a b h = grind (arith, nat_tests)
@@ -83,20 +83,20 @@ pub shows : (line : List ℕ) → shows_picture line ≡ true → Shows line
 shows line h =
     let a = and_parts (nat_lt 0 (lead_size line)) (begins_by (codes "display ") (told_of line) && is_picture (drop 8 (told_of line))) h in
     let b = and_parts (begins_by (codes "display ") (told_of line)) (is_picture (drop 8 (told_of line))) a.1 in
-    record { lead = a.0; word = b.0; picture = picture-is (drop 8 (told_of line)) b.1; }
+    record { lead = a.0; word = b.0; picture = picture-is (drop 8 (told_of line)) b.1 }
 
 abbrev pub row_in : ℕ → List ℕ → List ℕ
 row_in r line = picture_row r (picture_of line)
 
 abbrev pub over_one : List ℕ → List ℕ
-over_one line = at_right (lead_of line)
+over_one line = at_right (line_lead line)
 
 pub line-is : (line : List ℕ) → Shows line
-    → lead_of line ++ (codes " display " ++ (row_in 0 line ++ (47 ∷ (row_in 1 line ++ (47 ∷ (row_in 2 line ++ (47 ∷ (row_in 3 line ++ (47 ∷ row_in 4 line))))))))) ≡ line
+    → line_lead line ++ (codes " display " ++ (row_in 0 line ++ (47 ∷ (row_in 1 line ++ (47 ∷ (row_in 2 line ++ (47 ∷ (row_in 3 line ++ (47 ∷ row_in 4 line))))))))) ≡ line
 line-is line h =
     sym (lead-told line h.lead
-    ∙ ap (λ t. lead_of line ++ 32 ∷ t) (begins-is (codes "display ") (told_of line) h.word)
-    ∙ ap (λ t. lead_of line ++ (codes " display " ++ t)) (rows-of-picture (picture_of line) h.picture))
+    ∙ ap (λ t. line_lead line ++ 32 ∷ t) (begins-is (codes "display ") (told_of line) h.word)
+    ∙ ap (λ t. line_lead line ++ (codes " display " ++ t)) (rows-of-picture (picture_of line) h.picture))
 
 -- spaces before a text that begins by something else
 pub spaces-gone : (k : ℕ) (xs : List ℕ) → (get_or xs 0 0 == 32) ≡ false → without_spaces (replicate k 32 ++ xs) ≡ xs
@@ -104,18 +104,31 @@ spaces-gone zero [] h = refl
 spaces-gone zero (x ∷ xs) h = rw h refl
 spaces-gone (suc k) xs h = spaces-gone k xs h
 
-lead-first : (line : List ℕ) → Shows line → (get_or (lead_of line) 0 0 == 32) ≡ false
-lead-first line h = digit-no_space (get_or (lead_of line) 0 0) (lead-digit line h.lead)
+lead-first : (line : List ℕ) → Shows line → (get_or (line_lead line) 0 0 == 32) ≡ false
+lead-first line h = digit-no_space (get_or (line_lead line) 0 0) (lead-digit line h.lead)
 
 length-over : (line : List ℕ) → Shows line → length (over_one line) ≡ 13
-length-over line h = omega (arith, length-append (replicate (13 - length (lead_of line)) 32) (lead_of line), length-replicate {A = ℕ} (13 - length (lead_of line)) 32, lead-short line h.lead)
+length-over line h = omega (arith, length-append (replicate (13 - length (line_lead line)) 32) (line_lead line), length-replicate {A = ℕ} (13 - length (line_lead line)) 32, lead-short line h.lead)
 
 one-picture : (n : ℕ) (o O t a A b B c C d D e E : List ℕ) → length o ≡ 13 → length a ≡ 5 → length b ≡ 5 → length c ≡ 5 → length d ≡ 5 → length e ≡ 5
     → pictures_read (suc n) ((o ++ O) ++ t) (a ++ A) (b ++ B) (c ++ C) (d ++ D) (e ++ E)
     ≡ (without_spaces o ++ (codes " display " ++ (a ++ (47 ∷ (b ++ (47 ∷ (c ++ (47 ∷ (d ++ (47 ∷ e)))))))))) ∷ pictures_read n (O ++ t) A B C D E
 one-picture n o O t a A b B c C d D e E ho ha hb hc hd he =
-    rw (append_assoc o O t, take_at o (O ++ t) 13 ho, drop_at o (O ++ t) 13 ho, take_at a A 5 ha, drop_at a A 5 ha, take_at b B 5 hb, drop_at b B 5 hb,
-        take_at c C 5 hc, drop_at c C 5 hc, take_at d D 5 hd, drop_at d D 5 hd, take_at e E 5 he, drop_at e E 5 he) refl
+    rw (
+      append_assoc o O t,
+      take_at o (O ++ t) 13 ho,
+      drop_at o (O ++ t) 13 ho,
+      take_at a A 5 ha,
+      drop_at a A 5 ha,
+      take_at b B 5 hb,
+      drop_at b B 5 hb,
+      take_at c C 5 hc,
+      drop_at c C 5 hc,
+      take_at d D 5 hd,
+      drop_at d D 5 hd,
+      take_at e E 5 he,
+      drop_at e E 5 he,
+    ) refl
 
 pub pictures-back : (lines : List (List ℕ)) (t : List ℕ) → list_all shows_picture lines ≡ true
     → pictures_read (length lines) (flat_map over_one lines ++ t) (flat_map (row_in 0) lines) (flat_map (row_in 1) lines) (flat_map (row_in 2) lines) (flat_map (row_in 3) lines) (flat_map (row_in 4) lines) ≡ lines
@@ -125,11 +138,11 @@ pictures-back (l ∷ ls) t h =
     let s = shows l q.0 in
     let p = s.picture in
     one-picture (length ls) (over_one l) (flat_map over_one ls) t (row_in 0 l) (flat_map (row_in 0) ls) (row_in 1 l) (flat_map (row_in 1) ls) (row_in 2 l) (flat_map (row_in 2) ls)
-        (row_in 3 l) (flat_map (row_in 3) ls) (row_in 4 l) (flat_map (row_in 4) ls)
-        (length-over l s) (row-size (row_in 0 l) p.row0) (row-size (row_in 1 l) p.row1) (row-size (row_in 2 l) p.row2) (row-size (row_in 3 l) p.row3) (row-size (row_in 4 l) p.row4)
+    (row_in 3 l) (flat_map (row_in 3) ls) (row_in 4 l) (flat_map (row_in 4) ls)
+    (length-over l s) (row-size (row_in 0 l) p.row0) (row-size (row_in 1 l) p.row1) (row-size (row_in 2 l) p.row2) (row-size (row_in 3 l) p.row3) (row-size (row_in 4 l) p.row4)
     ∙ ap (λ lead. (lead ++ (codes " display " ++ (row_in 0 l ++ (47 ∷ (row_in 1 l ++ (47 ∷ (row_in 2 l ++ (47 ∷ (row_in 3 l ++ (47 ∷ row_in 4 l))))))))))
-        ∷ pictures_read (length ls) (flat_map over_one ls ++ t) (flat_map (row_in 0) ls) (flat_map (row_in 1) ls) (flat_map (row_in 2) ls) (flat_map (row_in 3) ls) (flat_map (row_in 4) ls))
-        (spaces-gone (13 - length (lead_of l)) (lead_of l) (lead-first l s))
+    ∷ pictures_read (length ls) (flat_map over_one ls ++ t) (flat_map (row_in 0) ls) (flat_map (row_in 1) ls) (flat_map (row_in 2) ls) (flat_map (row_in 3) ls) (flat_map (row_in 4) ls))
+    (spaces-gone (13 - length (line_lead l)) (line_lead l) (lead-first l s))
     ∙ ap (λ line. line ∷ pictures_read (length ls) (flat_map over_one ls ++ t) (flat_map (row_in 0) ls) (flat_map (row_in 1) ls) (flat_map (row_in 2) ls) (flat_map (row_in 3) ls) (flat_map (row_in 4) ls)) (line-is l s)
     ∙ ap (λ rest. l ∷ rest) (pictures-back ls t q.1)
 
@@ -141,8 +154,9 @@ light-back : (x : ℕ) (R t : List ℕ) → is_light x ≡ true → halved (flat
 light-back x R t h =
     let P : ℕ → Type 0 = λ x. halved (flat_map light_of_byte ((squares x ++ R) ++ t)) ≡ x ∷ halved (flat_map light_of_byte (R ++ t)) in
     elim (cases_Bool (x == 35)) [
-      inl e ↦ subst P (sym (same-number x 35 e)) refl
-    | inr e ↦ subst P (sym (other-light x h e)) refl ]
+      | inl e ↦ subst P (sym (same-number x 35 e)) refl
+      | inr e ↦ subst P (sym (other-light x h e)) refl
+    ]
 
 lights-back : (xs t : List ℕ) → list_all is_light xs ≡ true → halved (flat_map light_of_byte (flat_map squares xs ++ t)) ≡ xs ++ halved (flat_map light_of_byte t)
 lights-back [] t h = refl
@@ -169,12 +183,16 @@ fifth n m h = omega arith
 
 ok0 : (line : List ℕ) → shows_picture line ≡ true → is_light_row (row_in 0 line) ≡ true
 ok0 line h = (shows line h).picture.row0
+
 ok1 : (line : List ℕ) → shows_picture line ≡ true → is_light_row (row_in 1 line) ≡ true
 ok1 line h = (shows line h).picture.row1
+
 ok2 : (line : List ℕ) → shows_picture line ≡ true → is_light_row (row_in 2 line) ≡ true
 ok2 line h = (shows line h).picture.row2
+
 ok3 : (line : List ℕ) → shows_picture line ≡ true → is_light_row (row_in 3 line) ≡ true
 ok3 line h = (shows line h).picture.row3
+
 ok4 : (line : List ℕ) → shows_picture line ≡ true → is_light_row (row_in 4 line) ≡ true
 ok4 line h = (shows line h).picture.row4
 
@@ -186,9 +204,9 @@ pub under-back : (lines rest : List (List ℕ)) → list_all shows_picture lines
     → pictures_under (heading lines) (squares_row 0 lines ∷ (squares_row 1 lines ∷ (squares_row 2 lines ∷ (squares_row 3 lines ∷ (squares_row 4 lines ∷ rest))))) ≡ lines
 under-back lines rest h =
     under-by (heading lines) (squares_row 0 lines) (squares_row 1 lines) (squares_row 2 lines) (squares_row 3 lines) (squares_row 4 lines) (length lines) rest
-        (flat_map (row_in 0) lines) (flat_map (row_in 1) lines) (flat_map (row_in 2) lines) (flat_map (row_in 3) lines) (flat_map (row_in 4) lines)
-        (row-back 0 lines ok0 h) (row-back 1 lines ok1 h) (row-back 2 lines ok2 h) (row-back 3 lines ok3 h) (row-back 4 lines ok4 h)
-        (fifth (length (flat_map (row_in 0) lines)) (length lines) (rows-size 0 lines ok0 h))
+    (flat_map (row_in 0) lines) (flat_map (row_in 1) lines) (flat_map (row_in 2) lines) (flat_map (row_in 3) lines) (flat_map (row_in 4) lines)
+    (row-back 0 lines ok0 h) (row-back 1 lines ok1 h) (row-back 2 lines ok2 h) (row-back 3 lines ok3 h) (row-back 4 lines ok4 h)
+    (fifth (length (flat_map (row_in 0) lines)) (length lines) (rows-size 0 lines ok0 h))
     ∙ pictures-back lines (codes " ms") h
 
 -- a heading begins with a space, and behind its spaces with a digit
@@ -204,14 +222,14 @@ by-tests row rows h k = rw (h, k) refl
 heading-reads : (l : List ℕ) (ls rows : List (List ℕ)) → Shows l → lines_of_row (heading (l ∷ ls)) rows ≡ pictures_under (heading (l ∷ ls)) rows
 heading-reads l ls rows h =
     let tail = flat_map over_one ls ++ codes " ms" in
-    let begin : heading (l ∷ ls) ≡ 32 ∷ (replicate (12 - length (lead_of l)) 32 ++ (lead_of l ++ tail)) =
-            ap (λ t. (t ++ flat_map over_one ls) ++ codes " ms") (at-right-spaces (lead_of l) (lead-short l h.lead))
-            ∙ append_assoc (32 ∷ (replicate (12 - length (lead_of l)) 32 ++ lead_of l)) (flat_map over_one ls) (codes " ms")
-            ∙ ap (λ t. 32 ∷ t) (append_assoc (replicate (12 - length (lead_of l)) 32) (lead_of l) tail) in
-    let front : get_or (lead_of l ++ tail) 0 0 ≡ get_or (lead_of l) 0 0 = get_or_append_left (lead_of l) tail 0 0 (digit-some (lead_of l) (lead-digit l h.lead)) in
+    let begin : heading (l ∷ ls) ≡ 32 ∷ (replicate (12 - length (line_lead l)) 32 ++ (line_lead l ++ tail)) =
+    ap (λ t. (t ++ flat_map over_one ls) ++ codes " ms") (at-right-spaces (line_lead l) (lead-short l h.lead))
+    ∙ append_assoc (32 ∷ (replicate (12 - length (line_lead l)) 32 ++ line_lead l)) (flat_map over_one ls) (codes " ms")
+    ∙ ap (λ t. 32 ∷ t) (append_assoc (replicate (12 - length (line_lead l)) 32) (line_lead l) tail) in
+    let front : get_or (line_lead l ++ tail) 0 0 ≡ get_or (line_lead l) 0 0 = get_or_append_left (line_lead l) tail 0 0 (digit-some (line_lead l) (lead-digit l h.lead)) in
     let spaces : get_or (heading (l ∷ ls)) 0 0 ≡ 32 = ap (λ t. get_or t 0 0) begin in
-    let behind : without_spaces (heading (l ∷ ls)) ≡ lead_of l ++ tail =
-            ap without_spaces begin ∙ spaces-gone (12 - length (lead_of l)) (lead_of l ++ tail) (ap (λ b. b == 32) front ∙ lead-first l h) in
+    let behind : without_spaces (heading (l ∷ ls)) ≡ line_lead l ++ tail =
+    ap without_spaces begin ∙ spaces-gone (12 - length (line_lead l)) (line_lead l ++ tail) (ap (λ b. b == 32) front ∙ lead-first l h) in
     let digit : is_ascii_digit (get_or (without_spaces (heading (l ∷ ls))) 0 0) ≡ true = ap (λ t. is_ascii_digit (get_or t 0 0)) behind ∙ ap is_ascii_digit front ∙ lead-digit l h.lead in
     by-tests (heading (l ∷ ls)) rows spaces digit
 
@@ -219,8 +237,9 @@ heading-reads l ls rows h =
 silent : (x : ℕ) (R t : List ℕ) (rows : List (List ℕ)) → lines_of_row ((codes "   " ++ (squares x ++ R)) ++ t) rows ≡ []
 silent x R t rows =
     elim (cases_Bool (x == 35)) [
-      inl e ↦ rw e refl
-    | inr e ↦ rw e refl ]
+      | inl e ↦ rw e refl
+      | inr e ↦ rw e refl
+    ]
 
 row-silent : (row t : List ℕ) (rows : List (List ℕ)) → is_light_row row ≡ true → lines_of_row ((codes "   " ++ flat_map squares row) ++ t) rows ≡ []
 row-silent [] t rows h = absurd (false≢true h)
@@ -239,9 +258,9 @@ pictures-read_back (l ∷ ls) rest h =
     let s = shows l q.0 in
     let p = s.picture in
     all-rows (heading (l ∷ ls)) (squares_row 0 (l ∷ ls)) (squares_row 1 (l ∷ ls)) (squares_row 2 (l ∷ ls)) (squares_row 3 (l ∷ ls)) (squares_row 4 (l ∷ ls)) (l ∷ ls) rest
-        (heading-reads l ls (squares_row 0 (l ∷ ls) ∷ (squares_row 1 (l ∷ ls) ∷ (squares_row 2 (l ∷ ls) ∷ (squares_row 3 (l ∷ ls) ∷ (squares_row 4 (l ∷ ls) ∷ rest))))) s ∙ under-back (l ∷ ls) rest h)
-        (row-silent (row_in 0 l) (squares_row 0 ls) (squares_row 1 (l ∷ ls) ∷ (squares_row 2 (l ∷ ls) ∷ (squares_row 3 (l ∷ ls) ∷ (squares_row 4 (l ∷ ls) ∷ rest)))) p.row0)
-        (row-silent (row_in 1 l) (squares_row 1 ls) (squares_row 2 (l ∷ ls) ∷ (squares_row 3 (l ∷ ls) ∷ (squares_row 4 (l ∷ ls) ∷ rest))) p.row1)
-        (row-silent (row_in 2 l) (squares_row 2 ls) (squares_row 3 (l ∷ ls) ∷ (squares_row 4 (l ∷ ls) ∷ rest)) p.row2)
-        (row-silent (row_in 3 l) (squares_row 3 ls) (squares_row 4 (l ∷ ls) ∷ rest) p.row3)
-        (row-silent (row_in 4 l) (squares_row 4 ls) rest p.row4)
+    (heading-reads l ls (squares_row 0 (l ∷ ls) ∷ (squares_row 1 (l ∷ ls) ∷ (squares_row 2 (l ∷ ls) ∷ (squares_row 3 (l ∷ ls) ∷ (squares_row 4 (l ∷ ls) ∷ rest))))) s ∙ under-back (l ∷ ls) rest h)
+    (row-silent (row_in 0 l) (squares_row 0 ls) (squares_row 1 (l ∷ ls) ∷ (squares_row 2 (l ∷ ls) ∷ (squares_row 3 (l ∷ ls) ∷ (squares_row 4 (l ∷ ls) ∷ rest)))) p.row0)
+    (row-silent (row_in 1 l) (squares_row 1 ls) (squares_row 2 (l ∷ ls) ∷ (squares_row 3 (l ∷ ls) ∷ (squares_row 4 (l ∷ ls) ∷ rest))) p.row1)
+    (row-silent (row_in 2 l) (squares_row 2 ls) (squares_row 3 (l ∷ ls) ∷ (squares_row 4 (l ∷ ls) ∷ rest)) p.row2)
+    (row-silent (row_in 3 l) (squares_row 3 ls) (squares_row 4 (l ∷ ls) ∷ rest) p.row3)
+    (row-silent (row_in 4 l) (squares_row 4 ls) rest p.row4)

@@ -1,5 +1,0 @@
-use Rattle.view_laws.proofs.Page.{text-no_markup}
-use Rattle.view_laws.proofs.laws.transcripts_are_no_markup.Goals as goal
-
-pub returns : goal.returns
-returns c input = text-no_markup input
