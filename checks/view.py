@@ -124,12 +124,25 @@ def pages():
     return moments
 
 
+def class_page():
+    """The page of two boards: each has its own lights, and the words of radio stand between them."""
+    first, second = "#####/#...#/#...#/#...#/#####", ".#.#./#####/#####/.###./..#.."
+    transcript = f"0 0 display {first}\n1 5 display {first}\n0 100 radio 7\n1 101 display {second}\n1 300 radio -3\n0 end 400 script\n1 end 400 script\n".encode()
+    with tempfile.TemporaryDirectory() as folder:
+        file = page_of(folder, "class", transcript)
+        for moment, lights, words in ((0, (first, "/".join(["....."] * 5)), 0), (50, (first, first), 0), (200, (first, second), 1), (400, (first, second), 2)):
+            text = page.dom(file, moment)
+            expect(f"class: the lights at {moment} ms", lights, (page.lights(text, 0), page.lights(text, 1)))
+            expect(f"class: the words of radio at {moment} ms", words, len(re.findall(r"<li>\d+ ms, board \d: -?\d+</li>", text)))
+    return 4
+
+
 def main():
     count = rows()
     said = sentences()
     if subprocess.run([sys.executable, f"{TOP}/checks/page.py"], check=False).returncode:
         failed.append("the policy of the page")
-    looked = pages() if page.chromium() else 0
+    looked = pages() + class_page() if page.chromium() else 0
     for it in failed:
         print(it)
     if failed:
