@@ -1,11 +1,10 @@
 -- Pages, read back.
-use Rattle.std.proofs.Common.{◌≡◌, ℕ, ◌+◌, ◌*◌, ◌/◌, ◌%◌, ◌<◌, ◌==◌, nat_lt, nat_le, Bool, true, false, not, ◌&&◌, ◌||◌, List, [], ◌∷◌, ◌++◌, length, drop, ap, ◌∙◌, sym, refl, arith, inl, inr}
-use Rattle.std.specs.List.{flat_map, list_all}
+use Rattle.std.proofs.Common.{◌≡◌, ℕ, ◌/◌, ◌%◌, ◌==◌, true, false, not, List, [], ◌∷◌, ◌++◌, length, ap, ◌∙◌, refl, arith, inl, inr}
+use Rattle.std.specs.List.{list_all}
 use Rattle.std.specs.Fmt.{digit_glyph}
 use Rattle.std.proofs.lemmas.Bool.{and_parts, and_from, cases_Bool}
 use Rattle.std.proofs.lemmas.Bool.Decides.{nat_tests}
 use Rattle.std.proofs.lemmas.List.{drop_at}
-use Rattle.view_forms.specs.Shown.{is_shown_plain, nibble, hex_pair}
 use Rattle.view_forms.specs.Page.{is_markup, stays_in_page, page_byte, page_text, page_view, transcript_read}
 use Rattle.view_forms.specs.Reading.{is_byte, unshown, before_byte}
 use Rattle.view_forms.proofs.Digits.{byte-back}

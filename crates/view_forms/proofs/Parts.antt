@@ -1,15 +1,12 @@
 -- What the parts of a line are.
-use Rattle.std.proofs.Common.{◌≡◌, ◌≢◌, ℕ, zero, suc, ◌+◌, ◌-◌, ◌*◌, ◌/◌, ◌%◌, ◌<◌, ◌≤◌, ◌==◌, nat_lt, nat_le, Bool, true, false, not, ◌&&◌, ◌||◌, cond, List, [], ◌∷◌, ◌++◌, length, get_or, take, drop, replicate, ap, ◌∙◌, sym, refl, subst, arith, inl, inr, ◌⊎◌}
-use Rattle.std.specs.Prelude.{if◌then◌else◌, codes, bytes_eq}
-use Rattle.std.specs.List.{flat_map, list_all, prefix_len}
+use Rattle.std.proofs.Common.{◌≡◌, ℕ, suc, ◌+◌, ◌<◌, ◌≤◌, ◌==◌, nat_lt, nat_le, Bool, true, false, ◌&&◌, ◌||◌, List, [], ◌∷◌, ◌++◌, length, get_or, take, drop, ap, ◌∙◌, sym, refl, subst, arith, inl, inr, ◌⊎◌}
+use Rattle.std.specs.List.{list_all, prefix_len}
 use Rattle.std.specs.Char.{is_ascii_digit}
-use Rattle.std.specs.Bool.{Decides}
-use Rattle.std.proofs.lemmas.Bool.{or_left, or_right, and_parts, and_from, cases_Bool, cases_eq, cases_lt, ne_eqb, false≢true, not_from_false, cond-true, cond-false}
+use Rattle.std.proofs.lemmas.Bool.{or_left, or_right, and_parts, and_from, cases_Bool, cases_lt, false≢true, cond-true, cond-false}
 use Rattle.std.proofs.lemmas.Bool.Decides.{nat_tests}
-use Rattle.std.proofs.lemmas.List.{take-append-drop, drop_more, drop-drop, get_or-drop, get_or-take, get_or_past, length-take, length-drop, length-append, take_all}
+use Rattle.std.proofs.lemmas.List.{take-append-drop, drop_more, get_or-drop, get_or-take, get_or_past, length-take}
 use Rattle.std.proofs.lemmas.Slice.Eq.{bytes_eq-Decides}
 use Rattle.view_forms.specs.Parts.{number_size, lead_size, line_lead, told_of, begins_by}
-use Rattle.view_forms.specs.Pictures.{is_light, is_light_row, picture_row, is_picture, shows_picture, picture_of, shows_text}
 
 eqb-same : (a b : ℕ) → (a == b) ≡ true → a ≡ b
 eqb-same a b h = grind (arith, nat_tests)

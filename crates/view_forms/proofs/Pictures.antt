@@ -1,15 +1,15 @@
 -- Pictures side by side, read back.
-use Rattle.std.proofs.Common.{◌≡◌, ◌≢◌, ℕ, zero, suc, ◌+◌, ◌-◌, ◌*◌, ◌/◌, ◌%◌, ◌<◌, ◌≤◌, ◌==◌, nat_lt, nat_le, Bool, true, false, not, ◌&&◌, ◌||◌, cond, List, [], ◌∷◌, ◌++◌, length, get_or, take, drop, replicate, ap, ◌∙◌, sym, refl, subst, arith, inl, inr, ◌⊎◌}
+use Rattle.std.proofs.Common.{◌≡◌, ℕ, zero, suc, ◌-◌, ◌*◌, ◌/◌, ◌≤◌, ◌==◌, nat_lt, Bool, true, false, ◌&&◌, List, [], ◌∷◌, ◌++◌, length, get_or, take, drop, replicate, ap, ◌∙◌, sym, refl, subst, arith, inl, inr}
 use Rattle.std.specs.Prelude.{codes}
 use Rattle.std.specs.List.{flat_map, list_all}
 use Rattle.std.specs.Char.{is_ascii_digit}
-use Rattle.std.proofs.lemmas.Bool.{and_parts, and_from, cases_Bool, cases_lt, false≢true, cond-true, cond-false}
+use Rattle.std.proofs.lemmas.Bool.{and_parts, cases_Bool, false≢true}
 use Rattle.std.proofs.lemmas.Bool.Decides.{nat_tests}
-use Rattle.std.proofs.lemmas.List.{take_at, drop_at, append_assoc, append-nil, length-append, length-replicate, length-drop, take_all, drop-drop, get_or-drop, get_or_append_left}
+use Rattle.std.proofs.lemmas.List.{take_at, drop_at, append_assoc, length-append, length-replicate, length-drop, take_all, drop-drop, get_or-drop, get_or_append_left}
 use Rattle.view_forms.specs.Parts.{lead_size, line_lead, told_of, begins_by}
-use Rattle.view_forms.specs.Pictures.{is_light, is_light_row, picture_row, is_picture, shows_picture, picture_of, squares, at_right, heading, squares_cell, squares_row, picture_rows, picture_rows_of}
-use Rattle.view_forms.specs.Reading.{without_spaces, light_of_byte, halved, lights_in, pictures_read, light_row, pictures_under, lines_of_row, rows_read}
-use Rattle.view_forms.proofs.Parts.{cut-at, leads, lead-told, lead-digit, lead-short, digit-some, digit-no_space, begins-is}
+use Rattle.view_forms.specs.Pictures.{is_light, is_light_row, picture_row, is_picture, shows_picture, picture_of, squares, at_right, heading, squares_row, picture_rows}
+use Rattle.view_forms.specs.Reading.{without_spaces, light_of_byte, halved, lights_in, pictures_read, pictures_under, lines_of_row, rows_read}
+use Rattle.view_forms.proofs.Parts.{cut-at, lead-told, lead-digit, lead-short, digit-some, digit-no_space, begins-is}
 
 same-number : (a b : ℕ) → (a == b) ≡ true → a ≡ b
 same-number a b h = grind (arith, nat_tests)

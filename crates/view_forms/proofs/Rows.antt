@@ -1,5 +1,5 @@
 -- All rows of a view as a text, read back.
-use Rattle.std.proofs.Common.{◌≡◌, ◌≢◌, ℕ, zero, suc, ◌+◌, ◌-◌, ◌*◌, ◌/◌, ◌%◌, ◌<◌, ◌≤◌, ◌==◌, nat_lt, nat_le, Bool, true, false, not, ◌&&◌, ◌||◌, cond, List, [], ◌∷◌, ◌++◌, length, get_or, take, drop, replicate, ap, ◌∙◌, sym, refl, subst, arith, inl, inr, ◌⊎◌}
+use Rattle.std.proofs.Common.{◌≡◌, ℕ, ◌+◌, ◌-◌, ◌<◌, ◌==◌, nat_lt, true, false, not, ◌&&◌, ◌||◌, List, [], ◌∷◌, ◌++◌, length, get_or, take, drop, replicate, ap, ◌∙◌, sym, refl, subst, arith, inl, inr, ◌⊎◌}
 use Rattle.std.specs.Prelude.{codes}
 use Rattle.std.specs.List.{flat_map, list_all}
 use Rattle.std.specs.Char.{is_ascii_digit}
@@ -7,14 +7,14 @@ use Rattle.std.proofs.lemmas.Bool.{and_parts, and_from, cases_Bool, cases_eq, ne
 use Rattle.std.proofs.lemmas.Bool.Decides.{nat_tests}
 use Rattle.std.proofs.lemmas.List.{append_assoc, append-nil}
 use Rattle.view_forms.specs.declared.notes.Note.{Note}
-use Rattle.view_forms.specs.Shown.{is_shown_plain, shown_byte, shown_bytes, hex_pair, bytes_of_hex}
+use Rattle.view_forms.specs.Shown.{is_shown_plain, shown_byte, shown_bytes, hex_pair}
 use Rattle.view_forms.specs.Parts.{lines_in, lead_size, line_lead, told_of, begins_by, ends_by}
 use Rattle.view_forms.specs.Notes.{is_sentence, fits_note, note_said, is_number_sign}
-use Rattle.view_forms.specs.Pictures.{shows_picture, shows_text, text_row, text_of_serial, is_hex_text, picture_rows, heading, squares, squares_row, squares_cell, at_right, picture_row, picture_of}
-use Rattle.view_forms.specs.Rows.{literal, line_row, rows_from, text_of_rows, text_view}
-use Rattle.view_forms.specs.Reading.{is_byte, unshown, before_byte, behind_byte, has_byte, line_told, line_of_row, lines_of_row, rows_read, lines_read}
+use Rattle.view_forms.specs.Pictures.{shows_picture, shows_text, text_row, text_of_serial, is_hex_text, picture_rows, squares, squares_row, squares_cell, at_right, picture_row, picture_of}
+use Rattle.view_forms.specs.Rows.{literal, line_row, rows_from, text_of_rows}
+use Rattle.view_forms.specs.Reading.{is_byte, unshown, before_byte, behind_byte, has_byte, lines_of_row, rows_read, lines_read}
 use Rattle.view_forms.proofs.Digits.{hex-back, hex-bytes}
-use Rattle.view_forms.proofs.Lacking.{lacks, all-append, all-flat_map, all-take, all-drop, all-replicate, before-none, before-at, behind-at, has-none, has-at, rows-come_back, lines-lack, lines-all, not_true-false}
+use Rattle.view_forms.proofs.Lacking.{lacks, all-append, all-flat_map, all-take, all-replicate, before-none, before-at, behind-at, has-none, has-at, rows-come_back, lines-lack, lines-all}
 use Rattle.view_forms.proofs.Unshown.{shown-back, shown-lacks}
 use Rattle.view_forms.proofs.Parts.{lead-told, lead-digit, lead-signs, is_lead_sign, digit-no_space, begins-is}
 use Rattle.view_forms.proofs.Pictures.{pictures-read_back}

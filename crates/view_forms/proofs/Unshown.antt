@@ -1,10 +1,10 @@
 -- Bytes as people see them, read back.
-use Rattle.std.proofs.Common.{◌≡◌, ◌≢◌, ℕ, zero, suc, ◌+◌, ◌-◌, ◌*◌, ◌/◌, ◌%◌, ◌<◌, ◌≤◌, ◌==◌, nat_lt, nat_le, Bool, true, false, not, ◌&&◌, ◌||◌, cond, List, [], ◌∷◌, ◌++◌, length, get_or, take, drop, replicate, ap, ◌∙◌, sym, refl, subst, arith, inl, inr, ◌⊎◌}
-use Rattle.std.specs.List.{flat_map, list_all}
+use Rattle.std.proofs.Common.{◌≡◌, ℕ, ◌/◌, ◌%◌, ◌<◌, ◌==◌, true, false, not, List, [], ◌∷◌, ap, ◌∙◌, sym, refl, arith, inl, inr}
+use Rattle.std.specs.List.{list_all}
 use Rattle.std.specs.Fmt.{digit_glyph}
-use Rattle.std.proofs.lemmas.Bool.{and_parts, and_from, cases_Bool, cases_eq, ne_eqb, false≢true, not_from_false}
+use Rattle.std.proofs.lemmas.Bool.{and_parts, cases_Bool, cases_eq, ne_eqb, false≢true, not_from_false}
 use Rattle.std.proofs.lemmas.Bool.Decides.{nat_tests}
-use Rattle.view_forms.specs.Shown.{is_shown_plain, shown_byte, shown_bytes, nibble, hex_pair}
+use Rattle.view_forms.specs.Shown.{is_shown_plain, shown_byte, shown_bytes}
 use Rattle.view_forms.specs.Reading.{unshown, is_byte}
 use Rattle.view_forms.proofs.Digits.{byte-back}
 use Rattle.view_forms.proofs.Lacking.{lacks, all-flat_map}

@@ -1,5 +1,5 @@
 -- What is said of a line, by a table whose rows have the beginning and the end of what the line tells, between which signs of numbers stand.
-use Rattle.std.specs.Prelude.{ℕ, ◌-◌, ◌==◌, nat_le, Bool, true, false, not, ◌&&◌, ◌||◌, if◌then◌else◌, List, [], ◌∷◌, ◌++◌, length, take, drop}
+use Rattle.std.specs.Prelude.{ℕ, ◌-◌, ◌==◌, nat_le, Bool, not, ◌&&◌, ◌||◌, if◌then◌else◌, List, [], ◌∷◌, length, take, drop}
 use Rattle.std.specs.List.{list_all}
 use Rattle.view_forms.specs.declared.notes.Note.{Note}
 use Rattle.view_forms.specs.Parts.{begins_by, ends_by}

@@ -1,5 +1,5 @@
 -- The parts of a line of a transcript: its lead, which is the moment, of a class's line behind the board's number, and what is told behind that.
-use Rattle.std.specs.Prelude.{ℕ, zero, suc, ◌+◌, ◌-◌, ◌==◌, bytes_eq, nat_lt, nat_le, Bool, true, false, not, ◌&&◌, ◌||◌, if◌then◌else◌, List, [], ◌∷◌, ◌++◌, length, get_or, take, drop}
+use Rattle.std.specs.Prelude.{ℕ, ◌+◌, ◌-◌, ◌==◌, bytes_eq, nat_le, Bool, ◌&&◌, if◌then◌else◌, List, [], ◌∷◌, length, get_or, take, drop}
 use Rattle.std.specs.List.{prefix_len}
 use Rattle.std.specs.Char.{is_ascii_digit}
 

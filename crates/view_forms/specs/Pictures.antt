@@ -1,5 +1,5 @@
 -- Lines that show a picture or a text, and how they stand in a view.
-use Rattle.std.specs.Prelude.{ℕ, zero, suc, ◌+◌, ◌-◌, ◌*◌, ◌/◌, ◌==◌, bytes_eq, nat_lt, nat_le, Bool, true, false, not, ◌&&◌, ◌||◌, if◌then◌else◌, List, [], ◌∷◌, ◌++◌, length, get_or, take, drop, replicate, flat_map, codes}
+use Rattle.std.specs.Prelude.{ℕ, ◌-◌, ◌*◌, ◌==◌, nat_lt, nat_le, Bool, true, false, ◌&&◌, ◌||◌, if◌then◌else◌, List, [], ◌∷◌, ◌++◌, length, get_or, take, drop, replicate, flat_map, codes}
 use Rattle.std.specs.List.{list_all}
 use Rattle.view_forms.specs.Shown.{shown_bytes, bytes_of_hex}
 use Rattle.view_forms.specs.Parts.{lead_size, line_lead, told_of, begins_by}

@@ -1,5 +1,5 @@
 -- The view of a transcript as a text: a row for each line, and for pictures side by side a row of their moments and five of their lights.
-use Rattle.std.specs.Prelude.{ℕ, ◌+◌, ◌-◌, ◌*◌, ◌/◌, ◌==◌, nat_lt, max, Bool, true, false, if◌then◌else◌, List, [], ◌∷◌, ◌++◌, length, get_or, drop, flat_map, codes}
+use Rattle.std.specs.Prelude.{ℕ, ◌+◌, ◌/◌, ◌==◌, nat_lt, max, if◌then◌else◌, List, [], ◌∷◌, ◌++◌, length, get_or, drop, flat_map, codes}
 use Rattle.view_forms.specs.Shown.{shown_bytes}
 use Rattle.view_forms.specs.Parts.{lines_in, told_of}
 use Rattle.view_forms.specs.Pictures.{shows_picture, shows_text, text_row, picture_columns, picture_rows}
