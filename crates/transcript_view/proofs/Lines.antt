@@ -1,5 +1,5 @@
 -- Where a line ends.
-use Rattle.std.proofs.Common.{◌≡◌, ℕ, ◌==◌, ◌+◌, ◌-◌, ◌<◌, ◌≤◌, true, false, length, take, drop, get_or, arith, List, [], ◌∷◌, ◌++◌, ap, ◌∙◌, sym, refl}
+use Rattle.std.proofs.Common.{◌≡◌, ℕ, ◌==◌, ◌+◌, ◌-◌, ◌<◌, ◌≤◌, false, length, take, drop, get_or, arith, List, [], ◌∷◌, ◌++◌, ap, ◌∙◌, sym, refl}
 use Rattle.std.specs.List.{All}
 use Rattle.std.proofs.lemmas.List.Elements.{All-head, All-tail, All-same}
 use Rattle.std.proofs.lemmas.List.{take-append-drop, drop_more, take_rest, take_all}

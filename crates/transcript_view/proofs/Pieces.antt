@@ -1,7 +1,7 @@
 -- Lists that are made piece by piece.
-use Rattle.std.proofs.Common.{◌≡◌, ℕ, zero, suc, ◌+◌, ◌-◌, ◌<◌, ◌≤◌, ◌==◌, min, nat_lt, Bool, true, false, List, [], ◌∷◌, ◌++◌, length, get_or, take, drop, replicate, map, ap, ◌∙◌, sym, refl, arith, inl, inr}
+use Rattle.std.proofs.Common.{◌≡◌, ℕ, ◌≤◌, List, [], ◌++◌, length, take, map, ap, ◌∙◌, sym}
 use Rattle.std.specs.List.{flat_map}
-use Rattle.std.proofs.lemmas.List.{take_more, take_all, flat_map_more, append_assoc, append-nil}
+use Rattle.std.proofs.lemmas.List.{take_all, append_assoc, append-nil}
 use Rattle.std.proofs.lemmas.List.Folds.{flat_map-map}
 
 pub all-pieces : {X Y : Type 0} (g : X → Y) (f : Y → List ℕ) (old out : List ℕ) (xs : List X) (i : ℕ) → length xs ≤ i → out ≡ old ++ flat_map (λ x. f (g x)) (take i xs) → out ≡ old ++ flat_map f (map g xs)

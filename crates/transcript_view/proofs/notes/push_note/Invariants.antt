@@ -1,4 +1,4 @@
-use Rattle.std.proofs.Common.{◌≡◌, ◌++◌, ◌+◌, ◌==◌, ◌≤◌, ℕ, take, drop, length, map, List, [], true, false}
+use Rattle.std.proofs.Common.{◌≡◌, drop}
 use Rattle.view_forms.specs.Notes.{note_said}
 use Rattle.transcript_view.proofs.notes.push_note.Given as goal
 

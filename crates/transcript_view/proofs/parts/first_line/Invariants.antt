@@ -1,4 +1,4 @@
-use Rattle.std.proofs.Common.{◌≡◌, ◌++◌, ◌+◌, ◌==◌, ◌≤◌, ℕ, take, drop, length, map, List, [], true, false}
+use Rattle.std.proofs.Common.{◌≡◌, ◌==◌, take, false}
 use Rattle.std.specs.List.{All}
 use Rattle.transcript_view.proofs.parts.first_line.Given as goal
 

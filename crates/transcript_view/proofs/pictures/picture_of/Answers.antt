@@ -1,4 +1,3 @@
-use Rattle.std.proofs.Common.{◌≡◌, ◌++◌, ◌∷◌, ◌+◌, ◌-◌, ◌<◌, ◌≤◌, ◌==◌, ℕ, List, [], take, drop, length, map, min, true, false, ap, ◌∙◌, sym, refl, arith}
 use Rattle.transcript_view.proofs.Cuts.{drop-rest}
 use Rattle.view_forms.specs.Parts.{told_of}
 use Rattle.transcript_view.proofs.pictures.picture_of.Goals as goal

@@ -1,4 +1,4 @@
-use Rattle.std.proofs.Common.{◌≡◌, ◌++◌, ◌∷◌, ◌+◌, ◌-◌, ◌<◌, ◌≤◌, ◌==◌, ℕ, List, [], take, drop, length, map, min, true, false, ap, ◌∙◌, sym, refl, arith}
+use Rattle.std.proofs.Common.{◌++◌, ◌∷◌, [], map}
 use Rattle.view_forms.specs.Pictures.{heading, squares_row}
 use Rattle.transcript_view.proofs.Pieces.{six-pieces}
 use Rattle.transcript_view.proofs.pictures.push_picture_rows.Goals as goal

@@ -1,4 +1,4 @@
-use Rattle.std.proofs.Common.{◌≡◌, ◌++◌, ◌∷◌, ◌+◌, ◌-◌, ◌<◌, ◌≤◌, ◌==◌, ℕ, List, [], take, drop, length, map, min, true, false, ap, ◌∙◌, sym, refl, arith}
+use Rattle.std.proofs.Common.{arith}
 use Rattle.transcript_view.proofs.Pieces.{all-pieces}
 use Rattle.view_forms.specs.Pictures.{squares_cell}
 use Rattle.transcript_view.proofs.pictures.push_squares_row.Goals as goal

@@ -1,7 +1,6 @@
-use Rattle.std.proofs.Common.{◌≡◌, ◌++◌, ◌+◌, ◌==◌, ◌≤◌, ℕ, take, drop, length, map, List, [], true, false}
+use Rattle.std.proofs.Common.{◌≡◌, ◌++◌, take}
 use Rattle.std.specs.List.{flat_map}
-use Rattle.view_forms.specs.Parts.{line_lead}
-use Rattle.view_forms.specs.Pictures.{at_right, squares, squares_cell}
+use Rattle.view_forms.specs.Pictures.{squares_cell}
 use Rattle.transcript_view.proofs.pictures.push_squares_row.Given as goal
 
 abbrev pub invariant-loop-line : goal.invariant-loop-line

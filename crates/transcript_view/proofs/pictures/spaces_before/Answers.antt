@@ -1,4 +1,3 @@
-use Rattle.std.proofs.Common.{◌≡◌, ◌++◌, ◌∷◌, ◌+◌, ◌-◌, ◌<◌, ◌≤◌, ◌==◌, ℕ, List, [], take, drop, length, map, min, true, false, ap, ◌∙◌, sym, refl, arith}
 use Rattle.transcript_view.proofs.Cuts.{spaces-left}
 use Rattle.transcript_view.proofs.pictures.spaces_before.Goals as goal
 

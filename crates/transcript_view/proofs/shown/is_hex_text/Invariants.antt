@@ -1,6 +1,4 @@
-use Rattle.std.proofs.Common.{◌≡◌, ◌++◌, ◌+◌, ◌==◌, ◌≤◌, ℕ, take, drop, length, map, List, [], true, false}
-use Rattle.std.specs.List.{flat_map}
-use Rattle.view_forms.specs.Shown.{shown_bytes, shown_byte, bytes_of_hex}
+use Rattle.std.proofs.Common.{◌≡◌, length}
 use Rattle.view_forms.specs.Pictures.{is_hex_text}
 use Rattle.transcript_view.proofs.shown.is_hex_text.Given as goal
 

@@ -1,7 +1,6 @@
-use Rattle.std.proofs.Common.{◌≡◌, ◌++◌, ◌+◌, ◌==◌, ◌≤◌, ℕ, take, drop, length, map, List, [], true, false}
+use Rattle.std.proofs.Common.{◌≡◌, ◌++◌, take}
 use Rattle.std.specs.List.{flat_map}
-use Rattle.view_forms.specs.Shown.{shown_bytes, shown_byte, bytes_of_hex}
-use Rattle.view_forms.specs.Pictures.{is_hex_text}
+use Rattle.view_forms.specs.Shown.{shown_byte}
 use Rattle.transcript_view.proofs.shown.push_shown.Given as goal
 
 abbrev pub invariant-loop-byte : goal.invariant-loop-byte

@@ -1,4 +1,4 @@
-use Rattle.std.proofs.Common.{◌≡◌, ◌++◌, ◌+◌, ◌==◌, ◌≤◌, ℕ, take, drop, length, map, List, [], true, false}
+use Rattle.std.proofs.Common.{◌≡◌, ◌++◌, length, map, []}
 use Rattle.view_forms.specs.Parts.{lines_in}
 use Rattle.view_forms.specs.Rows.{rows_from, text_of_rows}
 use Rattle.transcript_view.proofs.text.viewed.Given as goal
