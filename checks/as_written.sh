@@ -1,9 +1,9 @@
 #!/bin/sh
-# What the documents show is run as it is written there: each line of README.md and docs/*.md that begins with `bin/sts`, alone or behind `$`, writes the lines below it, or else the
+# What the documents show is run as it is written there: each line of README.md and docs/*.md that begins with `bin/sts`, `bin/view` or `bin/show`, alone or behind `$`, writes the lines below it, or else the
 # next block; each `sts ..` of the README's table of words is taken, with a file in place of P, S and H and a number in place of N; each example of a refusal in docs/LANGUAGE.md is
 # refused by its code at its place; and each of those that TypeScript refuses there (TS and a number) is accepted. A line behind `$ ` may also begin with `cat`, to show a file of examples/, or with `echo`, to give
-# text to the program. PROGRAM is sts, as bin/program names it where it is left out.
-# usage: checks/as_written.sh [PROGRAM]
+# text to the program. PROGRAM is sts and VIEW view, as bin/program names them where they are left out.
+# usage: checks/as_written.sh [PROGRAM [VIEW]]
 set -eu
 top=$(cd "$(dirname "$0")/.." && pwd)
 program=${1:-$("$top/bin/program")}
@@ -11,6 +11,8 @@ folder=$(mktemp -d)
 trap 'rm -rf "$folder"' EXIT
 mkdir "$folder/bin"
 cp "$program" "$folder/bin/sts"
+cp "${2:-$("$top/bin/program" view)}" "$folder/bin/view"
+cp "$top/bin/show" "$folder/bin/show"
 cp -r "$top/examples" "$folder/examples"
 python3 - "$top" "$folder" <<'PYTHON'
 import glob
@@ -55,7 +57,7 @@ for document in [f"{top}/README.md", *sorted(glob.glob(f"{top}/docs/*.md"))]:
         text = file.read()
     blocks = blocks_of(text)
     for number, block in enumerate(blocks):
-        begins = [at for at, line in enumerate(block) if re.match(r"(\$ )?bin/sts\b|\$ (cat|echo) ", line)]
+        begins = [at for at, line in enumerate(block) if re.match(r"(\$ )?bin/(sts|view|show)\b|\$ (cat|echo) ", line)]
         for at, end in zip(begins, [*begins[1:], len(block)]):
             line, due = block[at].removeprefix("$ "), block[at + 1 : end]
             if not due and not block[at].startswith("$ ") and number + 1 < len(blocks):

@@ -1,0 +1,12 @@
+//! A transcript of `sts` for people: as a text with pictures and sentences, and as a page.
+#![tactic(auto)]
+
+mod notes;
+mod page;
+mod parts;
+mod pictures;
+mod shown;
+mod text;
+
+pub use page::view_page;
+pub use text::{ViewFault, view_text};

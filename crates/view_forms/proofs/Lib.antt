@@ -1,0 +1,7 @@
+mod Digits
+mod Lacking
+mod Unshown
+mod Parts
+mod Pictures
+mod Rows
+mod Page

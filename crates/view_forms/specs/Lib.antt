@@ -1,0 +1,7 @@
+pub mod Shown
+pub mod Parts
+pub mod Pictures
+pub mod Notes
+pub mod Rows
+pub mod Reading
+pub mod Page

@@ -1,0 +1,9 @@
+//! What a view of a transcript is, and how its lines are read back: definitions, their laws, and the sentences that are said of lines. It has no code that
+//! runs.
+#![tactic(auto)]
+
+mod laws;
+mod notes;
+
+pub use laws::{lines_come_back, pages_tell_all, transcripts_are_no_markup};
+pub use notes::{NOTES, Note};
