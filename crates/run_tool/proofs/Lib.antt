@@ -6,3 +6,6 @@ mod ImageRuns
 mod ProgramRuns
 mod Statuses
 mod ProgramStatuses
+mod Readings
+mod RunsAt
+mod ToldAt

@@ -9,6 +9,9 @@ pub mod Build
 pub mod Run
 pub mod Scripts
 pub mod Runs
+pub mod Arrivals
+pub mod RunAt
 pub mod RunHex
 pub mod Orders
 pub mod Laws
+pub mod HeadlineAt
