@@ -36,5 +36,12 @@ for text in "$top"/examples/*.ts; do
     fi
     "$program" run-hex "$folder/image.hex" $script 2> /dev/null | cmp - "$top/examples/$name.txt" || wrong=$((wrong + 1))
 done
+# Those of examples/arrivals/ have arrivals too: `run-at` writes the transcript, which the reading gives with some steps at which they may come.
+for text in "$top"/examples/arrivals/*.ts; do
+    name=${text%.ts}
+    count=$((count + 1))
+    "$program" run-at "$text" "$name.json" "$name.arrivals.json" 2> /dev/null | cmp - "$name.txt" || wrong=$((wrong + 1))
+    python3 "$top/bench/programs/arriving.py" --fits "$text" "$name.json" "$name.arrivals.json" "$name.txt" > "$folder/said" || { cat "$folder/said"; wrong=$((wrong + 1)); }
+done
 echo "examples: $count programs, $wrong wrong"
 [ "$wrong" -eq 0 ] && [ "$count" -ge 10 ]

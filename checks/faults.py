@@ -42,10 +42,14 @@ FILES = {
     "toggles.ts": "basic.forever(function () { led.toggle(0, 0) })",
     "toggles.json": '{"end":50,"events":[]}',
     "handlers.ts": HANDLERS,
+    "hears.ts": "control.onEvent(50, 0, function () { serial.writeNumber(control.eventValue()) })",
+    "hears.json": '{"end":1000,"events":[]}',
+    "arrivals.json": '{"arrivals":[{"after":1,"do":"raise","source":50,"value":7}]}',
     "ends.hex": ":0E000000803F00200D0000000D00000000DF1A\n:00000001FF\n",
 }
 TOGGLED = "0 display #..../...../...../...../.....\n20 display ...../...../...../...../.....\n40 display #..../...../...../...../.....\nend 50 script\n"
 HANDLED = "0 serial 313130\n5 serial 373231\nend 5 quiet\nstats spawned 1 blocked 1 words 25 seats 1\n"
+HEARD = "0 serial 37\nend 0 quiet\n"
 BIG = "big 1\n10 serial 333531\nend 10 quiet\nstats spawned 6 blocked 0 words 450 seats 6\n"
 GAME_FRAMES = "0:4194304 0:4194305 80:1 80:2097153 100:2097152 100:2097184 150:32 150:1048608 200:1048576 200:1049600 300:1048576 300:1081344 400:1048576 400:14815428"
 
@@ -61,6 +65,7 @@ def commands():
         ("run toggles.ts toggles.json", TOGGLED, [""]),
         ("run handlers.ts --stats", HANDLED, [""]),
         ("run-hex ends.hex", "end 0 quiet\n", [""]),
+        ("run-at hears.ts hears.json arrivals.json", HEARD, [""]),
         ("big 1 --stats", BIG, ["", "big 1\n"]),
         ("build game.ts", None, [""]),
         ("run-hex game.hex game.json", read("game.txt"), [""]),
@@ -78,6 +83,7 @@ def calls():
         ("toggles", f"0 |{TOGGLED}|" + devices("0:1 20:0 40:1"), [f"30 ||{stay}"]),
         ("handlers", f"0 |{HANDLED}|" + devices("", "0:49 0:49 0:48 5:55 5:50 5:49"), [f"30 ||{stay}"]),
         ("ends", f"0 |end 0 quiet\n|{stay}", [f"30 ||{stay}"]),
+        ("arrivals", f"0 |{HEARD}|" + devices("", "0:55"), [f"30 ||{stay}"]),
         ("big", f"0 |{BIG}|" + devices("", "10:51 10:53 10:49"), [f"30 ||{stay}", f"30 |big 1\n|{stay}"]),
         ("built", f"0 |{read('game.txt')}|" + devices(GAME_FRAMES), [f"30 ||{stay}", "built: 30, 0 bytes\n"]),
     ]

@@ -20,6 +20,7 @@ COMMANDS = {
     "build": (1, 1, set()),
     "run": (1, 2, {"budget", "stats", "image"}),
     "run-hex": (1, 2, {"budget"}),
+    "run-at": (3, 3, {"budget"}),
     "big": (1, 1, {"budget", "stats"}),
 }
 WORDS = ["--budget", "--budget=", "--budget=7", "--budget=0", "--budget=2147483648", "--budget=2147483649", "--budget=99999999999", "--budget=+1",
@@ -56,17 +57,21 @@ def due(words):
         return "\t".join(["run", names[0], names[1], str(budget), *flags])
     if command == "run-hex":
         return "\t".join(["run-hex", names[0], names[1], str(budget)])
+    if command == "run-at":
+        return "\t".join(["run-at", *names[:3], str(budget)])
     if not re.fullmatch("[0-9]{1,10}", names[0]) or not 1 <= int(names[0]) <= 200:
         return "-"
     return "\t".join(["big", str(int(names[0])), str(budget), flags[0]])
 
 
 def random_list(chance):
-    """Gives a list that is nearly of the right form: a command, a name or two, and a few other words, in any order."""
+    """Gives a list that is nearly of the right form: a command, a name or more, and a few other words, in any order."""
     if chance.random() < 0.02:
         return [chance.choice(WORDS) for _ in range(chance.randrange(4))]
     command = chance.choice([*COMMANDS, "run", "run", "Run", "runs"])
     words = [chance.choice(["1", "7", "200"] if command == "big" else ["p.ts", "h.hex", "é"])]
+    if command == "run-at" and chance.random() < 0.8:
+        words += ["s.json", "a.json"]
     for _ in range(chance.choice([0, 0, 1, 1, 1, 2, 2, 3])):
         word = chance.choice(WORDS)
         at = chance.randrange(len(words) + 1)

@@ -50,6 +50,10 @@ class Panic(Exception):
     pass
 
 
+class Cut(Exception):
+    pass
+
+
 class Thing:
     """An object with its class, or an array."""
 
@@ -271,8 +275,9 @@ class Activity:
 
 
 class World:
-    def __init__(self, program, end, entries):
-        self.program, self.end, self.entries = program, end, list(entries)
+    def __init__(self, program, end, entries, arrivals=(), most=None):
+        self.program, self.end, self.entries, self.arrivals = program, end, list(entries), list(arrivals)
+        self.steps, self.last, self.due, self.marks = 0, most, self.arrivals[0][0] if self.arrivals else -1, []
         self.clock, self.frame, self.used, self.out = 0, 0, 0, []
         self.ready, self.sleepers, self.waiters, self.queue, self.listeners = [], [], [], [], []
         self.down, self.seats, self.order = {}, 0, 0
@@ -376,6 +381,20 @@ class World:
         elif entry["do"] == "raise":
             self.raises((entry["source"], entry["value"]))
 
+    # counted steps: what arrives behind the last comes before the next
+    def counts(self, steps=1):
+        if self.due >= 0:
+            while self.arrivals and self.arrivals[0][0] < self.steps + steps:
+                self.arrive(self.arrivals.pop(0)[1])
+            self.due = self.arrivals[0][0] if self.arrivals else -1
+        self.steps += steps
+        if self.last is not None and self.steps > self.last:
+            raise Cut()
+
+    # which step asked what of the board
+    def mark(self, what, args):
+        self.marks.append((self.steps, what, args))
+
     # one request of the activity in front; what it gives is the answer
     def blocks_now(self, activity):
         self.words += activity.depth
@@ -402,6 +421,7 @@ class World:
         return 0
 
     def ends(self, activity):
+        self.mark("ends", [])
         self.ready.pop(0)
         held = self.listeners[activity.listener]["held"] if activity.listener is not None else []
         if held:
@@ -450,6 +470,8 @@ class World:
                     self.ready.append(heapq.heappop(self.sleepers)[2])
                 while self.entries and self.entries[0]["at"] <= self.clock:
                     self.arrive(self.entries.pop(0))
+        except Cut:
+            pass
         except Panic as panic:
             self.out.append(f"panic {self.clock} {panic.args[0]}")
 
@@ -471,13 +493,19 @@ class Frame:
         if isinstance(function, tuple):
             yield from self.repeats(function[1])
         else:
+            self.world.counts()
             yield from self.invoke(function, [])
 
     def repeats(self, handler):
+        self.world.counts()
         self.enter(6)
         while True:
+            self.world.counts()
             yield from self.invoke(handler, [])
+            self.world.counts(2)
+            self.world.mark("pause", [20])
             yield ("pause", 20)
+            self.world.counts()
 
     def enter(self, words):
         if self.activity.base + self.activity.depth + words > 960:
@@ -495,6 +523,7 @@ class Frame:
         try:
             for it in function.statements:
                 yield from inner.does(it, function is self.program.main)
+            self.world.counts(2)
         except Leaves as leaves:
             value = leaves.value
         self.activity.depth -= function.words
@@ -516,13 +545,16 @@ class Frame:
         if form == "let":
             for name, _, first in s[1]:
                 value = (yield from self.value(first)) if first else 0
+                self.world.counts(1 if first else 2)
                 (self.program.globals if top else self.scopes[-1])[name] = value
         elif form == "plain":
             yield from self.value(s[1])
         elif form == "block":
             yield from self.inside(s[1])
         elif form == "if":
-            if (yield from self.value(s[1])):
+            test = yield from self.value(s[1])
+            self.world.counts()
+            if test:
                 yield from self.inside([s[2]])
             elif s[3]:
                 yield from self.inside([s[3]])
@@ -539,8 +571,11 @@ class Frame:
         elif form == "of":
             yield from self.goes_through(s)
         elif form == "return":
-            raise Leaves("return", (yield from self.value(s[1])) if s[1] else 0)
+            value = (yield from self.value(s[1])) if s[1] else 0
+            self.world.counts(1 if s[1] and not self.function.is_maker else 2)
+            raise Leaves("return", value)
         elif form in ("break", "continue"):
+            self.world.counts()
             raise Leaves(form)
 
     def inside(self, statements):
@@ -563,22 +598,31 @@ class Frame:
         return False
 
     def loops(self, test, step, body, late):
-        while late or test is None or (yield from self.value(test)):
+        while late or test is None or (yield from self.tests(test)):
             late = False
             if (yield from self.turn(body)):
                 return
             if step:
                 yield from self.value(step)
+            self.world.counts()
+
+    def tests(self, test):
+        value = yield from self.value(test)
+        self.world.counts()
+        return value
 
     def goes_through(self, s):
         array, at = (yield from self.value(s[2])), 0
+        self.world.counts(3)
         while at < self.length(array):
+            self.world.counts()
             self.scopes.append({s[1]: array.items[at]})
             at += 1
             left = yield from self.turn(s[3])
             self.scopes.pop()
             if left:
                 return
+        self.world.counts()
 
     # objects and arrays
     @staticmethod
@@ -619,21 +663,25 @@ class Frame:
         return found
 
     def e_number(self, e):
+        self.world.counts()
         return e[1]
         yield
 
     e_text = e_number
 
     def e_this(self, e):
+        self.world.counts()
         return self.this
         yield
 
     def e_name(self, e):
+        self.world.counts()
         scope = self.scope_of(e[1])
         return self.program.functions[e[1]] if scope is None else scope[e[1]]
         yield
 
     def e_handler(self, e):
+        self.world.counts()
         if id(e) not in self.program.handlers:
             function = Function("handler", [], e[1][3])
             Measures(self.program, function, False)
@@ -643,11 +691,13 @@ class Frame:
 
     def e_unary(self, e):
         value = yield from self.value(e[2])
+        self.world.counts()
         return {"-": lambda: to_int32(-value), "+": lambda: value, "~": lambda: ~value, "!": lambda: 0 if value else 1}[e[1]]()
 
     def e_binary(self, e):
         left = yield from self.value(e[2])
         right = yield from self.value(e[3])
+        self.world.counts()
         return self.applied(e[1], left, right)
 
     @staticmethod
@@ -664,25 +714,28 @@ class Frame:
         return to_int32({"+": a + b, "-": a - b, "*": a * b, "&": a & b, "|": a | b, "^": a ^ b, "<<": a << shift, ">>": a >> shift, ">>>": a % 2**32 >> shift}[op])
 
     def e_both(self, e):
-        return (yield from self.value(e[3])) if (yield from self.value(e[2])) else 0
+        return (yield from self.value(e[3])) if (yield from self.tests(e[2])) else 0
 
     def e_either(self, e):
-        return 1 if (yield from self.value(e[2])) else (yield from self.value(e[3]))
+        return 1 if (yield from self.tests(e[2])) else (yield from self.value(e[3]))
 
     def e_choice(self, e):
-        return (yield from self.value(e[2] if (yield from self.value(e[1])) else e[3]))
+        return (yield from self.value(e[2] if (yield from self.tests(e[1])) else e[3]))
 
     def e_items(self, e):
+        self.world.counts()
         self.world.take(4 + len(e[1]))
         array = Thing(None)
         array.room = len(e[1])
         for it in e[1]:
             array.items.append((yield from self.value(it)))
+            self.world.counts()
         return array
 
     def e_new(self, e):
         args = yield from self.values(e[2])
         fields = self.program.field_names(e[1])
+        self.world.counts(2)
         self.world.take(1 + len(fields))
         made = Thing(e[1])
         made.fields = dict.fromkeys(fields, 0)
@@ -693,18 +746,23 @@ class Frame:
         args = yield from self.values(e[2])
         base = self.program.classes[self.function.owner][2]
         function = self.program.method(base, e[1]) if e[1] else self.program.makers[base]
+        self.world.counts(2)
         return (yield from self.invoke(function, [self.this, *args]))
 
     def e_member(self, e):
         space = self.program.space(e, self.is_local)
         if space:
+            self.world.counts()
             return CONSTANTS[space]
-        thing = self.there((yield from self.value(e[1])))
+        thing = yield from self.value(e[1])
+        self.world.counts()
+        self.there(thing)
         return len(thing.items) if thing.kind is None else thing.fields[e[2]]
 
     def e_item(self, e):
         array = yield from self.value(e[1])
         at = yield from self.value(e[2])
+        self.world.counts()
         return array.items[self.index(array, at)]
 
     # stores: what is read first where an operator stands, then the new value, then the store
@@ -736,13 +794,19 @@ class Frame:
         _, op, target, new = e
         place = yield from self.reach(target)
         if not op:
-            return self.store(target, place, (yield from self.value(new)))
+            value = yield from self.value(new)
+            self.world.counts()
+            return self.store(target, place, value)
+        self.world.counts()
         old = self.read(target, place)
-        return self.store(target, place, self.applied(op, old, (yield from self.value(new))))
+        value = yield from self.value(new)
+        self.world.counts(2)
+        return self.store(target, place, self.applied(op, old, value))
 
     def e_bump(self, e):
         _, target, by, late = e
         place = yield from self.reach(target)
+        self.world.counts()
         old = self.read(target, place)
         new = self.store(target, place, to_int32(old + by))
         return old if late else new
@@ -753,16 +817,19 @@ class Frame:
         space = self.program.space(callee, self.is_local)
         if space:
             args = yield from self.values(self.program.board_args(space, args))
+            self.world.counts()
             if space in IN_LIBRARY:
                 return (yield from self.invoke(self.program.functions["$" + space[1]], args))
             return (yield from self.board(space, args))
         if callee[0] == "name":
             args = yield from self.values(args)
+            self.world.counts()
             if callee[1] in self.program.functions:
                 return (yield from self.invoke(self.program.functions[callee[1]], args))
             return (yield from self.board(("", callee[1]), args))
         thing = yield from self.value(callee[1])
         args = yield from self.values(args)
+        self.world.counts()
         self.there(thing)
         if thing.kind is None:
             return (self.push(thing, *args) or 0) if callee[2] == "push" else self.pop(thing)
@@ -770,6 +837,7 @@ class Frame:
 
     def board(self, space, args):
         world, name = self.world, space[1]
+        world.mark(name, args)
         if name in ("pause",):
             yield ("pause", args[0])
         elif name == "waitForEvent":
@@ -818,11 +886,17 @@ class Frame:
         return 0
 
 
-def transcript(text, script=None, stats=False):
+def run_of(text, script=None, arrivals=(), most=None):
+    """Gives the world at the end of a run, or where it has made more than so many counted steps; these arrive, each with the number of counted steps behind which it comes."""
     sys.setrecursionlimit(100000)
     script = script or {"end": 1000, "events": []}
-    world = World(Program(text), script["end"], script["events"])
+    world = World(Program(text), script["end"], script["events"], arrivals, most)
     world.runs()
+    return world
+
+
+def transcript(text, script=None, stats=False):
+    world = run_of(text, script)
     if stats:
         world.out.append(f"stats spawned {world.spawned} blocked {world.blocks} words {world.words} seats {world.most}")
     return world.out

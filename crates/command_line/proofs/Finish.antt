@@ -11,7 +11,7 @@ use Rattle.clap.specs.declared.parser.matches.ValueSource.TheVariants.{DefaultVa
 use Rattle.sts_words.specs.Words.{Said}
 use Rattle.command_line.specs.Found.{row_at, flag_text, SpellsBudget, Says}
 use Rattle.command_line.proofs.Find.{at_row-missing, row_at-same, row_at-other, has_row-is}
-use Rattle.command_line.proofs.Steps.{rules, row_for, name_built, script_built, stats_built, image_built}
+use Rattle.command_line.proofs.Steps.{rules, row_for, name_built, script_built, arrivals_built, stats_built, image_built}
 use Rattle.command_line.proofs.Has.{Has, HasBudgetRow, flag_row, name_row}
 
 same-if : (b : Bool) (rows : List Row) → (if b then rows else rows) ≡ rows
@@ -80,12 +80,14 @@ ends said rows has =
     let image = flagged image_built said.image (with_flag stats_built rows) refl (stats.others (codes "image") refl ∙ has.image) in
     let name : row_at (codes "name") (with_flags rows) ≡ row_at (codes "name") rows = image.others (codes "name") refl ∙ stats.others (codes "name") refl in
     let script : row_at (codes "script") (with_flags rows) ≡ row_at (codes "script") rows = image.others (codes "script") refl ∙ stats.others (codes "script") refl in
+    let arrivals : row_at (codes "arrivals") (with_flags rows) ≡ row_at (codes "arrivals") rows = image.others (codes "arrivals") refl ∙ stats.others (codes "arrivals") refl in
     let budget : row_at (codes "budget") (with_flags rows) ≡ row_at (codes "budget") rows = image.others (codes "budget") refl ∙ stats.others (codes "budget") refl in
     subst (Ends said) (sym (finished-is rows)) (record {
       says = record {
         few = has.few;
         name = ap first_value (name ∙ has.name) ∙ name-first name_built (slice_get said.names 0);
         script = ap first_value (script ∙ has.script) ∙ name-first script_built (slice_get said.names 1);
+        arrivals = ap first_value (arrivals ∙ has.arrivals) ∙ name-first arrivals_built (slice_get said.names 2);
         budget = budget-first said.budget _ (subst (HasBudgetRow said.budget) (sym budget) has.budget);
         stats = flag-first stats_built _ said.stats refl refl (image.others (codes "stats") refl ∙ stats.flag);
         image = flag-first image_built _ said.image refl refl image.flag;

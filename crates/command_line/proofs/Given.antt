@@ -22,21 +22,25 @@ use Rattle.command_line.specs.Found.{Says, SpellsBudget, flag_text, text_at}
 
 -- ---- names
 
-abbrev listed : Option Text → Option Text → List Text
-listed None second = []
-listed (Some first) None = first ∷ []
-listed (Some first) (Some second) = first ∷ second ∷ []
+abbrev listed : Option Text → Option Text → Option Text → List Text
+listed None second third = []
+listed (Some first) None third = first ∷ []
+listed (Some first) (Some second) None = first ∷ second ∷ []
+listed (Some first) (Some second) (Some third) = first ∷ second ∷ third ∷ []
 
-listed-is : (names : List Text) → length names ≤ 2 → listed (slice_get names 0) (slice_get names 1) ≡ names
+listed-is : (names : List Text) → length names ≤ 3 → listed (slice_get names 0) (slice_get names 1) (slice_get names 2) ≡ names
 listed-is [] h = refl
 listed-is (a ∷ []) h = refl
 listed-is (a ∷ b ∷ []) h = refl
-listed-is (a ∷ b ∷ c ∷ rest) h = let bad : ⊥ = omega arith in absurd bad
+listed-is (a ∷ b ∷ c ∷ []) h = refl
+listed-is (a ∷ b ∷ c ∷ d ∷ rest) h = let bad : ⊥ = omega arith in absurd bad
 
-pub names-are : (f : Found) (said : Said) (first second : Option Text) → Says said (rows_of f) → first ≡ first_value f (codes "name") → second ≡ first_value f (codes "script") → listed first second ≡ said.names
-names-are f said first second says e h =
-    ap (λ x. listed x second) (e ∙ first_value-rows f (codes "name") ∙ says.name)
-    ∙ ap (λ x. listed (slice_get said.names 0) x) (h ∙ first_value-rows f (codes "script") ∙ says.script)
+pub names-are : (f : Found) (said : Said) (first second third : Option Text) → Says said (rows_of f) → first ≡ first_value f (codes "name") → second ≡ first_value f (codes "script")
+    → third ≡ first_value f (codes "arrivals") → listed first second third ≡ said.names
+names-are f said first second third says e h i =
+    ap (λ x. listed x second third) (e ∙ first_value-rows f (codes "name") ∙ says.name)
+    ∙ ap (λ x. listed (slice_get said.names 0) x third) (h ∙ first_value-rows f (codes "script") ∙ says.script)
+    ∙ ap (λ x. listed (slice_get said.names 0) (slice_get said.names 1) x) (i ∙ first_value-rows f (codes "arrivals") ∙ says.arrivals)
     ∙ listed-is said.names says.few
 
 -- ---- flags

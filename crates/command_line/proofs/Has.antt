@@ -9,7 +9,7 @@ use Rattle.sts_words.specs.Orders.{most_budget}
 use Rattle.sts_words.specs.Words.{Said}
 use Rattle.command_line.specs.Found.{row_at}
 use Rattle.command_line.proofs.Find.{row_at-same, row_at-other, has_row-is}
-use Rattle.command_line.proofs.Steps.{row_for, name_built, script_built, budget_built, stats_built, image_built}
+use Rattle.command_line.proofs.Steps.{row_for, name_built, script_built, arrivals_built, budget_built, stats_built, image_built}
 
 -- the row of a budget
 abbrev pub HasBudgetRow : Option ℕ → Option Row → Type 0
@@ -24,9 +24,10 @@ flag_row a given = if given then Some (row_for a (codes "true" ∷ [])) else Non
 
 -- Each thing that was said has its row.
 pub record Has (said : Said) (rows : List Row) : Type 0 where
-  pub few : length said.names ≤ 2
+  pub few : length said.names ≤ 3
   pub name : row_at (codes "name") rows ≡ name_row name_built (slice_get said.names 0)
   pub script : row_at (codes "script") rows ≡ name_row script_built (slice_get said.names 1)
+  pub arrivals : row_at (codes "arrivals") rows ≡ name_row arrivals_built (slice_get said.names 2)
   pub budget : HasBudgetRow said.budget (row_at (codes "budget") rows)
   pub stats : row_at (codes "stats") rows ≡ flag_row stats_built said.stats
   pub image : row_at (codes "image") rows ≡ flag_row image_built said.image
@@ -35,13 +36,14 @@ abbrev with_stats : Said → Said
 with_stats said = record said { stats = true }
 
 pub has-nothing : Has (record { names = []; budget = None; stats = false; image = false }) []
-has-nothing = record { few = omega arith; name = refl; script = refl; budget = refl; stats = refl; image = refl }
+has-nothing = record { few = omega arith; name = refl; script = refl; arrivals = refl; budget = refl; stats = refl; image = refl }
 
 pub has-stats : (said : Said) (rows : List Row) → said.stats ≡ false → Has said rows → Has (record said { stats = true }) (rows ++ row_for stats_built (codes "true" ∷ []) ∷ [])
 has-stats said rows e h = record {
   few = h.few;
   name = row_at-other (codes "name") rows _ refl ∙ h.name;
   script = row_at-other (codes "script") rows _ refl ∙ h.script;
+  arrivals = row_at-other (codes "arrivals") rows _ refl ∙ h.arrivals;
   budget = subst (HasBudgetRow said.budget) (sym (row_at-other (codes "budget") rows _ refl)) h.budget;
   stats = row_at-same (codes "stats") rows _ (h.stats ∙ ap (flag_row stats_built) e) refl;
   image = row_at-other (codes "image") rows _ refl ∙ h.image;
@@ -52,6 +54,7 @@ has-image said rows e h = record {
   few = h.few;
   name = row_at-other (codes "name") rows _ refl ∙ h.name;
   script = row_at-other (codes "script") rows _ refl ∙ h.script;
+  arrivals = row_at-other (codes "arrivals") rows _ refl ∙ h.arrivals;
   budget = subst (HasBudgetRow said.budget) (sym (row_at-other (codes "budget") rows _ refl)) h.budget;
   stats = row_at-other (codes "stats") rows _ refl ∙ h.stats;
   image = row_at-same (codes "image") rows _ (h.image ∙ ap (flag_row image_built) e) refl;
@@ -63,6 +66,7 @@ has-budget said rows word number e spelled h = record {
   few = h.few;
   name = row_at-other (codes "name") rows _ refl ∙ h.name;
   script = row_at-other (codes "script") rows _ refl ∙ h.script;
+  arrivals = row_at-other (codes "arrivals") rows _ refl ∙ h.arrivals;
   budget = (word, row_at-same (codes "budget") rows (row_for budget_built (word ∷ [])) (subst (λ b. HasBudgetRow b (row_at (codes "budget") rows)) e h.budget) refl, spelled);
   stats = row_at-other (codes "stats") rows _ refl ∙ h.stats;
   image = row_at-other (codes "image") rows _ refl ∙ h.image;
@@ -71,9 +75,10 @@ has-budget said rows word number e spelled h = record {
 pub has-name : (said : Said) (rows : List Row) (word : Text) → said.names ≡ [] → Has said rows
     → Has (record said { names = said.names ++ word ∷ [] }) (rows ++ row_for name_built (word ∷ []) ∷ [])
 has-name said rows word e h = record {
-  few = subst (λ x. length (x ++ word ∷ []) ≤ 2) (sym e) (omega arith);
+  few = subst (λ x. length (x ++ word ∷ []) ≤ 3) (sym e) (omega arith);
   name = row_at-same (codes "name") rows _ (h.name ∙ ap (λ x. name_row name_built (slice_get x 0)) e) refl ∙ ap (λ x. name_row name_built (slice_get (x ++ word ∷ []) 0)) (sym e);
   script = row_at-other (codes "script") rows _ refl ∙ h.script ∙ ap (λ x. name_row script_built (slice_get x 1)) e ∙ ap (λ x. name_row script_built (slice_get (x ++ word ∷ []) 1)) (sym e);
+  arrivals = row_at-other (codes "arrivals") rows _ refl ∙ h.arrivals ∙ ap (λ x. name_row arrivals_built (slice_get x 2)) e ∙ ap (λ x. name_row arrivals_built (slice_get (x ++ word ∷ []) 2)) (sym e);
   budget = subst (HasBudgetRow said.budget) (sym (row_at-other (codes "budget") rows _ refl)) h.budget;
   stats = row_at-other (codes "stats") rows _ refl ∙ h.stats;
   image = row_at-other (codes "image") rows _ refl ∙ h.image;
@@ -82,9 +87,22 @@ has-name said rows word e h = record {
 pub has-script : (said : Said) (rows : List Row) (first word : Text) → said.names ≡ first ∷ [] → Has said rows
     → Has (record said { names = said.names ++ word ∷ [] }) (rows ++ row_for script_built (word ∷ []) ∷ [])
 has-script said rows first word e h = record {
-  few = subst (λ x. length (x ++ word ∷ []) ≤ 2) (sym e) (omega arith);
+  few = subst (λ x. length (x ++ word ∷ []) ≤ 3) (sym e) (omega arith);
   name = row_at-other (codes "name") rows _ refl ∙ h.name ∙ ap (λ x. name_row name_built (slice_get x 0)) e ∙ ap (λ x. name_row name_built (slice_get (x ++ word ∷ []) 0)) (sym e);
   script = row_at-same (codes "script") rows _ (h.script ∙ ap (λ x. name_row script_built (slice_get x 1)) e) refl ∙ ap (λ x. name_row script_built (slice_get (x ++ word ∷ []) 1)) (sym e);
+  arrivals = row_at-other (codes "arrivals") rows _ refl ∙ h.arrivals ∙ ap (λ x. name_row arrivals_built (slice_get x 2)) e ∙ ap (λ x. name_row arrivals_built (slice_get (x ++ word ∷ []) 2)) (sym e);
+  budget = subst (HasBudgetRow said.budget) (sym (row_at-other (codes "budget") rows _ refl)) h.budget;
+  stats = row_at-other (codes "stats") rows _ refl ∙ h.stats;
+  image = row_at-other (codes "image") rows _ refl ∙ h.image;
+}
+
+pub has-arrivals : (said : Said) (rows : List Row) (first second word : Text) → said.names ≡ first ∷ second ∷ [] → Has said rows
+    → Has (record said { names = said.names ++ word ∷ [] }) (rows ++ row_for arrivals_built (word ∷ []) ∷ [])
+has-arrivals said rows first second word e h = record {
+  few = subst (λ x. length (x ++ word ∷ []) ≤ 3) (sym e) (omega arith);
+  name = row_at-other (codes "name") rows _ refl ∙ h.name ∙ ap (λ x. name_row name_built (slice_get x 0)) e ∙ ap (λ x. name_row name_built (slice_get (x ++ word ∷ []) 0)) (sym e);
+  script = row_at-other (codes "script") rows _ refl ∙ h.script ∙ ap (λ x. name_row script_built (slice_get x 1)) e ∙ ap (λ x. name_row script_built (slice_get (x ++ word ∷ []) 1)) (sym e);
+  arrivals = row_at-same (codes "arrivals") rows _ (h.arrivals ∙ ap (λ x. name_row arrivals_built (slice_get x 2)) e) refl ∙ ap (λ x. name_row arrivals_built (slice_get (x ++ word ∷ []) 2)) (sym e);
   budget = subst (HasBudgetRow said.budget) (sym (row_at-other (codes "budget") rows _ refl)) h.budget;
   stats = row_at-other (codes "stats") rows _ refl ∙ h.stats;
   image = row_at-other (codes "image") rows _ refl ∙ h.image;
@@ -105,6 +123,9 @@ no-name said rows e h = h.name ∙ ap (λ x. name_row name_built (slice_get x 0)
 
 pub no-script : (said : Said) (rows : List Row) (first : Text) → said.names ≡ first ∷ [] → Has said rows → row_at (codes "script") rows ≡ None
 no-script said rows first e h = h.script ∙ ap (λ x. name_row script_built (slice_get x 1)) e
+
+pub no-arrivals : (said : Said) (rows : List Row) (first second : Text) → said.names ≡ first ∷ second ∷ [] → Has said rows → row_at (codes "arrivals") rows ≡ None
+no-arrivals said rows first second e h = h.arrivals ∙ ap (λ x. name_row arrivals_built (slice_get x 2)) e
 
 pub no-row : (id : Text) (rows : List Row) → row_at id rows ≡ None → has_row id rows ≡ false
 no-row id rows e = has_row-is id rows ∙ ap (λ o. is_some o) e

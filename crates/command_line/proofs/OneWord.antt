@@ -12,8 +12,8 @@ use Rattle.sts_words.specs.Words.{a_name, a_budget, the_stats, the_image, Said, 
 use Rattle.sts_words.specs.Reading.{added, next}
 use Rattle.command_line.proofs.Spelled.{same-text, Plain, number-plain, name-plain, joined-text}
 use Rattle.command_line.proofs.Steps as step
-use Rattle.command_line.proofs.Steps.{at, held, rules, whole, Settles, Passes, name_built, script_built, budget_built, stats_built, image_built, row_for, first-use}
-use Rattle.command_line.proofs.Has.{Has, has-stats, has-image, has-budget, has-name, has-script, no-stats, no-image, no-budget, no-name, no-script, no-row}
+use Rattle.command_line.proofs.Steps.{at, held, rules, whole, Settles, Passes, name_built, script_built, arrivals_built, budget_built, stats_built, image_built, row_for, first-use}
+use Rattle.command_line.proofs.Has.{Has, has-stats, has-image, has-budget, has-name, has-script, has-arrivals, no-stats, no-image, no-budget, no-name, no-script, no-arrivals, no-row}
 
 -- The walk stands behind what was said.
 pub record Ready (said : Said) (w : Walk) : Type 0 where
@@ -153,6 +153,25 @@ script-goes name said rows pending skip c cs first dash e has settles =
       },
     )
 
+arrivals-goes : (name : Text) (said : Said) (rows : List Row) (pending : Option (Text × List Text)) (skip c : ℕ) (cs first second : Text) → eqb c 45 ≡ false
+    → said.names ≡ first ∷ second ∷ [] → Has said (whole pending rows) → Settles rows pending skip
+    → Goes name (at (held rows pending skip) idle (1 + length said.names)) (c ∷ cs) (one_more said (c ∷ cs), false)
+arrivals-goes name said rows pending skip c cs first second dash e has settles =
+    let none = no-arrivals said (whole pending rows) first second e has in
+    let before : 3 ≡ 1 + length said.names = ap (λ x. 1 + length x) (sym e) in
+    let behind : 4 ≡ 1 + length (said.names ++ (c ∷ cs) ∷ []) = ap (λ x. 1 + length (x ++ (c ∷ cs) ∷ [])) (sym e) in (
+      subst (λ k. Passes name (at (held rows pending skip) idle k) (c ∷ cs)) before (step.arrivals-passes name rows pending skip c cs dash settles),
+      record {
+        rows = whole pending rows;
+        pending = Some (codes "arrivals", (c ∷ cs) ∷ []);
+        skip = skip;
+        walk_is = ap (λ k. walked rules [] (at (held rows pending skip) idle k) (c ∷ cs)) (sym before) ∙ step.arrivals-walked rows pending skip c cs dash
+            ∙ ap (λ k. at (held (whole pending rows) (Some (codes "arrivals", (c ∷ cs) ∷ [])) skip) idle k) behind;
+        has = subst (Has (one_more said (c ∷ cs))) (sym (first-use (codes "arrivals") _ ((c ∷ cs) ∷ []) (whole pending rows) none)) (has-arrivals said (whole pending rows) first second (c ∷ cs) e has);
+        settles = step.arrivals-settles (whole pending rows) skip (c ∷ cs) (no-row (codes "arrivals") (whole pending rows) none);
+      },
+    )
+
 abbrev then_ready : Option Said → Option (Said × Bool)
 then_ready = option_map (λ more. (more, false))
 
@@ -161,7 +180,7 @@ same-after x after e = cc
 
 -- a word that may be a name
 plain-goes : (name : Text) (said : Said) (rows : List Row) (pending : Option (Text × List Text)) (skip : ℕ) (word : Text) (after : Said × Bool) (names : List Text) → said.names ≡ names
-    → Plain word → then_ready (if nat_le (length names) 1 then Some (one_more said word) else None) ≡ Some after → Has said (whole pending rows) → Settles rows pending skip
+    → Plain word → then_ready (if nat_le (length names) 2 then Some (one_more said word) else None) ≡ Some after → Has said (whole pending rows) → Settles rows pending skip
     → Goes name (at (held rows pending skip) idle (1 + length said.names)) word after
 plain-goes name said rows pending skip word after [] e plain is has settles =
     let w = at (held rows pending skip) idle (1 + length said.names) in
@@ -171,7 +190,12 @@ plain-goes name said rows pending skip word after (one ∷ []) e plain is has se
     let w = at (held rows pending skip) idle (1 + length said.names) in
     subst (Goes name w word) (same-after (one_more said word) after is)
     (subst (λ x. Goes name w x (one_more said x, false)) (sym plain.word_is) (script-goes name said rows pending skip plain.first plain.rest one plain.no_dash e has settles))
-plain-goes name said rows pending skip word after (one ∷ two ∷ more) e plain is has settles = absurd (too-many (nat_le (length (one ∷ two ∷ more)) 1) (lt-leb (length (one ∷ two ∷ more)) 1 (omega arith)) is)
+plain-goes name said rows pending skip word after (one ∷ two ∷ []) e plain is has settles =
+    let w = at (held rows pending skip) idle (1 + length said.names) in
+    subst (Goes name w word) (same-after (one_more said word) after is)
+    (subst (λ x. Goes name w x (one_more said x, false)) (sym plain.word_is) (arrivals-goes name said rows pending skip plain.first plain.rest one two plain.no_dash e has settles))
+plain-goes name said rows pending skip word after (one ∷ two ∷ three ∷ more) e plain is has settles =
+    absurd (too-many (nat_le (length (one ∷ two ∷ three ∷ more)) 2) (lt-leb (length (one ∷ two ∷ three ∷ more)) 2 (omega arith)) is)
   where
     too-many : (b : Bool) → b ≡ false → then_ready (if b then Some (one_more said word) else None) ≡ Some after → ⊥
     too-many true h is = absurd (false≢true (sym h))

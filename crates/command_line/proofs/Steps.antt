@@ -10,17 +10,20 @@ use Rattle.clap.specs.declared.parser.matches.ValueSource.TheVariants.{CommandLi
 use Rattle.command_line.specs.Found.{row_at}
 use Rattle.clap.specs.Takes.{turn_passes, settle_passes}
 use Rattle.clap.proofs.OnLiterals.{clap_on_literals}
-use Rattle.command_line.specs.Tool.{command_app, name_rule, script_rule, budget_rule, stats_rule, image_rule}
+use Rattle.command_line.specs.Tool.{command_app, name_rule, script_rule, arrivals_rule, budget_rule, stats_rule, image_rule}
 
 -- the arguments of a subcommand that is built
 abbrev pub rules : List Rule
-rules = filled_from 1 (name_rule ∷ script_rule ∷ budget_rule ∷ stats_rule ∷ image_rule ∷ [])
+rules = filled_from 1 (name_rule ∷ script_rule ∷ arrivals_rule ∷ budget_rule ∷ stats_rule ∷ image_rule ∷ [])
 
 abbrev pub name_built : Rule
 name_built = with_index 1 (filled name_rule)
 
 abbrev pub script_built : Rule
 script_built = with_index 2 (filled script_rule)
+
+abbrev pub arrivals_built : Rule
+arrivals_built = with_index 3 (filled arrivals_rule)
 
 abbrev pub budget_built : Rule
 budget_built = filled budget_rule
@@ -87,6 +90,12 @@ pub script-walked : (rows : List Row) (pending : Option (Text × List Text)) (sk
 unfolding clap_on_literals
 script-walked rows pending skip c cs h = simp (h, and-false)
 
+pub arrivals-walked : (rows : List Row) (pending : Option (Text × List Text)) (skip c : ℕ) (cs : Text) → eqb c 45 ≡ false
+    → walked rules [] (at (held rows pending skip) idle 3) (c ∷ cs)
+    ≡ at (held (whole pending rows) (Some (codes "arrivals", (c ∷ cs) ∷ [])) skip) idle 4
+unfolding clap_on_literals
+arrivals-walked rows pending skip c cs h = simp (h, and-false)
+
 -- what is pending may be used
 abbrev pub Settles : List Row → Option (Text × List Text) → ℕ → Type 0
 Settles rows pending skip = settle_passes rules false (held rows pending skip) ≡ true
@@ -129,12 +138,20 @@ pub script-passes : (name : Text) (rows : List Row) (pending : Option (Text × L
 unfolding clap_on_literals
 script-passes name rows pending skip c cs h ok = simp (h, ok, and-false)
 
--- what is pending behind a name, a script's name or a number may be used
+pub arrivals-passes : (name : Text) (rows : List Row) (pending : Option (Text × List Text)) (skip c : ℕ) (cs : Text) → eqb c 45 ≡ false → Settles rows pending skip
+    → Passes name (at (held rows pending skip) idle 3) (c ∷ cs)
+unfolding clap_on_literals
+arrivals-passes name rows pending skip c cs h ok = simp (h, ok, and-false)
+
+-- what is pending behind a name, a script's name, that of arrivals or a number may be used
 pub name-settles : (rows : List Row) (skip : ℕ) (word : Text) → has_row (codes "name") rows ≡ false → Settles rows (Some (codes "name", word ∷ [])) skip
 name-settles rows skip word new = simp new
 
 pub script-settles : (rows : List Row) (skip : ℕ) (word : Text) → has_row (codes "script") rows ≡ false → Settles rows (Some (codes "script", word ∷ [])) skip
 script-settles rows skip word new = simp new
+
+pub arrivals-settles : (rows : List Row) (skip : ℕ) (word : Text) → has_row (codes "arrivals") rows ≡ false → Settles rows (Some (codes "arrivals", word ∷ [])) skip
+arrivals-settles rows skip word new = simp new
 
 pub budget-settles : (rows : List Row) (skip : ℕ) (word : Text) → has_row (codes "budget") rows ≡ false → Settles rows (Some (codes "budget", word ∷ [])) skip
 budget-settles rows skip word new = simp new

@@ -26,9 +26,10 @@ flag_text false = codes "false"
 
 -- Rows say what was said.
 pub record Says (said : Said) (rows : List Row) : Type 0 where
-  pub few : length said.names ≤ 2
+  pub few : length said.names ≤ 3
   pub name : text_at (codes "name") rows ≡ slice_get said.names 0
   pub script : text_at (codes "script") rows ≡ slice_get said.names 1
+  pub arrivals : text_at (codes "arrivals") rows ≡ slice_get said.names 2
   pub budget : SpellsBudget said.budget (text_at (codes "budget") rows)
   pub stats : one_of (codes "stats") rows ≡ Some (flag_text said.stats)
   pub image : one_of (codes "image") rows ≡ Some (flag_text said.image)

@@ -12,6 +12,10 @@ name_rule = record (new_rule (codes "name")) { required = true; action = Some Se
 abbrev pub script_rule : Rule
 script_rule = record (new_rule (codes "script")) { action = Some Set }
 
+-- the name of arrivals
+abbrev pub arrivals_rule : Rule
+arrivals_rule = record (new_rule (codes "arrivals")) { action = Some Set }
+
 abbrev pub budget_rule : Rule
 budget_rule = record (new_rule (codes "budget")) { long = Some (codes "budget"); action = Some Set }
 
@@ -23,7 +27,7 @@ image_rule = record (new_rule (codes "image")) { long = Some (codes "image"); ac
 
 -- a subcommand of this name
 abbrev pub command_app : List ℕ → App
-command_app name = with_rule (with_rule (with_rule (with_rule (with_rule (new_app name) name_rule) script_rule) budget_rule) stats_rule) image_rule
+command_app name = with_rule (with_rule (with_rule (with_rule (with_rule (with_rule (new_app name) name_rule) script_rule) arrivals_rule) budget_rule) stats_rule) image_rule
 
 -- no word stands before the subcommand, and there is no help
 abbrev pub without_help : Shape → Shape
@@ -35,6 +39,7 @@ bare_app = on_top without_help (new_app (codes "sts"))
 -- the command line
 abbrev pub tool_app : App
 tool_app =
-    with_subcommand (with_subcommand (with_subcommand (with_subcommand (with_subcommand bare_app
+    with_subcommand (with_subcommand (with_subcommand (with_subcommand (with_subcommand (with_subcommand bare_app
     (command_app (codes "check")).top) (command_app (codes "build")).top) (command_app (codes "run")).top) (command_app (codes "run-hex")).top)
+    (command_app (codes "run-at")).top)
     (command_app (codes "big")).top

@@ -10,7 +10,7 @@ ghost use Rattle.command_line.specs.Found.{text_at, Says};
 use clap::ArgMatches;
 use sts_words::{Given, Names, Order, asked_by};
 
-/// The names, of which a second stands only behind a first.
+/// The names, of which each stands only behind the one before.
 fn names_in<'a>(matches: &ArgMatches<'a>) -> Names<'a>
     ensures { (said : Said) → Says said (rows_of (found_of matches.now)) → names_view result ≡ said.names }
 {
@@ -18,7 +18,10 @@ fn names_in<'a>(matches: &ArgMatches<'a>) -> Names<'a>
         None => Names::Nothing,
         Some(name) => match matches.get_str("script") {
             None => Names::One(name),
-            Some(script) => Names::Two(name, script),
+            Some(script) => match matches.get_str("arrivals") {
+                None => Names::Two(name, script),
+                Some(arrivals) => Names::Three(name, script, arrivals),
+            },
         },
     }
 }

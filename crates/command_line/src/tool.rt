@@ -25,6 +25,14 @@ fn script<'a>(alloc: Global) -> Arg<'a>
     Arg::new(alloc, "script").action(ArgAction::Set)
 }
 
+/// The name of arrivals.
+fn arrivals<'a>(alloc: Global) -> Arg<'a>
+    ensures rule { rule_of result ≡ spec.arrivals_rule }
+    ensures local { result.global ≡ false }
+{
+    Arg::new(alloc, "arrivals").action(ArgAction::Set)
+}
+
 /// `--budget M` or `--budget=M`.
 fn budget<'a>(alloc: Global) -> Arg<'a>
     ensures rule { rule_of result ≡ spec.budget_rule }
@@ -58,10 +66,12 @@ fn image<'a>(alloc: Global) -> Arg<'a>
 /// A command with its names.
 fn with_names<'a>(alloc: Global, line: Command<'a>) -> Result<Command<'a>, AllocError>
     requires { (out-Command line).has_globals ≡ false }
-    ensures app { IfOk result (λ c. app_of c ≡ with_rule (with_rule (app_of line.entry) spec.name_rule) spec.script_rule) }
+    ensures app { IfOk result (λ c. app_of c ≡ with_rule (with_rule (with_rule (app_of line.entry) spec.name_rule) spec.script_rule) spec.arrivals_rule) }
     ensures local { IfOk result (λ c. (out-Command c).has_globals ≡ false) }
 {
-    line.arg(name(alloc))?.arg(script(alloc))
+    line.arg(name(alloc))?
+        .arg(script(alloc))?
+        .arg(arrivals(alloc))
 }
 
 /// The command of that name.
@@ -116,5 +126,6 @@ pub fn tool<'a>(alloc: Global) -> Result<Command<'a>, AllocError>
     let line = with_command(alloc, line, "build")?;
     let line = with_command(alloc, line, "run")?;
     let line = with_command(alloc, line, "run-hex")?;
+    let line = with_command(alloc, line, "run-at")?;
     with_command(alloc, line, "big")
 }

@@ -1,5 +1,5 @@
 -- Which arrivals are applied: those up to a moment at which the run isn't over.
-use Rattle.std.proofs.Common.{◌≡◌, ℕ, zero, suc, ◌-◌, ◌<◌, ◌≤◌, ◌⊎◌, inl, inr, Bool, true, false, List, [], ◌∷◌, nat_le, nat_lt, Some, slice_get, length, refl, sym, ap, ◌∙◌, subst, arith, ◌&&◌, if◌then◌else◌}
+use Rattle.std.proofs.Common.{◌≡◌, ℕ, zero, suc, ◌-◌, ◌<◌, ◌≤◌, ◌⊎◌, inl, inr, Bool, true, false, List, [], ◌∷◌, nat_le, nat_lt, Some, slice_get, length, take, refl, sym, ap, ◌∙◌, subst, arith, ◌&&◌, if◌then◌else◌}
 use Rattle.std.specs.Prelude.{not}
 use Rattle.std.proofs.lemmas.Bool.{false≢true}
 use Rattle.std.proofs.lemmas.Bool.Decides.{nat_tests}
@@ -45,6 +45,16 @@ module _ {A S : Type 0} (K : Kind A S) where
           → ((j : ℕ) → slice_get left j ≡ Some a → j < length (applied K x.count left m (acts x.act (run K (x.count - n) w)))) → i < length (applied K n (x ∷ left) m w)
       by_place zero g e going on others = (let h = head e going in subst (λ xs. 0 < length xs) (sym h) (omega arith))
       by_place (suc j) g e going on others = (let k = others j g in let h = head e going in subst (λ xs. suc j < length xs) (sym h) (omega arith))
+
+-- those that are applied are the first so many
+pub applied_first : {A S : Type 0} (K : Kind A S) (left : List Arrival) (n m : ℕ) (w : World A S) → applied K n left m w ≡ take (length (applied K n left m w)) left
+applied_first K [] n m w = refl
+applied_first K (x ∷ left) n m w = by_test (nat_le x.count m && not (over (run K (x.count - n) w).board)) (applied_first K left x.count m (acts x.act (run K (x.count - n) w)))
+  where
+    by_test : (t : Bool) → applied K x.count left m (acts x.act (run K (x.count - n) w)) ≡ take (length (applied K x.count left m (acts x.act (run K (x.count - n) w)))) left
+        → (if t then x ∷ applied K x.count left m (acts x.act (run K (x.count - n) w)) else []) ≡ take (length (if t then x ∷ applied K x.count left m (acts x.act (run K (x.count - n) w)) else [])) (x ∷ left)
+    by_test true h = ap (λ xs. x ∷ xs) h
+    by_test false h = refl
 
 -- Each arrival whose number is below the budget is applied, or the run with those before it is over within that number of steps.
 pub all_applied : {A S : Type 0} (K : Kind A S) (arrivals : List Arrival) (budget executed : ℕ) (w : World A S) → Rises 0 arrivals → executed ≤ budget → ((n : ℕ) → n < executed → over (run_with K 0 arrivals n w).board ≡ false)

@@ -8,3 +8,4 @@ pub mod Closing
 pub mod Listed
 pub mod Standing
 pub mod Reaching
+pub mod Images

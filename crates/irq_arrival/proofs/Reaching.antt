@@ -1,5 +1,5 @@
 -- The source of a program runs with arrivals as its image does.
-use Rattle.std.proofs.Common.{◌≡◌, ℕ, ◌+◌, ◌*◌, ◌<◌, ◌≤◌, ◌⊎◌, inl, inr, Bool, true, false, List, Some, length, slice_get, refl, sym, ap, ◌∙◌, subst, arith}
+use Rattle.std.proofs.Common.{◌≡◌, ℕ, ◌+◌, ◌*◌, ◌<◌, ◌≤◌, ◌⊎◌, inl, inr, Bool, true, false, List, Some, length, take, slice_get, refl, sym, ap, ◌∙◌, subst, arith}
 use Rattle.board_world.specs.Observations.{ByteList}
 use Rattle.board_world.specs.Board.{Board, Entry, over}
 use Rattle.board_world.specs.Arrivals.{Arrival, Rises, Placed, Keeps, applied}
@@ -12,7 +12,7 @@ use Rattle.sts_implements.specs.Images.{instructions_of_a_step, ImageImplements,
 use Rattle.board_run.specs.Ran.{IsExecuted}
 use Rattle.irq_arrival.specs.Along.{world_with}
 use Rattle.irq_arrival.specs.ReachesWith.{source_with, ReachesWith}
-use Rattle.irq_arrival.proofs.Applies.{all_applied}
+use Rattle.irq_arrival.proofs.Applies.{all_applied, applied_first}
 
 looks : (b c : Board) → b ≡ c → LooksLike b c
 looks b c e = record {
@@ -65,6 +65,9 @@ module _ (P : TypedProgram) (texts : List ByteList) (image : List ℕ) (implemen
       is_executed = e;
       rises = (kept executed).rises;
       placed = (kept executed).placed;
+      are_first =
+          applied_first (fibers image) arrivals 0 executed (bank_start image until script free)
+          ∙ ap (λ n. take n arrivals) (paired_length (Placed instructions_of_a_step) (applied (fibers image) 0 arrivals executed (bank_start image until script free)) (kept executed).places (kept executed).placed);
       alike = looks _ _ (kept executed).board;
       at_most = (let m = (kept executed).at_most in let l = e.within in omega (arith, m, l));
       at_least = λ n l. enough budget executed n e l (over (world_with image until script arrivals free executed).board) refl;

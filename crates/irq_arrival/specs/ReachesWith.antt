@@ -1,5 +1,5 @@
 -- How far the source of a program comes, with arrivals at steps of its own, within a budget of instructions of its image with arrivals.
-use Rattle.std.specs.Prelude.{◌≡◌, ℕ, ◌*◌, ◌<◌, ◌≤◌, ◌⊎◌, true, List, Some, length, slice_get}
+use Rattle.std.specs.Prelude.{◌≡◌, ℕ, ◌*◌, ◌<◌, ◌≤◌, ◌⊎◌, true, List, Some, length, take, slice_get}
 use Rattle.board_world.specs.Observations.{ByteList}
 use Rattle.board_world.specs.Board.{Entry, over}
 use Rattle.board_world.specs.Activities.{World}
@@ -20,12 +20,13 @@ source_with P texts until script places steps = run_with (source P texts) 0 plac
 
 -- For these free words the run of an image with arrivals looks, after the instructions executed within a budget, like its program's source after
 -- these counted steps, where each arrival that was applied comes at a step of the source's own, near its instruction: those steps don't fall, and
--- neither is any past the last. There are no more counted steps than instructions of the budget, and one at least for each 512 of it where the source
+-- neither is any past the last. Those that were applied are the first so many. There are no more counted steps than instructions of the budget, and one at least for each 512 of it where the source
 -- hasn't ended. Each arrival whose number is below the budget is applied, unless the source has ended within that number of counted steps.
 pub record ReachesWith (P : TypedProgram) (texts : List ByteList) (image : List ℕ) (until : ℕ) (script : List Entry) (arrivals : List Arrival) (budget : ℕ) (free : List ℕ) (executed steps : ℕ) (places : List Arrival) : Type 0 where
   pub is_executed : IsExecuted (world_with image until script arrivals free) budget executed
   pub rises : RisesTo 0 places steps
   pub placed : Paired (Placed instructions_of_a_step) (applied (fibers image) 0 arrivals executed (bank_start image until script free)) places
+  pub are_first : applied (fibers image) 0 arrivals executed (bank_start image until script free) ≡ take (length places) arrivals
   pub alike : LooksLike (source_with P texts until script places steps).board (world_with image until script arrivals free executed).board
   pub at_most : steps ≤ budget
   pub at_least : (n : ℕ) → instructions_of_a_step * n ≤ budget → (n ≤ steps) ⊎ (over (source_with P texts until script places steps).board ≡ true)

@@ -1,5 +1,5 @@
 -- The statuses of calls in which nothing fails, and of commands.
-use Rattle.std.proofs.Common.{◌≡◌, codes, ℕ, List, [], inl, inr, refl, sym, subst, ap, ◌∙◌, arith}
+use Rattle.std.proofs.Common.{◌≡◌, ◌⊎◌, codes, ℕ, List, [], inl, inr, refl, sym, subst, ap, ◌∙◌, arith}
 use Rattle.std.specs.Prelude.{Option, Some, None, Bool, true, false}
 use Rattle.std.proofs.lemmas.Bool.{false≢true}
 use Rattle.board_world.specs.Observations.{ByteList, End, Quietly, By_script, Panicked, Faulted}
@@ -13,7 +13,7 @@ use Rattle.run_tool.specs.declared.ending.Ending.{Ending}
 use Rattle.run_tool.specs.declared.ending.Ending.TheVariants.{Gave, Cut, NoMemory}
 use Rattle.run_tool.specs.declared.fetched.Fetched.{Fetched}
 use Rattle.run_tool.specs.declared.fetched.Fetched.TheVariants.{Text, Absent, Long, Failed}
-use Rattle.sts_words.specs.Orders.{Asked, check_program, build_program, run_program, run_image, run_big}
+use Rattle.sts_words.specs.Orders.{Asked, check_program, build_program, run_program, run_image, run_at, run_big}
 use Rattle.run_tool.specs.Fetches.{MayFetch}
 use Rattle.run_tool.specs.Answers.{Answer, says, status_of, status_number, Ends, ending_number}
 use Rattle.run_tool.specs.Files.{AnswersFetched}
@@ -29,6 +29,11 @@ use Rattle.run_tool.specs.Orders.{file_of, AnswersText, AnswersNamed, MayAnswer,
 use Rattle.sts_whole.specs.Programs.{source_after}
 use Rattle.sts_whole.proofs.Laws.{faultless}
 use Rattle.run_tool.proofs.ImageRuns.{fetch-onwards, program-onwards, hex-onwards}
+use Rattle.arrival_file.specs.declared.arrival.Arrival.{Arrival}
+use Rattle.irq_arrival.specs.SourceRuns.{source_at}
+use Rattle.run_tool.specs.Arrivals.{AnswersArrivals, OverArrivals}
+use Rattle.run_tool.specs.RunAt.{RunsProgramAt, RunsOnScript, RunsOutside, RunsTextAt}
+use Rattle.run_tool.proofs.RunsAt.{text-runs-onwards}
 
 -- what may be answered may be answered too where the folder may have failed more
 text-onwards : (told : List ℕ → Option (Option (List ℕ))) (rose rose' : Type 0) (asked : Asked) (text : List ℕ) (answer : Answer) → (rose → rose') → AnswersText told rose asked text answer → AnswersText told rose' asked text answer
@@ -36,6 +41,7 @@ text-onwards told rose rose' (check_program name) text answer f h = h
 text-onwards told rose rose' (build_program name) text answer f h = h
 text-onwards told rose rose' (run_program name script budget stats image) text answer f h = program-onwards told told rose rose' script budget stats image text answer (λ file. refl) f h
 text-onwards told rose rose' (run_image name script budget) text answer f h = hex-onwards told told rose rose' script budget text answer (λ file. refl) f h
+text-onwards told rose rose' (run_at name script arrivals budget) text answer f h = text-runs-onwards told told rose rose' script arrivals budget (λ file. refl) f text answer h
 text-onwards told rose rose' (run_big size budget stats) text answer f h = h
 
 fetched-onwards : (told : List ℕ → Option (Option (List ℕ))) (rose rose' : Type 0) (asked : Asked) (fetched : Fetched) (answer : Answer) → (rose → rose')
@@ -50,7 +56,7 @@ named-onwards : (told : List ℕ → Option (Option (List ℕ))) (rose rose' : T
 named-onwards told rose rose' asked (Some name) answer f h = (h.0, fetch-onwards (told name) (told name) rose rose' h.0 refl f h.1, fetched-onwards told rose rose' asked h.0 answer f h.2)
 named-onwards told rose rose' asked None answer f h = text-onwards told rose rose' asked [] answer f h
 
-onwards : (told : List ℕ → Option (Option (List ℕ))) (rose rose' : Type 0) (asked : Option Asked) (answer : Answer) → (rose → rose') → MayAnswer told rose asked answer → MayAnswer told rose' asked answer
+pub onwards : (told : List ℕ → Option (Option (List ℕ))) (rose rose' : Type 0) (asked : Option Asked) (answer : Answer) → (rose → rose') → MayAnswer told rose asked answer → MayAnswer told rose' asked answer
 onwards told rose rose' None answer f h = h
 onwards told rose rose' (Some asked) answer f h = named-onwards told rose rose' asked (file_of asked) answer f h
 
@@ -78,6 +84,7 @@ of_refused other = false
 
 abbrev of_script : Status → Bool
 of_script status.ScriptRefused = true
+of_script status.ArrivalsRefused = true
 of_script other = false
 
 abbrev of_folder : Status → Bool
@@ -98,6 +105,7 @@ not-said t answer given output i f e = two-ways (t (status_of answer)) (is-of t 
 abbrev of_run : Status → Bool
 of_run status.Refused = false
 of_run status.ScriptRefused = false
+of_run status.ArrivalsRefused = false
 of_run status.ImageRefused = false
 of_run status.FolderFailed = false
 of_run other = true
@@ -131,6 +139,11 @@ program-status P texts script budget stats image answer r =
     subst (λ e. SoundEnd (λ kind address. ⊥) e) (sym r.reaches.alike.end) (faultless P texts r.image r.implements script r.free r.executed) in
     ap (λ a. of_program (status_of a)) r.is ∙ program-of (source_after P texts script r.steps).board.end sound
 
+at-status : (P : TypedProgram) (texts : List ByteList) (script : Script) (come : List Arrival) (budget : ℕ) (answer : Answer) → RunsProgramAt P texts script come budget answer → of_program (status_of answer) ≡ true
+at-status P texts script come budget answer r =
+    let b = (source_at P texts script r.meets.places r.meets.steps).board in
+    ap (λ a. of_program (status_of a)) r.is ∙ program-of b.end r.meets.faultless
+
 -- a status of which runs have none
 abbrev Misses : (Status → Bool) → (Status → Bool) → Type 0
 Misses t kind = (s : Status) → kind s ≡ true → t s ≡ false
@@ -149,6 +162,7 @@ refused-run other e = refl
 
 script-run : Misses of_script of_run
 script-run status.ScriptRefused e = absurd (two-ways false refl e)
+script-run status.ArrivalsRefused e = absurd (two-ways false refl e)
 script-run other e = refl
 
 folder-run : Misses of_folder of_run
@@ -186,6 +200,16 @@ script-one t answers told rose (Some name) answer a b c d i h =
     by_case text (inl x) = (x.0, x.2)
     by_case text (inr x) = absurd (not-said t answer status.ScriptRefused _ i d x.2)
 
+-- the same of arrivals
+arrivals-one : (t : Status → Bool) (answers : List Arrival → Answer → Type 0) (told : List ℕ → Option (Option (List ℕ))) (rose : Type 0) (name : List ℕ) (answer : Answer) → t status.Missing ≡ false → t status.TooLong ≡ false
+    → t status.FolderFailed ≡ false → t status.ArrivalsRefused ≡ false → t (status_of answer) ≡ true → OverArrivals told rose name answers answer → (come : List Arrival) × answers come answer
+arrivals-one t answers told rose name answer a b c d i h =
+    (let r = text-one t (AnswersArrivals answers) (told name) rose answer a b c i h.0 h.1 h.2 in by_case r.0 r.1)
+  where
+    by_case : (text : List ℕ) → AnswersArrivals answers text answer → (come : List Arrival) × answers come answer
+    by_case text (inl x) = (x.0, x.2)
+    by_case text (inr x) = absurd (not-said t answer status.ArrivalsRefused _ i d x.2)
+
 -- a run of a program, and of an image, with such a status
 no-program-run : (t : Status → Bool) (told : List ℕ → Option (Option (List ℕ))) (rose : Type 0) (script : Option (List ℕ)) (budget : ℕ) (stats image : Bool) (text : List ℕ) (answer : Answer) → Misses t of_program
     → t status.Missing ≡ false → t status.TooLong ≡ false → t status.FolderFailed ≡ false → t status.ScriptRefused ≡ false → t status.Refused ≡ false → t (status_of answer) ≡ true
@@ -194,6 +218,15 @@ no-program-run t told rose script budget stats image text answer m a b c d f i h
     let p = accepted-one t (λ P texts. OverScript told rose script (λ read. RunsProgram P texts read budget stats image)) text answer f i h in
     let r = script-one t (λ read. RunsProgram p.0 p.1 read budget stats image) told rose script answer a b c d i p.2 in
     missed t of_program answer m (program-status p.0 p.1 r.0 budget stats image answer r.1) i
+
+no-run-at : (t : Status → Bool) (told : List ℕ → Option (Option (List ℕ))) (rose : Type 0) (script arrivals : List ℕ) (budget : ℕ) (text : List ℕ) (answer : Answer) → Misses t of_program
+    → t status.Missing ≡ false → t status.TooLong ≡ false → t status.FolderFailed ≡ false → t status.ScriptRefused ≡ false → t status.ArrivalsRefused ≡ false → t status.Refused ≡ false → t (status_of answer) ≡ true
+    → RunsTextAt told rose script arrivals budget text answer → ⊥
+no-run-at t told rose script arrivals budget text answer m a b c d e f i h =
+    let p = accepted-one t (RunsOutside told rose script arrivals budget) text answer f i h in
+    let r = script-one t (RunsOnScript told rose arrivals budget p.0 p.1) told rose (Some script) answer a b c d i p.2 in
+    let s = arrivals-one t (λ come. RunsProgramAt p.0 p.1 r.0 come budget) told rose arrivals answer a b c e i r.1 in
+    missed t of_program answer m (at-status p.0 p.1 r.0 s.0 budget answer s.1) i
 
 no-image-run : (t : Status → Bool) (told : List ℕ → Option (Option (List ℕ))) (rose : Type 0) (script : Option (List ℕ)) (budget : ℕ) (text : List ℕ) (answer : Answer) → Misses t of_run
     → t status.Missing ≡ false → t status.TooLong ≡ false → t status.FolderFailed ≡ false → t status.ScriptRefused ≡ false → t status.ImageRefused ≡ false → t (status_of answer) ≡ true
@@ -223,6 +256,7 @@ image-status told rose (check_program name) text answer i h = absurd (no-check o
 image-status told rose (build_program name) text answer i h = absurd (no-build of_image text answer refl refl i h)
 image-status told rose (run_program name script budget stats image) text answer i h = absurd (no-program-run of_image told rose script budget stats image text answer image-program refl refl refl refl refl i h)
 image-status told rose (run_image name script budget) text answer i h = (name, script, budget, refl)
+image-status told rose (run_at name script arrivals budget) text answer i h = absurd (no-run-at of_image told rose script arrivals budget text answer image-program refl refl refl refl refl refl i h)
 image-status told rose (run_big size budget stats) text answer i h = absurd (no-program-run of_image told rose None budget stats false (big_text size) answer image-program refl refl refl refl refl i h)
 
 -- a program is refused only where the words ask for one
@@ -231,6 +265,7 @@ refused-status told rose (check_program name) text answer i h = tt
 refused-status told rose (build_program name) text answer i h = tt
 refused-status told rose (run_program name script budget stats image) text answer i h = tt
 refused-status told rose (run_image name script budget) text answer i h = no-image-run of_refused told rose script budget text answer refused-run refl refl refl refl refl i h
+refused-status told rose (run_at name script arrivals budget) text answer i h = tt
 refused-status told rose (run_big size budget stats) text answer i h = tt
 
 -- a script is refused only where it is named
@@ -243,7 +278,7 @@ program-script told rose name None budget stats image text answer i h =
 
 hex-script : (told : List ℕ → Option (Option (List ℕ))) (rose : Type 0) (name : List ℕ) (script : Option (List ℕ)) (budget : ℕ) (text : List ℕ) (answer : Answer) → of_script (status_of answer) ≡ true
     → RunsHex told rose script budget text answer → NamesScript (Some (run_image name script budget))
-hex-script told rose name (Some script) budget text answer i h = inr (name, script, budget, refl)
+hex-script told rose name (Some script) budget text answer i h = inr (inl (name, script, budget, refl))
 hex-script told rose name None budget text answer i (inl h) = absurd (missed of_script of_run answer script-run (board-status h.0 default_script budget answer h.2) i)
 hex-script told rose name None budget text answer i (inr h) = absurd (not-said of_script answer status.ImageRefused _ i refl h.2)
 
@@ -258,6 +293,7 @@ script-status told rose (check_program name) text answer i h = absurd (no-check 
 script-status told rose (build_program name) text answer i h = absurd (no-build of_script text answer refl refl i h)
 script-status told rose (run_program name script budget stats image) text answer i h = program-script told rose name script budget stats image text answer i h
 script-status told rose (run_image name script budget) text answer i h = hex-script told rose name script budget text answer i h
+script-status told rose (run_at name script arrivals budget) text answer i h = inr (inr (name, script, arrivals, budget, refl))
 script-status told rose (run_big size budget stats) text answer i h = absurd (big-script told rose budget stats (big_text size) answer i h)
 
 -- Of an answer to words, which is no answer to a file that isn't there or is too long, or to a folder that failed, something holds that holds of answers to texts.
@@ -312,11 +348,32 @@ failed-hex told rose script budget text answer i (inl h) =
     failed-over told rose script (λ read. RunsBoard h.0 read budget) answer i (λ read r. missed of_folder of_run answer folder-run (board-status h.0 read budget answer r) i) h.2
 failed-hex told rose script budget text answer i (inr h) = absurd (not-said of_folder answer status.ImageRefused _ i refl h.2)
 
+failed-arrivals : (told : List ℕ → Option (Option (List ℕ))) (rose : Type 0) (name : List ℕ) (answers : List Arrival → Answer → Type 0) (answer : Answer) → of_folder (status_of answer) ≡ true
+    → ((come : List Arrival) → answers come answer → ⊥) → OverArrivals told rose name answers answer → rose
+failed-arrivals told rose name answers answer i f h = failed-file (AnswersArrivals answers) (told name) rose answer i by_case h.0 h.1 h.2
+  where
+    by_case : (text : List ℕ) → AnswersArrivals answers text answer → rose
+    by_case text (inl x) = absurd (f x.0 x.2)
+    by_case text (inr x) = absurd (not-said of_folder answer status.ArrivalsRefused _ i refl x.2)
+
+failed-run-at : (told : List ℕ → Option (Option (List ℕ))) (rose : Type 0) (script arrivals : List ℕ) (budget : ℕ) (text : List ℕ) (answer : Answer) → of_folder (status_of answer) ≡ true
+    → RunsTextAt told rose script arrivals budget text answer → rose
+failed-run-at told rose script arrivals budget text answer i h =
+    (let p = accepted-one of_folder (RunsOutside told rose script arrivals budget) text answer refl i h in
+    failed-file (AnswersScript (RunsOnScript told rose arrivals budget p.0 p.1)) (told script) rose answer i (λ bytes x. by_case p.0 p.1 bytes x) p.2.0 p.2.1 p.2.2)
+  where
+    by_case : (P : TypedProgram) (texts : List ByteList) (bytes : List ℕ) → AnswersScript (RunsOnScript told rose arrivals budget P texts) bytes answer → rose
+    by_case P texts bytes (inl x) =
+        failed-arrivals told rose arrivals (λ come. RunsProgramAt P texts x.0 come budget) answer i
+        (λ come r. missed of_folder of_run answer folder-run (run-program (status_of answer) (at-status P texts x.0 come budget answer r)) i) x.2
+    by_case P texts bytes (inr x) = absurd (not-said of_folder answer status.ScriptRefused _ i refl x.2)
+
 failed-text : (told : List ℕ → Option (Option (List ℕ))) (rose : Type 0) (asked : Asked) (text : List ℕ) (answer : Answer) → of_folder (status_of answer) ≡ true → AnswersText told rose asked text answer → rose
 failed-text told rose (check_program name) text answer i h = absurd (no-check of_folder text answer refl refl i h)
 failed-text told rose (build_program name) text answer i h = absurd (no-build of_folder text answer refl refl i h)
 failed-text told rose (run_program name script budget stats image) text answer i h = failed-run told rose script budget stats image text answer i h
 failed-text told rose (run_image name script budget) text answer i h = failed-hex told rose script budget text answer i h
+failed-text told rose (run_at name script arrivals budget) text answer i h = failed-run-at told rose script arrivals budget text answer i h
 failed-text told rose (run_big size budget stats) text answer i h = failed-run told rose None budget stats false (big_text size) answer i h
 
 failed-named : (told : List ℕ → Option (Option (List ℕ))) (rose : Type 0) (asked : Asked) (file : Option (List ℕ)) (answer : Answer) → of_folder (status_of answer) ≡ true
@@ -328,15 +385,16 @@ failed-answer : (told : List ℕ → Option (Option (List ℕ))) (rose : Type 0)
 failed-answer told rose None answer i r = absurd (not-said of_folder answer status.Usage _ i refl r)
 failed-answer told rose (Some asked) answer i r = failed-named told rose asked (file_of asked) answer i r
 
--- the numbers 10 to 13 and 20 stand for one status each
+-- the numbers 10, 12, 13 and 20 stand for one status each, and 11 for two
 refused-10 : (ending : Ending) → 10 ≡ ending_number ending → ending ≡ Gave status.Refused
 refused-10 (Gave status.Refused) e = refl
 refused-10 (Gave other) e = absurd (omega (arith, e))
 refused-10 Cut e = absurd (omega (arith, e))
 refused-10 NoMemory e = absurd (omega (arith, e))
 
-script-11 : (ending : Ending) → 11 ≡ ending_number ending → ending ≡ Gave status.ScriptRefused
-script-11 (Gave status.ScriptRefused) e = refl
+script-11 : (ending : Ending) → 11 ≡ ending_number ending → (ending ≡ Gave status.ScriptRefused) ⊎ (ending ≡ Gave status.ArrivalsRefused)
+script-11 (Gave status.ScriptRefused) e = inl refl
+script-11 (Gave status.ArrivalsRefused) e = inr refl
 script-11 (Gave other) e = absurd (omega (arith, e))
 script-11 Cut e = absurd (omega (arith, e))
 script-11 NoMemory e = absurd (omega (arith, e))
@@ -365,7 +423,10 @@ module _ {B : Type 0} (log : B → Option (List (ℕ × ℕ))) (failed : B → �
   refused is = (let k = given-answer log failed places places' lead (MayAnswer told rose asked) a b status.Refused ending (refused-10 ending (sym is ∙ n)) s in refused-answer told rose asked k.0 (ap of_refused k.2) k.1)
 
   pub script-refused : number ≡ 11 → NamesScript asked
-  script-refused is = (let k = given-answer log failed places places' lead (MayAnswer told rose asked) a b status.ScriptRefused ending (script-11 ending (sym is ∙ n)) s in script-answer told rose asked k.0 (ap of_script k.2) k.1)
+  script-refused is = elim (script-11 ending (sym is ∙ n)) [
+    | inl e ↦ (let k = given-answer log failed places places' lead (MayAnswer told rose asked) a b status.ScriptRefused ending e s in script-answer told rose asked k.0 (ap of_script k.2) k.1)
+    | inr e ↦ (let k = given-answer log failed places places' lead (MayAnswer told rose asked) a b status.ArrivalsRefused ending e s in script-answer told rose asked k.0 (ap of_script k.2) k.1)
+  ]
 
   pub image-refused : number ≡ 12 → AsksForImage asked
   image-refused is = (let k = given-answer log failed places places' lead (MayAnswer told rose asked) a b status.ImageRefused ending (refused-12 ending (sym is ∙ n)) s in image-answer told rose asked k.0 (ap of_image k.2) k.1)

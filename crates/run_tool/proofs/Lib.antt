@@ -8,3 +8,6 @@ mod Statuses
 mod ProgramStatuses
 mod Headlines
 mod Complete
+mod Readings
+mod RunsAt
+mod ToldAt

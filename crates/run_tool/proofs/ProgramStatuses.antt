@@ -17,13 +17,14 @@ use Rattle.run_tool.specs.Programs.{OverProgram}
 use Rattle.run_tool.specs.Check.{SaysAccepted}
 use Rattle.run_tool.specs.Build.{WritesImage}
 use Rattle.run_tool.specs.Run.{RunsProgram}
+use Rattle.run_tool.specs.RunAt.{RunsOutside}
 use Rattle.run_tool.specs.Laws.{ProgramStatuses}
 use Rattle.run_tool.specs.Completeness.{IsProgramStatus}
 
 abbrev number_of : Answer → ℕ
 number_of answer = status_number (status_of answer)
 
-run-number : (end : Option End) (number : ℕ) → SoundEnd (λ kind address. ⊥) end → number ≡ status_number (run_status end) → IsProgramStatus number
+pub run-number : (end : Option End) (number : ℕ) → SoundEnd (λ kind address. ⊥) end → number ≡ status_number (run_status end) → IsProgramStatus number
 run-number None number s e = inr (inr e)
 run-number (Some Quietly) number s e = inl e
 run-number (Some By_script) number s e = inl e
@@ -57,4 +58,5 @@ statuses one told text = record {
   not_built = λ code at number r is. denied one text WritesImage is.0 code at number r is.1 is.2;
   not_run = λ code at script budget stats image number r is.
       denied one text (λ Q texts. OverScript told ⊥ script (λ read. RunsProgram Q texts read budget stats image)) is.0 code at number r is.1 is.2;
+  not_run_at = λ code at script arrivals budget number r is. denied one text (RunsOutside told ⊥ script arrivals budget) is.0 code at number r is.1 is.2;
 }

@@ -12,6 +12,7 @@ use Rattle.run_tool.specs.Answers.{Answer, output_of}
 use Rattle.run_tool.specs.Check.{ChecksText}
 use Rattle.run_tool.specs.Build.{BuildsText}
 use Rattle.run_tool.specs.Run.{RunsText}
+use Rattle.run_tool.specs.RunAt.{RunsTextAt}
 use Rattle.run_tool.specs.RunHex.{RunsHex}
 use Rattle.run_tool.specs.Orders.{IsStatusOf}
 
@@ -32,6 +33,7 @@ pub record ProgramStatuses (told : List ℕ → Option (Option (List ℕ))) (tex
   pub not_built : (code : Code) (at number : ℕ) → IsRefusedFor text code at → IsStatusOf (BuildsText text) number → number ≡ 10
   pub not_run : (code : Code) (at : ℕ) (script : Option (List ℕ)) (budget : ℕ) (stats image : Bool) (number : ℕ) → IsRefusedFor text code at
       → IsStatusOf (RunsText told ⊥ script budget stats image text) number → number ≡ 10
+  pub not_run_at : (code : Code) (at : ℕ) (script arrivals : List ℕ) (budget number : ℕ) → IsRefusedFor text code at → IsStatusOf (RunsTextAt told ⊥ script arrivals budget text) number → number ≡ 10
 
 -- What `build` writes of a program spells an image that implements it, and no other image.
 pub record WritesReadable (P : TypedProgram) (texts : List ByteList) (answer : Answer) : Type 0 where

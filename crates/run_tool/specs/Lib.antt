@@ -9,8 +9,11 @@ pub mod Build
 pub mod Run
 pub mod Scripts
 pub mod Runs
+pub mod Arrivals
+pub mod RunAt
 pub mod RunHex
 pub mod Orders
 pub mod Headline
 pub mod Completeness
 pub mod Laws
+pub mod HeadlineAt

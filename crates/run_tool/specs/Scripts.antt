@@ -1,5 +1,5 @@
 -- The answers over a script.
-use Rattle.std.specs.Prelude.{◌≡◌, ◌++◌, ◌⊎◌, ℕ, List, [], codes, Option, Some, None, Ok, Err}
+use Rattle.std.specs.Prelude.{◌≡◌, ◌++◌, ℕ, List, [], codes, Option, Some, None, Ok, Err}
 use Rattle.serde_json.specs.Data.{Data}
 use Rattle.board_world.specs.Transcript.{count_text}
 use Rattle.event_script.specs.declared.script.Script.{Script}
@@ -14,7 +14,7 @@ use Rattle.std.specs.declared.vec.Vec.{Vec}
 use Rattle.std.specs.declared.alloc.Global.{Global}
 use Rattle.run_tool.specs.Answers.{Answer, says}
 use Rattle.run_tool.specs.Fetches.{MayFetch}
-use Rattle.run_tool.specs.Files.{AnswersFile}
+use Rattle.run_tool.specs.Files.{AnswersFile, AnswersRead, none_to_read}
 
 -- the script where none is named: it has no entries, and ends at 1000 ms
 abbrev pub default_script : Script
@@ -31,9 +31,7 @@ script_refused_line code = codes "script refused " ++ (count_text code ++ codes 
 
 -- the answers to a text of a script, by those over a script: the script that it stands for, or the code by which it stands for none
 abbrev pub AnswersScript : (Script → Answer → Type 0) → List ℕ → Answer → Type 0
-AnswersScript answers text answer =
-    ((script : Script) × Tells text (Ok script) × answers script answer)
-    ⊎ ((code : ScriptCode) × RefusesScript text code × (answer ≡ says status.ScriptRefused (script_refused_line (number_of code))))
+AnswersScript = AnswersRead (λ text script. Tells text (Ok script)) RefusesScript (λ code. says status.ScriptRefused (script_refused_line (number_of code)))
 
 -- The answers where a script's file may be named, over a folder that tells this of its files, where `rose` says that its count of faults rose.
 abbrev pub OverScript : (List ℕ → Option (Option (List ℕ))) → Type 0 → Option (List ℕ) → (Script → Answer → Type 0) → Answer → Type 0
@@ -42,7 +40,7 @@ OverScript told rose (Some name) answers answer = AnswersFile (AnswersScript ans
 
 -- there are no answers over a script
 abbrev pub none_to_scripts : Script → Answer → Type 0
-none_to_scripts script answer = ⊥
+none_to_scripts = none_to_read
 
 -- This is the script: the one of no name, or the one that the file of the name stands for.
 abbrev pub IsScriptOf : (List ℕ → Option (Option (List ℕ))) → Type 0 → Option (List ℕ) → Script → Type 0

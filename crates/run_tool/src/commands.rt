@@ -8,12 +8,14 @@ ghost use Rattle.run_tool.specs.Orders.{AnswersOrder, AnswersWords, Completes, A
 ghost use Rattle.run_tool.specs.Headline.{Headline};
 ghost use Rattle.run_tool.specs.Completeness.{IsComplete};
 ghost use Rattle.sts_words.specs.Orders.{IsInRange, order_view};
+ghost use Rattle.run_tool.specs.HeadlineAt.{HeadlineAt};
 
 use crate::big::big;
 use crate::build::build;
 use crate::check::check;
 use crate::ending::{Ending, Status};
 use crate::run::{Manner, run};
+use crate::run_at::{Outside, run_at};
 use crate::run_hex::run_hex;
 use crate::said::say;
 use board_ports::Device;
@@ -59,6 +61,19 @@ fn perform_order<F: Folder, K: Sink, D: Device>(
             script,
             budget,
         } => run_hex(alloc, image, script, budget, folder, out, places),
+        Order::RunAt {
+            program,
+            script,
+            arrivals,
+            budget,
+        } => {
+            let outside = Outside {
+                script,
+                arrivals,
+                budget,
+            };
+            run_at(alloc, program, outside, folder, out, places)
+        }
         Order::Big {
             size,
             budget,
@@ -102,22 +117,24 @@ fn perform<F: Folder, K: Sink, D: Device>(
 ///   entries and ends at 1000 ms. `--stats` writes the line of statistics behind the transcript, and `--image` beside it the line `instructions I`, with the number of
 ///   instructions executed, and then the image that ran as HEX;
 /// - `run-hex H S` reads the image that the HEX file H spells, and runs it so;
+/// - `run-at P S A` builds the program P and runs its image so on the script S, while what the file A tells arrives between its instructions;
 /// - `big N`, with N from 1 to 200, writes the line `big N`, makes the program of that size, and runs it as `run` does, without a script's name.
 ///
-/// With the last three, `--budget M` or `--budget=M` runs the image for at most M instructions, one to ten decimal digits with a value from 1 to 2147483648; without it the
-/// budget is 50000000. The program or the image is read, and a program built, before the script is fetched.
+/// With the last four, `--budget M` or `--budget=M` runs the image for at most M instructions, one to ten decimal digits with a value from 1 to 2147483648; without it the
+/// budget is 50000000. The program or the image is read, and a program built, before the script is fetched, and that is read before arrivals are.
 ///
 /// Answers the status:
 ///
 /// - 0 where the command was done and the whole output was taken; of a run, where it ended quiet or by the script;
 /// - 2, `usage`, exactly where the words aren't taken; nothing is asked of the folder then;
-/// - 3, the transcript that `panic T C` closes; by `run-hex` exactly where the run panics within the budget, by `run` and `big` only where the source's run panics so, and
-///   surely where it does within M / 512 counted steps;
-/// - 4, the transcript that `budget T` closes; by `run-hex` exactly where the run hasn't ended after the budget, by `run` and `big` only where the source's run doesn't end
-///   within M / 512 counted steps;
-/// - 10, `refused C L K`, by `check`, `build`, `run` and `big` alone, exactly where the program isn't accepted, with the code of its first failure, and the line and the
+/// - 3, the transcript that `panic T C` closes; by `run-hex` exactly where the run panics within the budget, by `run`, `run-at` and `big` only where the source's run panics so,
+///   and surely where it does within M / 512 counted steps;
+/// - 4, the transcript that `budget T` closes; by `run-hex` exactly where the run hasn't ended after the budget, by `run`, `run-at` and `big` only where the source's run doesn't
+///   end within M / 512 counted steps;
+/// - 10, `refused C L K`, by `check`, `build`, `run`, `run-at` and `big` alone, exactly where the program isn't accepted, with the code of its first failure, and the line and the
 ///   column of that;
-/// - 11, `script refused C`, only where the words name a script, and its file stands for none, with the code of the rule that it breaks first;
+/// - 11, `script refused C`, only where the words name a script, and its file stands for none, with the code of the rule that it breaks first; and `arrivals refused C`, by
+///   `run-at` alone, where the file A stands for none;
 /// - 12, `image refused C`, by `run-hex` exactly where the file spells no image, with the code of the rule that it breaks first;
 /// - 13, the transcript that `fault T K A` closes, by `run-hex` exactly where the run faults within the budget, and by no other
 ///   command;
@@ -148,6 +165,8 @@ pub fn sts_main<F: Folder, K: Sink>(
         (Rose (F.faults folder.old) (F.faults folder.new)) (Rose (K.faults out.old) (K.faults out.new)) result }
     ensures complete { IsComplete (F.holds folder.old) (order_of (map string_bytes words.now))
         (Rose (F.faults folder.old) (F.faults folder.new)) (Rose (K.faults out.old) (K.faults out.new)) result }
+    ensures headline_at { HeadlineAt ⟦<Box<dyn Device> as Device>⟧.log ⟦<Box<dyn Device> as Device>⟧.faults (F.holds folder.old) (order_of (map string_bytes words.now))
+        (Rose (F.faults folder.old) (F.faults folder.new)) (Rose (K.faults out.old) (K.faults out.new)) (K.taken out.old) (K.taken out.new) plugs.old.items plugs.new.items result }
     ensures refused { result ≡ 10 → AsksForProgram (order_of (map string_bytes words.now)) }
     ensures script_refused { result ≡ 11 → NamesScript (order_of (map string_bytes words.now)) }
     ensures image_refused { result ≡ 12 → AsksForImage (order_of (map string_bytes words.now)) }

@@ -1,6 +1,7 @@
 //! The top call: what the words ask for, done over a folder and a sink.
 #![tactic(auto)]
 
+mod arrivals;
 mod big;
 mod build;
 mod check;
@@ -9,6 +10,7 @@ mod ending;
 mod fetched;
 mod laws;
 mod run;
+mod run_at;
 mod run_hex;
 mod said;
 mod script;

@@ -23,7 +23,7 @@ counted false = 0
 -- what so many names, budgets and flags say
 abbrev packed : List (List ℕ) → List ℕ → ℕ → ℕ → Option Said
 packed names budgets stats images =
-    if nat_le (length names) 2 && (nat_le (length budgets) 1 && (nat_le stats 1 && nat_le images 1))
+    if nat_le (length names) 3 && (nat_le (length budgets) 1 && (nat_le stats 1 && nat_le images 1))
     then Some (said names (slice_get budgets 0) (nat_lt 0 stats) (nat_lt 0 images)) else None
 
 no-names : (b c : Bool) (x : Option Said) → b ≡ false → (if b && c then x else None) ≡ None
@@ -43,17 +43,17 @@ no-images true true false d x e = refl
 no-images true false c d x e = refl
 no-images false b c d x e = refl
 
-many-names : (names : List (List ℕ)) (budgets : List ℕ) (s i : ℕ) → 2 < length names → packed names budgets s i ≡ None
-many-names names budgets s i h = no-names _ _ _ (lt-leb (length names) 2 h)
+many-names : (names : List (List ℕ)) (budgets : List ℕ) (s i : ℕ) → 3 < length names → packed names budgets s i ≡ None
+many-names names budgets s i h = no-names _ _ _ (lt-leb (length names) 3 h)
 
 many-budgets : (names : List (List ℕ)) (budgets : List ℕ) (s i : ℕ) → 1 < length budgets → packed names budgets s i ≡ None
-many-budgets names budgets s i h = no-budgets (nat_le (length names) 2) (nat_le (length budgets) 1) (nat_le s 1 && nat_le i 1) _ (lt-leb (length budgets) 1 h)
+many-budgets names budgets s i h = no-budgets (nat_le (length names) 3) (nat_le (length budgets) 1) (nat_le s 1 && nat_le i 1) _ (lt-leb (length budgets) 1 h)
 
 many-stats : (names : List (List ℕ)) (budgets : List ℕ) (s i : ℕ) → 1 < s → packed names budgets s i ≡ None
-many-stats names budgets s i h = no-stats (nat_le (length names) 2) (nat_le (length budgets) 1) (nat_le s 1) (nat_le i 1) _ (lt-leb s 1 h)
+many-stats names budgets s i h = no-stats (nat_le (length names) 3) (nat_le (length budgets) 1) (nat_le s 1) (nat_le i 1) _ (lt-leb s 1 h)
 
 many-images : (names : List (List ℕ)) (budgets : List ℕ) (s i : ℕ) → 1 < i → packed names budgets s i ≡ None
-many-images names budgets s i h = no-images (nat_le (length names) 2) (nat_le (length budgets) 1) (nat_le s 1) (nat_le i 1) _ (lt-leb i 1 h)
+many-images names budgets s i h = no-images (nat_le (length names) 3) (nat_le (length budgets) 1) (nat_le s 1) (nat_le i 1) _ (lt-leb i 1 h)
 
 -- with these parts behind what was said
 abbrev merged : List (List ℕ) → Option ℕ → Bool → Bool → List Part → Option Said
@@ -61,9 +61,9 @@ merged names budget stats image parts =
     packed (names ++ names_of parts) (listed budget ++ budgets_of parts) (counted stats + count_of_stats parts) (counted image + count_of_images parts)
 
 -- as few as may stand
-few : (names : List (List ℕ)) (budgets : List ℕ) (s i : ℕ) → length names ≤ 2 → length budgets ≤ 1 → s ≤ 1 → i ≤ 1
+few : (names : List (List ℕ)) (budgets : List ℕ) (s i : ℕ) → length names ≤ 3 → length budgets ≤ 1 → s ≤ 1 → i ≤ 1
     → packed names budgets s i ≡ Some (said names (slice_get budgets 0) (nat_lt 0 s) (nat_lt 0 i))
-few names budgets s i a b c d = four _ _ _ _ _ (le-leb (length names) 2 a) (le-leb (length budgets) 1 b) (le-leb s 1 c) (le-leb i 1 d)
+few names budgets s i a b c d = four _ _ _ _ _ (le-leb (length names) 3 a) (le-leb (length budgets) 1 b) (le-leb s 1 c) (le-leb i 1 d)
   where
     four : (a b c d : Bool) (x : Option Said) → a ≡ true → b ≡ true → c ≡ true → d ≡ true → (if a && (b && (c && d)) then x else None) ≡ x
     four true true true true x e f g h = refl
@@ -89,9 +89,9 @@ one-listed None = omega arith
 one-listed (Some n) = omega arith
 
 -- nothing behind what was said
-none-behind : (names : List (List ℕ)) (budget : Option ℕ) (stats image : Bool) → length names ≤ 2 → Some (said names budget stats image) ≡ merged names budget stats image []
+none-behind : (names : List (List ℕ)) (budget : Option ℕ) (stats image : Bool) → length names ≤ 3 → Some (said names budget stats image) ≡ merged names budget stats image []
 none-behind names budget stats image h =
-    let short : length (names ++ []) ≤ 2 = subst (λ x. length x ≤ 2) (sym (append-nil names)) h in
+    let short : length (names ++ []) ≤ 3 = subst (λ x. length x ≤ 3) (sym (append-nil names)) h in
     sym (few (names ++ []) (listed budget ++ []) (counted stats + 0) (counted image + 0) short (one-listed budget) (at-most-one stats) (at-most-one image)
     ∙ ap (λ x. Some (said x (slice_get (listed budget ++ []) 0) (nat_lt 0 (counted stats + 0)) (nat_lt 0 (counted image + 0)))) (append-nil names)
     ∙ ap (λ x. Some (said names x (nat_lt 0 (counted stats + 0)) (nat_lt 0 (counted image + 0)))) (is-listed budget)
@@ -99,26 +99,26 @@ none-behind names budget stats image h =
     ∙ ap (λ x. Some (said names budget stats x)) (is-flag image))
 
 -- a name in front of other parts
-one-name : (names : List (List ℕ)) (budget : Option ℕ) (stats image : Bool) (word : List ℕ) (rest : List Part) → length names ≤ 2 → (b : Bool) → nat_le (length names) 1 ≡ b
-    → (length (names ++ word ∷ []) ≤ 2 → added_all (said (names ++ word ∷ []) budget stats image) rest ≡ merged (names ++ word ∷ []) budget stats image rest)
+one-name : (names : List (List ℕ)) (budget : Option ℕ) (stats image : Bool) (word : List ℕ) (rest : List Part) → length names ≤ 3 → (b : Bool) → nat_le (length names) 2 ≡ b
+    → (length (names ++ word ∷ []) ≤ 3 → added_all (said (names ++ word ∷ []) budget stats image) rest ≡ merged (names ++ word ∷ []) budget stats image rest)
     → option_and_then (λ more. added_all more rest) (if b then Some (said (names ++ word ∷ []) budget stats image) else None) ≡ merged names budget stats image (a_name word ∷ rest)
 one-name names budget stats image word rest h true e go =
-    let room : length names ≤ 1 = leb-true (length names) 1 e in
+    let room : length names ≤ 2 = leb-true (length names) 2 e in
     let both : length (names ++ word ∷ []) ≡ length names + length (word ∷ []) = length-append names (word ∷ []) in
     go (omega (arith, room, both))
     ∙ ap (λ x. packed x (listed budget ++ budgets_of rest) (counted stats + count_of_stats rest) (counted image + count_of_images rest)) (append_assoc names (word ∷ []) (names_of rest))
 one-name names budget stats image word rest h false e go =
-    let full : 1 < length names = leb-false (length names) 1 e in
+    let full : 2 < length names = leb-false (length names) 2 e in
     let both : length (names ++ (word ∷ names_of rest)) ≡ length names + length (word ∷ names_of rest) = length-append names (word ∷ names_of rest) in
     sym (many-names (names ++ (word ∷ names_of rest)) (listed budget ++ budgets_of rest) (counted stats + count_of_stats rest) (counted image + count_of_images rest) (omega (arith, full, both)))
 
 -- parts that are added one after another
-added-all : (names : List (List ℕ)) (budget : Option ℕ) (stats image : Bool) (parts : List Part) → length names ≤ 2
+added-all : (names : List (List ℕ)) (budget : Option ℕ) (stats image : Bool) (parts : List Part) → length names ≤ 3
     → added_all (said names budget stats image) parts ≡ merged names budget stats image parts
 unfolding added_all
 added-all names budget stats image [] h = none-behind names budget stats image h
 added-all names budget stats image (a_name word ∷ rest) h =
-    one-name names budget stats image word rest h (nat_le (length names) 1) refl (λ room. added-all (names ++ word ∷ []) budget stats image rest room)
+    one-name names budget stats image word rest h (nat_le (length names) 2) refl (λ room. added-all (names ++ word ∷ []) budget stats image rest room)
 added-all names None stats image (a_budget number ∷ rest) h = added-all names (Some number) stats image rest h
 added-all names (Some had) stats image (a_budget number ∷ rest) h = sym (many-budgets (names ++ names_of rest) (had ∷ number ∷ budgets_of rest) (counted stats + count_of_stats rest) (counted image + count_of_images rest) (omega arith))
 added-all names budget true image (the_stats ∷ rest) h = sym (many-stats (names ++ names_of rest) (listed budget ++ budgets_of rest) (1 + (count_of_stats rest + 1)) (counted image + count_of_images rest) (omega arith))

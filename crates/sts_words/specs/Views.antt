@@ -4,7 +4,7 @@ use Rattle.std.specs.Option.{option_map}
 use Rattle.std.specs.Borrow.{Bor}
 use Rattle.sts_words.specs.declared.said.Given.{Given}
 use Rattle.sts_words.specs.declared.said.Names.{Names}
-use Rattle.sts_words.specs.declared.said.Names.TheVariants.{Nothing, One, Two}
+use Rattle.sts_words.specs.declared.said.Names.TheVariants.{Nothing, One, Two, Three}
 use Rattle.sts_words.specs.Words.{Said}
 
 -- the text behind a reference
@@ -15,6 +15,7 @@ abbrev pub names_view : Names → List (List ℕ)
 names_view Nothing = []
 names_view (One first) = first.now ∷ []
 names_view (Two first second) = first.now ∷ second.now ∷ []
+names_view (Three first second third) = first.now ∷ second.now ∷ third.now ∷ []
 
 abbrev pub said_view : Given → Said
 said_view given = record { names = names_view given.names; budget = given.budget; stats = given.stats; image = given.image }

@@ -3,7 +3,7 @@ use Rattle.std.specs.Prelude.{ℕ, ◌+◌, ◌==◌, ◌&&◌, ◌||◌, nat_le
 use Rattle.std.specs.Option.{option_map}
 use Rattle.std.specs.Str.{bytes_eq}
 use Rattle.sts_words.specs.Numbers.{number_within}
-use Rattle.sts_words.specs.Orders.{Asked, check_program, build_program, run_program, run_image, run_big, most_budget, default_budget, most_size}
+use Rattle.sts_words.specs.Orders.{Asked, check_program, build_program, run_program, run_image, run_at, run_big, most_budget, default_budget, most_size}
 
 -- A part of the words behind a command: a name, `--budget M` or `--budget=M`, `--stats`, or `--image`.
 pub data Part : Type 0 where
@@ -90,10 +90,10 @@ pub record Said : Type 0 where
   pub stats : Bool
   pub image : Bool
 
--- Each option stands at most once among these parts; and no command has more than two names.
+-- Each option stands at most once among these parts; and no command has more than three names.
 abbrev pub are_single : List Part → Bool
 are_single parts =
-    nat_le (length (names_of parts)) 2 && (nat_le (length (budgets_of parts)) 1 && (nat_le (count_of_stats parts) 1 && nat_le (count_of_images parts) 1))
+    nat_le (length (names_of parts)) 3 && (nat_le (length (budgets_of parts)) 1 && (nat_le (count_of_stats parts) 1 && nat_le (count_of_images parts) 1))
 
 -- what these parts say, where each option stands at most once
 abbrev pub said_by : List Part → Option Said
@@ -135,6 +135,16 @@ run_hex_by said =
     if said.stats || said.image then None
     else option_map (λ named. run_image named.0 named.1 (unwrap_or said.budget default_budget)) (with_script said.names)
 
+-- three names: a program's, a script's and that of arrivals
+abbrev pub with_arrivals : List (List ℕ) → Option (List ℕ × List ℕ × List ℕ)
+with_arrivals (name ∷ script ∷ arrivals ∷ []) = Some (name, script, arrivals)
+with_arrivals other = None
+
+abbrev pub run_at_by : Said → Option Asked
+run_at_by said =
+    if said.stats || said.image then None
+    else option_map (λ named. run_at named.0 named.1 named.2 (unwrap_or said.budget default_budget)) (with_arrivals said.names)
+
 abbrev pub big_by : Said → Option Asked
 big_by said =
     if said.image then None else
@@ -147,6 +157,7 @@ asked_by command said =
     else if bytes_eq command (codes "build") then option_map build_program (plain_name said)
     else if bytes_eq command (codes "run") then run_by said
     else if bytes_eq command (codes "run-hex") then run_hex_by said
+    else if bytes_eq command (codes "run-at") then run_at_by said
     else if bytes_eq command (codes "big") then big_by said
     else None
 

@@ -22,6 +22,13 @@ pub enum Order<'a> {
         script: Option<&'a str>,
         budget: u32,
     },
+    /// Build the program of that name and run it on the script of that name, with the arrivals of that name, within a budget.
+    RunAt {
+        program: &'a str,
+        script: &'a str,
+        arrivals: &'a str,
+        budget: u32,
+    },
     /// Build the generated program of that size, 1 to 200, and run it within a budget; with statistics.
     Big {
         size: u32,

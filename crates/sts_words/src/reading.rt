@@ -48,7 +48,7 @@ fn one_name<'a>(names: Names<'a>) -> Option<&'a str>
 {
     match names {
         Names::One(name) => Some(name),
-        Names::Nothing | Names::Two(_, _) => None,
+        Names::Nothing | Names::Two(_, _) | Names::Three(_, _, _) => None,
     }
 }
 
@@ -57,7 +57,7 @@ fn with_script<'a>(names: Names<'a>) -> Option<(&'a str, Option<&'a str>)>
     ensures { option_map named_view result ≡ spec.with_script (names_view names.entry) }
 {
     match names {
-        Names::Nothing => None,
+        Names::Nothing | Names::Three(_, _, _) => None,
         Names::One(name) => Some((name, None)),
         Names::Two(name, script) => Some((name, Some(script))),
     }
@@ -122,6 +122,25 @@ fn run_hex_by<'a>(given: Given<'a>) -> Option<Order<'a>>
     })
 }
 
+/// What `run-at` asks for.
+fn run_at_by<'a>(given: Given<'a>) -> Option<Order<'a>>
+    requires { HasBudget given.budget }
+    ensures order { option_map order_view result ≡ spec.run_at_by (said_view given.entry) }
+    ensures range { IfSome result IsInRange }
+{
+    match given.names {
+        Names::Three(program, script, arrivals) if !given.stats && !given.image => {
+            Some(Order::RunAt {
+                program,
+                script,
+                arrivals,
+                budget: budget_of(given),
+            })
+        }
+        _ => None,
+    }
+}
+
 /// What `big` asks for.
 fn big_by<'a>(given: Given<'a>) -> Option<Order<'a>>
     requires { HasBudget given.budget }
@@ -153,6 +172,8 @@ pub fn asked_by<'a>(command: &str, given: Given<'a>) -> Option<Order<'a>>
         run_by(given)
     } else if command == "run-hex" {
         run_hex_by(given)
+    } else if command == "run-at" {
+        run_at_by(given)
     } else if command == "big" {
         big_by(given)
     } else {

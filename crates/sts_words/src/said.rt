@@ -11,7 +11,7 @@ use crate::numbers::read_number;
 /// The greatest budget of instructions.
 const MOST_BUDGET: u32 = 2_147_483_648;
 
-/// Up to two names.
+/// Up to three names.
 #[derive(Clone, Copy, Drop)]
 pub enum Names<'a> {
     /// No name.
@@ -20,6 +20,8 @@ pub enum Names<'a> {
     One(&'a str),
     /// Two names, in their order.
     Two(&'a str, &'a str),
+    /// Three names, in their order.
+    Three(&'a str, &'a str, &'a str),
 }
 
 /// What the words behind a command say together: names, a budget in instructions where one is given, and whether `--stats` and `--image`
@@ -84,7 +86,7 @@ impl<'a> Given<'a> {
         }
     }
 
-    /// The same with a name, where the word is one and fewer than two stand there.
+    /// The same with a name, where the word is one and fewer than three stand there.
     fn with_name(self, word: &'a str) -> Option<Given<'a>>
         ensures said { option_map said_view result ≡ option_and_then (added (said_view self.entry)) (spec.name_part word.entry.now) }
         ensures range { HasBudget self.entry.budget → IfSome result (λ given. HasBudget given.budget) }
@@ -95,7 +97,8 @@ impl<'a> Given<'a> {
         let names = match self.names {
             Names::Nothing => Names::One(word),
             Names::One(first) => Names::Two(first, word),
-            Names::Two(_, _) => return None,
+            Names::Two(first, second) => Names::Three(first, second, word),
+            Names::Three(_, _, _) => return None,
         };
         Some(Given {
             names,

@@ -9,7 +9,8 @@ use std::io::Write;
 use sts_base::{NoMemory, Seq};
 use tool_io::{Folder, MemoryFolder, MemorySink, Sink, SureFolder, SureSink};
 
-/// The calls of `fetch` and `put` that are to fail, the words, and the text of the file f; the file s is no script.
+/// The calls of `fetch` and `put` that are to fail, the words, and the text of the file f; the file s is no script, and stands for no arrivals, t is one, and a stands for
+/// arrivals.
 type Row = (u64, u64, &'static [&'static str], &'static str);
 
 const SUM: &str = "serial.writeNumber(2147483647 + 1)";
@@ -20,6 +21,16 @@ const WRONG_SUM: &str = ":0400000001020304F3\n:00000001FF\n";
 /// The text of an image that divides 7 by 1 and writes the quotient.
 const SEVEN: &str =
     ":10000000803F00200D000000150000000248034959\n:1000100014DF0CDF00DF000007000000010000001B\n:00000001FF\n";
+
+/// A script without entries.
+const EMPTY: &str = "{\"end\":1000,\"events\":[]}";
+
+/// An event that arrives.
+pub const RAISE: &str = "{\"arrivals\":[{\"after\":1,\"do\":\"raise\",\"source\":50,\"value\":7}]}";
+
+/// A program that writes an event's value.
+pub const HEARS: &str =
+    "control.onEvent(50, 0, function () { serial.writeNumber(control.eventValue()) })";
 
 /// These words.
 pub fn words_of(alloc: Global, words: &[&str]) -> io::Result<Vec<String>> {
@@ -65,6 +76,8 @@ fn show_row<W: Write>(alloc: Global, out: &mut W, row: &Row, room: usize) -> io:
     let (fetch, put, words, text) = *row;
     let mut folder = folder(alloc, fetch, text).map_err(wanting)?;
     folder.add(alloc, "s", b"[").map_err(wanting)?;
+    folder.add(alloc, "t", EMPTY.as_bytes()).map_err(wanting)?;
+    folder.add(alloc, "a", RAISE.as_bytes()).map_err(wanting)?;
     let mut sink = sink(alloc, put, room).map_err(wanting)?;
     let status = call(alloc, words, &mut folder, &mut sink)?;
     write!(out, "{status} |")?;
@@ -72,7 +85,7 @@ fn show_row<W: Write>(alloc: Global, out: &mut W, row: &Row, room: usize) -> io:
     out.write_all(b"|\n")
 }
 
-const ROWS: [Row; 42] = [
+const ROWS: [Row; 58] = [
     (0, 0, &["run", "f"], SUM),
     (1, 0, &["run", "f"], SUM),
     (0, 1, &["run", "f"], SUM),
@@ -115,6 +128,22 @@ const ROWS: [Row; 42] = [
     (0, 3, &["big", "1"], ""),
     (0, 4, &["big", "1"], ""),
     (0, 5, &["big", "1"], ""),
+    (0, 0, &["run-at", "f", "t", "a"], HEARS),
+    (1, 0, &["run-at", "f", "t", "a"], HEARS),
+    (2, 0, &["run-at", "f", "t", "a"], HEARS),
+    (3, 0, &["run-at", "f", "t", "a"], HEARS),
+    (4, 0, &["run-at", "f", "t", "a"], HEARS),
+    (2, 0, &["run-at", "f", "s", "a"], HEARS),
+    (3, 0, &["run-at", "f", "s", "a"], HEARS),
+    (1, 0, &["run-at", "f", "s", "a"], "#"),
+    (2, 0, &["run-at", "f", "s", "a"], "#"),
+    (0, 0, &["run-at", "f", "t", "s"], HEARS),
+    (3, 0, &["run-at", "f", "t", "s"], HEARS),
+    (0, 1, &["run-at", "f", "t", "s"], HEARS),
+    (0, 2, &["run-at", "f", "t", "s"], HEARS),
+    (0, 3, &["run-at", "f", "t", "s"], HEARS),
+    (0, 0, &["run-at", "f", "t", "g"], HEARS),
+    (0, 1, &["run-at", "f", "t", "a"], HEARS),
 ];
 
 /// The same over a folder and a sink that never fail.

@@ -1,6 +1,6 @@
 //! One row over devices in memory, for a caller that refuses an allocation of it: `tool_rows NAME` runs the row of that name.
 
-use crate::commands::{call, folder, sink, words_of};
+use crate::commands::{HEARS, RAISE, call, folder, sink, words_of};
 use crate::devices::{device, show_place};
 use crate::folders::wanting;
 use crate::game::{GAME, SCRIPT};
@@ -48,7 +48,7 @@ control.raiseEvent(50, 1)
 /// The text of an image that ends at once.
 const ENDS: &str = ":0E000000803F00200D0000000D00000000DF1A\n:00000001FF\n";
 
-const ROWS: [Row; 4] = [
+const ROWS: [Row; 5] = [
     (
         "toggles",
         &["run", "f", "s"],
@@ -57,13 +57,20 @@ const ROWS: [Row; 4] = [
     ),
     ("handlers", &["run", "f", "--stats"], HANDLERS, ""),
     ("ends", &["run-hex", "f"], ENDS, ""),
+    (
+        "arrivals",
+        &["run-at", "f", "s", "a"],
+        HEARS,
+        "{\"end\":1000,\"events\":[]}",
+    ),
     ("big", &["big", "1", "--stats"], "", ""),
 ];
 
-/// A folder with these texts as its files f and s.
+/// A folder with these texts as its files f and s, and arrivals as a.
 fn files(alloc: Global, f: &str, s: &str) -> io::Result<MemoryFolder> {
     let mut files = folder(alloc, 0, f).map_err(wanting)?;
     files.add(alloc, "s", s.as_bytes()).map_err(wanting)?;
+    files.add(alloc, "a", RAISE.as_bytes()).map_err(wanting)?;
     Ok(files)
 }
 

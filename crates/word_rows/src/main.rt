@@ -53,6 +53,12 @@ fn show_order<W: Write>(out: &mut W, order: Order<'_>) -> io::Result<()> {
             show_name(out, script)?;
             write!(out, "\t{budget}")
         }
+        Order::RunAt {
+            program,
+            script,
+            arrivals,
+            budget,
+        } => write!(out, "run-at\t{program}\t{script}\t{arrivals}\t{budget}"),
         Order::Big {
             size,
             budget,

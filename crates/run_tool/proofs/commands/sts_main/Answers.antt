@@ -1,6 +1,7 @@
 use Rattle.run_tool.proofs.Completing.{completes, refused, script-refused, image-refused, faulted, folder-failed}
 use Rattle.run_tool.proofs.Headlines.{headline}
 use Rattle.run_tool.proofs.Complete.{complete}
+use Rattle.run_tool.proofs.ToldAt.{headline-at}
 use Rattle.run_tool.proofs.commands.sts_main.Goals as goal
 
 pub returns-clause-headline : goal.returns-clause-headline
@@ -14,6 +15,9 @@ pub returns-clause-complete : goal.returns-clause-complete
 returns-clause-complete g c =
     complete c.one_answer.ensures (g.F.Folder.holds c.args.folder.now) _ _ _ c.number.result
     (completes _ _ _ _ _ (g.F.Folder.holds c.args.folder.now) _ _ _ _ _ c.perform.result c.number.result c.number.ensures c.perform.ensures.answer.ends c.perform.ensures.answer.cut)
+
+pub returns-clause-headline_at : goal.returns-clause-headline_at
+returns-clause-headline_at g c = headline-at c.one_answer.ensures _ _ _ _ (g.F.Folder.holds c.args.folder.now) _ _ _ _ _ c.perform.result c.number.result c.number.ensures c.perform.ensures.answer.ends c.perform.ensures.answer.cut
 
 pub returns-clause-refused : goal.returns-clause-refused
 returns-clause-refused g c = refused _ _ _ _ _ (g.F.Folder.holds c.args.folder.now) _ _ _ _ c.perform.result c.number.result c.number.ensures c.perform.ensures.answer.ends

@@ -1,0 +1,101 @@
+-- The run of an image with arrivals, and of the source under it.
+use Rattle.std.proofs.Common.{◌≡◌, ℕ, List, [], ◌++◌, Option, Some, sym, ap, ◌∙◌, subst}
+use Rattle.board_world.specs.Observations.{ByteList, End as RunEnd, Faulted}
+use Rattle.board_world.specs.Transcript.{lines, closing_line}
+use Rattle.board_world.specs.Board.{Board, transcript_of}
+use Rattle.board_world.specs.Arrivals.{Arrival, Rises}
+use Rattle.board_world.specs.Invariants.{SoundEnd}
+use Rattle.tool_io.specs.Putting.{Took}
+use Rattle.event_script.specs.World.{world_entries}
+use Rattle.event_script.specs.declared.script.Script.{Script as EventScript}
+use Rattle.board_outside.specs.Moves.{Move, HasMet}
+use Rattle.board_outside.specs.Cuts.{Stopped}
+use Rattle.sts_syntax.specs.TypedTrees.{TypedProgram}
+use Rattle.sts_implements.specs.Images.{ImageImplements, LooksLike}
+use Rattle.board_run.specs.Represents.{BoardState}
+use Rattle.board_run.specs.Ran.{IsExecuted}
+use Rattle.board_run.specs.declared.end.End.{End}
+use Rattle.board_run.specs.declared.end.End.TheVariants.{Quiet, Script, Panic, Budget, Fault, SinkFault}
+use Rattle.irq_arrival.specs.RanOn.{HasRunOn, IsCutOn, RanOn}
+use Rattle.irq_arrival.specs.ImageRuns.{world_at, RunsToAt, RunsImageAt}
+use Rattle.irq_arrival.specs.SourceRuns.{source_at, MeetsAt, RunsSourceTo, CutsSource, RunsSourceAt}
+use Rattle.irq_arrival.proofs.Reaching.{reaches, faultless}
+
+module _ {B : Type 0} (log : B → Option (List (ℕ × ℕ))) (faults : B → ℕ) (image : List ℕ) (script : EventScript) (arrivals : List Arrival) (budget : ℕ)
+    (taken taken' : Option (List ℕ)) (fs fs' : ℕ) (places places' : List (Option B)) where
+  -- a board's run along the worlds of an image's run
+  module _ (b : BoardState) (executed : ℕ) where
+    runs_to : (end : Option RunEnd) → HasRunOn log faults image (world_at image script arrivals) budget b executed taken taken' places places' end → RunsToAt log faults image script arrivals budget taken taken' places places' end
+    runs_to end h = record {
+      free = h.used ++ [];
+      executed = executed;
+      moves = h.moves;
+      is_executed = h.is_executed [];
+      met = h.met [];
+      ended = h.ended [];
+      written = h.written [];
+      devices = h.devices;
+    }
+
+    pub runs_image : (end : End) → RanOn log faults image (world_at image script arrivals) budget b executed taken taken' fs fs' places places' end → RunsImageAt log faults image script arrivals budget taken taken' fs fs' places places' end
+    runs_image Quiet h = runs_to _ h
+    runs_image Script h = runs_to _ h
+    runs_image (Panic code) h = runs_to _ h
+    runs_image (Fault fault address) h = runs_to _ h
+    runs_image Budget h = runs_to _ h
+    runs_image SinkFault h = h
+
+  -- of an image that implements a program it is the run of the program's source
+  module _ (P : TypedProgram) (texts : List ByteList) (implements : ImageImplements P texts image) (rises : Rises 0 arrivals) where
+    meets : (free : List ℕ) (executed : ℕ) (moves : List Move) → IsExecuted (world_at image script arrivals free) budget executed → HasMet moves (world_at image script arrivals free executed).board
+        → (m : MeetsAt P texts image script arrivals budget) × LooksLike (source_at P texts script m.places m.steps).board (world_at image script arrivals free executed).board
+    meets free executed moves e met =
+        let r = reaches P texts image implements script.end (world_entries script.entries) arrivals rises free budget executed e in (
+          record {
+            free = free;
+            executed = executed;
+            steps = r.0;
+            places = r.1;
+            moves = moves;
+            reaches = r.2;
+            met = record { seen = r.2.alike.seen ∙ met.seen; unplugged = r.2.alike.unplugged ∙ met.unplugged };
+            faultless =
+                subst (λ (e : Option RunEnd). SoundEnd (λ kind address. ⊥) e) (sym r.2.alike.end) (faultless P texts image implements script.end (world_entries script.entries) arrivals rises free executed);
+          },
+          r.2.alike,
+        )
+
+    closing_alike : (b c : Board) → LooksLike b c → closing_line c.clock c.end ≡ closing_line b.clock b.end
+    closing_alike b c l = ap (λ t. closing_line t c.end) (sym l.clock) ∙ ap (closing_line b.clock) (sym l.end)
+
+    text_alike : (b c : Board) → LooksLike b c → transcript_of c ≡ transcript_of b
+    text_alike b c l = ap (λ os. lines os ++ closing_line c.clock c.end) (sym l.seen) ∙ ap (λ t. lines b.seen ++ t) (closing_alike b c l)
+
+    source_to : (end : Option RunEnd) → RunsToAt log faults image script arrivals budget taken taken' places places' end → RunsSourceTo log faults P texts image script arrivals budget taken taken' places places' end
+    unfolding meets
+    source_to end r =
+        let m = meets r.free r.executed r.moves r.is_executed r.met in
+        record {
+          meets = m.0;
+          ended = m.1.end ∙ r.ended;
+          written = subst (λ t. Took taken taken' t) (text_alike _ _ m.1) r.written;
+          devices = r.devices;
+        }
+
+    source_cut : IsCutOn log faults (world_at image script arrivals) budget taken taken' places places' → CutsSource log faults P texts image script arrivals budget taken taken' places places'
+    unfolding meets
+    source_cut c =
+        let m = meets c.free c.executed c.moves c.is_executed c.met in
+        record { meets = m.0; stopped = subst (λ t. Stopped log faults [] c.moves t taken taken' places places') (closing_alike _ _ m.1) c.stopped }
+
+    never : (kind address : ℕ) → RunsToAt log faults image script arrivals budget taken taken' places places' (Some (Faulted kind address)) → ⊥
+    never kind address r =
+        subst (λ (e : Option RunEnd). SoundEnd (λ kind address. ⊥) e) r.ended (faultless P texts image implements script.end (world_entries script.entries) arrivals rises r.free r.executed)
+
+    pub runs_source : (end : End) → RunsImageAt log faults image script arrivals budget taken taken' fs fs' places places' end → RunsSourceAt log faults P texts image script arrivals budget taken taken' fs fs' places places' end
+    runs_source Quiet r = source_to _ r
+    runs_source Script r = source_to _ r
+    runs_source (Panic code) r = source_to _ r
+    runs_source (Fault fault address) r = never _ _ r
+    runs_source Budget r = source_to _ r
+    runs_source SinkFault r = (source_cut r.0, r.1)

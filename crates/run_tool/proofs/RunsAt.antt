@@ -1,0 +1,120 @@
+-- Runs of a program with arrivals.
+use Rattle.std.proofs.Common.{◌≡◌, ◌≤◌, ℕ, List, [], ◌++◌, inl, inr, refl, sym, ap, ◌∙◌, subst, append_assoc, codes, decimal}
+use Rattle.std.specs.Prelude.{Option, Some, None, Result, Ok, Err}
+use Rattle.serde_json.specs.Data.{Data}
+use Rattle.sts_base.specs.Faults.{Rose}
+use Rattle.tool_io.specs.Putting.{Took}
+use Rattle.board_world.specs.Observations.{ByteList, End as RunEnd, Quietly, By_script, Panicked}
+use Rattle.board_world.specs.Transcript.{lines, closing_line}
+use Rattle.board_world.specs.Board.{Board}
+use Rattle.sts_syntax.specs.TypedTrees.{TypedProgram}
+use Rattle.event_script.specs.Json.{IsTree}
+use Rattle.event_script.specs.declared.script.Script.{Script}
+use Rattle.event_script.specs.Verdict as scripts
+use Rattle.event_script.specs.Codes as script_codes
+use Rattle.arrival_file.specs.Codes as arrival_codes
+use Rattle.arrival_file.specs.Verdict.{Tells}
+use Rattle.arrival_file.specs.World.{world_arrivals}
+use Rattle.arrival_file.specs.declared.arrival.Arrival.{Arrival}
+use Rattle.arrival_file.specs.declared.arrival.ArrivalCode.{ArrivalCode}
+use Rattle.arrival_file.specs.declared.arrival.ArrivalCode.TheVariants.{NotJson, NotArrivals, OutOfOrder, TooMany}
+use Rattle.arrival_file.specs.declared.arrival.ArrivalRefused.{ArrivalRefused}
+use Rattle.arrival_file.specs.declared.arrival.ArrivalRefused.TheVariants.{Arrivals as OfArrivals}
+use Rattle.board_run.specs.declared.end.End.{End}
+use Rattle.board_run.specs.declared.end.End.TheVariants as ended
+use Rattle.sts_implements.specs.Images.{ImageImplements}
+use Rattle.irq_arrival.specs.SourceRuns.{source_at, RunsSourceTo, CutsSource, RunsSourceAt}
+use Rattle.run_tool.specs.declared.ending.Status.TheVariants as status
+use Rattle.run_tool.specs.declared.ending.Ending.TheVariants.{Gave, Cut}
+use Rattle.run_tool.specs.declared.fetched.Fetched.TheVariants.{Text}
+use Rattle.run_tool.specs.Answers.{Answer, says, runs, Concludes}
+use Rattle.run_tool.specs.Runs.{run_status, ending_of}
+use Rattle.run_tool.specs.Scripts.{AnswersScript, RefusesScript, script_refused_line}
+use Rattle.run_tool.specs.Files.{AnswersFile}
+use Rattle.run_tool.specs.Arrivals.{AnswersArrivals, OverArrivals, IsArrivalsOf, RefusesArrivals, arrivals_refused_line, none_to_arrivals}
+use Rattle.run_tool.specs.RunAt.{RunsProgramAt, RunsOnScript, RunsOutside, RunsTextAt}
+use Rattle.run_tool.proofs.Readings.{file-onwards, file-more, read-more, none-read, program-more}
+
+pub arrivals-refusal-pieces : (printed code : ℕ) → printed ≡ code → [] ++ codes "arrivals refused " ++ decimal printed ++ codes "\n" ≡ arrivals_refused_line code
+arrivals-refusal-pieces printed code e = append_assoc (codes "arrivals refused ") (decimal printed) (codes "\n") ∙ ap arrivals_refused_line e
+
+-- why arrivals are refused
+pub refuses-arrivals : (text : List ℕ) (r : Result (List Arrival) ArrivalRefused) (code : ArrivalCode) → r ≡ Err (OfArrivals code)
+    → (r ≡ Err (OfArrivals NotJson) → (tree : Data) → ¬ (IsTree text tree)) → (r ≡ Err (OfArrivals NotArrivals) → Tells text (Err NotArrivals)) → (r ≡ Err (OfArrivals OutOfOrder) → Tells text (Err OutOfOrder))
+    → (r ≡ Err (OfArrivals TooMany) → Tells text (Err TooMany)) → RefusesArrivals text code
+refuses-arrivals text r NotJson e a b c d = a e
+refuses-arrivals text r NotArrivals e a b c d = b e
+refuses-arrivals text r OutOfOrder e a b c d = c e
+refuses-arrivals text r TooMany e a b c d = d e
+
+-- where no arrivals were read, the answer is one of each command
+pub no-arrivals : (told : List ℕ → Option (Option (List ℕ))) (rose : Type 0) (name : List ℕ) (answers : List Arrival → Answer → Type 0) (answer : Answer) → AnswersFile (AnswersArrivals none_to_arrivals) (told name) rose answer
+    → OverArrivals told rose name answers answer
+no-arrivals told rose name answers answer h =
+    file-more (AnswersArrivals none_to_arrivals) (AnswersArrivals answers) (told name) rose answer
+    (λ text x. none-read (λ bytes come. Tells bytes (Ok come)) RefusesArrivals (λ code. says status.ArrivalsRefused (arrivals_refused_line (arrival_codes.number_of code))) answers text answer x) h
+
+-- the answers over the arrivals that are named
+pub over-arrivals : (told : List ℕ → Option (Option (List ℕ))) (rose : Type 0) (name : List ℕ) (answers : List Arrival → Answer → Type 0) (come : List Arrival) (answer : Answer) → IsArrivalsOf told rose name come
+    → answers come answer → OverArrivals told rose name answers answer
+over-arrivals told rose name answers come answer s h = (Text s.0, s.1, inl (come, s.2, h))
+
+-- where a folder tells the same and failed no less
+module _ (told told' : List ℕ → Option (Option (List ℕ))) (rose rose' : Type 0) (script arrivals : List ℕ) (budget : ℕ) (same : (file : List ℕ) → told file ≡ told' file) (rises : rose → rose') where
+  pub script-runs-onwards : (P : TypedProgram) (texts : List ByteList) (read : Script) (answer : Answer) → RunsOnScript told rose arrivals budget P texts read answer → RunsOnScript told' rose' arrivals budget P texts read answer
+  script-runs-onwards P texts read answer h = file-onwards (AnswersArrivals (λ come. RunsProgramAt P texts read come budget)) (told arrivals) (told' arrivals) rose rose' answer (same arrivals) rises h
+
+  outside-onwards : (P : TypedProgram) (texts : List ByteList) (answer : Answer) → RunsOutside told rose script arrivals budget P texts answer → RunsOutside told' rose' script arrivals budget P texts answer
+  outside-onwards P texts answer h =
+      file-more (AnswersScript (RunsOnScript told rose arrivals budget P texts)) (AnswersScript (RunsOnScript told' rose' arrivals budget P texts)) (told' script) rose' answer
+      (λ text x. read-more (λ bytes read. scripts.Tells bytes (Ok read)) RefusesScript (λ code. says status.ScriptRefused (script_refused_line (script_codes.number_of code)))
+      (RunsOnScript told rose arrivals budget P texts) (RunsOnScript told' rose' arrivals budget P texts) text answer (λ read y. script-runs-onwards P texts read answer y) x)
+      (file-onwards (AnswersScript (RunsOnScript told rose arrivals budget P texts)) (told script) (told' script) rose rose' answer (same script) rises h)
+
+  pub text-runs-onwards : (text : List ℕ) (answer : Answer) → RunsTextAt told rose script arrivals budget text answer → RunsTextAt told' rose' script arrivals budget text answer
+  text-runs-onwards text answer h = program-more (RunsOutside told rose script arrivals budget) (RunsOutside told' rose' script arrivals budget) text answer (λ P texts x. outside-onwards P texts answer x) h
+
+-- what a call that ran an image with arrivals answered
+module _ {S B : Type 0} (taken : S → Option (List ℕ)) (faults : S → ℕ) (old new : S) (log : B → Option (List (ℕ × ℕ))) (failed : B → ℕ) (places places' : List (Option B))
+    (P : TypedProgram) (texts : List ByteList) (image : List ℕ) (implements : ImageImplements P texts image) (script : Script) (come : List Arrival) (budget : ℕ) (later : faults old ≤ faults new) where
+  -- a run that came to its end, or to that of its budget
+  gives : (end : Option RunEnd) → RunsSourceTo log failed P texts image script (world_arrivals come) budget (taken old) (taken new) places places' end
+      → Concludes taken faults old new log failed places places' [] (RunsProgramAt P texts script come budget) (Gave (run_status end))
+  gives end r =
+      let b : Board = (source_at P texts script r.meets.places r.meets.steps).board in
+      let closing = closing_line b.clock b.end in
+      record {
+        ends = (
+          runs (run_status b.end) r.meets.moves closing,
+          record { image = image; implements = implements; meets = r.meets; is = refl },
+          ap run_status (sym r.ended),
+          subst (λ os. Took (taken old) (taken new) (lines os ++ closing)) r.meets.met.seen r.written,
+          r.devices,
+        );
+        later = later;
+        cut = λ e. absurd (cc);
+      }
+
+  -- a run that the sink stopped
+  stopped : CutsSource log failed P texts image script (world_arrivals come) budget (taken old) (taken new) places places' × Rose (faults old) (faults new)
+      → Concludes taken faults old new log failed places places' [] (RunsProgramAt P texts script come budget) Cut
+  stopped r =
+      let b : Board = (source_at P texts script r.0.meets.places r.0.meets.steps).board in
+      record {
+        ends = (
+          runs (run_status b.end) r.0.meets.moves (closing_line b.clock b.end),
+          record { image = image; implements = implements; meets = r.0.meets; is = refl },
+          inr r.0.stopped,
+        );
+        later = later;
+        cut = λ e. r.1;
+      }
+
+  pub at-ends : (end : End) → RunsSourceAt log failed P texts image script (world_arrivals come) budget (taken old) (taken new) (faults old) (faults new) places places' end
+      → Concludes taken faults old new log failed places places' [] (RunsProgramAt P texts script come budget) (ending_of end)
+  at-ends ended.Quiet r = gives (Some Quietly) r
+  at-ends ended.Script r = gives (Some By_script) r
+  at-ends (ended.Panic code) r = gives (Some (Panicked code)) r
+  at-ends (ended.Fault fault address) r = absurd r
+  at-ends ended.Budget r = gives None r
+  at-ends ended.SinkFault r = stopped r

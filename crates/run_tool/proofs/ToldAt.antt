@@ -1,0 +1,155 @@
+-- What `run-at` comes to over files that are told.
+use Rattle.std.proofs.Common.{◌≡◌, ◌<◌, ◌⊎◌, ℕ, List, [], ◌++◌, length, inl, inr, refl, sym, ap, ◌∙◌, subst, arith}
+use Rattle.std.specs.Prelude.{Option, Some, Result, Ok, Err}
+use Rattle.serde_json.specs.Data.{Data}
+use Rattle.sts_base.specs.declared.tables.Tables.{Tables}
+use Rattle.tool_io.specs.Putting.{Took}
+use Rattle.board_world.specs.Transcript.{lines, closing_line}
+use Rattle.board_world.specs.Board.{Board}
+use Rattle.board_world.specs.Simulation.{Paired}
+use Rattle.board_world.specs.Arrivals.{Placed}
+use Rattle.sts_syntax.specs.TypedTrees.{TypedProgram}
+use Rattle.event_script.specs.Json.{IsTree}
+use Rattle.event_script.specs.Verdict as script
+use Rattle.event_script.specs.Form.{script_of}
+use Rattle.event_script.specs.declared.script.Script.{Script}
+use Rattle.event_script.specs.declared.script.ScriptCode.{ScriptCode}
+use Rattle.event_script.specs.declared.script.ScriptCode.TheVariants as script_code
+use Rattle.arrival_file.specs.Verdict as arrival
+use Rattle.arrival_file.specs.Form.{arrivals_of}
+use Rattle.arrival_file.specs.declared.arrival.Arrival.{Arrival}
+use Rattle.arrival_file.specs.declared.arrival.ArrivalCode.{ArrivalCode}
+use Rattle.arrival_file.specs.declared.arrival.ArrivalCode.TheVariants as arrival_code
+use Rattle.irq_arrival.specs.SourceRuns.{source_at}
+use Rattle.sts_whole.specs.Laws.{OneAnswer}
+use Rattle.sts_words.specs.Orders.{Asked, run_at}
+use Rattle.run_tool.specs.declared.fetched.Fetched.{Fetched}
+use Rattle.run_tool.specs.declared.fetched.Fetched.TheVariants.{Text, Absent, Long, Failed}
+use Rattle.run_tool.specs.declared.ending.Ending.{Ending}
+use Rattle.run_tool.specs.declared.ending.Ending.TheVariants.{Gave, Cut, NoMemory}
+use Rattle.run_tool.specs.Fetches.{limit, MayFetch}
+use Rattle.run_tool.specs.Answers.{Answer, status_of, status_number, output_of, Leaves, Ends, ending_number}
+use Rattle.run_tool.specs.Files.{AnswersFetched, AnswersFile}
+use Rattle.run_tool.specs.Runs.{run_status}
+use Rattle.run_tool.specs.Scripts.{AnswersScript, RefusesScript}
+use Rattle.run_tool.specs.Arrivals.{AnswersArrivals, RefusesArrivals}
+use Rattle.run_tool.specs.RunAt.{RunsProgramAt, RunsOnScript, RunsOutside, RunsTextAt}
+use Rattle.run_tool.specs.Orders.{MayAnswer, lead_of}
+use Rattle.run_tool.specs.HeadlineAt.{IsTold, AreTold, WritesAt, HeadlineAt}
+use Rattle.run_tool.proofs.Completing.{onwards}
+use Rattle.run_tool.proofs.ProgramStatuses.{run-number}
+
+-- what is fetched of a file that is told is its bytes
+of-told : (told : List ℕ → Option (Option (List ℕ))) (name bytes : List ℕ) (answers : List ℕ → Answer → Type 0) (answer : Answer) → IsTold told name bytes → AnswersFile answers (told name) ⊥ answer → answers bytes answer
+of-told told name bytes answers answer t h = by_fetched h.0 h.1 h.2
+  where
+    by_fetched : (fetched : Fetched) → MayFetch (told name) ⊥ fetched → AnswersFetched answers fetched answer → answers bytes answer
+    by_fetched (Text it) m x = (let e : Some bytes ≡ Some it.items = m.0 (Some bytes) t.0 in let same : it.items ≡ bytes = cc in subst (λ l. answers l answer) same x)
+    by_fetched Absent m x = (let e = m (Some bytes) t.0 in absurd (cc))
+    by_fetched Long m x = (
+        let e = m (Some bytes) t.0 in
+        let is : Some bytes ≡ Some e.0 = e.1 in
+        let same : e.0 ≡ bytes = cc in
+        let long : limit < length bytes = subst (λ l. limit < length l) same e.2 in
+        let short = t.1 in
+        absurd (omega (arith, long, short)))
+    by_fetched Failed m x = absurd m
+
+-- a text has one tree at most
+one-tree : (text : List ℕ) (a b : Data) → IsTree text a → IsTree text b → a ≡ b
+one-tree text a b s t = (let e : Some a ≡ Some b = sym s.reads ∙ t.reads in cc)
+
+-- and one verdict
+one-script : (text : List ℕ) (a b : Result Script ScriptCode) → script.Tells text a → script.Tells text b → a ≡ b
+one-script text a b s t = sym s.judges ∙ (ap (λ d. script.judged_form (script_of d)) (one-tree text s.tree t.tree s.is t.is) ∙ t.judges)
+
+one-list : (text : List ℕ) (a b : Result (List Arrival) ArrivalCode) → arrival.Tells text a → arrival.Tells text b → a ≡ b
+one-list text a b s t = sym s.judges ∙ (ap (λ d. arrival.judged_form (arrivals_of d)) (one-tree text s.tree t.tree s.is t.is) ∙ t.judges)
+
+not-both : {T C : Type 0} (read : T) (code : C) → Ok read ≡ Err code → ⊥
+not-both read code e = cc
+
+script-stands : (text : List ℕ) (read : Script) (code : ScriptCode) → script.Tells text (Ok read) → RefusesScript text code → ⊥
+script-stands text read script_code.NotJson s r = r s.tree s.is
+script-stands text read script_code.NotScript s r = not-both read script_code.NotScript (one-script text _ _ s r)
+script-stands text read script_code.OutOfOrder s r = not-both read script_code.OutOfOrder (one-script text _ _ s r)
+script-stands text read script_code.PastEnd s r = not-both read script_code.PastEnd (one-script text _ _ s r)
+script-stands text read script_code.TooMany s r = not-both read script_code.TooMany (one-script text _ _ s r)
+
+list-stands : (text : List ℕ) (come : List Arrival) (code : ArrivalCode) → arrival.Tells text (Ok come) → RefusesArrivals text code → ⊥
+list-stands text come arrival_code.NotJson s r = r s.tree s.is
+list-stands text come arrival_code.NotArrivals s r = not-both come arrival_code.NotArrivals (one-list text _ _ s r)
+list-stands text come arrival_code.OutOfOrder s r = not-both come arrival_code.OutOfOrder (one-list text _ _ s r)
+list-stands text come arrival_code.TooMany s r = not-both come arrival_code.TooMany (one-list text _ _ s r)
+
+same-read : {T C : Type 0} (x y : T) (r : Result T C) → r ≡ Ok x → r ≡ Ok y → x ≡ y
+same-read x y r e h = cc
+
+module _ (one : OneAnswer) (told : List ℕ → Option (Option (List ℕ))) (name script_name arrivals_name : List ℕ) (budget : ℕ) (tables : Tables) (P : TypedProgram) (read : Script) (come : List Arrival)
+    (n : AreTold told name script_name arrivals_name tables P read come) where
+  -- the answer over these arrivals
+  over-these : (answer : Answer) → AnswersArrivals (λ list. RunsProgramAt P tables.texts read list budget) n.arrivals_text answer → RunsProgramAt P tables.texts read come budget answer
+  over-these answer (inl x) =
+      subst (λ list. RunsProgramAt P tables.texts read list budget answer) (same-read x.0 come (Ok come) (sym (one-list n.arrivals_text (Ok x.0) (Ok come) x.1 n.arrivals_are)) refl) x.2
+  over-these answer (inr x) = absurd (list-stands n.arrivals_text come x.0 n.arrivals_are x.1)
+
+  -- over this script
+  on-this : (answer : Answer) → AnswersScript (RunsOnScript told ⊥ arrivals_name budget P tables.texts) n.script_text answer → RunsProgramAt P tables.texts read come budget answer
+  on-this answer (inl x) =
+      over-these answer (of-told told arrivals_name n.arrivals_text (AnswersArrivals (λ list. RunsProgramAt P tables.texts read list budget)) answer n.arrivals_told
+      (subst (λ it. RunsOnScript told ⊥ arrivals_name budget P tables.texts it answer) (same-read x.0 read (Ok read) (sym (one-script n.script_text (Ok x.0) (Ok read) x.1 n.script_is)) refl) x.2))
+  on-this answer (inr x) = absurd (script-stands n.script_text read x.0 n.script_is x.1)
+
+  -- over this program
+  of-this : (answer : Answer) → RunsTextAt told ⊥ script_name arrivals_name budget n.text answer → RunsProgramAt P tables.texts read come budget answer
+  of-this answer (inl h) =
+      let same = one.program n.text tables h.0 P h.1 n.accepted h.2 in
+      let there : RunsOutside told ⊥ script_name arrivals_name budget P tables.texts answer =
+      subst (λ (t : Tables). RunsOutside told ⊥ script_name arrivals_name budget P t.texts answer) (sym same.0)
+      (subst (λ (Q : TypedProgram). RunsOutside told ⊥ script_name arrivals_name budget Q h.0.texts answer) (sym same.1) h.3) in
+      on-this answer (of-told told script_name n.script_text (AnswersScript (RunsOnScript told ⊥ arrivals_name budget P tables.texts)) answer n.script_told there)
+  of-this answer (inr h) = absurd (one.either n.text tables P h.0 h.1 n.accepted h.2)
+
+  pub due : (answer : Answer) → MayAnswer told ⊥ (Some (run_at name script_name arrivals_name budget)) answer → RunsProgramAt P tables.texts read come budget answer
+  due answer h = of-this answer (of-told told name n.text (RunsTextAt told ⊥ script_name arrivals_name budget) answer n.text_told h)
+
+  module _ {B : Type 0} (log : B → Option (List (ℕ × ℕ))) (failed : B → ℕ) (places places' : List (Option B)) (taken taken' : Option (List ℕ)) where
+    writes : (answer : Answer) (number : ℕ) → RunsProgramAt P tables.texts read come budget answer → Took taken taken' (output_of answer) → Leaves log failed answer places places' → number ≡ status_number (status_of answer)
+        → WritesAt log failed taken taken' places places' P tables.texts read come budget number
+    writes answer number r took leaves e =
+        let b : Board = (source_at P tables.texts read r.meets.places r.meets.steps).board in
+        let status : number ≡ status_number (run_status b.end) = e ∙ ap (λ a. status_number (status_of a)) r.is in
+        record {
+          comes = record {
+            steps = r.meets.steps;
+            places = r.meets.places;
+            moves = r.meets.moves;
+            rises = r.meets.reaches.rises;
+            placed = subst (λ xs. Paired (Placed 512) xs r.meets.places) r.meets.reaches.are_first r.meets.reaches.placed;
+            applies = r.meets.reaches.applies;
+            at_most = r.meets.reaches.at_most;
+            at_least = r.meets.reaches.at_least;
+            met = r.meets.met;
+          };
+          written = subst (λ os. Took taken taken' (lines os ++ closing_line b.clock b.end)) (sym r.meets.met.seen) (subst (λ a. Took taken taken' (output_of a)) r.is took);
+          devices = subst (λ a. Leaves log failed a places places') r.is leaves;
+          status = status;
+          ended = run-number b.end number r.meets.faultless status;
+        }
+
+    by-ending : (rose sink_rose : Type 0) (ending : Ending) (number : ℕ) → number ≡ ending_number ending → Ends log failed [] (MayAnswer told rose (Some (run_at name script_name arrivals_name budget))) taken taken' places places' ending
+        → (ending ≡ Cut → sink_rose) → ¬ rose → ¬ sink_rose
+        → ((number ≡ 30) × Took taken taken' [] × (places' ≡ places)) ⊎ WritesAt log failed taken taken' places places' P tables.texts read come budget number
+    by-ending rose sink_rose (Gave given) number e s cut quiet calm =
+        inr (writes s.0 number (due s.0 (onwards told rose ⊥ (Some (run_at name script_name arrivals_name budget)) s.0 quiet s.1)) s.3 s.4 (e ∙ ap status_number s.2))
+    by-ending rose sink_rose Cut number e s cut quiet calm = absurd (calm (cut refl))
+    by-ending rose sink_rose NoMemory number e (inl x, p) cut quiet calm = inl (e, x, p)
+    by-ending rose sink_rose NoMemory number e (inr x, p) cut quiet calm = inl (e, x, p)
+
+-- what a call comes to that ended so
+pub headline-at : (one : OneAnswer) {B : Type 0} (log : B → Option (List (ℕ × ℕ))) (failed : B → ℕ) (places places' : List (Option B)) (told : List ℕ → Option (Option (List ℕ))) (rose sink_rose : Type 0) (asked : Option Asked)
+    (taken taken' : Option (List ℕ)) (ending : Ending) (number : ℕ) → number ≡ ending_number ending → Ends log failed (lead_of asked) (MayAnswer told rose asked) taken taken' places places' ending → (ending ≡ Cut → sink_rose)
+    → HeadlineAt log failed told asked rose sink_rose taken taken' places places' number
+headline-at one log failed places places' told rose sink_rose asked taken taken' ending number e s cut = λ name script_name arrivals_name budget tables P read come is n quiet calm.
+    by-ending one told name script_name arrivals_name budget tables P read come n log failed places places' taken taken' rose sink_rose ending number e
+    (subst (λ o. Ends log failed (lead_of o) (MayAnswer told rose o) taken taken' places places' ending) is s) cut quiet calm

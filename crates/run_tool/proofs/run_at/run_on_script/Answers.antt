@@ -1,0 +1,32 @@
+use Rattle.std.proofs.Common.{subst, refl, []}
+use Rattle.sts_base.specs.Faults.{Rose}
+use Rattle.tool_io.specs.Putting.{Took}
+use Rattle.tool_io.proofs.Laws.{took-nothing}
+use Rattle.run_tool.specs.Files.{AnswersFile}
+use Rattle.run_tool.specs.Arrivals.{AnswersArrivals, none_to_arrivals}
+use Rattle.run_tool.specs.RunAt.{RunsProgramAt, RunsOnScript}
+use Rattle.run_tool.proofs.Endings.{gives-more, concludes-more, concludes-after, says-concludes}
+use Rattle.run_tool.proofs.RunsAt.{no-arrivals, over-arrivals}
+use Rattle.run_tool.proofs.run_at.run_on_script.Goals as goal
+
+pub returns-in-Ok-clause-answer : goal.returns-in-Ok-clause-answer
+returns-in-Ok-clause-answer g c = λ P texts implements.
+    let told = g.F.Folder.holds c.args.folder.now in
+    let rose = Rose (g.F.Folder.faults c.args.folder.now) (g.F.Folder.faults c.arrivals_of.new.folder) in
+    let name = c.args.outside.arrivals.now in
+    let budget = c.args.outside.budget in
+    let may = RunsOnScript told rose name budget P texts c.args.script in
+    concludes-after g.D.Device.log g.D.Device.faults c.args.places.now.items c.run_board_at.new.places.items [] may c.run_board_at.result
+    (subst (λ x. Took x (g.K.Sink.taken c.arrivals_of.new.out) []) c.in-Ok.ensures.unwritten (took-nothing (g.K.Sink.taken c.arrivals_of.new.out))) c.in-Ok.ensures.later
+    (concludes-more g.D.Device.log g.D.Device.faults c.args.places.now.items c.run_board_at.new.places.items [] (RunsProgramAt P texts c.args.script c.in-Ok.arrivals budget) may c.run_board_at.result
+    (λ answer h. over-arrivals told rose name (λ come. RunsProgramAt P texts c.args.script come budget) c.in-Ok.arrivals answer c.in-Ok.ensures.arrivals h) (c.run_board_at.ensures P texts implements))
+
+pub returns-in-Err-clause-answer : goal.returns-in-Err-clause-answer
+returns-in-Err-clause-answer g c = λ P texts implements.
+    let told = g.F.Folder.holds c.args.folder.now in
+    let rose = Rose (g.F.Folder.faults c.args.folder.now) (g.F.Folder.faults c.arrivals_of.new.folder) in
+    let name = c.args.outside.arrivals.now in
+    let budget = c.args.outside.budget in
+    let may = RunsOnScript told rose name budget P texts c.args.script in
+    says-concludes g.D.Device.log g.D.Device.faults c.args.places.now.items c.args.places.now.items refl may c.in-Err.ending
+    (gives-more (AnswersFile (AnswersArrivals none_to_arrivals) (told name) rose) may c.in-Err.ending (λ answer h. no-arrivals told rose name (λ come. RunsProgramAt P texts c.args.script come budget) answer h) c.in-Err.ensures.none)

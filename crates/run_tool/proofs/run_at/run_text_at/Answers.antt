@@ -1,0 +1,28 @@
+use Rattle.std.proofs.Common.{subst, refl, []}
+use Rattle.sts_base.specs.Faults.{Rose}
+use Rattle.tool_io.specs.Putting.{Took}
+use Rattle.tool_io.proofs.Laws.{took-nothing}
+use Rattle.run_tool.specs.RunAt.{RunsOutside, RunsTextAt}
+use Rattle.run_tool.proofs.Endings.{concludes-more, concludes-after, says-concludes, no-program-gives, of-program}
+use Rattle.run_tool.proofs.run_at.run_text_at.Goals as goal
+
+pub returns-in-Ok-clause-answer : goal.returns-in-Ok-clause-answer
+returns-in-Ok-clause-answer g c =
+    let told = g.F.Folder.holds c.args.folder.now in
+    let rose = Rose (g.F.Folder.faults c.args.folder.now) (g.F.Folder.faults c.run_outside.new.folder) in
+    let answers = RunsOutside told rose c.args.outside.script.now c.args.outside.arrivals.now c.args.outside.budget in
+    let b = c.in-Ok.ensures.built in
+    let may = RunsTextAt told rose c.args.outside.script.now c.args.outside.arrivals.now c.args.outside.budget c.args.text.now in
+    concludes-after g.D.Device.log g.D.Device.faults c.args.places.now.items c.run_outside.new.places.items [] may c.run_outside.result
+    (subst (λ x. Took x (g.K.Sink.taken c.image_of.new.out) []) c.in-Ok.ensures.unwritten (took-nothing (g.K.Sink.taken c.image_of.new.out))) c.in-Ok.ensures.later
+    (concludes-more g.D.Device.log g.D.Device.faults c.args.places.now.items c.run_outside.new.places.items [] (answers b.program b.tables.texts) may c.run_outside.result
+    (of-program answers c.args.text.now c.in-Ok.image.items b) (c.run_outside.ensures.answer b.program b.tables.texts b.implements))
+
+pub returns-in-Err-clause-answer : goal.returns-in-Err-clause-answer
+returns-in-Err-clause-answer g c =
+    let told = g.F.Folder.holds c.args.folder.now in
+    let rose = Rose (g.F.Folder.faults c.args.folder.now) (g.F.Folder.faults c.args.folder.now) in
+    let answers = RunsOutside told rose c.args.outside.script.now c.args.outside.arrivals.now c.args.outside.budget in
+    says-concludes g.D.Device.log g.D.Device.faults c.args.places.now.items c.args.places.now.items refl
+    (RunsTextAt told rose c.args.outside.script.now c.args.outside.arrivals.now c.args.outside.budget c.args.text.now) c.in-Err.ending
+    (no-program-gives answers c.args.text.now c.in-Err.ending c.in-Err.ensures.none)

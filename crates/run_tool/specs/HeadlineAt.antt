@@ -1,0 +1,70 @@
+-- What `run-at P S A` comes to where nothing fails, told by the program's meaning alone.
+use Rattle.std.specs.Prelude.{◌≡◌, ◌≤◌, ◌<◌, ◌⊎◌, ◌*◌, ℕ, true, List, [], length, take, slice_get, Option, Some, Ok}
+use Rattle.sts_base.specs.declared.tables.Tables.{Tables}
+use Rattle.board_world.specs.Observations.{ByteList}
+use Rattle.board_world.specs.Board.{over, transcript_of}
+use Rattle.board_world.specs.Simulation.{Paired}
+use Rattle.board_world.specs.Arrivals.{Arrival as WorldArrival, RisesTo, Placed}
+use Rattle.board_outside.specs.Moves.{Move, HasMet}
+use Rattle.board_outside.specs.Ports.{DevicesAfter}
+use Rattle.tool_io.specs.Putting.{Took}
+use Rattle.sts_syntax.specs.TypedTrees.{TypedProgram}
+use Rattle.event_script.specs.Verdict as script
+use Rattle.event_script.specs.declared.script.Script.{Script}
+use Rattle.arrival_file.specs.Verdict as arrival
+use Rattle.arrival_file.specs.World.{world_arrivals}
+use Rattle.arrival_file.specs.declared.arrival.Arrival.{Arrival}
+use Rattle.irq_arrival.specs.SourceRuns.{source_at}
+use Rattle.sts_whole.specs.Accepting.{Accepts}
+use Rattle.sts_words.specs.Orders.{Asked, run_at}
+use Rattle.run_tool.specs.Answers.{status_number}
+use Rattle.run_tool.specs.Fetches.{limit}
+use Rattle.run_tool.specs.Runs.{run_status}
+
+-- a file of which the folder tells these bytes, within the limit
+abbrev pub IsTold : (List ℕ → Option (Option (List ℕ))) → List ℕ → List ℕ → Type 0
+IsTold told name bytes = (told name ≡ Some (Some bytes)) × (length bytes ≤ limit)
+
+-- The files of these names are told: a text that is accepted as this program, a script, and arrivals.
+pub record AreTold (told : List ℕ → Option (Option (List ℕ))) (name script_name arrivals_name : List ℕ) (tables : Tables) (P : TypedProgram) (read : Script) (come : List Arrival) : Type 0 where
+  pub text : List ℕ
+  pub text_told : IsTold told name text
+  pub accepted : Accepts text tables P
+  pub script_text : List ℕ
+  pub script_told : IsTold told script_name script_text
+  pub script_is : script.Tells script_text (Ok read)
+  pub arrivals_text : List ℕ
+  pub arrivals_told : IsTold told arrivals_name arrivals_text
+  pub arrivals_are : arrival.Tells arrivals_text (Ok come)
+
+-- The program's meaning comes so far on the script: after these counted steps, no more than the budget, and one at least for each 512 of it where it hasn't ended. The first
+-- so many arrivals come behind steps that don't fall, each at most at its number and near it; each whose number is below the budget comes, unless the program has ended
+-- within so many steps.
+pub record ComesSoFar (P : TypedProgram) (texts : List ByteList) (read : Script) (come : List Arrival) (budget : ℕ) : Type 0 where
+  pub steps : ℕ
+  pub places : List WorldArrival
+  pub moves : List Move
+  pub rises : RisesTo 0 places steps
+  pub placed : Paired (Placed 512) (take (length places) (world_arrivals come)) places
+  pub applies : (i : ℕ) (a : WorldArrival) → slice_get (world_arrivals come) i ≡ Some a → a.count < budget
+      → (i < length places) ⊎ ((over (source_at P texts read places steps).board ≡ true) × (steps ≤ a.count))
+  pub at_most : steps ≤ budget
+  pub at_least : (n : ℕ) → 512 * n ≤ budget → (n ≤ steps) ⊎ (over (source_at P texts read places steps).board ≡ true)
+  pub met : HasMet moves (source_at P texts read places steps).board
+
+-- Its transcript is written, the devices have met what it has met, and the status is that of its end: 0, 3 or 4.
+pub record WritesAt {B : Type 0} (log : B → Option (List (ℕ × ℕ))) (failed : B → ℕ) (taken taken' : Option (List ℕ)) (places places' : List (Option B))
+    (P : TypedProgram) (texts : List ByteList) (read : Script) (come : List Arrival) (budget number : ℕ) : Type 0 where
+  pub comes : ComesSoFar P texts read come budget
+  pub written : Took taken taken' (transcript_of (source_at P texts read comes.places comes.steps).board)
+  pub devices : DevicesAfter log failed comes.moves places places'
+  pub status : number ≡ status_number (run_status (source_at P texts read comes.places comes.steps).board.end)
+  pub ended : (number ≡ 0) ⊎ ((number ≡ 3) ⊎ (number ≡ 4))
+
+-- For words that ask for it, over files that are told, and where no count of faults rose: there was no memory, and nothing was written and no device changed; or that.
+abbrev pub HeadlineAt : {B : Type 0} → (B → Option (List (ℕ × ℕ))) → (B → ℕ) → (told : List ℕ → Option (Option (List ℕ))) → Option Asked → (folder_rose sink_rose : Type 0)
+    → (taken taken' : Option (List ℕ)) → (places places' : List (Option B)) → (number : ℕ) → Type 0
+HeadlineAt log failed told asked folder_rose sink_rose taken taken' places places' number =
+    (name script_name arrivals_name : List ℕ) (budget : ℕ) (tables : Tables) (P : TypedProgram) (read : Script) (come : List Arrival)
+    → asked ≡ Some (run_at name script_name arrivals_name budget) → AreTold told name script_name arrivals_name tables P read come → ¬ folder_rose → ¬ sink_rose
+    → ((number ≡ 30) × Took taken taken' [] × (places' ≡ places)) ⊎ WritesAt log failed taken taken' places places' P tables.texts read come budget number

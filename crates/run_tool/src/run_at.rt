@@ -1,0 +1,145 @@
+// The command `run-at`.
+ghost use Rattle.std.specs.Prelude.{◌≡◌, ◌≤◌, ℕ, List, [], vec_len};
+ghost use Rattle.sts_base.specs.Faults.{Rose};
+ghost use Rattle.board_world.specs.Observations.{ByteList};
+ghost use Rattle.thumb_code.specs.Map.{flash_end};
+ghost use Rattle.sts_syntax.specs.TypedTrees.{TypedProgram};
+ghost use Rattle.event_script.specs.Sound as script_sound;
+ghost use Rattle.arrival_file.specs.Sound.{IsSound};
+ghost use Rattle.sts_implements.specs.Images.{ImageImplements};
+ghost use Rattle.sts_words.specs.Orders.{IsBudget};
+ghost use Rattle.run_tool.specs.Answers.{Concludes};
+ghost use Rattle.run_tool.specs.Files.{OverFile};
+ghost use Rattle.run_tool.specs.RunAt.{RunsProgramAt, RunsOnScript, RunsOutside, RunsTextAt};
+
+use crate::arrivals::arrivals_of;
+use crate::build::image_of;
+use crate::ending::Ending;
+use crate::fetched::text_of;
+use crate::run_hex::ending_of;
+use crate::script::script_of;
+use arrival_file::Arrival;
+use board_ports::Device;
+use event_script::Script;
+use irq_arrival::run_image_at;
+use std::alloc::Global;
+use sts_base::{NoMemory, Seq};
+use tool_io::{Folder, Sink};
+
+/// What a program is to meet while it runs, by the names of files, and for how many instructions at most.
+#[derive(Clone, Copy, Drop)]
+pub struct Outside<'a> {
+    pub script: &'a str,
+    pub arrivals: &'a str,
+    pub budget: u32,
+}
+
+/// Runs an image that implements a program on a script with arrivals, and writes the transcript.
+fn run_board_at<K: Sink, D: Device>(
+    alloc: Global,
+    image: Vec<u8>,
+    script: Script,
+    arrivals: &Seq<Arrival>,
+    budget: u32,
+    out: &mut K,
+    places: &mut Vec<Option<D>>,
+) -> Ending
+    requires size { vec_len image ≤ flash_end }
+    requires script { script_sound.IsSound script }
+    requires arrivals { IsSound arrivals.now }
+    requires budget { IsBudget budget }
+    ensures { (P : TypedProgram) (texts : List ByteList) → ImageImplements P texts image.items
+        → Concludes K.taken K.faults out.old out.new D.log D.faults places.old.items places.new.items [] (RunsProgramAt P texts script arrivals.now budget) result }
+{
+    match run_image_at(alloc, image, script, arrivals, places, budget, out) {
+        Ok(end) => ending_of(end),
+        Err(NoMemory) => Ending::NoMemory,
+    }
+}
+
+/// Runs an image that implements a program on a script, with the arrivals that are named.
+fn run_on_script<F: Folder, K: Sink, D: Device>(
+    alloc: Global,
+    image: Vec<u8>,
+    script: Script,
+    outside: Outside<'_>,
+    folder: &mut F,
+    out: &mut K,
+    places: &mut Vec<Option<D>>,
+) -> Ending
+    requires size { vec_len image ≤ flash_end }
+    requires script { script_sound.IsSound script }
+    requires budget { IsBudget outside.budget }
+    ensures answer { (P : TypedProgram) (texts : List ByteList) → ImageImplements P texts image.items
+        → Concludes K.taken K.faults out.old out.new D.log D.faults places.old.items places.new.items []
+        (RunsOnScript (F.holds folder.old) (Rose (F.faults folder.old) (F.faults folder.new)) outside.entry.arrivals.now outside.entry.budget P texts script) result }
+    ensures folder_later { F.faults folder.old ≤ F.faults folder.new }
+{
+    match arrivals_of(alloc, outside.arrivals, folder, out) {
+        Ok(arrivals) => run_board_at(alloc, image, script, &arrivals, outside.budget, out, places),
+        Err(ending) => ending,
+    }
+}
+
+/// Runs an image that implements a program on the script that is named, with the arrivals that are named.
+fn run_outside<F: Folder, K: Sink, D: Device>(
+    alloc: Global,
+    image: Vec<u8>,
+    outside: Outside<'_>,
+    folder: &mut F,
+    out: &mut K,
+    places: &mut Vec<Option<D>>,
+) -> Ending
+    requires size { vec_len image ≤ flash_end }
+    requires budget { IsBudget outside.budget }
+    ensures answer { (P : TypedProgram) (texts : List ByteList) → ImageImplements P texts image.items
+        → Concludes K.taken K.faults out.old out.new D.log D.faults places.old.items places.new.items []
+        (RunsOutside (F.holds folder.old) (Rose (F.faults folder.old) (F.faults folder.new)) outside.entry.script.now outside.entry.arrivals.now outside.entry.budget P texts) result }
+    ensures folder_later { F.faults folder.old ≤ F.faults folder.new }
+{
+    match script_of(alloc, Some(outside.script), folder, out) {
+        Ok(script) => run_on_script(alloc, image, script, outside, folder, out, places),
+        Err(ending) => ending,
+    }
+}
+
+/// Builds a text, and runs its image on the script that is named, with the arrivals that are named. They are fetched behind that, in this order.
+fn run_text_at<F: Folder, K: Sink, D: Device>(
+    alloc: Global,
+    text: &[u8],
+    outside: Outside<'_>,
+    folder: &mut F,
+    out: &mut K,
+    places: &mut Vec<Option<D>>,
+) -> Ending
+    requires budget { IsBudget outside.budget }
+    ensures answer { Concludes K.taken K.faults out.old out.new D.log D.faults places.old.items places.new.items []
+        (RunsTextAt (F.holds folder.old) (Rose (F.faults folder.old) (F.faults folder.new)) outside.entry.script.now outside.entry.arrivals.now outside.entry.budget text.now) result }
+    ensures folder_later { F.faults folder.old ≤ F.faults folder.new }
+{
+    match image_of(alloc, text, out) {
+        Ok(image) => run_outside(alloc, image, outside, folder, out, places),
+        Err(ending) => ending,
+    }
+}
+
+/// The command `run-at`.
+pub fn run_at<F: Folder, K: Sink, D: Device>(
+    alloc: Global,
+    name: &str,
+    outside: Outside<'_>,
+    folder: &mut F,
+    out: &mut K,
+    places: &mut Vec<Option<D>>,
+) -> Ending
+    requires budget { IsBudget outside.budget }
+    ensures answer { Concludes K.taken K.faults out.old out.new D.log D.faults places.old.items places.new.items []
+        (OverFile F.holds F.faults folder.old folder.new name.now
+        (RunsTextAt (F.holds folder.old) (Rose (F.faults folder.old) (F.faults folder.new)) outside.entry.script.now outside.entry.arrivals.now outside.entry.budget)) result }
+    ensures folder_later { F.faults folder.old ≤ F.faults folder.new }
+{
+    match text_of(alloc, name, folder, out) {
+        Ok(text) => run_text_at(alloc, &text, outside, folder, out, places),
+        Err(ending) => ending,
+    }
+}
