@@ -1,9 +1,10 @@
 //! Tests alone: calls over folders, sinks and streams that fail, and the images of texts, byte for byte. A line is written for each
 //! row, and `stdout` has the lines that are due, by hand. Rows of words over files that don't fail stand in checks/commands.txt. Where a
-//! word is given, the row of that name in `refused` is run alone.
+//! word is given, the row of that name in `refused` is run alone. Programs of standard input have their flat code written behind the rows.
 #![tactic(auto)]
 
 mod bigs;
+mod code;
 mod commands;
 mod copying;
 mod devices;
@@ -14,6 +15,7 @@ mod refused;
 mod sinks;
 mod streams;
 
+use std::io::{BufRead, BufReader};
 use std::{env, io};
 
 fn main(rt: HostRuntime) -> io::Result<()> {
@@ -29,5 +31,9 @@ fn main(rt: HostRuntime) -> io::Result<()> {
     commands::show(alloc, out)?;
     devices::show(alloc, out)?;
     game::show(alloc, out)?;
-    bigs::show(alloc, out)
+    bigs::show(alloc, out)?;
+    for line in BufReader::new(alloc, rt.stdin())?.lines(alloc) {
+        code::show(alloc, out, line?.as_str())?;
+    }
+    Ok(())
 }

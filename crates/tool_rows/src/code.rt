@@ -1,10 +1,8 @@
-//! Tests alone: reads programs, one a line with `%%` for each line's end, and writes the flat code of their own functions, op by op.
-#![tactic(auto)]
+//! The flat code of texts: reads programs, one a line with `%%` for each line's end, and writes the flat code of their own functions, op by op.
 
-use anyhow::{anyhow, bail};
 use flat_ir::{FlatClass, FlatCode, Function, Op};
-use std::alloc::Global;
-use std::io::{self, BufRead, BufReader, BufWriter, Write};
+use std::alloc::{AllocError, Global};
+use std::io::{self, Write};
 use sts_lower::lower;
 use sts_whole::{accept, accepted_programs_are_buildable};
 
@@ -112,35 +110,26 @@ fn write_code<W: Write>(out: &mut W, code: &FlatCode) -> io::Result<()> {
 }
 
 /// The text of a line.
-fn text_of(alloc: Global, line: &str) -> anyhow::Result<String> {
+fn text_of(alloc: Global, line: &str) -> Result<String, AllocError> {
     let mut text = String::new(alloc);
     for (i, part) in line.split("%%").enumerate() {
         if i > 0 {
-            text.push('\n').map_err(|_| anyhow!("no memory"))?;
+            text.push('\n')?;
         }
-        text.push_str(part).map_err(|_| anyhow!("no memory"))?;
+        text.push_str(part)?;
     }
     Ok(text)
 }
 
 /// Writes the flat code of a line's program.
-fn answer<W: Write>(alloc: Global, line: &str, out: &mut W) -> anyhow::Result<()> {
+pub fn show<W: Write>(alloc: Global, out: &mut W, line: &str) -> io::Result<()> {
     let text = text_of(alloc, line)?;
     accepted_programs_are_buildable();
     let Ok((typed, _)) = accept(alloc, text.as_bytes()) else {
-        bail!("not accepted");
+        return writeln!(out, "not accepted");
     };
-    let code = lower(alloc, &typed).map_err(|_| anyhow!("no memory"))?;
-    write_code(out, &code)?;
-    Ok(())
-}
-
-fn main(rt: HostRuntime) -> anyhow::Result<()> {
-    let alloc = rt.alloc();
-    let mut out = BufWriter::new(alloc, io::writer(&rt))?;
-    for line in BufReader::new(alloc, rt.reader())?.lines(alloc) {
-        answer(alloc, line?.as_str(), &mut out)?;
+    match lower(alloc, &typed) {
+        Ok(code) => write_code(out, &code),
+        Err(_) => Err(io::ErrorKind::OutOfMemory)?,
     }
-    out.flush()?;
-    Ok(())
 }
