@@ -8,4 +8,5 @@ mod own;
 mod tables;
 
 pub use around_place::Explanation;
-pub use hints::explain;
+pub use hints::{Hints, explain, hints_of};
+pub use tables::Rows;

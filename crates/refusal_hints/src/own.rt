@@ -3,7 +3,7 @@
 use around_place::Explanation;
 
 /// The explanation of what is no code, and those of the codes 1 to 15.
-const OWN: [Explanation; 16] = [
+static OWN: [Explanation; 16] = [
     Explanation {
         sentence: "This number is no code of a refusal.",
         example: "",

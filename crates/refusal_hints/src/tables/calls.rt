@@ -3,11 +3,11 @@ use around_place::Test::{Is, Like};
 use around_place::{ANYWHERE, Row};
 
 /// Code 8: the calls of the board, written otherwise or hidden.
-pub fn calls_rows() -> &'static [Row] {
-    CALLS
+pub fn calls_1() -> &'static [Row] {
+    &CALLS_1
 }
 
-const CALLS: &[Row] = &[
+static CALLS_1: [Row; 14] = [
     Row {
         at: &[Is("basic"), Is("."), Like("pause")],
         sentence: "The call is `basic.pause`, in these capitals and small letters. Where it stands so, a name `basic` of the program hides the board's: give that another.",
@@ -92,6 +92,14 @@ const CALLS: &[Row] = &[
         example: "control.onEvent(50, 1, function () { })",
         ..ANYWHERE
     },
+];
+
+/// Code 8: the calls of the board, written otherwise or hidden, part 2.
+pub fn calls_2() -> &'static [Row] {
+    &CALLS_2
+}
+
+static CALLS_2: [Row; 14] = [
     Row {
         at: &[Is("control"), Is("."), Like("onEventFlags")],
         sentence: "The call is `control.onEventFlags`, in these capitals and small letters. Where it stands so, a name `control` of the program hides the board's: give that another.",
@@ -176,6 +184,14 @@ const CALLS: &[Row] = &[
         example: "let x = Math.max(1, 2)",
         ..ANYWHERE
     },
+];
+
+/// Code 8: the calls of the board, written otherwise or hidden, part 3.
+pub fn calls_3() -> &'static [Row] {
+    &CALLS_3
+}
+
+static CALLS_3: [Row; 14] = [
     Row {
         at: &[Like("pause"), Is("(")],
         sentence: "`pause` is one of `basic`: `basic.pause`.",
@@ -260,6 +276,14 @@ const CALLS: &[Row] = &[
         example: "control.onEvent(50, 1, function () { })",
         ..ANYWHERE
     },
+];
+
+/// Code 8: the calls of the board, written otherwise or hidden, part 4.
+pub fn calls_4() -> &'static [Row] {
+    &CALLS_4
+}
+
+static CALLS_4: [Row; 14] = [
     Row {
         at: &[Like("onEventFlags"), Is("(")],
         sentence: "`onEventFlags` is one of `control`: `control.onEventFlags`.",

@@ -4,11 +4,11 @@ use around_place::Test::{Any, Is, Name};
 use around_place::{ANYWHERE, Row};
 
 /// Code 6: tests and loops that are written otherwise, and forms that aren't here.
-pub fn control_rows() -> &'static [Row] {
-    CONTROL
+pub fn control_1() -> &'static [Row] {
+    &CONTROL_1
 }
 
-const CONTROL: &[Row] = &[
+static CONTROL_1: [Row; 14] = [
     Row {
         line: &[Is("for"), Is("("), Is("let"), Name],
         at: &[Is("in")],
@@ -107,6 +107,14 @@ const CONTROL: &[Row] = &[
         example: "if (a == 1) { } else if (a == 2) { }",
         ..ANYWHERE
     },
+];
+
+/// Code 6: tests and loops that are written otherwise, and forms that aren't here, part 2.
+pub fn control_2() -> &'static [Row] {
+    &CONTROL_2
+}
+
+static CONTROL_2: [Row; 14] = [
     Row {
         line: &[Is("elif")],
         sentence: "`elif` is written `else if`.",
@@ -205,6 +213,14 @@ const CONTROL: &[Row] = &[
         example: "if (a != 1) { }",
         ..ANYWHERE
     },
+];
+
+/// Code 6: tests and loops that are written otherwise, and forms that aren't here, part 3.
+pub fn control_3() -> &'static [Row] {
+    &CONTROL_3
+}
+
+static CONTROL_3: [Row; 14] = [
     Row {
         at: &[Is("else")],
         sentence: "An `else` stands right behind the block of its `if`, with no `;` between them.",
@@ -292,6 +308,14 @@ const CONTROL: &[Row] = &[
         example: "basic.showNumber(5)",
         ..ANYWHERE
     },
+];
+
+/// Code 6: tests and loops that are written otherwise, and forms that aren't here, part 4.
+pub fn control_4() -> &'static [Row] {
+    &CONTROL_4
+}
+
+static CONTROL_4: [Row; 12] = [
     Row {
         at: &[Is("export")],
         sentence: "Nothing is exported: take `export` out.",

@@ -4,11 +4,11 @@ use around_place::Test::{Is, Name, Number, Text};
 use around_place::{ANYWHERE, Row};
 
 /// Code 6: declarations, functions and calls that are written otherwise.
-pub fn forms_rows() -> &'static [Row] {
-    FORMS
+pub fn forms_1() -> &'static [Row] {
+    &FORMS_1
 }
 
-const FORMS: &[Row] = &[
+static FORMS_1: [Row; 14] = [
     Row {
         line: &[Is("class")],
         at: &[Is(",")],
@@ -108,6 +108,14 @@ const FORMS: &[Row] = &[
         example: "let b: boolean = true",
         ..ANYWHERE
     },
+];
+
+/// Code 6: declarations, functions and calls that are written otherwise, part 2.
+pub fn forms_2() -> &'static [Row] {
+    &FORMS_2
+}
+
+static FORMS_2: [Row; 14] = [
     Row {
         before: &[Is("let"), Name],
         at: &[Is("-")],
@@ -205,6 +213,14 @@ const FORMS: &[Row] = &[
         example: "function f(): void { }",
         ..ANYWHERE
     },
+];
+
+/// Code 6: declarations, functions and calls that are written otherwise, part 3.
+pub fn forms_3() -> &'static [Row] {
+    &FORMS_3
+}
+
+static FORMS_3: [Row; 14] = [
     Row {
         at: &[Is("void"), Name],
         sentence: "A function begins with `function`; the type of its result stands behind its parameters.",
@@ -311,6 +327,14 @@ const FORMS: &[Row] = &[
         example: "function f(a: number[]): void { }",
         ..ANYWHERE
     },
+];
+
+/// Code 6: declarations, functions and calls that are written otherwise, part 4.
+pub fn forms_4() -> &'static [Row] {
+    &FORMS_4
+}
+
+static FORMS_4: [Row; 14] = [
     Row {
         line: &[Is("function")],
         before: &[Is(")")],
@@ -417,6 +441,14 @@ const FORMS: &[Row] = &[
         example: "basic.forever(() => { basic.pause(1) })",
         ..ANYWHERE
     },
+];
+
+/// Code 6: declarations, functions and calls that are written otherwise, part 5.
+pub fn forms_5() -> &'static [Row] {
+    &FORMS_5
+}
+
+static FORMS_5: [Row; 14] = [
     Row {
         before: &[Name],
         at: &[Is("=>")],
@@ -511,6 +543,14 @@ const FORMS: &[Row] = &[
         example: "basic.pause(100)",
         ..ANYWHERE
     },
+];
+
+/// Code 6: declarations, functions and calls that are written otherwise, part 6.
+pub fn forms_6() -> &'static [Row] {
+    &FORMS_6
+}
+
+static FORMS_6: [Row; 14] = [
     Row {
         line: &[Is("led")],
         alone: true,
@@ -615,6 +655,14 @@ const FORMS: &[Row] = &[
         example: "let b = a[1][2]",
         ..ANYWHERE
     },
+];
+
+/// Code 6: declarations, functions and calls that are written otherwise, part 7.
+pub fn forms_7() -> &'static [Row] {
+    &FORMS_7
+}
+
+static FORMS_7: [Row; 14] = [
     Row {
         at: &[Is("."), Number],
         sentence: "Numbers are whole, so none begins with a point: count in tenths.",

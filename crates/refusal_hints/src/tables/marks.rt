@@ -4,11 +4,11 @@ use around_place::Test::{Any, Is, Name, Number, Sign, Text};
 use around_place::{ANYWHERE, Row};
 
 /// Code 6: brackets and marks that are missing or too many.
-pub fn marks_rows() -> &'static [Row] {
-    MARKS
+pub fn marks_1() -> &'static [Row] {
+    &MARKS_1
 }
 
-const MARKS: &[Row] = &[
+static MARKS_1: [Row; 11] = [
     Row {
         last: true,
         inside: Unclosed(b'{'),
@@ -86,6 +86,14 @@ const MARKS: &[Row] = &[
         example: "basic.pause(1);",
         ..ANYWHERE
     },
+];
+
+/// Code 6: brackets and marks that are missing or too many, part 2.
+pub fn marks_2() -> &'static [Row] {
+    &MARKS_2
+}
+
+static MARKS_2: [Row; 11] = [
     Row {
         at: &[Is(";")],
         inside: Unclosed(b'['),
@@ -166,6 +174,14 @@ const MARKS: &[Row] = &[
         example: "led.plot(1, i)",
         ..ANYWHERE
     },
+];
+
+/// Code 6: brackets and marks that are missing or too many, part 3.
+pub fn marks_3() -> &'static [Row] {
+    &MARKS_3
+}
+
+static MARKS_3: [Row; 10] = [
     Row {
         before: &[Name],
         at: &[Number],

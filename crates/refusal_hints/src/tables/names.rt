@@ -3,11 +3,11 @@ use around_place::Test::{Any, Is, Like, Name, With};
 use around_place::{ANYWHERE, Row};
 
 /// Code 8: names and members that aren't known.
-pub fn names_rows() -> &'static [Row] {
-    NAMES
+pub fn names_1() -> &'static [Row] {
+    &NAMES_1
 }
 
-const NAMES: &[Row] = &[
+static NAMES_1: [Row; 13] = [
     Row {
         at: &[With(b'$')],
         sentence: "Names that begin with `$` are the library's: choose another.",
@@ -90,6 +90,14 @@ const NAMES: &[Row] = &[
         example: "seed = (seed * 1103515245 + 12345) & 0x7fffffff",
         ..ANYWHERE
     },
+];
+
+/// Code 8: names and members that aren't known, part 2.
+pub fn names_2() -> &'static [Row] {
+    &NAMES_2
+}
+
+static NAMES_2: [Row; 13] = [
     Row {
         at: &[Is("randint")],
         sentence: "There is no `randint`: nothing is by chance, so that a run can be told beforehand.",
@@ -168,6 +176,14 @@ const NAMES: &[Row] = &[
         example: "control.onEvent(50, 1, function () { })",
         ..ANYWHERE
     },
+];
+
+/// Code 8: names and members that aren't known, part 3.
+pub fn names_3() -> &'static [Row] {
+    &NAMES_3
+}
+
+static NAMES_3: [Row; 13] = [
     Row {
         at: &[Is("input"), Is("."), Is("temperature")],
         sentence: "The board has no sensor for `temperature`: a script's `raise` brings a number, told by `control.eventValue`.",
@@ -246,6 +262,14 @@ const NAMES: &[Row] = &[
         example: "control.panic(1)",
         ..ANYWHERE
     },
+];
+
+/// Code 8: names and members that aren't known, part 4.
+pub fn names_4() -> &'static [Row] {
+    &NAMES_4
+}
+
+static NAMES_4: [Row; 13] = [
     Row {
         at: &[Is("control"), Is("."), Is("waitMicros")],
         sentence: "`control` has no `waitMicros`: times are milliseconds, by `basic.pause`.",
@@ -324,6 +348,14 @@ const NAMES: &[Row] = &[
         example: "let n = 5",
         ..ANYWHERE
     },
+];
+
+/// Code 8: names and members that aren't known, part 5.
+pub fn names_5() -> &'static [Row] {
+    &NAMES_5
+}
+
+static NAMES_5: [Row; 13] = [
     Row {
         at: &[Is("String"), Is("(")],
         sentence: "Numbers aren't made into texts: show or write the number itself.",
@@ -411,6 +443,14 @@ const NAMES: &[Row] = &[
         example: "let a: number[] = []",
         ..ANYWHERE
     },
+];
+
+/// Code 8: names and members that aren't known, part 6.
+pub fn names_6() -> &'static [Row] {
+    &NAMES_6
+}
+
+static NAMES_6: [Row; 13] = [
     Row {
         before: &[Is(":")],
         at: &[Is("Array")],
@@ -492,6 +532,14 @@ const NAMES: &[Row] = &[
         example: "let a: number[] = []",
         ..ANYWHERE
     },
+];
+
+/// Code 8: names and members that aren't known, part 7.
+pub fn names_7() -> &'static [Row] {
+    &NAMES_7
+}
+
+static NAMES_7: [Row; 13] = [
     Row {
         at: &[Is("new"), Name],
         sentence: "No class of this name is here: see upper and lower case, or write the class.",
@@ -571,6 +619,14 @@ const NAMES: &[Row] = &[
         example: "serial.writeNumber(a.length)",
         ..ANYWHERE
     },
+];
+
+/// Code 8: names and members that aren't known, part 8.
+pub fn names_8() -> &'static [Row] {
+    &NAMES_8
+}
+
+static NAMES_8: [Row; 13] = [
     Row {
         at: &[Name, Is("."), Is("length")],
         sentence: "The length of a list can be asked, that of a text can't.",

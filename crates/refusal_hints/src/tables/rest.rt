@@ -4,26 +4,11 @@ use around_place::Test::{Is, Name};
 use around_place::{ANYWHERE, Row};
 
 /// Code 9: names that stand twice.
-pub fn twice_rows() -> &'static [Row] {
-    TWICE
+pub fn twice() -> &'static [Row] {
+    &TWICE
 }
 
-/// Code 10: what a handler can't reach.
-pub fn captured_rows() -> &'static [Row] {
-    CAPTURED
-}
-
-/// Code 12: types that can't be told.
-pub fn untold_rows() -> &'static [Row] {
-    UNTOLD
-}
-
-/// Code 13: functions and handlers.
-pub fn handlers_rows() -> &'static [Row] {
-    HANDLERS
-}
-
-const TWICE: &[Row] = &[
+static TWICE: [Row; 3] = [
     Row {
         before: &[Is("let")],
         at: &[Name],
@@ -47,7 +32,12 @@ const TWICE: &[Row] = &[
     },
 ];
 
-const CAPTURED: &[Row] = &[
+/// Code 10: what a handler can't reach.
+pub fn captured() -> &'static [Row] {
+    &CAPTURED
+}
+
+static CAPTURED: [Row; 2] = [
     Row {
         at: &[Is("this")],
         sentence: "A handler can't use `this` of the method around it: let a global hold the object.",
@@ -62,7 +52,12 @@ const CAPTURED: &[Row] = &[
     },
 ];
 
-const UNTOLD: &[Row] = &[
+/// Code 12: types that can't be told.
+pub fn untold() -> &'static [Row] {
+    &UNTOLD
+}
+
+static UNTOLD: [Row; 7] = [
     Row {
         before: &[Is("let")],
         at: &[Name, Is("="), Is("["), Is("]")],
@@ -113,7 +108,12 @@ const UNTOLD: &[Row] = &[
     },
 ];
 
-const HANDLERS: &[Row] = &[
+/// Code 13: functions and handlers.
+pub fn handlers_1() -> &'static [Row] {
+    &HANDLERS_1
+}
+
+static HANDLERS_1: [Row; 8] = [
     Row {
         at: &[Is("basic"), Is("."), Is("forever"), Is("("), Is("function")],
         sentence: "`basic.forever` takes a handler: a function without parameters that gives no value.",
@@ -196,6 +196,14 @@ const HANDLERS: &[Row] = &[
         example: "control.inBackground(function () { })",
         ..ANYWHERE
     },
+];
+
+/// Code 13: functions and handlers, part 2.
+pub fn handlers_2() -> &'static [Row] {
+    &HANDLERS_2
+}
+
+static HANDLERS_2: [Row; 8] = [
     Row {
         at: &[Is("input"), Is("."), Is("onButtonPressed"), Is("(")],
         sentence: "`input.onButtonPressed` takes a button and a handler: a function without parameters that gives no value.",

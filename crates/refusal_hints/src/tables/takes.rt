@@ -3,11 +3,11 @@ use around_place::Test::{Any, Is};
 use around_place::{ANYWHERE, Row};
 
 /// Code 11: what the calls of the board take.
-pub fn takes_rows() -> &'static [Row] {
-    TAKES
+pub fn takes_1() -> &'static [Row] {
+    &TAKES_1
 }
 
-const TAKES: &[Row] = &[
+static TAKES_1: [Row; 10] = [
     Row {
         at: &[
             Is("input"),
@@ -85,6 +85,14 @@ const TAKES: &[Row] = &[
         example: "led.unplot(2, 2)",
         ..ANYWHERE
     },
+];
+
+/// Code 11: what the calls of the board take, part 2.
+pub fn takes_2() -> &'static [Row] {
+    &TAKES_2
+}
+
+static TAKES_2: [Row; 10] = [
     Row {
         at: &[Is("led"), Is("."), Is("toggle"), Is("(")],
         sentence: "`led.toggle` takes two numbers, the column and the row.",
@@ -145,6 +153,14 @@ const TAKES: &[Row] = &[
         example: "control.waitForEvent(50, 1)",
         ..ANYWHERE
     },
+];
+
+/// Code 11: what the calls of the board take, part 3.
+pub fn takes_3() -> &'static [Row] {
+    &TAKES_3
+}
+
+static TAKES_3: [Row; 10] = [
     Row {
         at: &[Is("control"), Is("."), Is("eventValue"), Is("(")],
         sentence: "`control.eventValue` takes nothing.",

@@ -3,21 +3,11 @@ use around_place::Test::{Foreign, Is, Name, Number, Open, Text, With};
 use around_place::{ANYWHERE, Row};
 
 /// Code 3: no token begins there.
-pub fn characters_rows() -> &'static [Row] {
-    CHARACTERS
+pub fn characters_1() -> &'static [Row] {
+    &CHARACTERS_1
 }
 
-/// Code 4: no number stands there.
-pub fn numbers_rows() -> &'static [Row] {
-    NUMBERS
-}
-
-/// Code 5: no text in quotes stands there.
-pub fn texts_rows() -> &'static [Row] {
-    TEXTS
-}
-
-const CHARACTERS: &[Row] = &[
+static CHARACTERS_1: [Row; 10] = [
     Row {
         at: &[Is("“")],
         sentence: "A text stands in straight quotes, `\"` or `'`: the curved ones of a word processor are no quotes.",
@@ -78,6 +68,14 @@ const CHARACTERS: &[Row] = &[
         example: "let x = 7 / 2",
         ..ANYWHERE
     },
+];
+
+/// Code 3: no token begins there, part 2.
+pub fn characters_2() -> &'static [Row] {
+    &CHARACTERS_2
+}
+
+static CHARACTERS_2: [Row; 9] = [
     Row {
         at: &[Is("≤")],
         sentence: "At most is written `<=`.",
@@ -134,7 +132,12 @@ const CHARACTERS: &[Row] = &[
     },
 ];
 
-const NUMBERS: &[Row] = &[
+/// Code 4: no number stands there.
+pub fn numbers() -> &'static [Row] {
+    &NUMBERS
+}
+
+static NUMBERS: [Row; 9] = [
     Row {
         before: &[Is("pause"), Is("(")],
         at: &[Number, Is(".")],
@@ -195,7 +198,12 @@ const NUMBERS: &[Row] = &[
     },
 ];
 
-const TEXTS: &[Row] = &[
+/// Code 5: no text in quotes stands there.
+pub fn texts() -> &'static [Row] {
+    &TEXTS
+}
+
+static TEXTS: [Row; 5] = [
     Row {
         at: &[With(b'$')],
         sentence: "`${ }` isn't here, since texts can't be joined: write the text and the number by a call each.",

@@ -3,11 +3,11 @@ use around_place::Test::{Any, Is, Name, Number, Sign, Text};
 use around_place::{ANYWHERE, Row};
 
 /// Code 11: types that don't fit.
-pub fn types_rows() -> &'static [Row] {
-    TYPES
+pub fn types_1() -> &'static [Row] {
+    &TYPES_1
 }
 
-const TYPES: &[Row] = &[
+static TYPES_1: [Row; 12] = [
     Row {
         at: &[Text, Is("+")],
         sentence: "`+` adds numbers; texts can't be joined. Write the parts by a call each.",
@@ -82,6 +82,14 @@ const TYPES: &[Row] = &[
         example: "if (a != 0) { }",
         ..ANYWHERE
     },
+];
+
+/// Code 11: types that don't fit, part 2.
+pub fn types_2() -> &'static [Row] {
+    &TYPES_2
+}
+
+static TYPES_2: [Row; 12] = [
     Row {
         at: &[Is("while"), Is("("), Name, Is(")")],
         sentence: "A test is true or false; for a number write a comparison.",
@@ -154,6 +162,14 @@ const TYPES: &[Row] = &[
         example: "for (let i = 0; i < 5; i++) { }",
         ..ANYWHERE
     },
+];
+
+/// Code 11: types that don't fit, part 3.
+pub fn types_3() -> &'static [Row] {
+    &TYPES_3
+}
+
+static TYPES_3: [Row; 12] = [
     Row {
         at: &[Is("return")],
         sentence: "What is returned isn't of the type that the function's result has.",
@@ -230,6 +246,14 @@ const TYPES: &[Row] = &[
         example: "let b = a[0]",
         ..ANYWHERE
     },
+];
+
+/// Code 11: types that don't fit, part 4.
+pub fn types_4() -> &'static [Row] {
+    &TYPES_4
+}
+
+static TYPES_4: [Row; 12] = [
     Row {
         at: &[Name, Is("++")],
         sentence: "A `const` is never set anew: declare it by `let`. Only a number is counted up.",
