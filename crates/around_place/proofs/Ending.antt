@@ -1,5 +1,5 @@
 -- The last words of a text, looked for from its beginning on.
-use Rattle.std.proofs.Common.{◌≡◌, ◌↔◌, ◌⊎◌, ℕ, List, [], ◌∷◌, Bool, true, false, IsTrue, refl, sym, subst, inl, inr}
+use Rattle.std.proofs.Common.{ℕ, List, [], ◌∷◌, true, sym, subst, inl, inr}
 use Rattle.around_place.specs.declared.row.Test.{Test}
 use Rattle.around_place.specs.Rows.{BeginsAsAsked, EndsAsAsked}
 use Rattle.around_place.specs.Words.{AreItsWords, IsFirstWord, IsBlank}

@@ -1,5 +1,5 @@
 -- What stands around a place, from what the code has of it.
-use Rattle.std.proofs.Common.{◌≡◌, ◌-◌, ℕ, List, take, drop, Option, Some, None, refl, sym, subst, ap, ◌∙◌}
+use Rattle.std.proofs.Common.{◌≡◌, ◌-◌, ℕ, List, take, drop, Option, Some, None, sym, subst, ap, ◌∙◌}
 use Rattle.std.specs.Borrow.{Bor}
 use Rattle.std.specs.Option.{option_map}
 use Rattle.std.specs.Prelude.{slice_range}

@@ -1,5 +1,5 @@
 -- The last line that has begun before a place, and places by line and column.
-use Rattle.std.proofs.Common.{◌≡◌, ◌≤◌, ◌<◌, ℕ, zero, suc, ◌+◌, ◌-◌, Bool, true, false, List, refl, sym, subst, cond, arith, inl, inr, ◌⊎◌, ◌∙◌, lit<, lit≤, length}
+use Rattle.std.proofs.Common.{◌≡◌, ◌≤◌, ◌<◌, ℕ, zero, suc, ◌+◌, ◌-◌, Bool, true, false, List, refl, sym, subst, cond, arith, inl, inr, ◌⊎◌, ◌∙◌, lit≤}
 use Rattle.sts_base.specs.Places.{IsPlace, begins_line, lines_upto}
 use Rattle.around_place.specs.Around.{IsLineColumn}
 

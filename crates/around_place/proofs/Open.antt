@@ -1,5 +1,5 @@
 -- The words of a text, gone through with a count of open brackets.
-use Rattle.std.proofs.Common.{◌≡◌, ◌==◌, ◌&&◌, true, false, ℕ, List, [], ◌∷◌, Bool, Option, Some, None, refl, sym, subst, ap, ◌∙◌, cond}
+use Rattle.std.proofs.Common.{◌≡◌, ◌==◌, ◌&&◌, true, false, ℕ, List, ◌∷◌, Bool, Option, Some, None, refl, sym, ap, ◌∙◌, cond}
 use Rattle.around_place.specs.Words.{AreItsWords, IsFirstWord, IsBlank, from_word}
 use Rattle.around_place.specs.Brackets.{open_count, open_behind_word, opens_bracket, latest_open, behind_first_word}
 use Rattle.around_place.proofs.Reading.{words-next, words-none}

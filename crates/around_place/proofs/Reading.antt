@@ -1,6 +1,6 @@
 -- The words of a text, read one by one.
 use Rattle.std.proofs.Common.{◌≡◌, ℕ, List, [], ◌∷◌, refl, sym, subst, ◌∙◌}
-use Rattle.around_place.specs.Words.{AreItsWords, IsFirstWord, IsBlank, from_word, behind_word}
+use Rattle.around_place.specs.Words.{AreItsWords, IsFirstWord, IsBlank}
 
 -- where a word is next, the words begin with it
 pub words-next : (text word after : List ℕ) (words : List (List ℕ)) → AreItsWords text words → IsFirstWord text word after

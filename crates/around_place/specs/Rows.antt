@@ -1,5 +1,5 @@
 -- What a row asks of the text around a place, and which row is told.
-use Rattle.std.specs.Prelude.{◌≡◌, ◌≢◌, ◌⊎◌, ℕ, ◌-◌, ◌==◌, ◌&&◌, ◌||◌, nat_lt, not, Bool, true, false, IsTrue, List, [], ◌∷◌, length, map, slice_index, Contains, Option, Some, None}
+use Rattle.std.specs.Prelude.{◌≡◌, ◌≢◌, ◌⊎◌, ℕ, ◌-◌, ◌==◌, ◌&&◌, ◌||◌, nat_lt, not, Bool, true, IsTrue, List, [], ◌∷◌, length, map, slice_index, Contains, Option, Some, None}
 use Rattle.std.specs.Char.{is_ascii_digit, to_ascii_lowercase}
 use Rattle.around_place.specs.declared.row.Around.{Around}
 use Rattle.around_place.specs.declared.row.Inside.{Inside}

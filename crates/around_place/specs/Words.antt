@@ -1,5 +1,5 @@
 -- The words of a text, as a reader sees them: names, numbers, texts in quotes, comments, runs of signs, and single brackets and marks.
-use Rattle.std.specs.Prelude.{◌≡◌, ◌≢◌, ℕ, ◌-◌, ◌==◌, ◌&&◌, ◌||◌, nat_le, not, Bool, true, false, List, [], ◌∷◌, length, take, if◌then◌else◌}
+use Rattle.std.specs.Prelude.{◌≡◌, ℕ, ◌-◌, ◌==◌, ◌&&◌, ◌||◌, nat_le, not, Bool, false, List, [], ◌∷◌, length, take, if◌then◌else◌}
 use Rattle.std.specs.Char.{is_ascii_alphanumeric}
 use Rattle.around_place.specs.declared.words.Kind.{Kind}
 use Rattle.around_place.specs.declared.words.Kind.TheVariants.{Blank, Name, Foreign, Sign, Unbroken}

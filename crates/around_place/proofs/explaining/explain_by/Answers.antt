@@ -1,4 +1,4 @@
-use Rattle.std.proofs.Common.{◌≡◌, ℕ, List, take, Option, Some, None, refl, sym, subst}
+use Rattle.std.proofs.Common.{◌≡◌, ℕ, List, take, Option, Some, None, refl, subst}
 use Rattle.std.specs.Option.{option_map}
 use Rattle.around_place.specs.Brackets.{innermost_bracket}
 use Rattle.around_place.specs.Rows.{first_byte}

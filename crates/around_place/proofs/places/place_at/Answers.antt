@@ -1,4 +1,4 @@
-use Rattle.std.proofs.Common.{◌≡◌, arith, sym, ◌∙◌}
+use Rattle.std.proofs.Common.{arith, sym, ◌∙◌}
 use Rattle.around_place.proofs.Located.{IsLatest, latest-first, latest-same, latest-begins, latest-stays, there-place, none-first, none-more}
 use Rattle.around_place.proofs.places.place_at.Goals as goal
 use Rattle.around_place.proofs.places.place_at.Goals.{then-begins_line, else-begins_line}

@@ -1,4 +1,4 @@
-use Rattle.std.proofs.Common.{◌≡◌, ◌≤◌, ◌<◌, ◌-◌, ℕ}
+use Rattle.std.proofs.Common.{◌<◌, ◌-◌, ℕ}
 use Rattle.sts_base.specs.Places.{IsPlace}
 use Rattle.around_place.proofs.Located.{IsLatest}
 use Rattle.around_place.proofs.places.place_at.Given as goal

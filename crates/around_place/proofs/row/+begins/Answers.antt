@@ -1,4 +1,4 @@
-use Rattle.std.proofs.Common.{drop, refl, arith}
+use Rattle.std.proofs.Common.{refl, arith}
 use Rattle.around_place.proofs.Beginning.{begins-empty, begins-more, begins-other, begins-blank, cons-of}
 use Rattle.around_place.proofs.row.+begins.Goals as goal
 
