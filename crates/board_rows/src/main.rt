@@ -9,6 +9,7 @@ ghost use Rattle.event_script.specs.Sound.{IsSound};
 use anyhow::anyhow;
 use board_ports::SureDevice;
 use board_run::{Board, End};
+use board_world::END_LIMIT;
 use event_script::Script;
 use std::alloc::Global;
 use std::io::{self, BufRead, BufReader};
@@ -17,9 +18,6 @@ use tool_io::{Sink, StdSink};
 
 /// The most bytes of an image.
 const FLASH_BYTES: usize = 262_144;
-
-/// The latest end of a script.
-const LATEST_END: u32 = 2_000_000_000;
 
 /// The most instructions of a run.
 const BUDGET: u32 = 2_147_483_648;
@@ -37,7 +35,7 @@ fn quiet_script(alloc: Global, end: u32) -> Script
 
 /// Runs an image on a board, up to a moment.
 fn run_image<K: Sink>(alloc: Global, end: u32, image: Vec<u8>, out: &mut K) -> anyhow::Result<()> {
-    if end > LATEST_END || image.len() > FLASH_BYTES {
+    if end > END_LIMIT || image.len() > FLASH_BYTES {
         return Err(anyhow!("the script or the image is too long"));
     }
     let script = quiet_script(alloc, end);

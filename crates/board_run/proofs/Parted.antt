@@ -1,14 +1,12 @@
 -- What an act between two parts leaves.
-use Rattle.std.proofs.Common.{◌≡◌, ℕ, ◌+◌, ◌*◌, ◌≤◌, All, ◌<◌, List, [], ◌++◌, length, Option, Some, None, is_some, Bool, false, refl, sym, ap, ◌∙◌, subst, arith}
+use Rattle.std.proofs.Common.{◌≡◌, ℕ, ◌+◌, ◌*◌, ◌≤◌, All, ◌<◌, List, [], ◌++◌, length, Option, Some, None, is_some, false, refl, sym, ap, ◌∙◌, subst}
 use Rattle.std.proofs.lemmas.List.{append-nil}
 use Rattle.std.proofs.lemmas.Bool.{false≢true}
 use Rattle.thumb_code.specs.Map.{flash_end}
 use Rattle.std.specs.Option.{option_map}
 use Rattle.board_world.specs.Limits.{end_limit}
 use Rattle.board_world.specs.Board.{Board, over, arrive}
-use Rattle.board_world.specs.Activities.{World}
 use Rattle.board_world.specs.Arrivals.{acts}
-use Rattle.bank_model.specs.Fibers.{Fiber, Shared}
 use Rattle.board_drivers.specs.Buttons.{Since, HasButtons}
 use Rattle.message_bus.specs.BusState.{BusState}
 use Rattle.event_script.specs.Sound.{IsSound}
@@ -16,10 +14,10 @@ use Rattle.event_script.specs.World.{world_act}
 use Rattle.event_script.specs.declared.script.Act.{Act}
 use Rattle.event_script.specs.declared.script.Act.TheVariants.{Down, Up, Raise, Unplug}
 use Rattle.board_ports.specs.Plugged.{Plugged}
-use Rattle.board_ports.specs.History.{PortMove, Follows}
+use Rattle.board_ports.specs.History.{Follows}
 use Rattle.board_outside.specs.Ports.{port_moves}
 use Rattle.board_run.specs.declared.engine.Engine.{Engine}
-use Rattle.board_run.specs.Represents.{Represents, IsShown}
+use Rattle.board_run.specs.Represents.{Represents}
 use Rattle.board_run.specs.Arriving.{unplugs_of, acted_on, Applied}
 use Rattle.board_run.specs.Advancing.{IsWhole, PortsMeet}
 use Rattle.board_run.specs.Parting.{MayArrive, Arrives}

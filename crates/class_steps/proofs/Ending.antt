@@ -18,7 +18,7 @@ use Rattle.board_world.proofs.Laws.{run_settled}
 use Rattle.class_world.specs.Classes.{Member, Class, Played, starting, world_of, world_before, seen_before, AreInOrder, Hear, IsAtRest, IsSteppedTo, IsWhole}
 use Rattle.class_world.specs.Lines.{numbered, seen_at, is_stopped, stopped_at, lines_at, moment_lines, lines_before, is_by_script, some_by_script, latest, class_end, closing_lines, whole_text}
 use Rattle.class_world.proofs.Laws.{ends_by_clock, stepped_runs, all_ended}
-use Rattle.class_steps.specs.Outlook.{Outlook, LooksLike, IsWaiting, IsSeenAs, looks, some_next, last_line, text_of}
+use Rattle.class_steps.specs.Outlook.{Outlook, HasSameLook, IsWaiting, IsSeenAs, looks, some_next, last_line, text_of_looks}
 use Rattle.class_steps.proofs.Looking.{at_rest, is_over, by_end}
 use Rattle.class_steps.proofs.Alike.{whole_alike}
 
@@ -37,8 +37,8 @@ module _ {A S : Type 0} (until : ℕ) (p : Played A S) (o : Outlook) (h : IsSeen
   abbrev before_end : World A S
   before_end = world_before until (suc until) p
 
-  stays : IsSome o.board.end → LooksLike (world_of until p).board o.board
-  stays s = (let is = run_settled p.member.kind (suc until) p.steps begun (λ q. absurd (let on = is_over until (suc until) p o h s in cc)) in subst (λ w. LooksLike w.board o.board) is h.like)
+  stays : IsSome o.board.end → HasSameLook (world_of until p).board o.board
+  stays s = (let is = run_settled p.member.kind (suc until) p.steps begun (λ q. absurd (let on = is_over until (suc until) p o h s in cc)) in subst (λ w. HasSameLook w.board o.board) is h.like)
 
   ends : (i : Idle) → o.board.end ≡ None → clock_move (least before_end.sleepers) (next_entry before_end.board.script) before_end.board.until ≡ i → over (clock_moves i before_end).board ≡ true → world_of until p ≡ clock_moves i before_end
   ends i e says over_then =
@@ -53,17 +53,17 @@ module _ {A S : Type 0} (until : ℕ) (p : Played A S) (o : Outlook) (h : IsSeen
       ∙ ap (clock_moves i) (sym same))
 
   by_next : o.board.end ≡ None → (n : Option ℕ) → clock_move (least before_end.sleepers) (next_entry before_end.board.script) before_end.board.until ≡ up_to until n → IfSome n (λ m. suc until ≤ m)
-      → LooksLike (world_of until p).board (ended_when until n o.board)
-  by_next e None says late = subst (λ w. LooksLike w.board (ended_by o.board Quietly)) (sym (ends Quiet e says refl)) (record { seen = h.like.seen; clock = h.like.clock; end = refl })
+      → HasSameLook (world_of until p).board (ended_when until n o.board)
+  by_next e None says late = subst (λ w. HasSameLook w.board (ended_by o.board Quietly)) (sym (ends Quiet e says refl)) (record { seen = h.like.seen; clock = h.like.clock; end = refl })
   by_next e (Some m) says late =
       (let past : nat_lt until m ≡ true = (let l : suc until ≤ m = late in grind (arith, nat_tests)) in
-      subst (λ w. LooksLike w.board (ended_when until (Some m) o.board)) (sym (ends Script e (says ∙ ap (λ c. if c then Script else Jump m) past) refl)) (record { seen = h.like.seen; clock = h.until_is; end = refl }))
+      subst (λ w. HasSameLook w.board (ended_when until (Some m) o.board)) (sym (ends Script e (says ∙ ap (λ c. if c then Script else Jump m) past) refl)) (record { seen = h.like.seen; clock = h.until_is; end = refl }))
 
-  closes : LooksLike (world_of until p).board (closed until o)
+  closes : HasSameLook (world_of until p).board (closed until o)
   closes = by_end until (suc until) p o h
-      (λ e. subst (λ c. LooksLike (world_of until p).board (if c then o.board else ended_when until o.next o.board)) (sym (ap is_some e))
+      (λ e. subst (λ c. HasSameLook (world_of until p).board (if c then o.board else ended_when until o.next o.board)) (sym (ap is_some e))
       (let w = h.waits e in by_next e o.next (ap (λ n. up_to before_end.board.until n) w.comes ∙ ap (λ u. up_to u o.next) h.until_is) w.late))
-      (λ s. subst (λ c. LooksLike (world_of until p).board (if c then o.board else ended_when until o.next o.board)) (sym s) (stays s))
+      (λ s. subst (λ c. HasSameLook (world_of until p).board (if c then o.board else ended_when until o.next o.board)) (sym s) (stays s))
 
 -- a board that hasn't ended by the clock, to which nothing comes once it has ended
 abbrev IsFit : Outlook → Type 0
@@ -157,7 +157,7 @@ module _ (until : ℕ) where
           ap (λ (c : Bool). if c then closing_line until (Some By_script) else closing_line (latest (all_closed os)) (Some Quietly)) (some_same os h ∙ q)
           ∙ ap (λ (n : ℕ). closing_line n (Some Quietly)) (latest_same os q)
 
-  text_same : (os : List Outlook) → Fit os → whole_text until (all_closed os) ≡ text_of until os
+  text_same : (os : List Outlook) → Fit os → whole_text until (all_closed os) ≡ text_of_looks until os
   text_same os h =
       ap (λ (r : ByteList). r ++ closing_lines (class_end until (all_closed os)) 0 (all_closed os)) (before_same (suc until) os h)
       ∙ ap (λ (r : ByteList). lines_before (suc until) (looks os) ++ closing_lines r 0 (all_closed os)) (end_same os h)
@@ -179,7 +179,7 @@ module _ {A S : Type 0} (C : Class A S) where
   all_rest (p ∷ ps) [] h = absurd h
   all_rest (p ∷ ps) (o ∷ os) h = (at_rest C.until (suc C.until) p o h.0, all_rest ps os h.1)
 
-  all_close : (ps : List (Played A S)) (os : List Outlook) → Seen ps os → Paired LooksLike (map (λ (p : Played A S). (world_of C.until p).board) ps) (map (closed C.until) os)
+  all_close : (ps : List (Played A S)) (os : List Outlook) → Seen ps os → Paired HasSameLook (map (λ (p : Played A S). (world_of C.until p).board) ps) (map (closed C.until) os)
   all_close [] [] h = tt
   all_close [] (o ∷ os) h = absurd h
   all_close (p ∷ ps) [] h = absurd h
@@ -187,7 +187,7 @@ module _ {A S : Type 0} (C : Class A S) where
 
   pub ends_whole : (ps : List (Played A S)) (os : List Outlook) → AreInOrder C.members → map (λ (p : Played A S). p.member) ps ≡ C.members
       → Hear C (suc C.until) (map (seen_before C.until (suc C.until)) ps) 0 ps → Seen ps os
-      → IsWhole C ps × (whole_text C.until (map (λ (p : Played A S). (world_of C.until p).board) ps) ≡ text_of C.until os)
+      → IsWhole C ps × (whole_text C.until (map (λ (p : Played A S). (world_of C.until p).board) ps) ≡ text_of_looks C.until os)
   ends_whole ps os order boards hear seen =
       (let stepped : IsSteppedTo C (suc C.until) ps = record { boards = boards; hear = hear; rest = all_rest ps os seen } in
       let runs = (stepped_runs C C.until ps order stepped).0 in (

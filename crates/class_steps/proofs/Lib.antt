@@ -1,4 +1,6 @@
 mod Looking
 mod Alike
 mod Ending
+mod Sound
+mod Cutting
 pub mod Laws

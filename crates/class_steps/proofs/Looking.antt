@@ -16,7 +16,7 @@ use Rattle.class_world.specs.Hearing.{before, placed, with_heard, raised_at}
 use Rattle.class_world.specs.Classes.{Played, starting, world_before, IsAtRest}
 use Rattle.class_world.specs.Keeping.{with_kept}
 use Rattle.class_world.proofs.Laws.{waits_on, settled_later, given_so_far, IsEarly, early_run, begins_early}
-use Rattle.class_steps.specs.Outlook.{Outlook, LooksLike, IsWaiting, IsSeenAs, next_with}
+use Rattle.class_steps.specs.Outlook.{Outlook, HasSameLook, IsWaiting, IsSeenAs, next_with}
 
 -- what comes no sooner than a moment doesn't come before it
 none_sooner : (u until : ℕ) (o : Option ℕ) → IfSome o (λ m. u ≤ m) → is_jump_before u (up_to until o) ≡ false
@@ -116,7 +116,7 @@ module _ {A S : Type 0} (until t : ℕ) (p : Played A S) (o : Outlook) (h : IsSe
         before = h.before;
         steps = h.steps;
         settled = settled_later p.member.kind t u h.before (starting until p.member p.script) l h.settled;
-        like = subst (λ w. LooksLike w.board o.board) (sym same) h.like;
+        like = subst (λ w. HasSameLook w.board o.board) (sym same) h.like;
         until_is = ap (λ w. w.board.until) same ∙ h.until_is;
         early = (let e : o.board.clock < t = h.early in omega (arith, e, l));
         sound = h.sound;
@@ -140,7 +140,7 @@ module _ {A S : Type 0} (until t : ℕ) (p : Played A S) (o : Outlook) (h : IsSe
         before = h.before;
         steps = h.steps;
         settled = subst IsSettled (sym (so_far h.before)) h.settled;
-        like = subst (λ w. LooksLike w.board o.board) (sym same) (record { seen = h.like.seen; clock = h.like.clock; end = h.like.end });
+        like = subst (λ w. HasSameLook w.board o.board) (sym same) (record { seen = h.like.seen; clock = h.like.clock; end = h.like.end });
         until_is = ap (λ w. w.board.until) same ∙ h.until_is;
         early = h.early;
         sound = h.sound;

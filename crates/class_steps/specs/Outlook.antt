@@ -20,7 +20,7 @@ pub record Outlook : Type 0 where
   pub next : Option ℕ
 
 -- two boards look alike: they have seen the same, at the same time, and ended alike
-pub record LooksLike (w v : Board) : Type 0 where
+pub record HasSameLook (w v : Board) : Type 0 where
   pub seen : w.seen ≡ v.seen
   pub clock : w.clock ≡ v.clock
   pub end : w.end ≡ v.end
@@ -37,7 +37,7 @@ pub record IsSeenAs {A S : Type 0} (until t : ℕ) (p : Played A S) (o : Outlook
   pub before : ℕ
   pub steps : p.steps ≡ suc before
   pub settled : IsSettled (run_before p.member.kind t before (starting until p.member p.script))
-  pub like : LooksLike (world_before until t p).board o.board
+  pub like : HasSameLook (world_before until t p).board o.board
   pub until_is : (world_before until t p).board.until ≡ until
   pub early : o.board.clock < t
   pub sound : is_by_clock o.board.end ≡ false
@@ -62,5 +62,5 @@ some_next (o ∷ os) = is_some o.next || some_next os
 abbrev pub last_line : ℕ → List Outlook → ByteList
 last_line until os = if some_next os then closing_line until (Some By_script) else closing_line (latest (looks os)) (Some Quietly)
 
-abbrev pub text_of : ℕ → List Outlook → ByteList
-text_of until os = lines_before (suc until) (looks os) ++ closing_lines (last_line until os) 0 (looks os)
+abbrev pub text_of_looks : ℕ → List Outlook → ByteList
+text_of_looks until os = lines_before (suc until) (looks os) ++ closing_lines (last_line until os) 0 (looks os)

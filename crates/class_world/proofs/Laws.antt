@@ -13,7 +13,7 @@ pub use Rattle.class_world.proofs.Onward.{goes_through, ends_by_clock}
 -- while the clock stands, and behind a moment's entries
 pub use Rattle.class_world.proofs.Standing.{IsStanding, standing_run, standing_idled, standing_jump, jump_rising, none_before_first}
 -- idle moves show nothing, what is seen before a moment was seen early, and from it on late
-pub use Rattle.class_world.proofs.Moments.{seen_idle_before, IsEarly, early_run, stopped_for_good, cut_at, passes_on, before_split, IsWithin, within_run}
+pub use Rattle.class_world.proofs.Moments.{seen_idle_before, IsEarly, early_run, stopped_for_good, cut_at, passes_on, before_split, end_all, IsWithin, within_run}
 pub use Rattle.class_world.proofs.Once.{begins_early, begins_timely, one_seen, one_scripts}
 pub use Rattle.class_world.proofs.Later.{on_run, seen_from}
 -- boards that were stepped are a class run, and classes end or are cut

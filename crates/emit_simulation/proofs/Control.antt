@@ -1,8 +1,7 @@
 -- Jumps and branches.
-use Rattle.std.proofs.Common.{suc, ◌≡◌, ℕ, ◌+◌, ◌*◌, ◌<◌, List, [], ◌∷◌, length, Bool, true, false, not, cond, Some, refl, sym, ap, ◌∙◌, subst, arith, slice_get, slice_index, ◌==◌, get_or-set_same}
+use Rattle.std.proofs.Common.{suc, ◌≡◌, ℕ, ◌+◌, ◌*◌, ◌<◌, ◌≤◌, List, [], ◌∷◌, length, Bool, true, false, not, cond, Some, refl, sym, ap, ◌∙◌, subst, arith, slice_get, slice_index, ◌==◌}
 use Rattle.std.specs.Prelude.{pos}
 use Rattle.std.specs.Ordering.{int_eq}
-use Rattle.std.proofs.lemmas.List.{length-set}
 use Rattle.thumb_code.specs.declared.instructions.Instr.TheVariants.{CmpImm}
 use Rattle.thumb_code.specs.Arithmetic.{sum_flags, inverted}
 use Rattle.thumb_code.specs.Step.{fetched}
@@ -24,22 +23,26 @@ use Rattle.sts_meaning.specs.Frames.{after}
 use Rattle.flat_meaning.specs.Operators.{FlatHeap}
 use Rattle.flat_meaning.specs.Frames.{FlatFrame, FlatActivity, Stands}
 use Rattle.thumb_emit.specs.Emit.{function_pieces, unequal}
-use Rattle.thumb_emit.specs.Frame.{from_place}
+use Rattle.thumb_emit.specs.Frame.{register_of, brings}
+use Rattle.thumb_emit.proofs.Laws.{brings_still, still_takes}
+use Rattle.thumb_emit.specs.Bounds.{total_cost}
+use Rattle.thumb_layout.specs.declared.pieces.Piece.{Piece}
+use Rattle.register_assign.specs.declared.places.Place.{Place}
 use Rattle.thumb_emit.specs.Bounds.{op_instructions}
 use Rattle.thumb_emit.specs.InFlash.{Addresses}
 use Rattle.arena_values.proofs.Laws.{words_unequal, decided_is}
-use Rattle.placed_frames.specs.View.{View, with_low, Quiet}
-use Rattle.emit_simulation.specs.Laid.{OfInstr, Comes}
+use Rattle.placed_frames.specs.View.{View, Quiet}
+use Rattle.emit_simulation.specs.Laid.{OfInstr, Comes, steps_of}
 use Rattle.emit_simulation.specs.Starts.{start}
 use Rattle.emit_simulation.specs.Ties.{IsAt, IsShared, IsImage, IsText, IsCode, spots}
 use Rattle.emit_simulation.specs.Context.{view_in, bank_in}
 use Rattle.emit_simulation.specs.Makes.{MakesOp}
 use Rattle.emit_simulation.proofs.Flowing.{branches, passes_by, then}
-use Rattle.emit_simulation.proofs.Placed.{store_low}
+use Rattle.emit_simulation.proofs.Placed.{brought, brought_word, brought_store, brought_length}
 use Rattle.emit_simulation.proofs.Starts.{op_stands, first_of, stand_as}
 use Rattle.emit_simulation.proofs.Meanings.{are_words, within_list}
 use Rattle.emit_simulation.proofs.Turns.{Owed}
-use Rattle.emit_simulation.proofs.Ops.{here, word, word_means, word_small, reads_word, flow_from, goes_to, runs_same, shared_same, elim_none}
+use Rattle.emit_simulation.proofs.Ops.{here, word, word_means, word_small, brings_word, flow_from, goes_to, runs_same, shared_same, elim_none}
 
 module _ (C : FlatCode) (placed : List Placed) (flash : List ℕ) (a : Addresses) (texts : List ByteList) (image : IsImage C placed flash a texts) where
   -- the label of a place
@@ -80,29 +83,41 @@ module _ (C : FlatCode) (placed : List Placed) (flash : List ℕ) (a : Addresses
     w = word C placed flash a texts image p f callers base c used h t op e x sh when
 
     -- the comparison
+    abbrev pw : Place
+    pw = place_of p.places when
+
     abbrev u1 : View
-    u1 = with_low 0 w (view_in c t)
+    u1 = brought 0 pw w (view_in c t)
 
     abbrev u2 : View
     u2 = record u1 { flags = sum_flags w (inverted 0) 1 }
 
-    compared : Comes (fetched flash c.base) (spots C placed flash a f.function p) 2 4 (start p.function (place_of p.places) f.place + 1)
+    between : (least most i j : ℕ) (xs : List Piece) (v' : View) → least ≤ steps_of xs → total_cost xs ≤ most
+        → Comes (fetched flash c.base) (spots C placed flash a f.function p) (steps_of xs) (total_cost xs) i j (view_in c t) v' c.registers (bank_in flash c t) t.free
+        → Comes (fetched flash c.base) (spots C placed flash a f.function p) least most i j (view_in c t) v' c.registers (bank_in flash c t) t.free
+    between least most i j xs v' l m y =
+        let r = y.reach in let a = r.some in let b = r.few in
+        record { link = y.link; long = y.long; reach = record { count = r.count; some = omega arith; few = omega arith; silent = r.silent } }
+
+    compared : Comes (fetched flash c.base) (spots C placed flash a f.function p) 1 4 (start p.function (place_of p.places) f.place + 1)
         (start p.function (place_of p.places) f.place + 1 + 2) (view_in c t) u2 c.registers (bank_in flash c t) t.free
     compared =
         let place = place_of p.places in
         let k = here C placed flash a texts image p f callers base c used h t op e x sh in
         let lf : when < temporaries p.function = ((k.op_within).names).0 in
         let s1 = start p.function place f.place + 1 in
-        let r0 : slice_index u1.low 0 ≡ w = get_or-set_same c.registers.r 0 w 0 (let rg = x.registers in omega arith) in
-        let xs = from_place p.function 0 (place when) ∷ (Plain (CmpImm 0 0) ∷ []) in
+        let r = register_of 0 pw in
+        let r0 : slice_index u1.low r ≡ w = brought_word p.function pw 0 w (view_in c t) (omega arith) ((k.within_function).inside when lf) x.registers refl in
+        let xs = brings p.function 0 pw ∷ (Plain (CmpImm r 0) ∷ []) in
         let st = stand_as (function_pieces p) s1 (s1 + 0) xs (omega arith) (first_of (function_pieces p) s1 xs (Go unequal (3 * target) ∷ []) k.stands) in
         let z : s1 + 0 ≡ s1 = omega arith in
-        subst (λ n. Comes (fetched flash c.base) (spots C placed flash a f.function p) 2 4 n (n + 2) (view_in c t) u2 c.registers (bank_in flash c t) t.free) z
-        (flow_from C placed flash a texts image p f callers base c used h t op e x sh 0 xs (view_in c t) u2 c.registers st refl refl (
+        let tk = still_takes p.function (brings p.function 0 pw) (brings_still p.function 0 pw) in
+        subst (λ n. Comes (fetched flash c.base) (spots C placed flash a f.function p) 1 4 n (n + 2) (view_in c t) u2 c.registers (bank_in flash c t) t.free) z
+        (between 1 4 (s1 + 0) (s1 + 0 + 2) xs u2 (omega arith) (omega arith) (flow_from C placed flash a texts image p f callers base c used h t op e x sh 0 xs (view_in c t) u2 c.registers st refl refl (
           u1,
-          reads_word C placed flash a texts image p f callers base c used h t op e x sh when 0 (view_in c t) lf (0, omega arith, refl) (omega arith) refl,
-          (u2, OfInstr (CmpImm 0 0) u1 u2 refl (Quiet (CmpImm 0 0) u1 u1.low (sum_flags w (inverted 0) 1) (λ next pc s. rw r0 refl)), refl),
-        ))
+          brings_word C placed flash a texts image p f callers base c used h t op e x sh when 0 (view_in c t) lf (0, omega arith, refl) (omega arith) refl,
+          (u2, OfInstr (CmpImm r 0) u1 u2 refl (Quiet (CmpImm r 0) u1 u1.low (sum_flags w (inverted 0) 1) (λ next pc s. rw r0 refl)), refl),
+        )))
 
     by_flag : (b : Bool) → b ≡ not (w == 0) → Owed C placed flash a texts (op_instructions op) used h t (Goes (goes_on_at b) h) c t
     by_flag true z =
@@ -118,12 +133,12 @@ module _ (C : FlatCode) (placed : List Placed) (flash : List ℕ) (a : Addresses
         let d = branches (fetched flash c.base) flash pl (function_pieces p) fw.laid (s1 + 2) (start p.function place target) unequal (3 * target) u2
         (record c.registers { lr = y.link }) (bank_in flash c t) t.free g (label_of p target ((k.op_within).goes).0)
         (words_unequal w 0 lw (omega arith) ∙ sym z) fw.at y.long in
-        let q = then (fetched flash c.base) flash pl (function_pieces p) fw.laid 2 4 1 3 s1 (s1 + 2) (start p.function place target) (view_in c t) u2 u2
+        let q = then (fetched flash c.base) flash pl (function_pieces p) fw.laid 1 4 1 3 s1 (s1 + 2) (start p.function place target) (view_in c t) u2 u2
         c.registers (bank_in flash c t) t.free y d in
-        goes_to C placed flash a texts image p f callers base c used h t op e x sh 3 7 (start p.function place target) target u2 f.temps h (omega arith) q refl
+        goes_to C placed flash a texts image p f callers base c used h t op e x sh 2 7 (start p.function place target) target u2 f.temps h (omega arith) q refl
         (runs_same C placed flash a texts image p f callers base c used h t op e x sh target target u2 refl (0, omega arith, refl) (λ m q. elim_none m q)
-        (store_low 0 w (view_in c t) (omega arith)))
-        (length-set c.registers.r 0 w ∙ x.registers) (shared_same C placed flash a texts image p f callers base c used h t op e x sh u2 refl refl)
+        (brought_store pw 0 w (view_in c t) (omega arith)))
+        (brought_length pw 0 w c.registers.r ∙ x.registers) (shared_same C placed flash a texts image p f callers base c used h t op e x sh u2 refl refl)
     by_flag false z =
         let place = place_of p.places in
         let k = here C placed flash a texts image p f callers base c used h t op e x sh in
@@ -136,13 +151,13 @@ module _ (C : FlatCode) (placed : List Placed) (flash : List ℕ) (a : Addresses
         let lw = word_small C placed flash a texts image p f callers base c used h t op e x sh when lf (0, omega arith, refl) in
         let d = passes_by (fetched flash c.base) flash pl (function_pieces p) fw.laid (s1 + 2) unequal (3 * target) u2 (record c.registers { lr = y.link })
         (bank_in flash c t) t.free g refl (words_unequal w 0 lw (omega arith) ∙ sym z) fw.at y.long in
-        let q = then (fetched flash c.base) flash pl (function_pieces p) fw.laid 2 4 1 3 s1 (s1 + 2) (s1 + 2 + 1) (view_in c t) u2 u2 c.registers
+        let q = then (fetched flash c.base) flash pl (function_pieces p) fw.laid 1 4 1 3 s1 (s1 + 2) (s1 + 2 + 1) (view_in c t) u2 u2 c.registers
         (bank_in flash c t) t.free y d in
         let nx = k.next in
-        goes_to C placed flash a texts image p f callers base c used h t op e x sh 3 7 (s1 + 2 + 1) (f.place + 1) u2 f.temps h (omega arith) q (omega arith)
+        goes_to C placed flash a texts image p f callers base c used h t op e x sh 2 7 (s1 + 2 + 1) (f.place + 1) u2 f.temps h (omega arith) q (omega arith)
         (runs_same C placed flash a texts image p f callers base c used h t op e x sh (suc f.place) (f.place + 1) u2 (omega arith) (1, omega arith, refl)
-        (λ m q. elim_none m q) (store_low 0 w (view_in c t) (omega arith)))
-        (length-set c.registers.r 0 w ∙ x.registers) (shared_same C placed flash a texts image p f callers base c used h t op e x sh u2 refl refl)
+        (λ m q. elim_none m q) (brought_store pw 0 w (view_in c t) (omega arith)))
+        (brought_length pw 0 w c.registers.r ∙ x.registers) (shared_same C placed flash a texts image p f callers base c used h t op e x sh u2 refl refl)
 
     by_value : (v : Value) → f.temps when ≡ v → NoFault (after (decided v) (λ b. Goes (goes_on_at b) h)) → Owed C placed flash a texts (op_instructions op)
         used h t (after (decided v) (λ b. Goes (goes_on_at b) h)) c t

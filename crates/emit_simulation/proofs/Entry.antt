@@ -83,7 +83,17 @@ by_place flash p f q t v i l h n w =
 move_flow : (flash : List ℕ) (p : Places) (f : Function) (place : ℕ → Place) (q : Place) (t : ℕ) (v : View) → IsWithin f q → t < f.params
     → IsRoom f (store_of v) → length v.low ≡ 13 → slice_index v.words (words f + t) < 2 ^ 32 → Moved flash p (move_pieces f place q t) v
     (move f q t (store_of v))
-move_flow flash p f place (Reg r) t v i l h n w = by_place flash p f (Reg r) t v i l h n w
+move_flow flash p f place (Reg r) t v i l h n w =
+    let x = slice_index v.words (words f + t) in
+    let m = with_low r x v in
+    record {
+      v' = m;
+      flow = (m, gets flash p f (Incoming t) r x v (let a = i.1 in omega arith) l h (ap (slice_index v.words) (omega arith)) w, (m, OfLabel (3 * length f.ops + 1) m, refl));
+      store = store_put f (Reg r) x v i n;
+      low = length-set v.low r x ∙ n;
+      globals = refl;
+      arena = refl;
+    }
 move_flow flash p f place (Slot j) t v i l h n w = by_place flash p f (Slot j) t v i l h n w
 move_flow flash p f place (Incoming j) t v i l h n w = record { v' = v; flow = refl; store = refl; low = n; globals = refl; arena = refl }
 

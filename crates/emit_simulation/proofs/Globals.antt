@@ -1,5 +1,5 @@
 -- Reads and writes of globals.
-use Rattle.std.proofs.Common.{◌≡◌, ℕ, ◌+◌, ◌*◌, ◌<◌, List, [], ◌∷◌, Option, Some, None, refl, ap, ◌∙◌, arith, slice_get, slice_set, slice_index, get_or-set_same, get_or-set_other}
+use Rattle.std.proofs.Common.{◌≡◌, ℕ, ◌+◌, ◌*◌, ◌<◌, List, [], ◌∷◌, Option, Some, None, refl, sym, ap, ◌∙◌, arith, slice_get, slice_set, slice_index, get_or-set_same, get_or-set_other}
 use Rattle.std.proofs.lemmas.List.{length-set}
 use Rattle.thumb_code.specs.declared.instructions.Instr.TheVariants.{LdrImm, StrImm}
 use Rattle.board_world.specs.Observations.{ByteList}
@@ -28,10 +28,11 @@ use Rattle.emit_simulation.specs.Starts.{start}
 use Rattle.emit_simulation.specs.Ties.{IsAt, IsShared, IsImage, IsText, IsCode}
 use Rattle.emit_simulation.specs.Context.{view_in}
 use Rattle.emit_simulation.specs.Makes.{MakesOp}
-use Rattle.emit_simulation.proofs.Placed.{store_low}
+use Rattle.emit_simulation.proofs.Placed.{store_low, result_set, register_small, not_scratch, brought, brought_word, brought_store, brought_length}
+use Rattle.thumb_emit.specs.Frame.{register_of}
 use Rattle.emit_simulation.proofs.Meanings.{small}
 use Rattle.emit_simulation.proofs.Turns.{Owed}
-use Rattle.emit_simulation.proofs.Ops.{here, word, word_means, word_small, reads_word, straight_gives, straight_goes}
+use Rattle.emit_simulation.proofs.Ops.{here, word, word_means, word_small, brings_word, straight_gives, straight_goes}
 
 -- where a global stands
 abbrev global_at : ℕ → ℕ
@@ -56,22 +57,26 @@ module _ (C : FlatCode) (placed : List Placed) (flash : List ℕ) (a : Addresses
         let ad = global_at slot in
         let w = slice_index t.globals slot in
         let rg = x.registers in
+        let fw = k.within_function in
+        let lt : to < temporaries p.function = ((k.op_within).names).0 in
+        let d = register_of 0 (place_of p.places to) in
         let u1 : View = record v { low = slice_set v.low 1 ad; flags = loaded_flags v.flags ad } in
-        let u2 = with_low 0 w u1 in
+        let u2 = with_low d w u1 in
         let r1 : slice_index u1.low 1 ≡ ad = get_or-set_same v.low 1 ad 0 (omega arith) in
         let n1 = length-set v.low 1 ad ∙ rg in
-        straight_gives C placed flash a texts image p f callers base c used h t op e x sh to g w u2 (finds_global slot ∷ (Plain (LdrImm 0 1 0) ∷ [])) refl (
+        straight_gives C placed flash a texts image p f callers base c used h t op e x sh to g w u2 (finds_global slot ∷ (Plain (LdrImm d 1 0) ∷ [])) refl (
           u1,
           OfNumber 1 ad v,
           (
             u2,
-            OfInstr (LdrImm 0 1 0) u1 u2 refl (Get 0 1 0 w u1 (InGlobals slot l (ap (λ n. n + 0 * 4) r1 ∙ omega arith) refl)
+            OfInstr (LdrImm d 1 0) u1 u2 refl (Get d 1 0 w u1 (InGlobals slot l (ap (λ n. n + 0 * 4) r1 ∙ omega arith) refl)
                 (small C placed flash a texts image g w s.1)),
             refl,
           ),
         )
-        refl (0, omega arith, refl) ((k.op_within).names).0 (store_low 0 w u1 (omega arith) ∙ store_low 1 ad v (omega arith)) (length-set u1.low 0 w ∙ n1)
-        (get_or-set_same u1.low 0 w 0 (omega arith)) s.1 refl refl
+        (omega arith) refl (0, omega arith, refl) lt
+        (result_set d w v u1 u2 (register_small p.function (place_of p.places to) 0 (omega arith) (fw.inside to lt)) (store_low 1 ad v (omega arith)) n1 refl refl)
+        s.1 refl refl
 
     sets : (from : ℕ) → slice_get p.function.ops f.place ≡ Some (GlobalSet slot from) → Standing → IsShared C placed flash a used h t → (o : Option Value)
         → entry h.globals slot ≡ o
@@ -93,28 +98,32 @@ module _ (C : FlatCode) (placed : List Placed) (flash : List ℕ) (a : Addresses
         let ad = global_at slot in
         let w = word C placed flash a texts image p f callers base c used h t op e x sh from in
         let rg = x.registers in
-        let u1 = with_low 0 w v in
+        let q' = place_of p.places from in
+        let i' = (k.within_function).inside from lf in
+        let r = register_of 0 q' in
+        let u1 = brought 0 q' w v in
         let u2 : View = record u1 { low = slice_set u1.low 1 ad; flags = loaded_flags v.flags ad } in
         let u3 : View = record u2 { globals = slice_set t.globals slot w } in
-        let n1 = length-set v.low 0 w ∙ rg in
+        let n1 = brought_length q' 0 w v.low ∙ rg in
         let r1 : slice_index u2.low 1 ≡ ad = get_or-set_same u1.low 1 ad 0 (omega arith) in
-        let r0 : slice_index u2.low 0 ≡ w = get_or-set_other u1.low 1 0 ad 0 (omega arith) ∙ get_or-set_same v.low 0 w 0 (omega arith) in
+        let r0 : slice_index u2.low r ≡ w = get_or-set_other u1.low 1 r ad 0 (λ z. not_scratch p.function q' 0 1 (omega arith) (λ z. omega arith) i' (sym z))
+        ∙ brought_word p.function q' 0 w v (omega arith) i' rg refl in
         let lw = word_small C placed flash a texts image p f callers base c used h t op e x sh from lf (0, omega arith, refl) in
         let m = word_means C placed flash a texts image p f callers base c used h t op e x sh from lf (0, omega arith, refl) in
         straight_goes C placed flash a texts image p f callers base c used h t op e x sh h' u3 (
           u1,
-          reads_word C placed flash a texts image p f callers base c used h t op e x sh from 0 v lf (0, omega arith, refl) (omega arith) refl,
+          brings_word C placed flash a texts image p f callers base c used h t op e x sh from 0 v lf (0, omega arith, refl) (omega arith) refl,
           (
             u2,
             OfNumber 1 ad u1,
             (
               u3,
-              OfInstr (StrImm 0 1 0) u2 u3 refl (Put 0 1 0 w u2 u3 r0 lw (ToGlobals slot l (ap (λ n. n + 0 * 4) r1 ∙ omega arith))),
+              OfInstr (StrImm r 1 0) u2 u3 refl (Put r 1 0 w u2 u3 r0 lw (ToGlobals slot l (ap (λ n. n + 0 * 4) r1 ∙ omega arith))),
               refl,
             ),
           ),
         )
-        (omega arith) refl (0, omega arith, refl) (store_low 1 ad u1 (omega arith) ∙ store_low 0 w v (omega arith)) (length-set u1.low 1 ad ∙ n1)
+        (omega arith) refl (0, omega arith, refl) (store_low 1 ad u1 (omega arith) ∙ brought_store q' 0 w v (omega arith)) (length-set u1.low 1 ad ∙ n1)
         (refl, s.1 w m)
 
   pub global_get_makes : (to slot : ℕ) → MakesOp C placed flash a texts (GlobalGet to slot)

@@ -1,6 +1,5 @@
 -- Items of arrays, and lengths.
-use Rattle.std.proofs.Common.{◌≡◌, ℕ, ◌+◌, ◌*◌, ◌<◌, inl, inr, List, Some, refl, ap, ◌∙◌, arith, slice_get, slice_set, slice_index, get_or-set_same, get_or-set_other}
-use Rattle.std.proofs.lemmas.List.{length-set}
+use Rattle.std.proofs.Common.{◌≡◌, ℕ, ◌+◌, ◌*◌, ◌<◌, inl, inr, List, Some, refl, ap, ◌∙◌, arith, slice_get, slice_set, slice_index}
 use Rattle.thumb_code.specs.declared.instructions.Instr.TheVariants.{LdrImm, LdrReg, StrReg}
 use Rattle.board_world.specs.Observations.{ByteList}
 use Rattle.board_world.specs.Kinds.{Goes as GoesTurn}
@@ -22,7 +21,10 @@ use Rattle.flat_meaning.specs.Operators.{FlatHeap}
 use Rattle.flat_meaning.specs.Frames.{FlatFrame, Stands, given}
 use Rattle.flat_meaning.specs.Frames.{placed as placed_at}
 use Rattle.flat_meaning.specs.Steps.{FlatTurn}
-use Rattle.thumb_emit.specs.Frame.{from_place}
+use Rattle.thumb_emit.specs.Frame.{register_of, brings}
+use Rattle.thumb_emit.proofs.Laws.{brings_still, still_takes}
+use Rattle.thumb_layout.specs.Holds.{cost}
+use Rattle.placed_frames.specs.Places.{get}
 use Rattle.thumb_emit.specs.InFlash.{Addresses}
 use Rattle.thumb_emit.specs.Bounds.{op_instructions}
 use Rattle.placed_frames.specs.View.{View, with_low, InArena, ToArena, Get, GetAt, PutAt}
@@ -33,11 +35,11 @@ use Rattle.emit_simulation.specs.Starts.{start}
 use Rattle.emit_simulation.specs.Ties.{IsAt, IsShared, IsImage, Means, IsText, IsCode, spots}
 use Rattle.emit_simulation.specs.Context.{view_in}
 use Rattle.emit_simulation.specs.Makes.{MakesOp}
-use Rattle.emit_simulation.proofs.Placed.{store_low}
+use Rattle.emit_simulation.proofs.Placed.{result_set, register_small, brought, brought_word, brought_other, brought_store, brought_length}
 use Rattle.emit_simulation.proofs.Meanings.{small, none_some}
-use Rattle.emit_simulation.proofs.Ops.{here, word, word_means, word_small, reads_word}
+use Rattle.emit_simulation.proofs.Ops.{here, word, word_means, word_small, brings_word}
 use Rattle.emit_simulation.proofs.Turns.{Owed}
-use Rattle.emit_simulation.proofs.Walk.{one, object_there, object_null, finished, stored, tested}
+use Rattle.emit_simulation.proofs.Walk.{one, got_wider, object_there, object_null, in_register, finished, stored, tested}
 use Rattle.emit_simulation.proofs.Finding.{array_null, index_past, seen_item, got_item, found_item}
 
 module _ (C : FlatCode) (placed : List Placed) (flash : List ℕ) (a : Addresses) (texts : List ByteList) (image : IsImage C placed flash a texts) where
@@ -78,13 +80,14 @@ module _ (C : FlatCode) (placed : List Placed) (flash : List ℕ) (a : Addresses
         let z = slice_index t.arena (s.first + wi) in
         let small_z = small C placed flash a texts image y z s.shows in
         let n = k.low in
-        let load : Flows flash spot (Plain (LdrReg 0 2 1)) u (with_low 0 z u)
-        = OfInstr (LdrReg 0 2 1) u (with_low 0 z u) refl (GetAt 0 2 1 z u (InArena (s.first + wi) (omega arith) ((λ i. k.r2 i + k.r1 i) ∙ omega arith) refl)
+        let d = register_of 0 (place_of p.places to) in
+        let fd = register_small p.function (place_of p.places to) 0 (omega arith)
+        (((here C placed flash a texts image p f callers base c used h t op e x sh).within_function).inside to names.0) in
+        let load : Flows flash spot (Plain (LdrReg d 2 1)) u (with_low d z u)
+        = OfInstr (LdrReg d 2 1) u (with_low d z u) refl (GetAt d 2 1 z u (InArena (s.first + wi) (omega arith) ((λ i. k.r2 i + k.r1 i) ∙ omega arith) refl)
         small_z) in
-        finished C placed flash a texts image p f callers base c used h t op e x sh 16 22 (op_instructions op) to z y h (with_low 0 z u)
-        (one C placed flash a texts image p f callers base c used h t op e x sh 15 20 u (with_low 0 z u) (Plain (LdrReg 0 2 1)) g refl load) refl refl refl
-        (0, omega arith, refl) names.0
-        (store_low 0 z u (omega arith) ∙ k.store) (length-set u.low 0 z ∙ k.low) (get_or-set_same u.low 0 z 0 (omega arith)) s.shows (refl, sh.1) (omega arith)
+        finished C placed flash a texts image p f callers base c used h t op e x sh 15 20 (op_instructions op) to z y h u (with_low d z u) (LdrReg d 2 1) g refl load
+        refl refl refl (0, omega arith, refl) names.0 (result_set d z v u (with_low d z u) fd k.store k.low refl refl) s.shows (refl, sh.1) (omega arith)
 
     made : (o : Outcome Value) → SeesItem Word a.class t.arena (word C placed flash a texts image p f callers base c used h t op e x sh array)
         (word C placed flash a texts image p f callers base c used h t op e x sh index) o
@@ -140,18 +143,25 @@ module _ (C : FlatCode) (placed : List Placed) (flash : List ℕ) (a : Addresses
         let z_means = word_means C placed flash a texts image p f callers base c used h t set_op e x sh from set_names.2 (2, omega arith, refl) in
         let z_small = word_small C placed flash a texts image p f callers base c used h t set_op e x sh from set_names.2 (2, omega arith, refl) in
         let n = k.low in
-        let u1 = with_low 3 z u in
-        let x1 : slice_index u1.low 1 ≡ 4 * wi = get_or-set_other u.low 3 1 z 0 (omega arith) ∙ k.r1 in
-        let x2 = get_or-set_other u.low 3 2 z 0 (omega arith) ∙ k.r2 in
+        let q = place_of p.places from in
+        let iq = ((here C placed flash a texts image p f callers base c used h t set_op e x sh).within_function).inside from set_names.2 in
+        let r = register_of 3 q in
+        let u1 = brought 3 q z u in
+        let x1 : slice_index u1.low 1 ≡ 4 * wi = brought_other q 3 z 1 u.low (λ z. omega arith) ∙ k.r1 in
+        let x2 = brought_other q 3 z 2 u.low (λ z. omega arith) ∙ k.r2 in
+        let x3 = brought_word p.function q 3 z u (omega arith) iq k.low (ap (get p.function q) k.store) in
         let v' : View = record u1 { arena = slice_set u1.arena (s.first + wi) z } in
-        let store : Flows flash set_spot (Plain (StrReg 3 2 1)) u1 v'
-        = OfInstr (StrReg 3 2 1) u1 v' refl (PutAt 3 2 1 z u1 v' (get_or-set_same u.low 3 z 0 (omega arith)) z_small (ToArena (s.first + wi) (omega arith)
+        let store : Flows flash set_spot (Plain (StrReg r 2 1)) u1 v'
+        = OfInstr (StrReg r 2 1) u1 v' refl (PutAt r 2 1 z u1 v' x3 z_small (ToArena (s.first + wi) (omega arith)
         ((λ i. x2 i + x1 i) ∙ omega arith))) in
-        let g16 = one C placed flash a texts image p f callers base c used h t set_op e x sh 15 20 u u1 (from_place p.function 3 (place_of p.places from)) g
-        refl (reads_word C placed flash a texts image p f callers base c used h t set_op e x sh from 3 u set_names.2 (2, omega arith, refl) (omega arith)
-        k.store) in
-        stored C placed flash a texts image p f callers base c used h t set_op e x sh 16 22 (op_instructions set_op) h' u1 v' (StrReg 3 2 1) g16 refl refl
-        store none_some (0, omega arith, refl) (store_low 3 z u (omega arith) ∙ k.store) (length-set u.low 3 z ∙ k.low) (refl, s.stores z z_means)
+        let y = brings p.function 3 q in
+        let ty = still_takes p.function y (brings_still p.function 3 q) in
+        let g16 = got_wider C placed flash a texts image p f callers base c used h t set_op e x sh 16 (20 + cost y) 22 u1 (omega arith)
+        (one C placed flash a texts image p f callers base c used h t set_op e x sh 15 20 u u1 y g
+        refl (brings_word C placed flash a texts image p f callers base c used h t set_op e x sh from 3 u set_names.2 (2, omega arith, refl) (omega arith)
+        k.store)) in
+        stored C placed flash a texts image p f callers base c used h t set_op e x sh 16 22 (op_instructions set_op) h' u1 v' (StrReg r 2 1) g16 refl refl
+        store none_some (0, omega arith, refl) (brought_store q 3 z u (omega arith) ∙ k.store) (brought_length q 3 z u.low ∙ k.low) (refl, s.stores z z_means)
         (omega arith)
 
     changed : (o : Outcome FlatHeap) → ChangesItem Word a.class t.arena used t.globals (word C placed flash a texts image p f callers base c used h t set_op e
@@ -202,20 +212,24 @@ module _ (C : FlatCode) (placed : List Placed) (flash : List ℕ) (a : Addresses
         let hd = s.header in let m = hd.within in let l = hd.few in
         let w = word C placed flash a texts image p f callers base c used h t length_op e x sh array in
         let v = view_in c t in
-        let u = tested C placed flash a texts image p f callers base c used h t length_op e x sh (with_low 0 w v) w 0 in
+        let q = place_of p.places array in
+        let r = register_of 0 q in let d = register_of 0 (place_of p.places to) in
+        let fd = register_small p.function (place_of p.places to) 0 (omega arith)
+        (((here C placed flash a texts image p f callers base c used h t length_op e x sh).within_function).inside to length_names.0) in
+        let u = tested C placed flash a texts image p f callers base c used h t length_op e x sh (brought 0 q w v) w 0 in
         let there : 0 < w = (let q = hd.at in omega arith) in
         let rg = x.registers in
-        let r0 : slice_index u.low 0 ≡ w = get_or-set_same v.low 0 w 0 (omega arith) in
-        let n = length-set v.low 0 w ∙ rg in
+        let r0 : slice_index u.low r ≡ w = in_register C placed flash a texts image p f callers base c used h t length_op e x sh array length_names.1
+        (0, omega arith, refl) refl refl refl refl refl refl in
+        let n = brought_length q 0 w v.low ∙ rg in
         let z = s.count in
-        let load : Flows flash length_spot (Plain (LdrImm 0 0 1)) u (with_low 0 z u)
-        = OfInstr (LdrImm 0 0 1) u (with_low 0 z u) refl (Get 0 0 1 z u (InArena (hd.array + 1) (omega arith) (ap (λ k. k + 1 * 4) (r0 ∙ hd.at) ∙ omega arith)
+        let load : Flows flash length_spot (Plain (LdrImm d r 1)) u (with_low d z u)
+        = OfInstr (LdrImm d r 1) u (with_low d z u) refl (Get d r 1 z u (InArena (hd.array + 1) (omega arith) (ap (λ k. k + 1 * 4) (r0 ∙ hd.at) ∙ omega arith)
         hd.count_is) (omega arith)) in
-        finished C placed flash a texts image p f callers base c used h t length_op e x sh 7 9 (op_instructions length_op) to z y h (with_low 0 z u)
-        (one C placed flash a texts image p f callers base c used h t length_op e x sh 6 7 u (with_low 0 z u) (Plain (LdrImm 0 0 1))
+        finished C placed flash a texts image p f callers base c used h t length_op e x sh 6 7 (op_instructions length_op) to z y h u (with_low d z u) (LdrImm d r 1)
         (object_there C placed flash a texts image p f callers base c used h t length_op e x sh array length_names.1 (0, omega arith, refl) refl refl refl
-        refl refl refl there) refl load) refl refl refl (0, omega arith, refl) length_names.0
-        (store_low 0 z u (omega arith) ∙ store_low 0 w v (omega arith)) (length-set u.low 0 z ∙ n) (get_or-set_same u.low 0 z 0 (omega arith)) s.shows
+        refl refl refl there) refl load refl refl refl (0, omega arith, refl) length_names.0
+        (result_set d z v u (with_low d z u) fd (brought_store q 0 w v (omega arith)) n refl refl) s.shows
         (refl, sh.1) (omega arith)
 
     counts : (o : Outcome Value) → SeesLength Word a.class t.arena (word C placed flash a texts image p f callers base c used h t length_op e x sh array) o

@@ -1,7 +1,6 @@
 -- Operators make their turns.
-use Rattle.std.proofs.Common.{suc, ◌≡◌, ℕ, ◌+◌, ◌*◌, ◌<◌, ◌≤◌, List, [], ◌∷◌, ◌++◌, length, Bool, true, false, cond, Some, refl, sym, ap, ◌∙◌, subst, arith, slice_get, slice_index, ◌==◌, get_or-set_same, get_or-set_other}
+use Rattle.std.proofs.Common.{suc, ◌≡◌, ℕ, ◌+◌, ◌*◌, ◌<◌, ◌≤◌, List, [], ◌∷◌, ◌++◌, length, Bool, true, false, cond, Some, refl, sym, ap, ◌∙◌, subst, arith, slice_get, slice_index, ◌==◌}
 use Rattle.std.specs.Prelude.{Contains, pos, negsuc, ◌+ℤ◌}
-use Rattle.std.proofs.lemmas.List.{length-set}
 use Rattle.thumb_code.specs.Step.{fetched}
 use Rattle.board_world.specs.Observations.{ByteList}
 use Rattle.board_world.specs.Kinds.{Goes}
@@ -21,26 +20,29 @@ use Rattle.sts_meaning.specs.Frames.{after}
 use Rattle.flat_meaning.specs.Operators.{FlatHeap, prefixed_by}
 use Rattle.flat_meaning.specs.Frames.{FlatFrame, Stands, given}
 use Rattle.thumb_emit.specs.Emit.{op_pieces, function_pieces, unary, binary}
-use Rattle.thumb_emit.specs.Frame.{from_place, to_place}
+use Rattle.thumb_emit.specs.Frame.{register_of, brings, keeps}
+use Rattle.thumb_layout.specs.Holds.{cost}
 use Rattle.thumb_emit.specs.Bounds.{op_instructions, total_cost}
+use Rattle.thumb_emit.proofs.Laws.{brings_still, keeps_still, still_takes}
 use Rattle.thumb_emit.specs.InFlash.{Addresses}
 use Rattle.arena_values.specs.Operators.{prefix_word, operated}
 use Rattle.arena_values.proofs.Laws.{applied_leaves, negated_leaves, more_leaves, less_leaves, Leaves as LeavesWord}
-use Rattle.placed_frames.specs.View.{View, with_low}
-use Rattle.emit_simulation.specs.Laid.{AllFlow, Comes, steps_of, store_of}
+use Rattle.placed_frames.specs.View.{View}
+use Rattle.placed_frames.specs.Places.{get}
+use Rattle.emit_simulation.specs.Laid.{AllFlow, Comes, step_of, steps_of, store_of}
 use Rattle.emit_simulation.specs.Starts.{StandAt, start}
 use Rattle.emit_simulation.specs.Ties.{IsAt, IsShared, IsImage, IsText, IsCode, Means, spots, place_in, return_to, frames_of}
 use Rattle.emit_simulation.specs.Context.{view_in, bank_in}
 use Rattle.emit_simulation.specs.Leaving.{AllLeave}
 use Rattle.emit_simulation.specs.Makes.{MakesOp}
 use Rattle.emit_simulation.proofs.Flowing.{flows, flows_one, then}
-use Rattle.emit_simulation.proofs.Placed.{store_low, put_view}
+use Rattle.emit_simulation.proofs.Placed.{brought, brought_word, brought_other, brought_store, brought_length, register_small, not_scratch, result_over, kept_view, kept_shared, kept_low, store_kept}
 use Rattle.emit_simulation.proofs.Starts.{first_of, rest_of}
-use Rattle.emit_simulation.proofs.Straight.{puts_last}
+use Rattle.emit_simulation.proofs.Straight.{keeps_last}
 use Rattle.emit_simulation.proofs.Context.{base_fits}
 use Rattle.emit_simulation.proofs.Meanings.{are_words, small}
 use Rattle.emit_simulation.proofs.Turns.{Owed}
-use Rattle.emit_simulation.proofs.Ops.{here, word, word_means, word_small, reads_word, gives, wider}
+use Rattle.emit_simulation.proofs.Ops.{here, word, word_means, word_small, brings_word, gives, wider}
 use Rattle.emit_simulation.proofs.Words.{unary_leaves, binary_leaves, shift_flags}
 use Rattle.emit_simulation.proofs.Division.{quotient_leaves, remainder_leaves}
 
@@ -49,16 +51,17 @@ module _ (C : FlatCode) (placed : List Placed) (flash : List ℕ) (a : Addresses
       (e : slice_get p.function.ops f.place ≡ Some op)
       (x : IsAt C placed flash a p (λ u. IsLiveAt p.function.ops u f.place) f callers base (start p.function (place_of p.places) f.place) c)
       (sh : IsShared C placed flash a used h t) where
-    -- PIECES THAT READ, pieces that compute, and the put of r0
+    -- PIECES THAT READ, pieces that compute, and the keeping of the result
     pub computed_gives : (to : ℕ) (value : Value) (w most : ℕ) (gs xs : List Piece) (u : View) → op_pieces p.function (place_of p.places) f.place op ≡ gs ++
-        (xs ++ to_place p.function 0 (place_of p.places to) ∷ [])
-        → AllFlow flash (spots C placed flash a f.function p) gs (view_in c t) u → 0 < steps_of gs → store_of u ≡ store_of (view_in c t)
+        (xs ++ keeps p.function 0 (place_of p.places to) ∷ [])
+        → AllFlow flash (spots C placed flash a f.function p) gs (view_in c t) u → store_of u ≡ store_of (view_in c t)
         → u.globals ≡ t.globals → u.arena ≡ t.arena
-        → AllLeave (fetched flash c.base) flash (spots C placed flash a f.function p) (function_pieces p) (bank_in flash c t) t.free xs u w most
+        → AllLeave (fetched flash c.base) flash (spots C placed flash a f.function p) (function_pieces p) (bank_in flash c t) t.free xs u
+        (register_of 0 (place_of p.places to)) w most
         → writes op ≡ Some to → Contains (goes_on f.place op) (suc f.place) → to < temporaries p.function → Means C placed flash a value w
         → total_cost gs + most + 2 ≤ op_instructions op
         → Owed C placed flash a texts (op_instructions op) used h t (Goes (Stands (given to value f) callers base) h) c t
-    computed_gives to value w most gs xs u ps fl some es eg ea lv wr on lt m bound =
+    computed_gives to value w most gs xs u ps fl es eg ea lv wr on lt m bound =
         let place = place_of p.places in
         let pl = spots C placed flash a f.function p in
         let pieces = function_pieces p in
@@ -68,34 +71,37 @@ module _ (C : FlatCode) (placed : List Placed) (flash : List ℕ) (a : Addresses
         let b = bank_in flash c t in
         let s1 = start p.function place f.place + 1 in
         let st = subst (λ q. StandAt pieces s1 q) ps k.stands in
-        let put = to_place p.function 0 (place to) in
+        let kept = keeps p.function 0 (place to) in
         let i1 = s1 + length gs in
         let i2 = i1 + length xs in
-        let st1 = rest_of pieces s1 gs (xs ++ put ∷ []) st in
-        let c1 = flows fetch flash pl pieces fw.laid gs s1 (view_in c t) u c.registers b t.free (first_of pieces s1 gs (xs ++ put ∷ []) st) fw.at refl fl in
-        let l = lv i1 (record c.registers { lr = c1.link }) (first_of pieces i1 xs (put ∷ []) st1) fw.at c1.long in
+        let st1 = rest_of pieces s1 gs (xs ++ kept ∷ []) st in
+        let c1 = flows fetch flash pl pieces fw.laid gs s1 (view_in c t) u c.registers b t.free (first_of pieces s1 gs (xs ++ kept ∷ []) st) fw.at refl fl in
+        let l = lv i1 (record c.registers { lr = c1.link }) (first_of pieces i1 xs (kept ∷ []) st1) fw.at c1.long in
         let c2 = l.comes in
         let v = l.seen in
-        let es' = l.store ∙ es in
-        let last = puts_last flash pl (Means C placed flash a) (small C placed flash a texts image) C.functions (place_in C placed flash a)
+        let r = result_over (register_of 0 (place to)) w (view_in c t) u v es l.result in
+        let last = keeps_last flash pl (Means C placed flash a) (small C placed flash a texts image) C.functions (place_in C placed flash a)
         (return_to C placed flash a) p.function place fw.inside
-        (λ n. IsLiveAt p.function.ops n f.place) f.temps (frames_of callers) (view_in c t) x.running to w v lt es' l.word_is
+        (λ n. IsLiveAt p.function.ops n f.place) f.temps (frames_of callers) (view_in c t) x.running to w v lt r
         (small C placed flash a texts image value w m) in
-        let v' = put_view p.function (place to) w v in
-        let st2 = rest_of pieces i1 xs (put ∷ []) st1 in
-        let c3 = flows_one fetch flash pl pieces fw.laid i2 put v v' (record c.registers { lr = c2.link }) b t.free
+        let v' = kept_view p.function (place to) w v in
+        let q = kept_shared p.function (place to) w v in
+        let st2 = rest_of pieces i1 xs (kept ∷ []) st1 in
+        let c3 = flows_one fetch flash pl pieces fw.laid i2 kept v v' (record c.registers { lr = c2.link }) b t.free
         (ap (slice_get pieces) (omega arith) ∙ st2 0 (omega arith)) fw.at c2.long last in
-        let c23 = then fetch flash pl pieces fw.laid 0 most 1 2 i1 i2 (i2 + 1) u v v' (record c.registers { lr = c1.link }) b t.free c2 c3 in
-        let c123 = then fetch flash pl pieces fw.laid (steps_of gs) (total_cost gs) 1 (most + 2) s1 i1 (i2 + 1) (view_in c t) u v' c.registers b t.free c1
+        let c23 = then fetch flash pl pieces fw.laid 1 most (step_of kept) (cost kept) i1 i2 (i2 + 1) u v v' (record c.registers { lr = c1.link }) b t.free c2 c3 in
+        let c123 = then fetch flash pl pieces fw.laid (steps_of gs) (total_cost gs) (1 + step_of kept) (most + cost kept) s1 i1 (i2 + 1) (view_in c t) u v' c.registers b t.free c1
         c23 in
-        let ln : length (op_pieces p.function place f.place op) ≡ length gs + (length xs + 1) = ap length ps ∙ lengths gs xs put in
+        let ln : length (op_pieces p.function place f.place op) ≡ length gs + (length xs + 1) = ap length ps ∙ lengths gs xs kept in
         let z : i2 + 1 ≡ s1 + length (op_pieces p.function place f.place op) = omega arith in
-        wider C placed flash a texts (total_cost gs + (most + 2)) (op_instructions op) used h t (Goes (Stands (given to value f) callers base) h) c t
+        let takes = still_takes p.function kept (keeps_still p.function 0 (place to)) in
+        wider C placed flash a texts (total_cost gs + (most + cost kept)) (op_instructions op) used h t (Goes (Stands (given to value f) callers base) h) c t
         (omega arith)
-        (gives C placed flash a texts image p f callers base c used h t op e x sh to value (steps_of gs + 1) (total_cost gs + (most + 2)) w v wr on
+        (gives C placed flash a texts image p f callers base c used h t op e x sh to value (steps_of gs + (1 + step_of kept)) (total_cost gs + (most + cost kept)) w v' wr on
         (omega arith) lt
-        (subst (λ j. Comes fetch pl (steps_of gs + 1) (total_cost gs + (most + 2)) s1 j (view_in c t) v' c.registers b t.free) z c123) es' l.low m
-        (l.globals ∙ eg) (l.arena ∙ ea))
+        (subst (λ j. Comes fetch pl (steps_of gs + (1 + step_of kept)) (total_cost gs + (most + cost kept)) s1 j (view_in c t) v' c.registers b t.free) z c123)
+        (store_kept p.function (place to) w (view_in c t) v (fw.inside to lt) x.registers r) (kept_low p.function (place to) w v r.low) m
+        (q.0 ∙ (l.globals ∙ eg)) (q.1 ∙ (l.arena ∙ ea)))
       where
         lengths : (gs xs : List Piece) (q : Piece) → length (gs ++ (xs ++ q ∷ [])) ≡ length gs + (length xs + 1)
         lengths [] [] q = refl
@@ -136,10 +142,6 @@ module _ (C : FlatCode) (placed : List Placed) (flash : List ℕ) (a : Addresses
         let lf : from < temporaries p.function = (((k.op_within).names).1).0 in
         let w = word C placed flash a texts image p f callers base c used h t (Unary to op from) e x sh from in
         let m = word_means C placed flash a texts image p f callers base c used h t (Unary to op from) e x sh from lf (0, omega arith, refl) in
-        let v = view_in c t in
-        let u = with_low 0 w v in
-        let rg = x.registers in
-        let n1 = length-set v.low 0 w ∙ rg in
         by_outcome o (subst (λ y. Lv 0 y (prefix_word op w)) q (prefixed_leaves 0 op (f.temps from) w m)) nf
       where
         by_outcome : (o : Outcome Value) → Lv 0 o (prefix_word op (word C placed flash a texts image p f callers base c used h t (Unary to op from) e x sh
@@ -147,22 +149,31 @@ module _ (C : FlatCode) (placed : List Placed) (flash : List ℕ) (a : Addresses
             → Owed C placed flash a texts (op_instructions (Unary to op from)) used h t (after o (λ v. Goes (Stands (given to v f) callers base) h)) c t
         by_outcome (Gives value) l nf = (
             let k = here C placed flash a texts image p f callers base c used h t (Unary to op from) e x sh in
+            let fw = k.within_function in
             let lf : from < temporaries p.function = (((k.op_within).names).1).0 in
+            let lt : to < temporaries p.function = ((k.op_within).names).0 in
             let w = word C placed flash a texts image p f callers base c used h t (Unary to op from) e x sh from in
             let v = view_in c t in
-            let u = with_low 0 w v in
+            let pf = place_of p.places from in
+            let r = register_of 0 pf in
+            let u = brought 0 pf w v in
             let rg = x.registers in
-            let n1 = length-set v.low 0 w ∙ rg in
+            let n1 = brought_length pf 0 w v.low ∙ rg in
+            let bs = brings_still p.function 0 pf in
+            let cb = still_takes p.function (brings p.function 0 pf) bs in
             computed_gives p f callers base c used h t (Unary to op from) e x sh to value (prefix_word op w) 11
-            (from_place p.function 0 (place_of p.places from) ∷ []) (unary op (3 * f.place + 1)) u refl (
+            (brings p.function 0 pf ∷ []) (unary p.function (register_of 0 (place_of p.places to)) r op (3 * f.place + 1)) u refl (
               u,
-              reads_word C placed flash a texts image p f callers base c used h t (Unary to op from) e x sh from 0 v lf (0, omega arith, refl) (omega arith)
+              brings_word C placed flash a texts image p f callers base c used h t (Unary to op from) e x sh from 0 v lf (0, omega arith, refl) (omega arith)
                   refl,
               refl,
-            ) (omega arith) (store_low 0 w v (omega arith)) refl refl
-            (unary_leaves (fetched flash c.base) flash (spots C placed flash a f.function p) (function_pieces p) ((k.within_function).laid) (bank_in flash c t)
-            t.free u n1 op (3 * f.place + 1) w (get_or-set_same v.low 0 w 0 (omega arith)))
-            refl (0, omega arith, refl) ((k.op_within).names).0 l (omega arith))
+            ) (brought_store pf 0 w v (omega arith)) refl refl
+            (unary_leaves (fetched flash c.base) flash (spots C placed flash a f.function p) (function_pieces p) fw.laid (bank_in flash c t)
+            t.free u n1 p.function (register_of 0 (place_of p.places to)) (register_small p.function (place_of p.places to) 0 (omega arith) (fw.inside to lt)) r op
+            (3 * f.place + 1) w (register_small p.function pf 0 (omega arith) (fw.inside from lf))
+            (not_scratch p.function pf 0 1 (omega arith) (λ e. omega arith) (fw.inside from lf))
+            (brought_word p.function pf 0 w v (omega arith) (fw.inside from lf) rg refl))
+            refl (0, omega arith, refl) lt l (omega arith))
         by_outcome (Breaks code) l nf = absurd l
         by_outcome Stuck l nf = absurd nf
 
@@ -181,15 +192,26 @@ module _ (C : FlatCode) (placed : List Placed) (flash : List ℕ) (a : Addresses
         let l1 = word_small C placed flash a texts image p f callers base c used h t o' e x sh left ll (0, omega arith, refl) in
         let l2 = word_small C placed flash a texts image p f callers base c used h t o' e x sh right lr (1, omega arith, refl) in
         let v = view_in c t in
-        let u1 = with_low 0 w1 v in
-        let u2 = with_low 1 w2 u1 in
-        let rg = x.registers in
-        let n1 = length-set v.low 0 w1 ∙ rg in
-        let n2 = length-set u1.low 1 w2 ∙ n1 in
-        let e1 = store_low 0 w1 v (omega arith) in
-        let r0 : slice_index u2.low 0 ≡ w1 = get_or-set_other u1.low 1 0 w2 0 (omega arith) ∙ get_or-set_same v.low 0 w1 0 (omega arith) in
-        let r1 : slice_index u2.low 1 ≡ w2 = get_or-set_same u1.low 1 w2 0 (omega arith) in
+        let fn = p.function in
         let fw = k.within_function in
+        let lt : to < temporaries fn = ((k.op_within).names).0 in
+        let pa = place_of p.places left in let pb = place_of p.places right in
+        let ra = register_of 0 pa in let rb = register_of 1 pb in let d = register_of 0 (place_of p.places to) in
+        let ia = fw.inside left ll in let ib = fw.inside right lr in let it = fw.inside to lt in
+        let u1 = brought 0 pa w1 v in
+        let u2 = brought 1 pb w2 u1 in
+        let rg = x.registers in
+        let n1 = brought_length pa 0 w1 v.low ∙ rg in
+        let n2 = brought_length pb 1 w2 u1.low ∙ n1 in
+        let e1 = brought_store pa 0 w1 v (omega arith) in
+        let not_one = not_scratch fn pa 0 1 (omega arith) (λ e. omega arith) ia in
+        let r0 : slice_index u2.low ra ≡ w1 = brought_other pb 1 w2 ra u1.low not_one ∙ brought_word fn pa 0 w1 v (omega arith) ia rg refl in
+        let r1 : slice_index u2.low rb ≡ w2 = brought_word fn pb 1 w2 u1 (omega arith) ib n1 (ap (get fn pb) e1) in
+        let fd = register_small fn (place_of p.places to) 0 (omega arith) it in
+        let fa = register_small fn pa 0 (omega arith) ia in let fb = register_small fn pb 1 (omega arith) ib in
+        let na = not_scratch fn pa 0 2 (omega arith) (λ e. omega arith) ia in let nb = not_scratch fn pb 1 2 (omega arith) (λ e. omega arith) ib in
+        let nz = not_scratch fn pb 1 0 (omega arith) (λ e. omega arith) ib in
+        let nt = not_scratch fn (place_of p.places to) 0 2 (omega arith) (λ e. omega arith) it in
         let at = fw.at in
         let lo = at.low in
         let fits = base_fits c.base at.aligned (omega arith) at.high in
@@ -198,20 +220,21 @@ module _ (C : FlatCode) (placed : List Placed) (flash : List ℕ) (a : Addresses
         let b = bank_in flash c t in
         let fetch = fetched flash c.base in
         let routine = (image.shows).routine in
-        let dq = quotient_leaves flash c.base pl pieces fw.laid b t.free a.routine refl routine fits u2 n2 w1 w2 r0 r1 l1 l2 in
-        let dr = remainder_leaves flash c.base pl pieces fw.laid b t.free a.routine refl routine fits u2 n2 w1 w2 r0 r1 l1 l2 in
-        let flags = shift_flags fetch flash pl pieces fw.laid b t.free u2 n2 w1 w2 r0 r1 in
-        let lv = binary_leaves fetch flash pl pieces fw.laid b t.free u2 n2 w1 w2 r0 r1 op (3 * f.place + 1) _ _ dq dr refl refl in
+        let dq = quotient_leaves flash c.base pl pieces fw.laid b t.free a.routine refl routine fits fn d fd u2 n2 w1 w2 ra rb r0 r1 l1 l2 fa fb (λ e. nz (sym e)) in
+        let dr = remainder_leaves flash c.base pl pieces fw.laid b t.free a.routine refl routine fits fn d fd u2 n2 w1 w2 ra rb r0 r1 l1 l2 fa fb (λ e. nz (sym e)) in
+        let flags = shift_flags fetch flash pl pieces fw.laid b t.free u2 n2 fn d fd w1 w2 ra rb r0 r1 fa fb na nb in
+        let lv = binary_leaves fetch flash pl pieces fw.laid b t.free u2 n2 fn d fd w1 w2 ra rb r0 r1 fa fb na nb op (3 * f.place + 1) _ _ nt dq dr refl refl in
         let lw = subst (λ y. Lv flags y (operated flags op w1 w2)) q (applied_leaves (IsText C placed flash a) (IsCode C placed flash a)
         (are_words C placed flash a texts image) flags op (f.temps left) (f.temps right) w1 w2 m1 m2) in
+        let ca = still_takes fn (brings fn 0 pa) (brings_still fn 0 pa) in let cb = still_takes fn (brings fn 1 pb) (brings_still fn 1 pb) in
         by_outcome (operated flags op w1 w2) flags o lw nf
         (λ value m. computed_gives p f callers base c used h t o' e x sh to value (operated flags op w1 w2) 291
-        (from_place p.function 0 (place_of p.places left) ∷ (from_place p.function 1 (place_of p.places right) ∷ [])) (binary op (3 * f.place + 1)) u2 refl (
+        (brings fn 0 pa ∷ (brings fn 1 pb ∷ [])) (binary fn d ra rb op (3 * f.place + 1)) u2 refl (
           u1,
-          reads_word C placed flash a texts image p f callers base c used h t o' e x sh left 0 v ll (0, omega arith, refl) (omega arith) refl,
-          (u2, reads_word C placed flash a texts image p f callers base c used h t o' e x sh right 1 u1 lr (1, omega arith, refl) (omega arith) e1, refl),
-        ) (omega arith) (store_low 1 w2 u1 (omega arith) ∙ e1) refl refl
-        lv refl (0, omega arith, refl) ((k.op_within).names).0 m (omega arith))
+          brings_word C placed flash a texts image p f callers base c used h t o' e x sh left 0 v ll (0, omega arith, refl) (omega arith) refl,
+          (u2, brings_word C placed flash a texts image p f callers base c used h t o' e x sh right 1 u1 lr (1, omega arith, refl) (omega arith) e1, refl),
+        ) (brought_store pb 1 w2 u1 (omega arith) ∙ e1) refl refl
+        lv refl (0, omega arith, refl) lt m (omega arith))
       where
         by_outcome : (w flags : ℕ) (o : Outcome Value) → Lv flags o w → NoFault (after o (λ v. Goes (Stands (given to v f) callers base) h))
             → ((value : Value) → Means C placed flash a value w → Owed C placed flash a texts (op_instructions (Binary to op left right)) used h t

@@ -1,5 +1,5 @@
 -- Behind an op's pieces a fiber stands at the next op.
-use Rattle.std.proofs.Common.{suc, ◌≡◌, ◌≢◌, ℕ, ◌+◌, ◌*◌, ◌<◌, ◌≤◌, List, [], ◌∷◌, ◌++◌, length, Some, None, ◌^◌, refl, sym, ap, ◌∙◌, subst, arith, slice_get, slice_index}
+use Rattle.std.proofs.Common.{suc, ◌≡◌, ◌≢◌, ℕ, ◌+◌, ◌*◌, ◌<◌, ◌≤◌, List, [], ◌∷◌, ◌++◌, length, Some, None, ◌^◌, refl, sym, ap, ◌∙◌, subst, arith, slice_get}
 use Rattle.std.specs.Prelude.{Contains}
 use Rattle.thumb_code.specs.Step.{fetched}
 use Rattle.board_world.specs.Observations.{ByteList}
@@ -18,29 +18,33 @@ use Rattle.flat_meaning.specs.Operators.{FlatHeap}
 use Rattle.flat_meaning.specs.Frames.{FlatFrame, FlatActivity, Stands, given}
 use Rattle.arena_values.specs.Lies.{Shows}
 use Rattle.placed_frames.specs.View.{View, with_low, At}
-use Rattle.placed_frames.specs.Places.{get}
+use Rattle.placed_frames.specs.Places.{get, put}
 use Rattle.placed_frames.specs.Frames.{Running}
 use Rattle.thumb_code.specs.declared.register_file.Registers.{Registers}
 use Rattle.thumb_layout.specs.declared.pieces.Piece.{Piece}
-use Rattle.thumb_emit.specs.Frame.{from_place, to_place}
+use Rattle.thumb_emit.specs.Frame.{from_place, register_of, brings, keeps}
 use Rattle.thumb_emit.specs.Emit.{op_pieces, function_pieces}
 use Rattle.thumb_emit.proofs.Laws.{op_takes}
 use Rattle.thumb_emit.specs.Bounds.{op_instructions, total_cost}
 use Rattle.thumb_emit.specs.InFlash.{Addresses}
-use Rattle.emit_simulation.specs.Laid.{Comes, Flows, AllFlow, step_of, steps_of, store_of}
+use Rattle.emit_simulation.specs.Laid.{Comes, Flows, AllFlow, steps_of, store_of}
 use Rattle.emit_simulation.specs.Starts.{StandAt, start}
 use Rattle.emit_simulation.specs.Ties.{IsAt, AtOp, IsShared, IsImage, Means, spots, place_in, return_to, frames_of}
 use Rattle.emit_simulation.specs.Context.{view_in, bank_in, fiber_seen, shared_seen, AtOpOf}
 use Rattle.emit_simulation.proofs.Flowing.{flows}
-use Rattle.emit_simulation.proofs.Placed.{put_view, put_low, put_shared}
-use Rattle.emit_simulation.proofs.Straight.{runs_on, puts_last, reads as reads_to}
+use Rattle.emit_simulation.specs.Leaving.{StandsIn}
+use Rattle.emit_simulation.proofs.Placed.{brought, kept_view, store_kept, kept_low, kept_shared}
+use Rattle.emit_simulation.proofs.Straight.{runs_with, keeps_last, brings_read, reads as reads_to}
 use Rattle.emit_simulation.proofs.Turns.{Owed, makes_goes}
 use Rattle.emit_simulation.proofs.Context.{at_op}
 use Rattle.emit_simulation.proofs.Meanings.{small}
 
-steps_last : (xs : List Piece) (x : Piece) → 0 < step_of x → 0 < steps_of (xs ++ x ∷ [])
-steps_last [] x l = omega arith
-steps_last (y ∷ xs) x l = let h = steps_last xs x l in omega arith
+steps_append : (xs ys : List Piece) → steps_of (xs ++ ys) ≡ steps_of xs + steps_of ys
+steps_append [] ys = omega arith
+steps_append (x ∷ xs) ys = let h = steps_append xs ys in omega arith
+
+pub steps_more : (xs ys : List Piece) → 0 < steps_of xs → 0 < steps_of (xs ++ ys)
+steps_more xs ys l = let h = steps_append xs ys in omega arith
 
 pub elim_none : (m : ℕ) → None ≡ Some m → ⊥
 elim_none m e = cc
@@ -128,30 +132,28 @@ module _ (C : FlatCode) (placed : List Placed) (flash : List ℕ) (a : Addresses
           (subst (λ n. Shows (Means C placed flash a) a.class h used t.globals n) (sym r) sh.1),
     )
 
-    -- A VALUE IS GIVEN: it stands in r0, is put, and the next op follows
-    pub gives : (to : ℕ) (value : Value) (least most w : ℕ) (u : View) → writes op ≡ Some to → Contains (goes_on f.place op) (suc f.place) → 0 < least
+    -- A VALUE IS GIVEN: it stands in its temporary's place, and the next op follows
+    pub gives : (to : ℕ) (value : Value) (least most w : ℕ) (v : View) → writes op ≡ Some to → Contains (goes_on f.place op) (suc f.place) → 0 < least
         → to < temporaries p.function
-        → Reached p f c t least most (start p.function (place_of p.places) f.place + 1 + length (op_pieces p.function (place_of p.places) f.place op))
-        (put_view p.function (place_of p.places to) w u)
-        → store_of u ≡ store_of (view_in c t) → length u.low ≡ 13 → Means C placed flash a value w → u.globals ≡ t.globals → u.arena ≡ t.arena
+        → Reached p f c t least most (start p.function (place_of p.places) f.place + 1 + length (op_pieces p.function (place_of p.places) f.place op)) v
+        → store_of v ≡ put p.function (place_of p.places to) w (store_of (view_in c t)) → length v.low ≡ 13 → Means C placed flash a value w
+        → v.globals ≡ t.globals → v.arena ≡ t.arena
         → Owed C placed flash a texts most used h t (Goes (Stands (given to value f) callers base) h) c t
-    gives to value least most w u wr on l lt y es n i g r =
+    gives to value least most w v wr on l lt y es n i g r =
         let place = place_of p.places in
-        let v = put_view p.function (place to) w u in
         let z : suc f.place ≡ f.place + 1 = omega arith in
-        let q = put_shared p.function (place to) w u in
         goes_to least most (start p.function place f.place + 1 + length (op_pieces p.function place f.place op)) (f.place + 1) v (with_entry to value f.temps)
         h l y (sym here.next)
-        (runs_on flash (spots C placed flash a f.function p) (Means C placed flash a) (small C placed flash a texts image) C.functions
+        (runs_with flash (spots C placed flash a f.function p) (Means C placed flash a) (small C placed flash a texts image) C.functions
         (place_in C placed flash a) (return_to C placed flash a) p.function place ((here.within_function).inside)
         (λ u. IsLiveAt p.function.ops u f.place) f.temps (frames_of callers) (view_in c t) x.running (λ u. IsLiveAt p.function.ops u (f.place + 1)) to w value
-        u lt es n i
+        v lt es i
         (λ m lm d live. (
           here.kept_live m (suc f.place) on (subst (IsLiveAt p.function.ops m) (sym z) live)
               (λ k. d (let b : Some to ≡ Some m = sym wr ∙ k in let b' : m ≡ to = cc in b')),
           here.apart to m (suc f.place) wr on (subst (IsLiveAt p.function.ops m) (sym z) live) lt lm d,
         )))
-        (put_low p.function (place to) w u n) (shared_same v (q.0 ∙ g) (q.1 ∙ r))
+        n (shared_same v g r)
 
     -- what is live where the op goes on stands still, where it writes nothing
     pub runs_same : (next k : ℕ) (v : View) → next ≡ k → Contains (goes_on f.place op) next → ((m : ℕ) → writes op ≢ Some m) → store_of v ≡ store_of
@@ -190,6 +192,14 @@ module _ (C : FlatCode) (placed : List Placed) (flash : List ℕ) (a : Addresses
         (place_in C placed flash a) (return_to C placed flash a) p.function (place_of p.places) ((here.within_function).inside)
         (λ n. IsLiveAt p.function.ops n f.place) f.temps (frames_of callers) (view_in c t) x.running u rd m l (here.reads_live u r) n g
 
+    -- it comes into its register
+    pub brings_word : (u rd : ℕ) (m : View) → u < temporaries p.function → Contains (reads op) u → rd < 4 → store_of m ≡ store_of (view_in c t)
+        → Flows flash (spots C placed flash a f.function p) (brings p.function rd (place_of p.places u)) m (brought rd (place_of p.places u) (word u) m)
+    brings_word u rd m l r n g =
+        brings_read flash (spots C placed flash a f.function p) (Means C placed flash a) (small C placed flash a texts image) C.functions
+        (place_in C placed flash a) (return_to C placed flash a) p.function (place_of p.places) ((here.within_function).inside)
+        (λ n. IsLiveAt p.function.ops n f.place) f.temps (frames_of callers) (view_in c t) x.running u rd m l (here.reads_live u r) n g
+
     -- pieces of the op, one behind the other, from piece i of them on
     pub flow_from : (i : ℕ) (xs : List Piece) (v v' : View) (s : Registers) → StandAt (function_pieces p)
         (start p.function (place_of p.places) f.place + 1 + i) xs → s.sp ≡ c.registers.sp → length v.words ≡ length c.bank
@@ -203,34 +213,51 @@ module _ (C : FlatCode) (placed : List Placed) (flash : List ℕ) (a : Addresses
         (start p.function (place_of p.places) f.place + 1 + i) v v' s (bank_in flash c t) t.free st
         (subst (λ n. At flash n (bank_in flash c t)) (sym q) w.at) l fl
 
-    -- STRAIGHT PIECES, and then the put of r0
-    pub straight_gives : (to : ℕ) (value : Value) (w : ℕ) (u : View) (xs : List Piece) → op_pieces p.function (place_of p.places) f.place op ≡ xs ++ to_place
-        p.function 0 (place_of p.places to) ∷ [] → AllFlow flash (spots C placed flash a f.function p) xs (view_in c t) u
-        → writes op ≡ Some to → Contains (goes_on f.place op) (suc f.place) → to < temporaries p.function → store_of u ≡ store_of (view_in c t)
-        → length u.low ≡ 13 → slice_index u.low 0 ≡ w → Means C placed flash a value w → u.globals ≡ t.globals → u.arena ≡ t.arena
+    -- STRAIGHT PIECES, and then a value stands in its place
+    pub straight_puts : (to : ℕ) (value : Value) (w : ℕ) (v : View)
+        → AllFlow flash (spots C placed flash a f.function p) (op_pieces p.function (place_of p.places) f.place op) (view_in c t) v
+        → 0 < steps_of (op_pieces p.function (place_of p.places) f.place op)
+        → writes op ≡ Some to → Contains (goes_on f.place op) (suc f.place) → to < temporaries p.function
+        → store_of v ≡ put p.function (place_of p.places to) w (store_of (view_in c t)) → length v.low ≡ 13 → Means C placed flash a value w
+        → v.globals ≡ t.globals → v.arena ≡ t.arena
         → Owed C placed flash a texts (op_instructions op) used h t (Goes (Stands (given to value f) callers base) h) c t
-    straight_gives to value w u xs ps fl wr on lt es n r i g ar =
+    straight_puts to value w v whole pos wr on lt es n i g ar =
         let place = place_of p.places in
         let pl = spots C placed flash a f.function p in
         let k = here in
         let fw = k.within_function in
         let s1 = start p.function place f.place + 1 in
-        let v = put_view p.function (place to) w u in
-        let last = puts_last flash pl (Means C placed flash a) (small C placed flash a texts image) C.functions (place_in C placed flash a)
-        (return_to C placed flash a) p.function place fw.inside
-        (λ n. IsLiveAt p.function.ops n f.place) f.temps (frames_of callers) (view_in c t) x.running to w u lt es r
-        (small C placed flash a texts image value w i) in
-        let whole : AllFlow flash pl (op_pieces p.function place f.place op) (view_in c t) v = subst (λ q. AllFlow flash pl q (view_in c t) v) (sym ps)
-        (all_append flash pl xs (to_place p.function 0 (place to) ∷ []) (view_in c t) u v fl (v, last, refl)) in
         let all = flows (fetched flash c.base) flash pl (function_pieces p) fw.laid (op_pieces p.function place f.place op) s1 (view_in c t) v c.registers
         (bank_in flash c t) t.free k.stands fw.at refl whole in
         let b = op_takes p.function place f.place op in
-        let pos : 0 < steps_of (op_pieces p.function place f.place op) = subst (λ q. 0 < steps_of q) (sym ps)
-        (steps_last xs (to_place p.function 0 (place to)) (omega arith)) in
         wider C placed flash a texts (total_cost (op_pieces p.function place f.place op)) (op_instructions op) used h t
         (Goes (Stands (given to value f) callers base) h) c t (omega arith)
-        (gives to value (steps_of (op_pieces p.function place f.place op)) (total_cost (op_pieces p.function place f.place op)) w u wr on pos lt all es n i g
+        (gives to value (steps_of (op_pieces p.function place f.place op)) (total_cost (op_pieces p.function place f.place op)) w v wr on pos lt all es n i g
         ar)
+
+    -- STRAIGHT PIECES that leave a result, which is kept
+    pub straight_gives : (to : ℕ) (value : Value) (w : ℕ) (u : View) (xs : List Piece) → op_pieces p.function (place_of p.places) f.place op ≡ xs ++
+        keeps p.function 0 (place_of p.places to) ∷ [] → AllFlow flash (spots C placed flash a f.function p) xs (view_in c t) u → 0 < steps_of xs
+        → writes op ≡ Some to → Contains (goes_on f.place op) (suc f.place) → to < temporaries p.function
+        → StandsIn (register_of 0 (place_of p.places to)) w (view_in c t) u → Means C placed flash a value w → u.globals ≡ t.globals → u.arena ≡ t.arena
+        → Owed C placed flash a texts (op_instructions op) used h t (Goes (Stands (given to value f) callers base) h) c t
+    straight_gives to value w u xs ps fl some wr on lt r i g ar =
+        let place = place_of p.places in
+        let pl = spots C placed flash a f.function p in
+        let k = here in
+        let fw = k.within_function in
+        let v = kept_view p.function (place to) w u in
+        let q = kept_shared p.function (place to) w u in
+        let last = keeps_last flash pl (Means C placed flash a) (small C placed flash a texts image) C.functions (place_in C placed flash a)
+        (return_to C placed flash a) p.function place fw.inside
+        (λ n. IsLiveAt p.function.ops n f.place) f.temps (frames_of callers) (view_in c t) x.running to w u lt r
+        (small C placed flash a texts image value w i) in
+        let whole : AllFlow flash pl (op_pieces p.function place f.place op) (view_in c t) v = subst (λ q. AllFlow flash pl q (view_in c t) v) (sym ps)
+        (all_append flash pl xs (keeps p.function 0 (place to) ∷ []) (view_in c t) u v fl (v, last, refl)) in
+        let pos : 0 < steps_of (op_pieces p.function place f.place op) = subst (λ q. 0 < steps_of q) (sym ps)
+        (steps_more xs (keeps p.function 0 (place to) ∷ []) some) in
+        straight_puts to value w v whole pos wr on lt (store_kept p.function (place to) w (view_in c t) u (fw.inside to lt) x.registers r)
+        (kept_low p.function (place to) w u r.low) i (q.0 ∙ g) (q.1 ∙ ar)
 
     -- STRAIGHT PIECES that leave the frames as they are
     pub straight_goes : (h' : FlatHeap) (v : View) → AllFlow flash (spots C placed flash a f.function p) (op_pieces p.function (place_of p.places) f.place op)

@@ -18,10 +18,12 @@ use Rattle.register_assign.specs.declared.places.Placed.{Placed}
 use Rattle.register_assign.specs.Sound.{place_of, IsWithin}
 use Rattle.flat_meaning.specs.Operators.{FlatHeap}
 use Rattle.flat_meaning.specs.Frames.{FlatFrame}
+use Rattle.thumb_emit.specs.Frame.{register_of, brings}
 use Rattle.thumb_emit.specs.Emit.{passes}
+use Rattle.thumb_emit.proofs.Laws.{brings_still, still_takes}
 use Rattle.thumb_emit.specs.Bounds.{total_cost}
 use Rattle.thumb_emit.specs.InFlash.{Addresses}
-use Rattle.placed_frames.specs.View.{View, with_low, PutOwn}
+use Rattle.placed_frames.specs.View.{View, PutOwn}
 use Rattle.placed_frames.specs.Places.{Store, value, get, IsRoom, words}
 use Rattle.placed_frames.specs.Frames.{HasFrame, HasWaiting, HasFrames, Waits, saved, saved_at, words_at, writes_at, outgoing_at}
 use Rattle.placed_frames.proofs.Laws.{value_set, frames_stay, room}
@@ -29,16 +31,17 @@ use Rattle.emit_simulation.specs.Laid.{Flows, OfInstr, AllFlow, store_of}
 use Rattle.emit_simulation.specs.Starts.{start}
 use Rattle.emit_simulation.specs.Ties.{IsAt, IsShared, IsImage, Means, spots, place_in, place_at, return_to, frame_of, frames_of}
 use Rattle.emit_simulation.specs.Context.{view_in}
-use Rattle.emit_simulation.proofs.Placed.{store_low, gets}
+use Rattle.emit_simulation.proofs.Placed.{brought, brought_word, brought_store, brought_length, brings_flows}
 use Rattle.emit_simulation.proofs.Ops.{here, word, word_small}
 
 pub passes_length : (f : Function) (place : ℕ → Place) (k : ℕ) (ts : List ℕ) → length (passes f place k ts) ≡ 2 * length ts
 passes_length f place k [] = refl
 passes_length f place k (t ∷ ts) = let h = passes_length f place (k + 1) ts in omega arith
 
-pub passes_cost : (f : Function) (place : ℕ → Place) (k : ℕ) (ts : List ℕ) → total_cost (passes f place k ts) ≡ 4 * length ts
-passes_cost f place k [] = refl
-passes_cost f place k (t ∷ ts) = let h = passes_cost f place (k + 1) ts in omega arith
+pub passes_cost : (f : Function) (place : ℕ → Place) (k : ℕ) (ts : List ℕ) → total_cost (passes f place k ts) ≤ 4 * length ts
+passes_cost f place k [] = omega arith
+passes_cost f place k (t ∷ ts) =
+    let h = passes_cost f place (k + 1) ts in let l = still_takes f (brings f 0 (place t)) (brings_still f 0 (place t)) in omega arith
 
 pub mapped_value : {A B : Type 0} (g : A → B) (xs : List A) (j : ℕ) (y : B) → slice_get (map g xs) j ≡ Some y → (x : A) × (slice_get xs j ≡ Some x) × (g x ≡ y)
 mapped_value g [] j y e = cc
@@ -122,25 +125,26 @@ module _ (C : FlatCode) (placed : List Placed) (flash : List ℕ) (a : Addresses
         f.temps (frames_of callers) (store_of (view_in c t)) x.running in
         let rl = rm.long in let ul = y.long in
         let ru : IsRoom fn (store_of u) = record { four = refl; long = omega arith } in
-        let m1 = with_low 0 w u in
+        let r = register_of 0 (place v) in
+        let m1 = brought 0 (place v) w u in
         let m2 : View = record m1 { words = slice_set u.words k w } in
-        let s1 : store_of m1 ≡ store_of u = store_low 0 w u (omega arith) in
+        let s1 : store_of m1 ≡ store_of u = brought_store (place v) 0 w u (omega arith) in
         let n0 = y.low in
-        let g1 = gets flash pl fn (place v) 0 w u (omega arith) (fw.inside v lv) ru (y.values (place v) (fw.inside v lv)) lw in
-        let r0 : slice_index m1.low 0 ≡ w = get_or-set_same u.low 0 w 0 (omega arith) in
+        let g1 = brings_flows flash pl fn (place v) 0 w u (omega arith) (fw.inside v lv) ru (y.values (place v) (fw.inside v lv)) lw in
+        let r0 : slice_index m1.low r ≡ w = brought_word fn (place v) 0 w u (omega arith) (fw.inside v lv) n0 (y.values (place v) (fw.inside v lv)) in
         let ke : (store_of m1).kept ≡ (store_of u).kept = ap (λ (q : Store). q.kept) s1 in
         let oe : p.function.outgoing ≡ outgoing_at (slice_get C.functions f.function) = ap outgoing_at (sym fw.function) in
         let st = frames_stay (Means C placed flash a) C.functions (place_in C placed flash a) (return_to C placed flash a) u.words k w
         (frames_of (f ∷ callers)) (store_of u).kept 0 (omega arith) y.frames in
         let lb = length-set u.words k w in (
           m2,
-          (m1, g1, (m2, OfInstr (StrSp 0 k) m1 m2 refl (PutOwn 0 k w m1 (omega arith) r0 lw), refl)),
+          (m1, g1, (m2, OfInstr (StrSp r k) m1 m2 refl (PutOwn r k w m1 (omega arith) r0 lw), refl)),
           record {
             values = λ q i. value_set (Means C placed flash a) C.functions (place_in C placed flash a) (return_to C placed flash a) fn (store_of m1).kept
                 u.words 0 k w q (omega arith) ∙ (ap (get fn q) s1 ∙ y.values q i);
             kept = ke ∙ y.kept;
             frames = subst (λ ks. Waiting (slice_set u.words k w) ks) (sym ke) st;
-            low = length-set u.low 0 w ∙ y.low;
+            low = brought_length (place v) 0 w u.low ∙ y.low;
             long = lb ∙ y.long;
             globals = y.globals;
             arena = y.arena;
@@ -176,6 +180,6 @@ module _ (C : FlatCode) (placed : List Placed) (flash : List ℕ) (a : Addresses
             (first ∙ ap (word C placed flash a texts image p f callers base c used h t op e x sh) z))
         argument_of ws more first (suc j) i g = ap (slice_index ws) (omega arith) ∙ more j i g
 
-        last_of : {m1 m : View} → AllFlow flash (spots C placed flash a f.function p) (Plain (StrSp 0 k) ∷ []) m1 m
-            → Flows flash (spots C placed flash a f.function p) (Plain (StrSp 0 k)) m1 m
-        last_of {m1} {m} fl = subst (λ q. Flows flash (spots C placed flash a f.function p) (Plain (StrSp 0 k)) m1 q) fl.2 fl.1
+        last_of : {m1 m : View} → AllFlow flash (spots C placed flash a f.function p) (Plain (StrSp (register_of 0 (place v)) k) ∷ []) m1 m
+            → Flows flash (spots C placed flash a f.function p) (Plain (StrSp (register_of 0 (place v)) k)) m1 m
+        last_of {m1} {m} fl = subst (λ q. Flows flash (spots C placed flash a f.function p) (Plain (StrSp (register_of 0 (place v)) k)) m1 q) fl.2 fl.1

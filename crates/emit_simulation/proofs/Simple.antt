@@ -1,32 +1,34 @@
 -- Ops that make a value of nothing or of one other: numbers, copies, texts, functions; and globals.
-use Rattle.std.proofs.Common.{ℕ, ◌+◌, ◌<◌, ◌^◌, List, [], ◌∷◌, refl, sym, ◌∙◌, arith, slice_set, get_or-set_same}
+use Rattle.std.proofs.Common.{ℕ, ◌+◌, ◌<◌, ◌^◌, List, [], ◌∷◌, refl, sym, arith, slice_set}
 use Rattle.std.specs.Prelude.{ℤ, FitsSigned}
 use Rattle.std.specs.Int.{cast_unsigned, w32}
 use Rattle.std.proofs.Math.Facts.{Fits-of_z}
 use Rattle.std.proofs.lemmas.Int.{to_z-of_z}
-use Rattle.std.proofs.lemmas.List.{length-set}
 use Rattle.board_world.specs.Observations.{ByteList}
 use Rattle.thumb_layout.specs.declared.pieces.What.TheVariants.{Function as FunctionOf, Text as TextAt}
 use Rattle.thumb_layout.specs.declared.pieces.Piece.TheVariants.{Number, Address}
 use Rattle.flat_ir.specs.declared.ops.Op.TheVariants.{Const, Copy, TextOf, HandlerOf}
 use Rattle.flat_ir.specs.declared.ops.FlatCode.{FlatCode}
+use Rattle.flat_ir.specs.Liveness.{IsLiveAt}
 use Rattle.flat_ir.specs.WellFormed.{temporaries}
 use Rattle.register_assign.specs.declared.places.Placed.{Placed}
 use Rattle.register_assign.specs.Sound.{place_of}
 use Rattle.sts_meaning.specs.Values.{Whole, Text, Code}
 use Rattle.thumb_emit.specs.Emit.{function_pieces}
-use Rattle.thumb_emit.specs.Frame.{from_place}
+use Rattle.thumb_emit.specs.Frame.{register_of}
 use Rattle.thumb_emit.specs.Ready.{HasNumber}
 use Rattle.thumb_emit.specs.InFlash.{Addresses}
 use Rattle.thumb_emit.proofs.Laws.{text_named}
 use Rattle.placed_frames.specs.View.{View, with_low}
 use Rattle.emit_simulation.specs.Laid.{loaded_flags, OfNumber, OfAddress}
-use Rattle.emit_simulation.specs.Ties.{IsImage, bodies}
+use Rattle.emit_simulation.specs.Ties.{IsImage, Means, bodies, spots, place_in, return_to, frames_of}
 use Rattle.emit_simulation.specs.Context.{view_in}
 use Rattle.emit_simulation.specs.Makes.{MakesOp}
-use Rattle.emit_simulation.proofs.Placed.{store_low}
+use Rattle.emit_simulation.proofs.Placed.{register_small, result_set, copied}
 use Rattle.emit_simulation.proofs.Context.{all_at, mapped_at}
-use Rattle.emit_simulation.proofs.Ops.{here, word, word_means, reads_word, straight_gives}
+use Rattle.emit_simulation.proofs.Meanings.{small}
+use Rattle.emit_simulation.proofs.Straight.{at_room}
+use Rattle.emit_simulation.proofs.Ops.{here, word, word_means, word_small, straight_gives, straight_puts}
 
 -- a number's word
 number_word : (value : ℤ) → FitsSigned w32 value → cast_unsigned w32 value < 2 ^ 32
@@ -42,10 +44,13 @@ module _ (C : FlatCode) (placed : List Placed) (flash : List ℕ) (a : Addresses
       let w = cast_unsigned w32 value in
       let lw = number_word value fits in
       let rg = x.registers in
-      let u : View = record v { low = slice_set v.low 0 w; flags = loaded_flags v.flags w } in
-      straight_gives C placed flash a texts image p f callers base c used h t (Const to value) e x sh to (Whole value) w u (Number 0 w ∷ []) refl
-      (u, OfNumber 0 w v, refl) refl (0, omega arith, refl) ((k.op_within).names).0
-      (store_low 0 w v (omega arith)) (length-set v.low 0 w ∙ rg) (get_or-set_same v.low 0 w 0 (omega arith)) (sym (to_z-of_z w32 value fits), lw) refl refl
+      let lt : to < temporaries p.function = ((k.op_within).names).0 in
+      let r = register_of 0 (place_of p.places to) in
+      let u : View = record v { low = slice_set v.low r w; flags = loaded_flags v.flags w } in
+      straight_gives C placed flash a texts image p f callers base c used h t (Const to value) e x sh to (Whole value) w u (Number r w ∷ []) refl
+      (u, OfNumber r w v, refl) (omega arith) refl (0, omega arith, refl) lt
+      (result_set r w v v u (register_small p.function (place_of p.places to) 0 (omega arith) ((k.within_function).inside to lt)) refl rg refl refl)
+      (sym (to_z-of_z w32 value fits), lw) refl refl
 
   -- A COPY
   pub copy_makes : (to from : ℕ) → MakesOp C placed flash a texts (Copy to from)
@@ -55,15 +60,17 @@ module _ (C : FlatCode) (placed : List Placed) (flash : List ℕ) (a : Addresses
       let lf : from < temporaries p.function = (((k.op_within).names).1).0 in
       let w = word C placed flash a texts image p f callers base c used h t (Copy to from) e x sh from in
       let rg = x.registers in
-      straight_gives C placed flash a texts image p f callers base c used h t (Copy to from) e x sh to (f.temps from) w (with_low 0 w v)
-      (from_place p.function 0 (place_of p.places from) ∷ []) refl (
-        with_low 0 w v,
-        reads_word C placed flash a texts image p f callers base c used h t (Copy to from) e x sh from 0 v lf (0, omega arith, refl)
-            (omega arith) refl,
-        refl,
-      ) refl (0, omega arith, refl) ((k.op_within).names).0
-      (store_low 0 w v (omega arith)) (length-set v.low 0 w ∙ rg) (get_or-set_same v.low 0 w 0 (omega arith))
-      (word_means C placed flash a texts image p f callers base c used h t (Copy to from) e x sh from lf (0, omega arith, refl)) refl refl
+      let fw = k.within_function in
+      let lt : to < temporaries p.function = ((k.op_within).names).0 in
+      let lw = word_small C placed flash a texts image p f callers base c used h t (Copy to from) e x sh from lf (0, omega arith, refl) in
+      let room = at_room flash (spots C placed flash a f.function p) (Means C placed flash a) (small C placed flash a texts image) C.functions
+      (place_in C placed flash a) (return_to C placed flash a) p.function (place_of p.places) fw.inside (λ n. IsLiveAt p.function.ops n f.place) f.temps
+      (frames_of callers) v x.running in
+      let y = copied flash (spots C placed flash a f.function p) p.function (place_of p.places to) (place_of p.places from) w v (fw.inside to lt) (fw.inside from lf)
+      room rg refl lw in
+      straight_puts C placed flash a texts image p f callers base c used h t (Copy to from) e x sh to (f.temps from) w y.seen y.flow y.some refl
+      (0, omega arith, refl) lt y.store y.low
+      (word_means C placed flash a texts image p f callers base c used h t (Copy to from) e x sh from lf (0, omega arith, refl)) y.globals y.arena
 
   -- A TEXT
   pub text_makes : (to text : ℕ) → MakesOp C placed flash a texts (TextOf to text)
@@ -72,10 +79,12 @@ module _ (C : FlatCode) (placed : List Placed) (flash : List ℕ) (a : Addresses
       let v = view_in c t in
       let w = a.text text in
       let rg = x.registers in
-      straight_gives C placed flash a texts image p f callers base c used h t (TextOf to text) e x sh to (Text text) w (with_low 0 w v)
-      (Address 0 (TextAt text) ∷ []) refl
-      (with_low 0 w v, OfAddress 0 (TextAt text) v, refl) refl (0, omega arith, refl) ((k.op_within).names).0
-      (store_low 0 w v (omega arith)) (length-set v.low 0 w ∙ rg) (get_or-set_same v.low 0 w 0 (omega arith)) (
+      let lt : to < temporaries p.function = ((k.op_within).names).0 in
+      let r = register_of 0 (place_of p.places to) in
+      straight_gives C placed flash a texts image p f callers base c used h t (TextOf to text) e x sh to (Text text) w (with_low r w v)
+      (Address r (TextAt text) ∷ []) refl
+      (with_low r w v, OfAddress r (TextAt text) v, refl) (omega arith) refl (0, omega arith, refl) lt
+      (result_set r w v v (with_low r w v) (register_small p.function (place_of p.places to) 0 (omega arith) ((k.within_function).inside to lt)) refl rg refl refl) (
         record {
           function = f.function;
           body = function_pieces p;
@@ -92,7 +101,10 @@ module _ (C : FlatCode) (placed : List Placed) (flash : List ℕ) (a : Addresses
       let v = view_in c t in
       let w = a.function g + 1 in
       let rg = x.registers in
-      straight_gives C placed flash a texts image p f callers base c used h t (HandlerOf to g) e x sh to (Code g) w (with_low 0 w v)
-      (Address 0 (FunctionOf g) ∷ []) refl
-      (with_low 0 w v, OfAddress 0 (FunctionOf g) v, refl) refl (0, omega arith, refl) ((k.op_within).names).0
-      (store_low 0 w v (omega arith)) (length-set v.low 0 w ∙ rg) (get_or-set_same v.low 0 w 0 (omega arith)) (k.parts, refl) refl refl
+      let lt : to < temporaries p.function = ((k.op_within).names).0 in
+      let r = register_of 0 (place_of p.places to) in
+      straight_gives C placed flash a texts image p f callers base c used h t (HandlerOf to g) e x sh to (Code g) w (with_low r w v)
+      (Address r (FunctionOf g) ∷ []) refl
+      (with_low r w v, OfAddress r (FunctionOf g) v, refl) (omega arith) refl (0, omega arith, refl) lt
+      (result_set r w v v (with_low r w v) (register_small p.function (place_of p.places to) 0 (omega arith) ((k.within_function).inside to lt)) refl rg refl refl)
+      (k.parts, refl) refl refl

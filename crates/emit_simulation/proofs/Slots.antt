@@ -169,7 +169,7 @@ module _ (C : FlatCode) (placed : List Placed) (flash : List ℕ) (a : Addresses
       pub null_turn : w_of o ≡ 0 → Owed C placed flash a texts (op_instructions op) used h t (Panics null_panic) c t
       null_turn z =
           let lw = (arguments.same).low in
-          is_null C placed flash a texts image p f callers base c used h t op e x sh (n + 1) (4 * length args + 2) (3 * f.place + 1) (w_of o) u1 got_receiver
+          is_null C placed flash a texts image p f callers base c used h t op e x sh (n + 1) (4 * length args + 2) (3 * f.place + 1) (w_of o) 0 u1 got_receiver
           (piece_is (n + 1) 1 refl) (piece_is (n + 1 + 1) 2 (omega arith)) in_r0 w0_small (op_instructions op)
           (piece_is (n + 1 + 1 + 1) 3 (omega arith)) (piece_is (n + 1 + 1 + 1 + 1) 4 (omega arith)) z (let ll = length-set v0.low 0 (w_of o) in omega arith)
           (omega arith)
@@ -205,7 +205,7 @@ module _ (C : FlatCode) (placed : List Placed) (flash : List ℕ) (a : Addresses
           let l3 = length-set u2.low 1 kw in
           let r0 : slice_index u2.low 0 ≡ w_of o = in_r0 in
           let r1 : slice_index u3.low 1 ≡ kw = get_or-set_same u2.low 1 kw 0 (omega arith) in
-          let got2 = not_null C placed flash a texts image p f callers base c used h t op e x sh (n + 1) (4 * length args + 2) (3 * f.place + 1) (w_of o) u1
+          let got2 = not_null C placed flash a texts image p f callers base c used h t op e x sh (n + 1) (4 * length args + 2) (3 * f.place + 1) (w_of o) 0 u1
           got_receiver (piece_is (n + 1) 1 refl) (piece_is (n + 1 + 1) 2 (omega arith)) in_r0 w0_small
           (piece_is (n + 1 + 1 + 3) 5 (omega arith)) (omega arith) in
           let i2 = n + 1 + 1 + 3 + 1 in

@@ -1,6 +1,5 @@
 -- Through an op's pieces one by one: what is seen behind each, up to a turn.
 use Rattle.std.proofs.Common.{zero, suc, ◌≡◌, ◌≢◌, ℕ, ◌+◌, ◌*◌, ◌<◌, ◌≤◌, ◌^◌, List, [], ◌∷◌, length, true, false, not, Some, refl, sym, ap, ◌∙◌, subst, arith, slice_get, slice_set, slice_index, ◌==◌, get_or-set_same}
-use Rattle.std.proofs.lemmas.List.{length-set}
 use Rattle.thumb_code.specs.declared.instructions.Instr.{Instr}
 use Rattle.thumb_code.specs.declared.instructions.Instr.TheVariants.{MovImm, CmpImm, Svc}
 use Rattle.thumb_code.specs.declared.register_file.Registers.{Registers}
@@ -28,12 +27,15 @@ use Rattle.flat_ir.specs.Ops.{goes_on as goes_on_at}
 use Rattle.flat_ir.specs.WellFormed.{temporaries}
 use Rattle.sts_meaning.specs.Values.{Value, with_entry}
 use Rattle.arena_values.specs.Lies.{Shows}
-use Rattle.thumb_emit.specs.Frame.{from_place, to_place}
+use Rattle.thumb_emit.specs.Frame.{register_of, brings, keeps}
+use Rattle.thumb_emit.proofs.Laws.{brings_still, keeps_still, still_takes}
+use Rattle.register_assign.specs.Sound.{IsWithin}
+use Rattle.emit_simulation.specs.Leaving.{StandsIn}
 use Rattle.arena_values.specs.Seen.{IsNull}
 use Rattle.std.specs.Prelude.{Contains}
 use Rattle.thumb_emit.specs.Emit.{op_pieces, function_pieces}
 use Rattle.thumb_emit.specs.InFlash.{Addresses}
-use Rattle.placed_frames.specs.View.{View, with_low, registers_of, bank_of, Quiet}
+use Rattle.placed_frames.specs.View.{View, registers_of, bank_of, Quiet}
 use Rattle.placed_frames.proofs.Laws.{at_view}
 use Rattle.arena_values.proofs.Laws.{words_unequal}
 use Rattle.emit_simulation.specs.Laid.{Flows, OfInstr, OfLabel, step_of, store_of, over}
@@ -42,9 +44,9 @@ use Rattle.emit_simulation.specs.Ties.{IsAt, IsShared, IsImage, Means, spots, pl
 use Rattle.emit_simulation.specs.Context.{view_in, bank_in, shared_seen}
 use Rattle.emit_simulation.proofs.Flowing.{flows_one, then, branches, passes_by}
 use Rattle.emit_simulation.proofs.Turns.{Owed, Asking, asking, makes_panic}
-use Rattle.emit_simulation.proofs.Ops.{Reached, here, pc_behind, wider, goes_to, runs_same, word, word_means, word_small, reads_word}
-use Rattle.emit_simulation.proofs.Placed.{put_view, put_low, put_shared}
-use Rattle.emit_simulation.proofs.Straight.{puts_last, runs_on}
+use Rattle.emit_simulation.proofs.Ops.{Reached, here, pc_behind, wider, goes_to, runs_same, word, word_means, word_small, brings_word}
+use Rattle.emit_simulation.proofs.Placed.{kept_view, kept_low, kept_shared, store_kept, brought, brought_word, brought_length}
+use Rattle.emit_simulation.proofs.Straight.{keeps_last, runs_with}
 use Rattle.emit_simulation.proofs.Meanings.{small}
 
 get_below : (xs : List Piece) (n : ℕ) (x : Piece) → slice_get xs n ≡ Some x → n < length xs
@@ -107,6 +109,15 @@ module _ (C : FlatCode) (placed : List Placed) (flash : List ℕ) (a : Addresses
 
   pub one : (i most : ℕ) (v v' : View) (y : Piece) → Got i most v → slice_get pieces i ≡ Some y → Flows flash spot y v v' → Got (i + 1) (most + cost y) v'
   one i most v v' y g q fl = record { least = g.least + step_of y; comes = step i most v v' y g q fl }
+
+  -- in at most so many more
+  pub got_wider : (i most more : ℕ) (v : View) → most ≤ more → Got i most v → Got i more v
+  got_wider i most more v l g =
+      let y = g.comes in let r = y.reach in let k = r.few in
+      record {
+        least = g.least;
+        comes = record { link = y.link; long = y.long; reach = record { count = r.count; some = r.some; few = omega arith; silent = r.silent } };
+      }
 
   -- a branch that is taken, and one that isn't
   pub goes : (i j most cond label : ℕ) (v : View) → Got i most v → slice_get pieces i ≡ Some (Go cond label) → slice_get pieces j ≡ Some (Label label)
@@ -190,11 +201,11 @@ module _ (C : FlatCode) (placed : List Placed) (flash : List ℕ) (a : Addresses
   abbrev pub tested : View → ℕ → ℕ → View
   tested v y z = record v { flags = sum_flags y (inverted z) 1 }
 
-  -- r0 isn't null: the op goes on; or it is, and that is panic 105
-  module _ (i most label w : ℕ) (v : View) (g : Got i most v) (q0 : slice_get pieces i ≡ Some (Plain (CmpImm 0 0))) (q1 : slice_get pieces (i + 1) ≡ Some
-      (Go 1 label)) (r : slice_index v.low 0 ≡ w) (s : w < 2 ^ 32) where
+  -- a register isn't null: the op goes on; or it is, and that is panic 105
+  module _ (i most label w reg : ℕ) (v : View) (g : Got i most v) (q0 : slice_get pieces i ≡ Some (Plain (CmpImm reg 0))) (q1 : slice_get pieces (i + 1) ≡ Some
+      (Go 1 label)) (r : slice_index v.low reg ≡ w) (s : w < 2 ^ 32) where
     compared_null : Got (i + 1) (most + 2) (tested v w 0)
-    compared_null = quiet i most v (CmpImm 0 0) v.low (sum_flags w (inverted 0) 1) g q0 refl (λ next pc z. rw r refl)
+    compared_null = quiet i most v (CmpImm reg 0) v.low (sum_flags w (inverted 0) 1) g q0 refl (λ next pc z. rw r refl)
 
     pub not_null : slice_get pieces (i + 1 + 3) ≡ Some (Label label) → 0 < w → Got (i + 1 + 3 + 1) (most + 2 + 3 + 0) (tested v w 0)
     not_null q4 l =
@@ -208,44 +219,48 @@ module _ (C : FlatCode) (placed : List Placed) (flash : List ℕ) (a : Addresses
         breaking (i + 1) (most + 2) 1 105 label bound (tested v w 0) compared_null q1 refl q2 q3 (words_unequal w 0 s (omega arith) ∙ z) (omega arith) n
         (omega arith)
 
-  -- The op's last piece puts r0: behind it the value is in its temporary, and what is shared shows a heap.
-  pub finished : (i most bound to w : ℕ) (value : Value) (h' : FlatHeap) (u : View) → Got i most u
-      → slice_get pieces i ≡ Some (to_place p.function 0 (place_of p.places to)) → length pieces ≡ i + 1
-      → writes op ≡ Some to → Contains (goes_on_at f.place op) (suc f.place) → to < temporaries p.function → store_of u ≡ store_of (view_in c t)
-      → length u.low ≡ 13 → slice_index u.low 0 ≡ w → Means C placed flash a value w
-      → IsShared C placed flash a used h' (shared_seen used u t.free) → most + 2 ≤ bound → Owed C placed flash a texts bound used h t
+  -- The op's last pieces: an instruction leaves a result, which is kept. Behind them the value is in its temporary, and what is shared shows a heap.
+  pub finished : (i most bound to w : ℕ) (value : Value) (h' : FlatHeap) (m u : View) (y : Instr) → Got i most m → slice_get pieces i ≡ Some (Plain y)
+      → Flows flash spot (Plain y) m u
+      → slice_get pieces (i + 1) ≡ Some (keeps p.function 0 (place_of p.places to)) → length pieces ≡ i + 1 + 1
+      → writes op ≡ Some to → Contains (goes_on_at f.place op) (suc f.place) → to < temporaries p.function
+      → StandsIn (register_of 0 (place_of p.places to)) w (view_in c t) u → Means C placed flash a value w
+      → IsShared C placed flash a used h' (shared_seen used u t.free) → most + 4 ≤ bound → Owed C placed flash a texts bound used h t
       (GoesTurn (Stands (given to value f) callers base) h') c t
-  finished i most bound to w value h' u g q n wr on lt es lw r m s b =
+  finished i most bound to w value h' m' u y g q0 fl q n wr on lt r m s b =
       let place = place_of p.places in
       let k = here C placed flash a texts image p f callers base c used h t op e x sh in
       let fw = k.within_function in
-      let last = puts_last flash spot (Means C placed flash a) (small C placed flash a texts image) C.functions (place_in C placed flash a)
+      let kept = keeps p.function 0 (place to) in
+      let last = keeps_last flash spot (Means C placed flash a) (small C placed flash a texts image) C.functions (place_in C placed flash a)
       (return_to C placed flash a) p.function place fw.inside
-      (λ n. IsLiveAt p.function.ops n f.place) f.temps (frames_of callers) (view_in c t) x.running to w u lt es r
+      (λ n. IsLiveAt p.function.ops n f.place) f.temps (frames_of callers) (view_in c t) x.running to w u lt r
       (small C placed flash a texts image value w m) in
-      let v = put_view p.function (place to) w u in
+      let v = kept_view p.function (place to) w u in
       let z : suc f.place ≡ f.place + 1 = omega arith in
-      let q' = put_shared p.function (place to) w u in
+      let q' = kept_shared p.function (place to) w u in
       let s' = s.1 in
+      let takes = still_takes p.function kept (keeps_still p.function 0 (place to)) in
+      let g1 : Got (i + 1) (most + 2) u = record { least = g.least + 1; comes = step i most m' u (Plain y) g q0 fl } in
       let shared : IsShared C placed flash a used h' (shared_seen used v t.free) = (
         refl,
         subst (λ n. Shows (Means C placed flash a) a.class h' used n v.arena) (sym q'.0)
             (subst (λ n. Shows (Means C placed flash a) a.class h' used u.globals n) (sym q'.1) s'),
       ) in
-      wider C placed flash a texts (most + 2) bound used h t (GoesTurn (Stands (given to value f) callers base) h') c t (omega arith)
-      (goes_to C placed flash a texts image p f callers base c used h t op e x sh (g.least + 1) (most + 2) (first + (i + 1)) (f.place + 1) v
-      (with_entry to value f.temps) h' (omega arith) (step i most u v (to_place p.function 0 (place to)) g q last)
+      wider C placed flash a texts (most + 2 + cost kept) bound used h t (GoesTurn (Stands (given to value f) callers base) h') c t (omega arith)
+      (goes_to C placed flash a texts image p f callers base c used h t op e x sh (g.least + 1 + step_of kept) (most + 2 + cost kept) (first + (i + 1 + 1)) (f.place + 1) v
+      (with_entry to value f.temps) h' (omega arith) (step (i + 1) (most + 2) u v kept g1 q last)
       (ap (λ j. first + j) (sym n) ∙ sym k.next)
-      (runs_on flash spot (Means C placed flash a) (small C placed flash a texts image) C.functions (place_in C placed flash a) (return_to C placed flash a)
+      (runs_with flash spot (Means C placed flash a) (small C placed flash a texts image) C.functions (place_in C placed flash a) (return_to C placed flash a)
       p.function place fw.inside
-      (λ u. IsLiveAt p.function.ops u f.place) f.temps (frames_of callers) (view_in c t) x.running (λ u. IsLiveAt p.function.ops u (f.place + 1)) to w value u
-      lt es lw m
+      (λ u. IsLiveAt p.function.ops u f.place) f.temps (frames_of callers) (view_in c t) x.running (λ u. IsLiveAt p.function.ops u (f.place + 1)) to w value v
+      lt (store_kept p.function (place to) w (view_in c t) u (fw.inside to lt) x.registers r) m
       (λ m lm d live. (
         k.kept_live m (suc f.place) on (subst (IsLiveAt p.function.ops m) (sym z) live)
             (λ k. d (let b : Some to ≡ Some m = sym wr ∙ k in let b' : m ≡ to = cc in b')),
         k.apart to m (suc f.place) wr on (subst (IsLiveAt p.function.ops m) (sym z) live) lt lm d,
       )))
-      (put_low p.function (place to) w u lw) shared)
+      (kept_low p.function (place to) w u r.low) shared)
 
   -- The op's last piece leaves the frames as they are, and what is shared shows a heap.
   pub stored : (i most bound : ℕ) (h' : FlatHeap) (u v : View) (y : Instr) → Got i most u → slice_get pieces i ≡ Some (Plain y) → length pieces ≡ i + 1
@@ -260,35 +275,44 @@ module _ (C : FlatCode) (placed : List Placed) (flash : List ℕ) (a : Addresses
       (omega arith) (step i most u v (Plain y) g q fl) (ap (λ j. first + j) (sym n) ∙ sym k.next)
       (runs_same C placed flash a texts image p f callers base c used h t op e x sh (suc f.place) (f.place + 1) v (omega arith) on wr es) lw s)
 
-  -- An op that begins with an object or array in r0 and tests it for null.
+  -- An op that begins with an object or array in its register and tests it for null.
   module _ (o : ℕ) (lo : o < temporaries p.function) (ro : Contains (reads op) o)
-      (p0 : slice_get pieces 0 ≡ Some (from_place p.function 0 (place_of p.places o))) (p1 : slice_get pieces 1 ≡ Some (Plain (CmpImm 0 0)))
+      (p0 : slice_get pieces 0 ≡ Some (brings p.function 0 (place_of p.places o))) (p1 : slice_get pieces 1 ≡ Some (Plain (CmpImm (register_of 0 (place_of p.places o)) 0)))
       (p2 : slice_get pieces 2 ≡ Some (Go 1 (3 * f.place + 1))) (p3 : slice_get pieces 3 ≡ Some (Plain (MovImm 0 105)))
       (p4 : slice_get pieces 4 ≡ Some (Plain (Svc 1))) (p5 : slice_get pieces 5 ≡ Some (Label (3 * f.place + 1))) where
     abbrev pub its_word : ℕ
     its_word = word C placed flash a texts image p f callers base c used h t op e x sh o
 
+    abbrev pub its_register : ℕ
+    its_register = register_of 0 (place_of p.places o)
+
     pub its_meaning : Means C placed flash a (f.temps o) its_word
     its_meaning = word_means C placed flash a texts image p f callers base c used h t op e x sh o lo ro
 
     abbrev pub seen_object : View
-    seen_object = with_low 0 its_word (view_in c t)
+    seen_object = brought 0 (place_of p.places o) its_word (view_in c t)
 
-    pub in_r0 : slice_index seen_object.low 0 ≡ its_word
-    in_r0 = let rg = x.registers in get_or-set_same (view_in c t).low 0 its_word 0 (omega arith)
+    pub its_place : IsWithin p.function (place_of p.places o)
+    its_place = ((here C placed flash a texts image p f callers base c used h t op e x sh).within_function).inside o lo
+
+    pub in_register : slice_index seen_object.low its_register ≡ its_word
+    in_register = brought_word p.function (place_of p.places o) 0 its_word (view_in c t) (omega arith) its_place x.registers refl
 
     loaded : Got 1 2 seen_object
-    loaded = one 0 0 (view_in c t) seen_object (from_place p.function 0 (place_of p.places o)) begun p0 (reads_word C placed flash a texts image p f callers
-        base c used h t op e x sh o 0 (view_in c t) lo ro (omega arith) refl)
+    loaded =
+        let y = brings p.function 0 (place_of p.places o) in
+        let g = one 0 0 (view_in c t) seen_object y begun p0 (brings_word C placed flash a texts image p f callers
+        base c used h t op e x sh o 0 (view_in c t) lo ro (omega arith) refl) in
+        got_wider 1 (0 + cost y) 2 seen_object (let l = still_takes p.function y (brings_still p.function 0 (place_of p.places o)) in omega arith) g
 
     pub object_there : 0 < its_word → Got 6 7 (tested seen_object its_word 0)
-    object_there l = not_null 1 2 (3 * f.place + 1) its_word seen_object loaded p1 p2 in_r0 (word_small C placed flash a texts image p f callers base c used h
+    object_there l = not_null 1 2 (3 * f.place + 1) its_word its_register seen_object loaded p1 p2 in_register (word_small C placed flash a texts image p f callers base c used h
         t op e x sh o lo ro) p5 l
 
     pub object_null : (bound : ℕ) → 11 ≤ bound → (code : ℕ) → IsNull its_word code → Owed C placed flash a texts bound used h t (Panics code) c t
     object_null bound b code n =
         let rg = x.registers in
-        let l = length-set (view_in c t).low 0 its_word in
+        let l = brought_length (place_of p.places o) 0 its_word (view_in c t).low in
         subst (λ k. Owed C placed flash a texts bound used h t (Panics k) c t) (sym n.1)
-        (is_null 1 2 (3 * f.place + 1) its_word seen_object loaded p1 p2 in_r0 (word_small C placed flash a texts image p f callers base c used h t op e x sh o
+        (is_null 1 2 (3 * f.place + 1) its_word its_register seen_object loaded p1 p2 in_register (word_small C placed flash a texts image p f callers base c used h t op e x sh o
         lo ro) bound p3 p4 n.0 (omega arith) (omega arith))

@@ -76,11 +76,72 @@ fn looping(alloc: Global) -> anyhow::Result<Function> {
     })
 }
 
+/// Adds a number up by an operator.
+fn more(to: u32, right: u32) -> Op {
+    Op::Binary {
+        to,
+        op: 0,
+        left: to,
+        right,
+    }
+}
+
+/// Five numbers, of which four are used in a loop.
+fn choosing(alloc: Global) -> anyhow::Result<Function> {
+    let ops = vec![in alloc;
+        Op::Const { to: 0, value: 1 },
+        Op::Const { to: 1, value: 2 },
+        Op::Const { to: 2, value: 3 },
+        Op::Const { to: 3, value: 4 },
+        Op::Const { to: 4, value: 5 },
+        more(4, 3),
+        more(4, 2),
+        more(4, 1),
+        Op::Branch { when: 4, target: 5 },
+        more(4, 0),
+        Op::Return { from: 4 },
+    ]?;
+    Ok(Function {
+        params: 0,
+        locals: 5,
+        operands: 0,
+        outgoing: 0,
+        ops: seq(alloc, ops).map_err(|_| anyhow!("no memory"))?,
+    })
+}
+
+/// Five numbers, of which one is used three times in a loop, and three once or more in a loop within it.
+fn nested(alloc: Global) -> anyhow::Result<Function> {
+    let ops = vec![in alloc;
+        Op::Const { to: 0, value: 1 },
+        Op::Const { to: 1, value: 2 },
+        Op::Const { to: 2, value: 3 },
+        Op::Const { to: 3, value: 4 },
+        Op::Const { to: 4, value: 5 },
+        more(0, 1),
+        more(0, 1),
+        more(0, 1),
+        more(2, 3),
+        more(2, 4),
+        Op::Branch { when: 2, target: 8 },
+        Op::Branch { when: 0, target: 5 },
+        Op::Return { from: 2 },
+    ]?;
+    Ok(Function {
+        params: 0,
+        locals: 5,
+        operands: 0,
+        outgoing: 0,
+        ops: seq(alloc, ops).map_err(|_| anyhow!("no memory"))?,
+    })
+}
+
 fn function(alloc: Global, name: &str) -> anyhow::Result<Function> {
-    if name == "straight" {
-        straight(alloc)
-    } else {
-        looping(alloc)
+    match name {
+        "straight" => straight(alloc),
+        "choosing" => choosing(alloc),
+        "nested" => nested(alloc),
+        _ => looping(alloc),
     }
 }
 

@@ -1,42 +1,163 @@
 // Places for a function's temporaries.
-ghost use Rattle.std.specs.Prelude.{◌≡◌, ◌+◌, ◌<◌, ◌≤◌, length, IfOk};
-ghost use Rattle.flat_ir.specs.WellFormed.{IsWellFormedFunction};
+ghost use Rattle.std.specs.Prelude.{◌≡◌, ◌+◌, ◌<◌, ◌≤◌, length, IfOk, IfSome, OnOk};
+ghost use Rattle.flat_ir.specs.declared.ops.Function.{Function};
+ghost use Rattle.flat_ir.specs.WellFormed.{IsWellFormedFunction, temporaries};
 ghost use Rattle.flat_ir.specs.Liveness.{OnlyParametersAreLive};
 ghost use Rattle.register_assign.specs.Sound.{ArePlacesSound};
-ghost use Rattle.register_assign.specs.Intervals.{IsChosen};
+ghost use Rattle.register_assign.specs.Intervals.{IsHome, IsFree, AreHomes, AreIntervals, AreAssigned, interval_of};
 
 use crate::copies::copied;
 use crate::intervals::{Interval, interval_of, is_free};
 use crate::liveness::live;
 use crate::places::{Place, Placed};
+use crate::uses::{most_used, uses, weights};
 use flat_ir::Function;
 use std::alloc::Global;
 use sts_base::{NoMemory, Seq};
 
-/// The first register of r4 to r7 that is free, and else the temporary's own slot or incoming word.
-fn chosen(
-    t: u32,
-    params: u32,
-    places: &[Place],
-    intervals: &[Interval],
-    interval: Interval,
-) -> Place
-    requires { length places.now ≡ length intervals.now }
-    ensures { IsChosen params t places.now intervals.now interval result }
+/// The slot or incoming word of a temporary's own.
+fn own_place(t: u32, params: u32) -> Place
+    ensures { IsHome params t result }
 {
-    if is_free(4, places, intervals, interval) {
-        Place::Reg(4)
-    } else if is_free(5, places, intervals, interval) {
-        Place::Reg(5)
-    } else if is_free(6, places, intervals, interval) {
-        Place::Reg(6)
-    } else if is_free(7, places, intervals, interval) {
-        Place::Reg(7)
-    } else if t < params {
+    if t < params {
         Place::Incoming(t)
     } else {
         Place::Slot(t - params)
     }
+}
+
+/// Each temporary's own slot or incoming word.
+#[tactic(auto, using(crate::proofs::Assigning::own_first))]
+fn own_places(alloc: Global, function: &Function) -> Result<Vec<Place>, NoMemory>
+    requires { IsWellFormedFunction function.now }
+    ensures { IfOk result (λ places. AreHomes function.now places.items (temporaries function.now)) }
+{
+    let mut places = Vec::new(alloc);
+    for t in 0..function.params + function.locals + function.operands {
+        if places.push(own_place(t, function.params)).is_err() {
+            return Err(NoMemory);
+        }
+    }
+    Ok(places)
+}
+
+/// The live intervals of a function's temporaries.
+#[tactic(auto, using(crate::proofs::Assigning::intervals_first))]
+fn intervals_of(alloc: Global, function: &Function) -> Result<Vec<Interval>, NoMemory>
+    requires { IsWellFormedFunction function.now }
+    ensures { IfOk result (λ intervals. AreIntervals function.now intervals.items (temporaries function.now)) }
+{
+    let ops = function.ops.as_slice();
+    let mut intervals = Vec::new(alloc);
+    for t in 0..function.params + function.locals + function.operands {
+        let marks = live(alloc, ops, t as usize)?;
+        let interval = interval_of(ops, t as usize, &marks, t < function.params);
+        if intervals.push(interval).is_err() {
+            return Err(NoMemory);
+        }
+    }
+    Ok(intervals)
+}
+
+/// How much each temporary is used.
+fn all_uses(alloc: Global, function: &Function) -> Result<Vec<u64>, NoMemory>
+    requires { IsWellFormedFunction function.now }
+    ensures { IfOk result (λ uses. length uses.items ≡ temporaries function.now) }
+{
+    let ops = function.ops.as_slice();
+    let weights = weights(alloc, ops)?;
+    let mut all = Vec::new(alloc);
+    for t in 0..function.params + function.locals + function.operands {
+        if all.push(uses(ops, t as usize, &weights)).is_err() {
+            return Err(NoMemory);
+        }
+    }
+    Ok(all)
+}
+
+/// The first register of r4 to r7 that is free in an interval.
+fn free_register(places: &[Place], intervals: &[Interval], interval: Interval) -> Option<u8>
+    requires { length places.now ≡ length intervals.now }
+    ensures { IfSome result (λ r. (4 ≤ r) × (r ≤ 7) × IsFree r places.now intervals.now interval) }
+{
+    if is_free(4, places, intervals, interval) {
+        Some(4)
+    } else if is_free(5, places, intervals, interval) {
+        Some(5)
+    } else if is_free(6, places, intervals, interval) {
+        Some(6)
+    } else if is_free(7, places, intervals, interval) {
+        Some(7)
+    } else {
+        None
+    }
+}
+
+/// A register for a temporary, if one is free.
+fn move_to_register(places: &mut [Place], intervals: &[Interval], t: usize)
+    requires long { length places.old ≡ length intervals.now }
+    requires known { t < length places.old }
+    ensures long { length places.new ≡ length places.old }
+    ensures assigned { (f : Function) → AreAssigned f places.old intervals.now → AreAssigned f places.new intervals.now }
+{
+    if let Some(r) = free_register(places, intervals, intervals[t]) {
+        places[t] = Place::Reg(r);
+    }
+}
+
+/// A register, if one is free, for the temporary that is used most of those left, which is left no longer.
+fn give_next(places: &mut [Place], intervals: &[Interval], uses: &[u64], left: &mut [bool])
+    requires long { length places.old ≡ length intervals.now }
+    requires as_long { length uses.now ≡ length places.old }
+    requires left { length left.old ≡ length uses.now }
+    ensures long { length places.new ≡ length places.old }
+    ensures left { length left.new ≡ length left.old }
+    ensures assigned { (f : Function) → AreAssigned f places.old intervals.now → AreAssigned f places.new intervals.now }
+{
+    if let Some(t) = most_used(uses, left) {
+        left[t] = false;
+        move_to_register(places, intervals, t);
+    }
+}
+
+/// Registers for temporaries, in the order of how much they are used.
+fn give_registers(places: &mut [Place], intervals: &[Interval], uses: &[u64], left: &mut [bool])
+    requires long { length places.old ≡ length intervals.now }
+    requires as_long { length uses.now ≡ length places.old }
+    requires left { length left.old ≡ length uses.now }
+    ensures { (f : Function) → AreAssigned f places.old intervals.now → AreAssigned f places.new intervals.now }
+{
+    for _ in 0..uses.len() {
+        give_next(places, intervals, uses, left);
+    }
+}
+
+/// The places as a list that keeps its allocator.
+fn sequence(alloc: Global, places: &[Place]) -> Result<Seq<Place>, NoMemory>
+    ensures { IfOk result (λ list. list ≡ places.now) }
+{
+    let mut list = Seq::new(alloc);
+    for place in places {
+        list.push(*place)?;
+    }
+    Ok(list)
+}
+
+/// The temporaries of a function, each in its own place, go to registers as far as these are free.
+fn use_registers(alloc: Global, function: &Function, places: &mut [Place]) -> Result<(), NoMemory>
+    requires well_formed { IsWellFormedFunction function.now }
+    requires entry { OnlyParametersAreLive function.now }
+    requires own { AreHomes function.now places.old (temporaries function.now) }
+    ensures { OnOk result (ArePlacesSound function.now places.new) }
+{
+    let intervals = intervals_of(alloc, function)?;
+    let uses = all_uses(alloc, function)?;
+    let mut left = match vec![in alloc; true; uses.len()] {
+        Ok(left) => left,
+        Err(_) => return Err(NoMemory),
+    };
+    give_registers(places, &intervals, &uses, &mut left);
+    Ok(())
 }
 
 /// Sound places for the temporaries of a function, in the order of their numbers.
@@ -45,24 +166,14 @@ fn places_for(alloc: Global, function: &Function) -> Result<Seq<Place>, NoMemory
     requires entry { OnlyParametersAreLive function.now }
     ensures { IfOk result (λ places. ArePlacesSound function.now places) }
 {
-    let ops = function.ops.as_slice();
-    let mut places = Seq::new(alloc);
-    let mut intervals = Vec::new(alloc);
-    for t in 0..function.params + function.locals + function.operands {
-        let marks = live(alloc, ops, t as usize)?;
-        let interval = interval_of(ops, t as usize, &marks, t < function.params);
-        let place = chosen(t, function.params, places.as_slice(), &intervals, interval);
-        places.push(place)?;
-        if intervals.push(interval).is_err() {
-            return Err(NoMemory);
-        }
-    }
-    Ok(places)
+    let mut places = own_places(alloc, function)?;
+    use_registers(alloc, function, &mut places)?;
+    sequence(alloc, &places)
 }
 
-/// The function with sound places for its temporaries, by their live intervals: in the order of their numbers each gets the
-/// first register of r4 to r7 that no earlier one of the same register needs while it is live, and else a slot or incoming
-/// word of its own. `NoMemory` comes only for want of memory.
+/// The function with sound places for its temporaries, by their live intervals: in the order of how much they are used, where
+/// a use in a loop counts ten times as much for each level, each gets the first register of r4 to r7 that none before it needs
+/// while it is live, and else it stays in a slot or incoming word of its own. `NoMemory` comes only for want of memory.
 pub fn assign(alloc: Global, function: &Function) -> Result<Placed, NoMemory>
     requires well_formed { IsWellFormedFunction function.now }
     requires entry { OnlyParametersAreLive function.now }

@@ -8,6 +8,7 @@ mod intervals;
 mod liveness;
 mod ops;
 mod places;
+mod uses;
 
 pub use assignment::assign;
 pub use checks::check_places;

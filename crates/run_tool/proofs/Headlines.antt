@@ -14,7 +14,7 @@ use Rattle.board_world.specs.Kinds.{Kind}
 use Rattle.board_world.specs.Activities.{World}
 use Rattle.board_world.specs.World.{run}
 use Rattle.board_world.proofs.Laws.{run_over, run_sum}
-use Rattle.board_ports.specs.History.{entries_of, entries_at, unplugs, unplugged_at}
+use Rattle.board_ports.specs.History.{PortMove, entries_of, entries_at, unplugs, unplugged_at}
 use Rattle.board_ports.proofs.Laws.{places_as}
 use Rattle.tool_io.specs.Putting.{Took}
 use Rattle.board_outside.specs.Moves.{Move, Seen, Unplugged, seen_of, unplugged_of}
@@ -43,7 +43,7 @@ use Rattle.run_tool.specs.Scripts.{AnswersScript, OverScript, RefusesScript}
 use Rattle.run_tool.specs.Big.{big_text}
 use Rattle.run_tool.specs.Run.{asked_behind, RunsProgram, RunsText}
 use Rattle.run_tool.specs.Orders.{MayAnswer, lead_of}
-use Rattle.run_tool.specs.Headline.{AskedRun, Aftermath, IsToldScript, AsksForRun, LacksMemory, source_board, words_sent, is_unplugged, IsTranscript, IsRunOfImage, Headline}
+use Rattle.run_tool.specs.Headline.{AskedRun, Aftermath, IsToldScript, AsksForRun, LacksMemory, source_board, IsTranscript, IsRunOfImage, Headline}
 
 -- the bytes of a file stand for one script, and then break no rule
 abbrev script_or : Script → Result Script ScriptCode → Script
@@ -101,6 +101,12 @@ pub program-fits : (text : List ℕ) (tables : Tables) (P : TypedProgram) → Ac
 program-fits text tables P a = (let short : length text ≤ 65536 = a.read.tokenization.short in omega (arith, short))
 
 -- the words and the unplugs of moves are those of what was seen and unplugged
+abbrev words_sent : List Observation → List PortMove
+words_sent seen = flat_map words_of seen
+
+abbrev is_unplugged : List (ℕ × ℕ) → ℕ → Bool
+is_unplugged unplugs port = list_any (λ unplug. unplug.0 == port) unplugs
+
 words-met : (moves : List Move) (k : ℕ) → entries_at (words_sent (seen_of moves)) k ≡ entries_at (port_moves moves) k
 words-met [] k = refl
 words-met (Seen o ∷ moves) k =
@@ -141,33 +147,31 @@ module _ {A S : Type 0} (K : Kind A S) (w : World A S) where
 
 -- a run as the words ask for it
 abbrev RunsAsked : AskedRun → Answer → Type 0
-RunsAsked t answer = RunsProgram t.program t.texts t.script t.budget t.stats t.image answer
+RunsAsked t answer = RunsProgram t.program t.tables.texts t.script t.budget t.stats t.image answer
 
-recast : (t : AskedRun) (texts : List ByteList) (budget : ℕ) (stats image : Bool) (answer : Answer) → t.texts ≡ texts → t.budget ≡ budget → t.stats ≡ stats → t.image ≡ image
-    → RunsProgram t.program texts t.script budget stats image answer → RunsAsked t answer
-recast t texts budget stats image answer a b c d r =
-    subst (λ x. RunsProgram t.program x t.script t.budget t.stats t.image answer) (sym a)
-    (subst (λ x. RunsProgram t.program texts t.script x t.stats t.image answer) (sym b)
-    (subst (λ x. RunsProgram t.program texts t.script budget x t.image answer) (sym c) (subst (λ x. RunsProgram t.program texts t.script budget stats x answer) (sym d) r)))
+recast : (t : AskedRun) (budget : ℕ) (stats image : Bool) (answer : Answer) → t.budget ≡ budget → t.stats ≡ stats → t.image ≡ image
+    → RunsProgram t.program t.tables.texts t.script budget stats image answer → RunsAsked t answer
+recast t budget stats image answer b c d r =
+    subst (λ x. RunsProgram t.program t.tables.texts t.script x t.stats t.image answer) (sym b)
+    (subst (λ x. RunsProgram t.program t.tables.texts t.script budget x t.image answer) (sym c)
+    (subst (λ x. RunsProgram t.program t.tables.texts t.script budget stats x answer) (sym d) r))
 
 -- what may be answered where words ask for a run is that
 module _ (one : OneAnswer) (told : List ℕ → Option (Option (List ℕ))) (rose : Type 0) (calm : ¬ rose) where
   asked-answer : (asked : Option Asked) (t : AskedRun) → AsksForRun told asked t → (t.lead ≡ lead_of asked) × ((answer : Answer) → MayAnswer told rose asked answer → RunsAsked t answer)
-  asked-answer (Some (run_program name script budget stats image)) t a =
-      (let accepts = a.2.1 in (
-        a.5,
-        λ answer h. recast t a.2.0.texts budget stats image answer a.2.2 a.4 a.6 a.7
-            (script-told told rose script (λ read. RunsProgram t.program a.2.0.texts read budget stats image) t.script answer calm a.3
-            (program-told one (λ P texts. OverScript told rose script (λ read. RunsProgram P texts read budget stats image)) a.0 a.2.0 t.program answer accepts
-            (file-told (RunsText told rose script budget stats image) (told name) rose a.0 answer a.1 (program-fits a.0 a.2.0 t.program accepts) calm h))),
-      ))
-  asked-answer (Some (run_big size budget stats)) t a =
-      (let accepts = a.0.1 in (
-        a.3,
-        λ answer h. recast t a.0.0.texts budget stats false answer a.0.2 a.2 a.4 a.5
-            (subst (λ read. RunsProgram t.program a.0.0.texts read budget stats false answer) (sym a.1)
-            (program-told one (λ P texts. OverScript told rose None (λ read. RunsProgram P texts read budget stats false)) (big_text size) a.0.0 t.program answer accepts h)),
-      ))
+  asked-answer (Some (run_program name script budget stats image)) t a = (
+    a.5,
+    λ answer h. recast t budget stats image answer a.4 a.6 a.7
+        (script-told told rose script (λ read. RunsProgram t.program t.tables.texts read budget stats image) t.script answer calm a.3
+        (program-told one (λ P texts. OverScript told rose script (λ read. RunsProgram P texts read budget stats image)) a.0 t.tables t.program answer a.2
+        (file-told (RunsText told rose script budget stats image) (told name) rose a.0 answer a.1 (program-fits a.0 t.tables t.program a.2) calm h))),
+  )
+  asked-answer (Some (run_big size budget stats)) t a = (
+    a.3,
+    λ answer h. recast t budget stats false answer a.2 a.4 a.5
+        (subst (λ read. RunsProgram t.program t.tables.texts read budget stats false answer) (sym a.1)
+        (program-told one (λ P texts. OverScript told rose None (λ read. RunsProgram P texts read budget stats false)) (big_text size) t.tables t.program answer a.0 h)),
+  )
   asked-answer other t a = absurd a
 
 module _ {B : Type 0} (log : B → Option (List (ℕ × ℕ))) (faults : B → ℕ) (t : AskedRun) (taken taken' : Option (List ℕ)) (places places' : List (Option B)) (number : ℕ) (had : List ℕ) (e : taken ≡ Some had) where
@@ -194,7 +198,7 @@ module _ {B : Type 0} (log : B → Option (List (ℕ × ℕ))) (faults : B → �
           record {
             written = ap (λ seen. t.lead ++ (lines seen ++ behind)) (sym r.met.seen);
             at_most = r.reaches.at_most;
-            whole = λ m within o. shown-whole (source t.program t.texts) (source_start t.program t.texts t.script.end (world_entries t.script.entries)) m r.steps o (r.reaches.at_least m within);
+            whole = λ m within o. shown-whole (source t.program t.tables.texts) (source_start t.program t.tables.texts t.script.end (world_entries t.script.entries)) m r.steps o (r.reaches.at_least m within);
             at_least = r.reaches.at_least;
             status = n ∙ ap status_number (s ∙ ap status_of r.is);
             devices = places_as log faults (entries_at (port_moves r.moves)) (entries_at (words_sent b.seen)) (unplugged_at (port_moves r.moves)) (is_unplugged b.unplugged) places places'

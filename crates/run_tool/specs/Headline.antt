@@ -2,10 +2,9 @@
 use Rattle.std.specs.Prelude.{◌≡◌, ◌≤◌, ◌*◌, ◌==◌, ◌⊎◌, ◌++◌, ℕ, Bool, true, false, List, [], length, flat_map, Option, Some, None, Ok}
 use Rattle.std.specs.List.{list_any}
 use Rattle.sts_base.specs.declared.tables.Tables.{Tables}
-use Rattle.board_world.specs.Observations.{ByteList, Observation}
 use Rattle.board_world.specs.Transcript.{lines, closing_line}
 use Rattle.board_world.specs.Board.{Board, over}
-use Rattle.board_ports.specs.History.{PortMove, entries_at, PlacesAfter}
+use Rattle.board_ports.specs.History.{entries_at, PlacesAfter}
 use Rattle.board_outside.specs.Ports.{words_of}
 use Rattle.sts_syntax.specs.TypedTrees.{TypedProgram}
 use Rattle.hex_image.specs.Laws.{IsImage}
@@ -26,16 +25,12 @@ use Rattle.run_tool.specs.Runs.{run_status}
 -- A run of a program that words ask for.
 pub record AskedRun : Type 0 where
   pub program : TypedProgram
-  pub texts : List ByteList  -- of the program
+  pub tables : Tables  -- with the program's texts
   pub script : Script
   pub budget : ℕ  -- the most instructions
   pub lead : List ℕ  -- what is written before the transcript
   pub stats : Bool  -- whether the statistics are asked for behind it,
   pub image : Bool  -- and the image behind them
-
--- The text is accepted as the program of a run.
-abbrev pub IsTextOf : List ℕ → AskedRun → Type 0
-IsTextOf text r = (tables : Tables) × Accepts text tables r.program × (r.texts ≡ tables.texts)
 
 -- The script that words name, over a folder that tells this of its files: the one that the file stands for; without a name it has no entries, and ends at 1000 ms.
 abbrev pub IsToldScript : (List ℕ → Option (Option (List ℕ))) → Option (List ℕ) → Script → Type 0
@@ -45,10 +40,10 @@ IsToldScript told (Some name) script = (text : List ℕ) × (told name ≡ Some 
 -- The words ask for a run, over a folder that tells this of its files: `run P` or `run P S`, or `big N`.
 abbrev pub AsksForRun : (List ℕ → Option (Option (List ℕ))) → Option Asked → AskedRun → Type 0
 AsksForRun told (Some (run_program name script budget stats image)) r =
-    (text : List ℕ) × (told name ≡ Some (Some text)) × IsTextOf text r × IsToldScript told script r.script
+    (text : List ℕ) × (told name ≡ Some (Some text)) × Accepts text r.tables r.program × IsToldScript told script r.script
     × (r.budget ≡ budget) × (r.lead ≡ []) × (r.stats ≡ stats) × (r.image ≡ image)
 AsksForRun told (Some (run_big size budget stats)) r =
-    IsTextOf (big_text size) r × (r.script ≡ default_script) × (r.budget ≡ budget) × (r.lead ≡ big_line size) × (r.stats ≡ stats) × (r.image ≡ false)
+    Accepts (big_text size) r.tables r.program × (r.script ≡ default_script) × (r.budget ≡ budget) × (r.lead ≡ big_line size) × (r.stats ≡ stats) × (r.image ≡ false)
 AsksForRun told other r = ⊥
 
 -- What a call leaves: its status, the text that it wrote, and the devices in their places, before it and behind it.
@@ -64,31 +59,24 @@ LacksMemory r a = (a.status ≡ 30) × ((a.written ≡ []) ⊎ (a.written ≡ r.
 
 -- what the source of a run's program has shown after so many counted steps, the clock, and how it has ended, if it has
 abbrev pub source_board : AskedRun → ℕ → Board
-source_board r steps = (source_after r.program r.texts r.script steps).board
+source_board r steps = (source_after r.program r.tables.texts r.script steps).board
 
--- the words that observations send to the ports, and whether the run unplugged a port's device
-abbrev pub words_sent : List Observation → List PortMove
-words_sent seen = flat_map words_of seen
-
-abbrev pub is_unplugged : List (ℕ × ℕ) → ℕ → Bool
-is_unplugged unplugs port = list_any (λ unplug. unplug.0 == port) unplugs
-
--- First. What was written is the transcript of the source's first counted steps: their lines, and its own closing line where it has ended by then, else the line of the budget; then what is
--- asked for. They are no more than instructions of the budget. For each n with 512 n in the budget it is the whole transcript where the source ends within n steps, and that of at least n
--- where it hasn't ended. The status is that of the closing line, and the devices have the words.
+-- First. What was written is the transcript of the source's first counted steps: their lines, and its own closing line where it has ended by then, else the line of the budget; then what is asked for,
+-- where the number of instructions and the image are those of the second part. The steps are no more than the budget's instructions. For each n with 512 n in the budget it is the whole transcript where
+-- the source ends within n steps, else that of at least n. The status is that of the closing line. The devices have the words of what was seen, and those are gone that were unplugged.
 pub record IsTranscript {B : Type 0} (log : B → Option (List (ℕ × ℕ))) (faults : B → ℕ) (r : AskedRun) (a : Aftermath B) (steps executed : ℕ) (image : List ℕ) : Type 0 where
   pub written : (let b = source_board r steps in a.written ≡ r.lead ++ (lines b.seen ++ (closing_line b.clock b.end ++ asked_behind r.stats r.image b executed image)))
   pub at_most : steps ≤ r.budget
   pub whole : (n : ℕ) → 512 * n ≤ r.budget → over (source_board r n) ≡ true → source_board r steps ≡ source_board r n
   pub at_least : (n : ℕ) → 512 * n ≤ r.budget → (n ≤ steps) ⊎ (over (source_board r steps) ≡ true)
   pub status : a.status ≡ status_number (run_status (source_board r steps).end)
-  pub devices : PlacesAfter log faults (entries_at (words_sent (source_board r steps).seen)) (is_unplugged (source_board r steps).unplugged) a.before a.behind
+  pub devices : (let b = source_board r steps in PlacesAfter log faults (entries_at (flat_map words_of b.seen)) (λ port. list_any (λ unplug. unplug.0 == port) b.unplugged) a.before a.behind)
 
 -- Second. That is the run of an image that implements the program: for some list of free words the bank machine's run of it looks the same after the instructions executed, at which it has ended,
 -- or which are the whole budget.
 pub record IsRunOfImage (r : AskedRun) (steps executed : ℕ) (image : List ℕ) : Type 0 where
   pub is_image : IsImage image
-  pub implements : ImageImplements r.program r.texts image
+  pub implements : ImageImplements r.program r.tables.texts image
   pub free : List ℕ
   pub is_executed : IsExecuted (world_after image r.script free) r.budget executed
   pub alike : LooksLike (source_board r steps) (world_after image r.script free executed).board

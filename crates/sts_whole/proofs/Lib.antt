@@ -11,6 +11,7 @@ mod TextBytes
 mod LibraryBehind
 mod AcceptedPrograms
 mod OneAnswers
+mod SomeAnswers
 mod NodePlaces
 mod SpelledPlaces
 mod FailurePlaces

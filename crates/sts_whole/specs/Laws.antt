@@ -1,12 +1,14 @@
 -- Laws of accepted texts.
-use Rattle.std.specs.Prelude.{◌≡◌, ◌≢◌, ◌≤◌, ℕ, List, take}
+use Rattle.std.specs.Prelude.{◌≡◌, ◌≢◌, ◌≤◌, ◌⊎◌, ℕ, List, take}
 use Rattle.sts_base.specs.declared.refused.Code.{Code}
 use Rattle.sts_base.specs.declared.refused.Code.TheVariants.{Syntax}
 use Rattle.sts_base.specs.declared.tables.Tables.{Tables}
+use Rattle.sts_lexer.specs.declared.token.Token.{Token}
 use Rattle.sts_syntax.specs.BoardTable.{library_size}
+use Rattle.sts_syntax.specs.Programs.{Program}
 use Rattle.sts_syntax.specs.TypedTrees.{TypedProgram}
 use Rattle.sts_syntax.specs.Weights.{routines_weight}
-use Rattle.sts_whole.specs.Accepting.{Accepts, IsRefusedFor}
+use Rattle.sts_whole.specs.Accepting.{Reads, Accepts, IsRefusedFor}
 use Rattle.sts_whole.specs.Buildable.{IsBuildable}
 
 -- The typed program of an accepted text can be built, and its library weighs no more than 600.
@@ -20,3 +22,8 @@ pub record OneAnswer : Type 0 where
   pub either : (text : List ℕ) (tables : Tables) (P : TypedProgram) (code : Code) (at : ℕ) → Accepts text tables P → IsRefusedFor text code at → ⊥
   pub program : (text : List ℕ) (tables tables' : Tables) (P P' : TypedProgram) → Accepts text tables P → Accepts text tables' P' → (tables ≡ tables') × (P ≡ P')
   pub refusal : (text : List ℕ) (code code' : Code) (at at' : ℕ) → IsRefusedFor text code at → IsRefusedFor text code' at' → (code ≡ code') × (code ≢ Syntax → at ≡ at')
+
+-- A text that has tokens, behind the library, is accepted or refused.
+abbrev pub SomeAnswer : Type 0
+SomeAnswer = (text : List ℕ) (tables : Tables) (library : Program) (tokens : List Token) → Reads text tables library tokens
+    → ((P : TypedProgram) × Accepts text tables P) ⊎ ((code : Code) × (at : ℕ) × IsRefusedFor text code at)

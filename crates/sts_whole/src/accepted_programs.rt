@@ -1,11 +1,11 @@
 //! Laws of accepted texts.
-ghost use Rattle.sts_whole.specs.Laws.{AcceptedIsBuildable, OneAnswer};
+ghost use Rattle.sts_whole.specs.Laws.{AcceptedIsBuildable, OneAnswer, SomeAnswer};
 
 use library_laws::{library_leaves_first, prelude_is_library, typed_library_is_light};
-use sts_grammar::one_program;
+use sts_grammar::{one_program, the_program_is_read};
 use sts_lexer::{one_reading, spellings_stay};
 use sts_prelude::text_spells_library;
-use type_derive::derived_types_are_one;
+use type_derive::{derived_types_are_one, derived_types_exist};
 use typed_laws::accepted_texts_are_well_typed;
 
 /// The typed program of an accepted text can be built: it is well typed and within the limits, its texts stand in the tables and are bytes, and the library's
@@ -29,4 +29,12 @@ pub fn one_answer()
     library_leaves_first();
     derived_types_are_one();
     one_program();
+}
+
+/// A text that has tokens is accepted or refused.
+pub fn texts_with_tokens_have_an_answer()
+    ensures { SomeAnswer }
+{
+    the_program_is_read();
+    derived_types_exist();
 }

@@ -17,9 +17,12 @@ mod program;
 mod reaching;
 mod refused_places;
 
-pub use accepted_programs::{accepted_programs_are_buildable, one_answer};
+pub use accepted_programs::{
+    accepted_programs_are_buildable, one_answer, texts_with_tokens_have_an_answer,
+};
 pub use accepting::accept;
 pub use board::run_image;
+pub use checking::check;
 pub use compiled::compiled_images_implement_their_programs;
 pub use program::{build, run_text};
 pub use reaching::runs_reach_their_sources;

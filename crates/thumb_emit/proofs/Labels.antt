@@ -1,6 +1,8 @@
 -- Each label that a function's pieces go to stands once among them.
-use Rattle.std.proofs.Common.{◌≡◌, ℕ, zero, suc, ◌+◌, ◌*◌, ◌<◌, ◌==◌, Bool, true, nat_lt, if◌then◌else◌, List, [], ◌∷◌, ◌++◌, length, refl, ap, ◌∙◌}
-use Rattle.thumb_code.specs.declared.instructions.Instr.TheVariants.{Pop as PopMany}
+use Rattle.std.proofs.Common.{◌≡◌, ℕ, zero, suc, ◌+◌, ◌*◌, ◌<◌, ◌==◌, Bool, true, false, nat_lt, if◌then◌else◌, List, [], ◌∷◌, ◌++◌, length, refl, ap, sym, ◌∙◌, zero-add, arith}
+use Rattle.std.proofs.lemmas.Bool.Decides.{nat_tests}
+use Rattle.thumb_code.specs.declared.instructions.Instr.{Instr}
+use Rattle.thumb_code.specs.declared.instructions.Instr.TheVariants.{MovImm, And, SubImm8, StrImm, StrSp, LdrReg, MovHigh, Push, Pop as PopMany}
 use Rattle.thumb_layout.specs.declared.pieces.Piece.{Piece}
 use Rattle.thumb_layout.specs.declared.pieces.Piece.TheVariants.{Plain, Label, Go, CallTo, Number, Address}
 use Rattle.thumb_layout.specs.Soundness.{times}
@@ -10,17 +12,13 @@ use Rattle.flat_ir.specs.declared.ops.Function.{Function}
 use Rattle.flat_ir.specs.WellFormed.{GoesBelow}
 use Rattle.register_assign.specs.declared.places.Place.{Place}
 use Rattle.register_assign.specs.declared.places.Place.TheVariants.{Reg, Slot, Incoming}
-use Rattle.thumb_emit.specs.Frame.{own, raises, lowers, kept_registers}
-use Rattle.thumb_emit.specs.Emit.{get, put, passes, loads, op_pieces, loads_field, stores_field, asks, answers, calls_slot, move_pieces, moves_pieces, entry_pieces}
-use Rattle.thumb_emit.proofs.Lists.{if_has}
+use Rattle.thumb_emit.specs.Frame.{own, from_instr, to_instr, from_place, register_of, idle_piece, copies, carries, raises, lowers, kept_registers}
+use Rattle.thumb_emit.specs.Emit.{put, its_register, bring, keep, passes, loads, op_pieces, unless, unequal, below_unsigned, at_least_unsigned, tests_null, tests_index, finds_item, decides, beside, combines, shifts, divides, loads_field, stores_field, asks, answers, calls_slot, move_pieces, moves_pieces, entry_pieces}
+use Rattle.thumb_emit.proofs.Lists.{if_has, times_append}
+use Rattle.thumb_emit.proofs.Still.{IsStill, Idle, Single, brings_still, keeps_still, moves_still}
 use Rattle.thumb_emit.proofs.Operators.{unary_has, binary_has}
 
--- the labels among pieces, and those that are gone to
-abbrev pub labels_of : List Piece → List ℕ
-labels_of [] = []
-labels_of (Label l ∷ xs) = l ∷ labels_of xs
-labels_of (x ∷ xs) = labels_of xs
-
+-- the labels that pieces go to
 abbrev pub gos_of : List Piece → List ℕ
 gos_of [] = []
 gos_of (Go c l ∷ xs) = l ∷ gos_of xs
@@ -29,24 +27,6 @@ gos_of (x ∷ xs) = gos_of xs
 abbrev pub count : ℕ → List ℕ → ℕ
 count l [] = 0
 count l (m ∷ ms) = (if m == l then 1 else 0) + count l ms
-
-pub times_count : (l : ℕ) (xs : List Piece) → times l xs ≡ count l (labels_of xs)
-times_count l [] = refl
-times_count l (Plain x ∷ xs) = times_count l xs
-times_count l (Label m ∷ xs) = ap (λ n. (if m == l then 1 else 0) + n) (times_count l xs)
-times_count l (Go c m ∷ xs) = times_count l xs
-times_count l (CallTo f ∷ xs) = times_count l xs
-times_count l (Number r v ∷ xs) = times_count l xs
-times_count l (Address r w ∷ xs) = times_count l xs
-
-labels_append : (xs ys : List Piece) → labels_of (xs ++ ys) ≡ labels_of xs ++ labels_of ys
-labels_append [] ys = refl
-labels_append (Plain x ∷ xs) ys = labels_append xs ys
-labels_append (Label m ∷ xs) ys = ap (λ (q : List ℕ). m ∷ q) (labels_append xs ys)
-labels_append (Go c m ∷ xs) ys = labels_append xs ys
-labels_append (CallTo f ∷ xs) ys = labels_append xs ys
-labels_append (Number r v ∷ xs) ys = labels_append xs ys
-labels_append (Address r w ∷ xs) ys = labels_append xs ys
 
 pub gos_append : (xs ys : List Piece) → gos_of (xs ++ ys) ≡ gos_of xs ++ gos_of ys
 gos_append [] ys = refl
@@ -57,104 +37,208 @@ gos_append (CallTo f ∷ xs) ys = gos_append xs ys
 gos_append (Number r v ∷ xs) ys = gos_append xs ys
 gos_append (Address r w ∷ xs) ys = gos_append xs ys
 
--- exactly these labels stand among pieces, and exactly these are gone to
-pub record IsMarked (labels gos : List ℕ) (xs : List Piece) : Type 0 where
-  pub stand : labels_of xs ≡ labels
-  pub goes : gos_of xs ≡ gos
+pub counted_not : (m l : ℕ) → (m ≡ l → ⊥) → ◌≡◌ {A = ℕ} (if m == l then 1 else 0) 0
+counted_not m l n = let e : (m == l) ≡ false = grind (arith, nat_tests) in rw e refl
 
-marked_append : (ls gs ms hs : List ℕ) (xs ys : List Piece) → IsMarked ls gs xs → IsMarked ms hs ys → IsMarked (ls ++ ms) (gs ++ hs) (xs ++ ys)
-marked_append ls gs ms hs xs ys a b = record {
-  stand = labels_append xs ys ∙ (ap (λ (q : List ℕ). q ++ labels_of ys) a.stand ∙ ap (λ (q : List ℕ). ls ++ q) b.stand);
-  goes = gos_append xs ys ∙ (ap (λ (q : List ℕ). q ++ gos_of ys) a.goes ∙ ap (λ (q : List ℕ). gs ++ q) b.goes);
-}
+count_append : (l : ℕ) (ms ns : List ℕ) → count l (ms ++ ns) ≡ count l ms + count l ns
+count_append l [] ns = sym (zero-add (count l ns))
+count_append l (m ∷ ms) ns = let h = count_append l ms ns in omega (arith, h)
 
--- pieces without a label and a branch in front of others, and behind them
-bare_before : (ls gs : List ℕ) (xs ys : List Piece) → IsMarked [] [] xs → IsMarked ls gs ys → IsMarked ls gs (xs ++ ys)
-bare_before ls gs xs ys = marked_append [] [] ls gs xs ys
+-- the label to which nobody goes
+abbrev pub idle : Function → ℕ
+idle f = 3 * length f.ops + 1
 
-if_bare : (b : Bool) (xs ys : List Piece) → IsMarked [] [] xs → IsMarked [] [] ys → IsMarked [] [] (if b then xs else ys)
-if_bare b xs ys = if_has (λ zs. IsMarked [] [] zs) b xs ys
+module _ (f : Function) where
+  -- exactly these labels stand among pieces, but for the idle one, and exactly these are gone to
+  pub record IsMarked (labels gos : List ℕ) (xs : List Piece) : Type 0 where
+    pub stand : (l : ℕ) → (idle f ≡ l → ⊥) → times l xs ≡ count l labels
+    pub goes : gos_of xs ≡ gos
 
-fields_bare : (field : ℕ) → IsMarked [] [] (loads_field field)
-fields_bare field = if_bare (nat_lt field 31) _ _ (record { stand = refl; goes = refl }) (record { stand = refl; goes = refl })
+  marked_append : (ls gs ms hs : List ℕ) (xs ys : List Piece) → IsMarked ls gs xs → IsMarked ms hs ys → IsMarked (ls ++ ms) (gs ++ hs) (xs ++ ys)
+  marked_append ls gs ms hs xs ys a b = record {
+    stand = λ l d. let p = times_append l xs ys in let q = count_append l ls ms in let r = a.stand l d in let s = b.stand l d in omega (arith, p, q, r, s);
+    goes = gos_append xs ys ∙ (ap (λ (q : List ℕ). q ++ gos_of ys) a.goes ∙ ap (λ (q : List ℕ). gs ++ q) b.goes);
+  }
 
-stored_bare : (field : ℕ) → IsMarked [] [] (stores_field field)
-stored_bare field = if_bare (nat_lt field 31) _ _ (record { stand = refl; goes = refl }) (record { stand = refl; goes = refl })
+  -- pieces without a label and a branch in front of others
+  bare_before : (ls gs : List ℕ) (xs ys : List Piece) → IsMarked [] [] xs → IsMarked ls gs ys → IsMarked ls gs (xs ++ ys)
+  bare_before ls gs xs ys = marked_append [] [] ls gs xs ys
 
-raises_bare : (n : ℕ) → IsMarked [] [] (raises n)
-raises_bare n = if_bare (nat_lt 127 n) _ _ (record { stand = refl; goes = refl }) (record { stand = refl; goes = refl })
+  bare_end : IsMarked [] [] []
+  bare_end = record { stand = λ l d. refl; goes = refl }
 
-lowers_bare : (n : ℕ) → IsMarked [] [] (lowers n)
-lowers_bare n = if_bare (nat_lt 127 n) _ _ (record { stand = refl; goes = refl }) (record { stand = refl; goes = refl })
+  -- one more piece in front: what takes one instruction or nothing, or a label
+  still_before : (ls gs : List ℕ) (x : Piece) (xs : List Piece) → IsStill f x → IsMarked ls gs xs → IsMarked ls gs (x ∷ xs)
+  still_before ls gs _ xs Idle m = record { stand = λ l d. let a = counted_not (idle f) l d in let b = m.stand l d in omega (arith, a, b); goes = m.goes }
+  still_before ls gs _ xs (Single x) m = record { stand = m.stand; goes = m.goes }
 
-asks_bare : (service : ℕ) → IsMarked [] [] (asks service)
-asks_bare service = if_bare (answers service) _ _ (record { stand = refl; goes = refl }) (record { stand = refl; goes = refl })
+  label_before : (ls gs : List ℕ) (m : ℕ) (xs : List Piece) → IsMarked ls gs xs → IsMarked (m ∷ ls) gs (Label m ∷ xs)
+  label_before ls gs m xs h = record { stand = λ l d. ap (λ q. (if m == l then 1 else 0) + q) (h.stand l d); goes = h.goes }
 
--- The pieces of op k of n ops have no labels but their own two, the first or both, each of which they go to; or they go to an op.
-pub data Marks (k n : ℕ) (xs : List Piece) : Type 0 where
-  None : IsMarked [] [] xs → Marks k n xs
-  One : IsMarked ((3 * k + 1) ∷ []) ((3 * k + 1) ∷ []) xs → Marks k n xs
-  Two : IsMarked ((3 * k + 1) ∷ (3 * k + 2) ∷ []) ((3 * k + 1) ∷ (3 * k + 2) ∷ []) xs → Marks k n xs
-  Away : (target : ℕ) → target < n → IsMarked [] ((3 * target) ∷ []) xs → Marks k n xs
+  -- a panic, unless a condition holds
+  unless_before : (ls gs : List ℕ) (cond code m : ℕ) (xs : List Piece) → IsMarked ls gs xs → IsMarked (m ∷ ls) (m ∷ gs) (unless cond code m ++ xs)
+  unless_before ls gs cond code m xs h =
+      let k = label_before ls gs m xs h in record { stand = k.stand; goes = ap (λ (q : List ℕ). m ∷ q) k.goes }
 
-module _ (f : Function) (place : ℕ → Place) where
-  passes_bare : (k : ℕ) (ts : List ℕ) → IsMarked [] [] (passes f place k ts)
-  passes_bare k [] = record { stand = refl; goes = refl }
-  passes_bare k (t ∷ ts) = let h = passes_bare (k + 1) ts in record { stand = h.stand; goes = h.goes }
+  null_before : (ls gs : List ℕ) (r m : ℕ) (xs : List Piece) → IsMarked ls gs xs → IsMarked (m ∷ ls) (m ∷ gs) (tests_null r m ++ xs)
+  null_before ls gs r m xs h = let k = unless_before ls gs unequal 105 m xs h in record { stand = k.stand; goes = k.goes }
 
-  loads_bare : (k : ℕ) (ts : List ℕ) → IsMarked [] [] (loads f place k ts)
-  loads_bare k [] = record { stand = refl; goes = refl }
-  loads_bare k (t ∷ ts) = let h = loads_bare (k + 1) ts in record { stand = h.stand; goes = h.goes }
+  index_before : (ls gs : List ℕ) (array index m : ℕ) (xs : List Piece) → IsMarked ls gs xs → IsMarked (m ∷ ls) (m ∷ gs) (tests_index array index m ++ xs)
+  index_before ls gs array index m xs h = let k = unless_before ls gs below_unsigned 104 m xs h in record { stand = k.stand; goes = k.goes }
 
-  pub op_marks : (k n : ℕ) (op : Op) → GoesBelow n op → Marks k n (op_pieces f place k op)
-  op_marks k n (Const to value) w = None (record { stand = refl; goes = refl })
-  op_marks k n (Copy to from) w = None (record { stand = refl; goes = refl })
-  op_marks k n (Unary to op from) w =
-      let bare : IsMarked [] [] (get f place 0 from ∷ put f place 0 to ∷ []) = record { stand = refl; goes = refl } in
-      unary_has (λ xs. Marks k n (get f place 0 from ∷ xs ++ (put f place 0 to ∷ []))) op (3 * k + 1)
-      (λ x. None (record { stand = refl; goes = refl })) (None bare) (One (record { stand = refl; goes = refl }))
-  op_marks k n (Binary to op left right) w =
-      binary_has (λ xs. Marks k n (get f place 0 left ∷ get f place 1 right ∷ xs ++ (put f place 0 to ∷ []))) op (3 * k + 1)
-      (λ x. None (record { stand = refl; goes = refl })) (λ cond. One (record { stand = refl; goes = refl })) (λ x. None (record { stand = refl; goes = refl }))
-      (None (record { stand = refl; goes = refl })) (None (record { stand = refl; goes = refl }))
-  op_marks k n (GlobalGet to slot) w = None (record { stand = refl; goes = refl })
-  op_marks k n (GlobalSet slot from) w = None (record { stand = refl; goes = refl })
-  op_marks k n (FieldGet to object field) w =
-      let h = bare_before [] [] (loads_field field) (put f place 0 to ∷ []) (fields_bare field) (record { stand = refl; goes = refl }) in
-      One (record { stand = ap (λ (q : List ℕ). (3 * k + 1) ∷ q) h.stand; goes = ap (λ (q : List ℕ). (3 * k + 1) ∷ q) h.goes })
-  op_marks k n (FieldSet object field from) w =
-      let h = stored_bare field in
-      One (record { stand = ap (λ (q : List ℕ). (3 * k + 1) ∷ q) h.stand; goes = ap (λ (q : List ℕ). (3 * k + 1) ∷ q) h.goes })
-  op_marks k n (ItemGet to array index) w = Two (record { stand = refl; goes = refl })
-  op_marks k n (ItemSet array index from) w = Two (record { stand = refl; goes = refl })
-  op_marks k n (Length to array) w = One (record { stand = refl; goes = refl })
-  op_marks k n (Pop to array) w = Two (record { stand = refl; goes = refl })
-  op_marks k n (TextOf to text) w = None (record { stand = refl; goes = refl })
-  op_marks k n (MakeObject to class) w = None (record { stand = refl; goes = refl })
-  op_marks k n (MakeArray to room) w = None (record { stand = refl; goes = refl })
-  op_marks k n (Call to function args) w = None (bare_before [] [] (passes f place 0 args) (CallTo function ∷ put f place 0 to ∷ []) (passes_bare 0 args) (record { stand = refl; goes = refl }))
-  op_marks k n (CallSlot to slot args) w =
-      One (bare_before ((3 * k + 1) ∷ []) ((3 * k + 1) ∷ []) (passes f place 0 args) (calls_slot slot (3 * k + 1) ++ (put f place 0 to ∷ [])) (passes_bare 0 args) (record { stand = refl; goes = refl }))
-  op_marks k n (HandlerOf to function) w = None (record { stand = refl; goes = refl })
-  op_marks k n (Ask to service args) w =
-      let h = bare_before [] [] (asks service) (put f place 0 to ∷ []) (asks_bare service) (record { stand = refl; goes = refl }) in
-      None (bare_before [] [] (loads f place 0 args) (asks service ++ (put f place 0 to ∷ [])) (loads_bare 0 args) h)
-  op_marks k n (Jump target) w = Away target w.0 (record { stand = refl; goes = refl })
-  op_marks k n (Branch when target) w = Away target w.0 (record { stand = refl; goes = refl })
-  op_marks k n (Return from) w =
-      let h = bare_before [] [] (raises (own f)) (Plain (PopMany kept_registers true) ∷ []) (raises_bare (own f)) (record { stand = refl; goes = refl }) in
-      None (record { stand = h.stand; goes = h.goes })
+  if_bare : (b : Bool) (xs ys : List Piece) → IsMarked [] [] xs → IsMarked [] [] ys → IsMarked [] [] (if b then xs else ys)
+  if_bare b xs ys = if_has (λ zs. IsMarked [] [] zs) b xs ys
 
-  moved_bare : (p : Place) (t : ℕ) → IsMarked [] [] (move_pieces f place p t)
-  moved_bare (Incoming j) t = record { stand = refl; goes = refl }
-  moved_bare (Reg r) t = record { stand = refl; goes = refl }
-  moved_bare (Slot j) t = record { stand = refl; goes = refl }
+  fields_bare : (rd object field : ℕ) → IsMarked [] [] (loads_field rd object field)
+  fields_bare rd object field = if_bare (nat_lt field 31) _ _ (record { stand = λ l d. refl; goes = refl }) (record { stand = λ l d. refl; goes = refl })
 
-  moves_bare : (t n : ℕ) → IsMarked [] [] (moves_pieces f place t n)
-  moves_bare t zero = record { stand = refl; goes = refl }
-  moves_bare t (suc n) = bare_before [] [] (move_pieces f place (place t) t) (moves_pieces f place (t + 1) n) (moved_bare (place t) t) (moves_bare (t + 1) n)
+  stored_bare : (rs object field : ℕ) → IsMarked [] [] (stores_field rs object field)
+  stored_bare rs object field = if_bare (nat_lt field 31) _ _ (record { stand = λ l d. refl; goes = refl }) (record { stand = λ l d. refl; goes = refl })
 
-  pub entry_marks : IsMarked ((3 * length f.ops) ∷ []) ((3 * length f.ops) ∷ []) (entry_pieces f place)
-  entry_marks =
-      let h = bare_before [] [] (lowers (own f)) (moves_pieces f place 0 f.params) (lowers_bare (own f)) (moves_bare 0 f.params) in
-      record { stand = ap (λ (q : List ℕ). (3 * length f.ops) ∷ q) h.stand; goes = ap (λ (q : List ℕ). (3 * length f.ops) ∷ q) h.goes }
+  raises_bare : (n : ℕ) → IsMarked [] [] (raises n)
+  raises_bare n = if_bare (nat_lt 127 n) _ _ (record { stand = λ l d. refl; goes = refl }) (record { stand = λ l d. refl; goes = refl })
+
+  lowers_bare : (n : ℕ) → IsMarked [] [] (lowers n)
+  lowers_bare n = if_bare (nat_lt 127 n) _ _ (record { stand = λ l d. refl; goes = refl }) (record { stand = λ l d. refl; goes = refl })
+
+  asks_bare : (service : ℕ) → IsMarked [] [] (asks service)
+  asks_bare service = if_bare (answers service) _ _ (record { stand = λ l d. refl; goes = refl }) (record { stand = λ l d. refl; goes = refl })
+
+  -- The pieces of op k of n ops have no labels but their own two, the first or both, each of which they go to; or they go to an op.
+  pub data Marks (k n : ℕ) (xs : List Piece) : Type 0 where
+    None : IsMarked [] [] xs → Marks k n xs
+    One : IsMarked ((3 * k + 1) ∷ []) ((3 * k + 1) ∷ []) xs → Marks k n xs
+    Two : IsMarked ((3 * k + 1) ∷ (3 * k + 2) ∷ []) ((3 * k + 1) ∷ (3 * k + 2) ∷ []) xs → Marks k n xs
+    Away : (target : ℕ) → target < n → IsMarked [] ((3 * target) ∷ []) xs → Marks k n xs
+
+  -- one more piece in front of an op's
+  still_marks : (k n : ℕ) (x : Piece) (xs : List Piece) → IsStill f x → Marks k n xs → Marks k n (x ∷ xs)
+  still_marks k n x xs s (None m) = None (still_before [] [] x xs s m)
+  still_marks k n x xs s (One m) = One (still_before ((3 * k + 1) ∷ []) ((3 * k + 1) ∷ []) x xs s m)
+  still_marks k n x xs s (Two m) = Two (still_before ((3 * k + 1) ∷ (3 * k + 2) ∷ []) ((3 * k + 1) ∷ (3 * k + 2) ∷ []) x xs s m)
+  still_marks k n x xs s (Away t l m) = Away t l (still_before [] ((3 * t) ∷ []) x xs s m)
+
+  module _ (place : ℕ → Place) where
+    brought : (scratch t : ℕ) → IsStill f (bring f place scratch t)
+    brought scratch t = brings_still f scratch (place t)
+
+    kept : (t : ℕ) → IsMarked [] [] (keep f place t ∷ [])
+    kept t = still_before [] [] (keep f place t) [] (keeps_still f 0 (place t)) bare_end
+
+    passes_bare : (k : ℕ) (ts : List ℕ) → IsMarked [] [] (passes f place k ts)
+    passes_bare k [] = bare_end
+    passes_bare k (t ∷ ts) =
+        let h = passes_bare (k + 1) ts in
+        still_before [] [] (bring f place 0 t) (Plain (StrSp (its_register f place 0 t) k) ∷ passes f place (k + 1) ts) (brought 0 t) (record { stand = h.stand; goes = h.goes })
+
+    loads_bare : (k : ℕ) (ts : List ℕ) → IsMarked [] [] (loads f place k ts)
+    loads_bare k [] = bare_end
+    loads_bare k (t ∷ ts) = let h = loads_bare (k + 1) ts in record { stand = h.stand; goes = h.goes }
+
+    -- the kinds of operators, with the keeping of their result
+    decides_marks : (k n rd by : ℕ) (x : Instr) (cond to : ℕ) → Marks k n (decides f rd by x cond (3 * k + 1) ++ (keep f place to ∷ []))
+    decides_marks k n rd by x cond to =
+        let h = still_before [] [] (carries f rd by) (keep f place to ∷ []) (moves_still f rd by) (kept to) in
+        let m = label_before [] [] (3 * k + 1) (carries f rd by ∷ keep f place to ∷ []) h in
+        One (record { stand = m.stand; goes = ap (λ (q : List ℕ). (3 * k + 1) ∷ q) m.goes })
+
+    one_marks : (k n : ℕ) (x : Instr) (to : ℕ) → Marks k n (Plain x ∷ keep f place to ∷ [])
+    one_marks k n x to = still_marks k n (Plain x) (keep f place to ∷ []) (Single x) (None (kept to))
+
+    combines_marks : (k n rd left right : ℕ) (x : ℕ → ℕ → Instr) (to : ℕ) → Marks k n (combines f rd left right x ++ (keep f place to ∷ []))
+    combines_marks k n rd left right x to =
+        let b = beside 2 rd right in
+        still_marks k n _ _ (moves_still f b left) (still_marks k n _ _ (Single (x b right)) (still_marks k n _ _ (moves_still f rd b) (None (kept to))))
+
+    shifts_marks : (k n rd left right : ℕ) (x : ℕ → ℕ → Instr) (to : ℕ) → Marks k n (shifts f rd left right x ++ (keep f place to ∷ []))
+    shifts_marks k n rd left right x to =
+        still_marks k n _ _ (Single (MovImm 2 31)) (still_marks k n _ _ (Single (And 2 right)) (still_marks k n _ _ (moves_still f rd left)
+        (still_marks k n _ _ (Single (x rd 2)) (None (kept to)))))
+
+    divides_marks : (k n rd left right answer to : ℕ) → Marks k n (divides f rd left right answer ++ (keep f place to ∷ []))
+    divides_marks k n rd left right answer to =
+        let h = still_before [] [] (carries f rd answer) (keep f place to ∷ []) (moves_still f rd answer) (kept to) in
+        still_marks k n _ _ (moves_still f 0 left) (still_marks k n _ _ (moves_still f 1 right) (None (record { stand = h.stand; goes = h.goes })))
+
+    copies_bare : (q p : Place) → IsMarked [] [] (copies f q p)
+    copies_bare (Reg r) p = still_before [] [] (from_place f r p) (idle_piece f ∷ []) (Single (from_instr f r p)) (still_before [] [] (idle_piece f) [] Idle bare_end)
+    copies_bare (Slot j) p = still_before [] [] _ _ (brings_still f 0 p) (still_before [] [] _ [] (Single (to_instr f (register_of 0 p) (Slot j))) bare_end)
+    copies_bare (Incoming j) p = still_before [] [] _ _ (brings_still f 0 p) (still_before [] [] _ [] (Single (to_instr f (register_of 0 p) (Incoming j))) bare_end)
+
+    -- what begins with a test for null
+    null_marks : (k n r : ℕ) (xs : List Piece) → IsMarked [] [] xs → Marks k n (tests_null r (3 * k + 1) ++ xs)
+    null_marks k n r xs h = One (null_before [] [] r (3 * k + 1) xs h)
+
+    -- what tests for null, and then an index
+    item_marks : (k n array index : ℕ) (xs : List Piece) → IsMarked [] [] xs
+        → Marks k n (tests_null array (3 * k + 1) ++ (tests_index array index (3 * k + 2) ++ (finds_item array index ++ xs)))
+    item_marks k n array index xs h =
+        let g : IsMarked [] [] (finds_item array index ++ xs) = record { stand = h.stand; goes = h.goes } in
+        Two (null_before ((3 * k + 2) ∷ []) ((3 * k + 2) ∷ []) array (3 * k + 1) _ (index_before [] [] array index (3 * k + 2) _ g))
+
+    pub op_marks : (k n : ℕ) (op : Op) → GoesBelow n op → Marks k n (op_pieces f place k op)
+    op_marks k n (Const to value) w = let h = kept to in None (record { stand = h.stand; goes = h.goes })
+    op_marks k n (Copy to from) w = None (copies_bare (place to) (place from))
+    op_marks k n (Unary to op from) w =
+        still_marks k n _ _ (brought 0 from) (unary_has (λ xs. Marks k n (xs ++ (keep f place to ∷ []))) f (its_register f place 0 to) op (3 * k + 1)
+        (λ x. one_marks k n x to) (λ by x cond. decides_marks k n (its_register f place 0 to) by x cond to) (its_register f place 0 from))
+    op_marks k n (Binary to op left right) w =
+        let rd = its_register f place 0 to in let a = its_register f place 0 left in let b = its_register f place 1 right in
+        still_marks k n _ _ (brought 0 left) (still_marks k n _ _ (brought 1 right)
+        (binary_has (λ xs. Marks k n (xs ++ (keep f place to ∷ []))) f rd op (3 * k + 1)
+        (λ x. one_marks k n x to) (λ by x cond. decides_marks k n rd by x cond to) a b
+        (λ x. combines_marks k n rd a b x to) (λ x. shifts_marks k n rd a b x to) (λ answer. divides_marks k n rd a b answer to)))
+    op_marks k n (GlobalGet to slot) w = let h = kept to in None (record { stand = h.stand; goes = h.goes })
+    op_marks k n (GlobalSet slot from) w = still_marks k n _ _ (brought 0 from) (None (record { stand = λ l d. refl; goes = refl }))
+    op_marks k n (FieldGet to object field) w =
+        still_marks k n _ _ (brought 0 object) (null_marks k n (its_register f place 0 object) _ (bare_before [] [] _ _ (fields_bare (its_register f place 0 to) (its_register f place 0 object) field) (kept to)))
+    op_marks k n (FieldSet object field from) w =
+        still_marks k n _ _ (brought 0 object) (null_marks k n (its_register f place 0 object) _
+        (still_before [] [] (bring f place 1 from) _ (brought 1 from) (stored_bare (its_register f place 1 from) (its_register f place 0 object) field)))
+    op_marks k n (ItemGet to array index) w =
+        let h = kept to in
+        still_marks k n _ _ (brought 0 array) (still_marks k n _ _ (brought 1 index) (item_marks k n (its_register f place 0 array) (its_register f place 1 index) _
+        (record { stand = h.stand; goes = h.goes })))
+    op_marks k n (ItemSet array index from) w =
+        still_marks k n _ _ (brought 0 array) (still_marks k n _ _ (brought 1 index) (item_marks k n (its_register f place 0 array) (its_register f place 1 index) _
+        (still_before [] [] (bring f place 3 from) _ (brought 3 from) (record { stand = λ l d. refl; goes = refl }))))
+    op_marks k n (Length to array) w =
+        let h = kept to in still_marks k n _ _ (brought 0 array) (null_marks k n (its_register f place 0 array) _ (record { stand = h.stand; goes = h.goes }))
+    op_marks k n (Pop to array) w =
+        let h = kept to in
+        let g : IsMarked [] [] (Plain (SubImm8 1 1) ∷ Plain (StrImm 1 (its_register f place 0 array) 1) ∷ finds_item (its_register f place 0 array) 1 ++ (Plain (LdrReg (its_register f place 0 to) 2 1) ∷ keep f place to ∷ []))
+        = record { stand = h.stand; goes = h.goes } in
+        let m = unless_before [] [] unequal 104 (3 * k + 2) _ g in
+        still_marks k n _ _ (brought 0 array) (Two (null_before ((3 * k + 2) ∷ []) ((3 * k + 2) ∷ []) (its_register f place 0 array) (3 * k + 1) _ (record { stand = m.stand; goes = m.goes })))
+    op_marks k n (TextOf to text) w = let h = kept to in None (record { stand = h.stand; goes = h.goes })
+    op_marks k n (MakeObject to class) w = None (record { stand = λ l d. refl; goes = refl })
+    op_marks k n (MakeArray to room) w = None (record { stand = λ l d. refl; goes = refl })
+    op_marks k n (Call to function args) w = None (bare_before [] [] (passes f place 0 args) (CallTo function ∷ put f place 0 to ∷ []) (passes_bare 0 args) (record { stand = λ l d. refl; goes = refl }))
+    op_marks k n (CallSlot to slot args) w =
+        One (bare_before ((3 * k + 1) ∷ []) ((3 * k + 1) ∷ []) (passes f place 0 args) (calls_slot slot (3 * k + 1) ++ (put f place 0 to ∷ [])) (passes_bare 0 args)
+        (record { stand = λ l d. refl; goes = refl }))
+    op_marks k n (HandlerOf to function) w = let h = kept to in None (record { stand = h.stand; goes = h.goes })
+    op_marks k n (Ask to service args) w =
+        let h = bare_before [] [] (asks service) (put f place 0 to ∷ []) (asks_bare service) (record { stand = λ l d. refl; goes = refl }) in
+        None (bare_before [] [] (loads f place 0 args) (asks service ++ (put f place 0 to ∷ [])) (loads_bare 0 args) h)
+    op_marks k n (Jump target) w = Away target w.0 (record { stand = λ l d. refl; goes = refl })
+    op_marks k n (Branch when target) w = still_marks k n _ _ (brought 0 when) (Away target w.0 (record { stand = λ l d. refl; goes = refl }))
+    op_marks k n (Return from) w =
+        let h = bare_before [] [] (raises (own f)) (Plain (PopMany kept_registers true) ∷ []) (raises_bare (own f)) (record { stand = λ l d. refl; goes = refl }) in
+        None (record { stand = h.stand; goes = h.goes })
+
+    moved_bare : (p : Place) (t : ℕ) → IsMarked [] [] (move_pieces f place p t)
+    moved_bare (Incoming j) t = bare_end
+    moved_bare (Reg r) t = let h = still_before [] [] (idle_piece f) [] Idle bare_end in record { stand = h.stand; goes = h.goes }
+    moved_bare (Slot j) t = record { stand = λ l d. refl; goes = refl }
+
+    moves_bare : (t n : ℕ) → IsMarked [] [] (moves_pieces f place t n)
+    moves_bare t zero = bare_end
+    moves_bare t (suc n) = bare_before [] [] (move_pieces f place (place t) t) (moves_pieces f place (t + 1) n) (moved_bare (place t) t) (moves_bare (t + 1) n)
+
+    pub entry_marks : IsMarked ((3 * length f.ops) ∷ []) ((3 * length f.ops) ∷ []) (entry_pieces f place)
+    entry_marks =
+        let h = bare_before [] [] (lowers (own f)) (moves_pieces f place 0 f.params) (lowers_bare (own f)) (moves_bare 0 f.params) in
+        let g : IsMarked [] [] (Plain (MovHigh 14 3) ∷ Plain (Push kept_registers true) ∷ lowers (own f) ++ moves_pieces f place 0 f.params) = record { stand = h.stand; goes = h.goes } in
+        let m = unless_before [] [] at_least_unsigned 102 (3 * length f.ops) _ g in
+        record { stand = m.stand; goes = m.goes }

@@ -1,4 +1,5 @@
 mod Lists
+mod Still
 mod Operators
 mod Fine
 mod Sound

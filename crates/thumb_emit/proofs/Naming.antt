@@ -3,7 +3,7 @@ use Rattle.std.proofs.Common.{◌≡◌, ℕ, zero, suc, ◌+◌, ◌*◌, inl, 
 use Rattle.std.specs.List.{AllByRecursion}
 use Rattle.std.proofs.lemmas.List.Elements.{Contains-append_left, Contains-append_right}
 use Rattle.std.proofs.lemmas.List.{append-nil}
-use Rattle.thumb_code.specs.declared.instructions.Instr.TheVariants.{Pop as PopMany}
+use Rattle.thumb_code.specs.declared.instructions.Instr.TheVariants.{StrSp, StrReg, Pop as PopMany}
 use Rattle.thumb_layout.specs.declared.pieces.What.{What}
 use Rattle.thumb_layout.specs.declared.pieces.What.TheVariants.{Function as FunctionOf, Text, Class as ClassOf}
 use Rattle.thumb_layout.specs.declared.pieces.Piece.{Piece}
@@ -16,10 +16,11 @@ use Rattle.register_assign.specs.declared.places.Place.{Place}
 use Rattle.register_assign.specs.declared.places.Place.TheVariants.{Reg, Slot, Incoming}
 use Rattle.register_assign.specs.declared.places.Placed.{Placed}
 use Rattle.register_assign.specs.Sound.{place_of}
-use Rattle.thumb_emit.specs.Frame.{own, lowers, kept_registers}
-use Rattle.thumb_emit.specs.Emit.{get, put, passes, loads, op_pieces, tests_null, asks, answers, calls_slot, move_pieces, moves_pieces, entry_pieces, ops_pieces, function_pieces}
+use Rattle.thumb_emit.specs.Frame.{own, copies, carries, lowers, kept_registers}
+use Rattle.thumb_emit.specs.Emit.{get, put, its_register, bring, keep, passes, loads, op_pieces, beside, division, stores_field, tests_null, asks, answers, calls_slot, move_pieces, moves_pieces, entry_pieces, ops_pieces, function_pieces}
 use Rattle.thumb_emit.specs.Names.{name_of, names_of, call_of, calls_of, IsCalledBy}
 use Rattle.thumb_emit.proofs.Lists.{if_has, all_append, named_append, called_append}
+use Rattle.thumb_emit.proofs.Still.{IsStill, brings_still, keeps_still, moves_still, still_names, still_calls}
 use Rattle.thumb_emit.proofs.Operators.{unary_has, binary_has}
 
 -- pieces that name nothing, and call nothing
@@ -44,44 +45,98 @@ pub record IsOf (op : Op) (xs : List Piece) : Type 0 where
 mute_of : (op : Op) (xs : List Piece) → IsMute xs → name_of op ≡ [] → IsOf op xs
 mute_of op xs m e = record { names = m.names ∙ sym e; calls = subst (λ (q : List What). AllByRecursion (IsCalledBy (op ∷ [])) q) (sym m.calls) tt }
 
+-- one more piece in front that takes one instruction or nothing
+still_of : (f : Function) (op : Op) (x : Piece) (xs : List Piece) → IsStill f x → IsOf op xs → IsOf op (x ∷ xs)
+still_of f op x xs s h = record {
+  names = still_names f x xs s ∙ h.names;
+  calls = subst (λ (q : List What). AllByRecursion (IsCalledBy (op ∷ [])) q) (sym (still_calls f x xs s)) h.calls;
+}
+
+still_mute : (f : Function) (x : Piece) (xs : List Piece) → IsStill f x → IsMute xs → IsMute (x ∷ xs)
+still_mute f x xs s h = record { names = still_names f x xs s ∙ h.names; calls = still_calls f x xs s ∙ h.calls }
+
+mute_end : IsMute []
+mute_end = record { names = refl; calls = refl }
+
 module _ (f : Function) (place : ℕ → Place) where
+  brought : (scratch t : ℕ) → IsStill f (bring f place scratch t)
+  brought scratch t = brings_still f scratch (place t)
+
+  kept : (t : ℕ) → IsMute (keep f place t ∷ [])
+  kept t = still_mute f _ [] (keeps_still f 0 (place t)) mute_end
+
   passes_mute : (k : ℕ) (ts : List ℕ) → IsMute (passes f place k ts)
-  passes_mute k [] = record { names = refl; calls = refl }
-  passes_mute k (t ∷ ts) = let h = passes_mute (k + 1) ts in record { names = h.names; calls = h.calls }
+  passes_mute k [] = mute_end
+  passes_mute k (t ∷ ts) =
+      let h = passes_mute (k + 1) ts in
+      still_mute f (bring f place 0 t) (Plain (StrSp (its_register f place 0 t) k) ∷ passes f place (k + 1) ts) (brought 0 t) (record { names = h.names; calls = h.calls })
+
+  copies_mute : (q p : Place) → IsMute (copies f q p)
+  copies_mute (Reg r) p = record { names = refl; calls = refl }
+  copies_mute (Slot j) p = still_mute f _ _ (brings_still f 0 p) (record { names = refl; calls = refl })
+  copies_mute (Incoming j) p = still_mute f _ _ (brings_still f 0 p) (record { names = refl; calls = refl })
 
   loads_mute : (k : ℕ) (ts : List ℕ) → IsMute (loads f place k ts)
   loads_mute k [] = record { names = refl; calls = refl }
   loads_mute k (t ∷ ts) = let h = loads_mute (k + 1) ts in record { names = h.names; calls = h.calls }
 
   op_names : (k : ℕ) (op : Op) → IsOf op (op_pieces f place k op)
-  op_names k (Const to value) = record { names = refl; calls = tt }
-  op_names k (Copy to from) = record { names = refl; calls = tt }
-  op_names k (GlobalGet to slot) = record { names = refl; calls = tt }
-  op_names k (GlobalSet slot from) = record { names = refl; calls = tt }
-  op_names k (ItemGet to array index) = record { names = refl; calls = tt }
-  op_names k (ItemSet array index from) = record { names = refl; calls = tt }
-  op_names k (Length to array) = record { names = refl; calls = tt }
-  op_names k (Pop to array) = record { names = refl; calls = tt }
   op_names k (MakeArray to room) = record { names = refl; calls = tt }
   op_names k (Jump target) = record { names = refl; calls = tt }
-  op_names k (Branch when target) = record { names = refl; calls = tt }
-  op_names k (TextOf to text) = record { names = refl; calls = tt }
   op_names k (MakeObject to class) = record { names = refl; calls = tt }
-  op_names k (HandlerOf to function) = record { names = refl; calls = tt }
+  op_names k (Const to value) = let h = kept to in mute_of (Const to value) _ (record { names = h.names; calls = h.calls }) refl
+  op_names k (Copy to from) = mute_of (Copy to from) _ (copies_mute (place to) (place from)) refl
+  op_names k (GlobalGet to slot) = let h = kept to in mute_of (GlobalGet to slot) _ (record { names = h.names; calls = h.calls }) refl
+  op_names k (GlobalSet slot from) = still_of f _ _ _ (brought 0 from) (record { names = refl; calls = tt })
+  op_names k (Branch when target) = still_of f _ _ _ (brought 0 when) (record { names = refl; calls = tt })
+  op_names k (TextOf to text) =
+      let h = kept to in
+      record { names = ap (λ (q : List What). Text text ∷ q) h.names; calls = subst (λ (q : List What). AllByRecursion (IsCalledBy (TextOf to text ∷ [])) q) (sym h.calls) tt }
+  op_names k (HandlerOf to function) =
+      let h = kept to in
+      record { names = ap (λ (q : List What). FunctionOf function ∷ q) h.names; calls = subst (λ (q : List What). AllByRecursion (IsCalledBy (HandlerOf to function ∷ [])) q) (sym h.calls) tt }
+  op_names k (ItemGet to array index) =
+      let h = kept to in
+      still_of f _ _ _ (brought 0 array) (still_of f _ _ _ (brought 1 index) (mute_of (ItemGet to array index) _ (record { names = h.names; calls = h.calls }) refl))
+  op_names k (ItemSet array index from) =
+      let h = still_mute f (bring f place 3 from) (Plain (StrReg (its_register f place 3 from) 2 1) ∷ []) (brought 3 from) (record { names = refl; calls = refl }) in
+      still_of f _ _ _ (brought 0 array) (still_of f _ _ _ (brought 1 index) (mute_of (ItemSet array index from) _ (record { names = h.names; calls = h.calls }) refl))
+  op_names k (Length to array) =
+      let h = kept to in still_of f _ _ _ (brought 0 array) (mute_of (Length to array) _ (record { names = h.names; calls = h.calls }) refl)
+  op_names k (Pop to array) =
+      let h = kept to in still_of f _ _ _ (brought 0 array) (mute_of (Pop to array) _ (record { names = h.names; calls = h.calls }) refl)
   op_names k (Unary to op from) =
-      let r : IsOf (Unary to op from) (get f place 0 from ∷ put f place 0 to ∷ []) = record { names = refl; calls = tt } in
-      unary_has (λ xs. IsOf (Unary to op from) (get f place 0 from ∷ xs ++ (put f place 0 to ∷ []))) op (3 * k + 1)
-      (λ x. record { names = refl; calls = tt }) r (record { names = refl; calls = tt })
+      let h = kept to in let rd = its_register f place 0 to in
+      let o : Op = Unary to op from in
+      still_of f o _ _ (brought 0 from) (unary_has (λ xs. IsOf o (xs ++ (keep f place to ∷ []))) f rd op (3 * k + 1)
+      (λ x. mute_of o _ (record { names = h.names; calls = h.calls }) refl)
+      (λ by x cond. (let m = still_mute f (carries f rd by) (keep f place to ∷ []) (moves_still f rd by) h in mute_of o _ (record { names = m.names; calls = m.calls }) refl))
+      (its_register f place 0 from))
   op_names k (Binary to op left right) =
-      binary_has (λ xs. IsOf (Binary to op left right) (get f place 0 left ∷ get f place 1 right ∷ xs ++ (put f place 0 to ∷ []))) op (3 * k + 1)
-      (λ x. record { names = refl; calls = tt }) (λ cond. record { names = refl; calls = tt }) (λ x. record { names = refl; calls = tt })
-      (record { names = refl; calls = (inl refl, tt) }) (record { names = refl; calls = (inl refl, tt) })
+      let h = kept to in let rd = its_register f place 0 to in let a = its_register f place 0 left in let b = its_register f place 1 right in
+      let o : Op = Binary to op left right in
+      still_of f o _ _ (brought 0 left) (still_of f o _ _ (brought 1 right) (binary_has (λ xs. IsOf o (xs ++ (keep f place to ∷ []))) f rd op (3 * k + 1)
+      (λ x. mute_of o _ (record { names = h.names; calls = h.calls }) refl)
+      (λ by x cond. (let m = still_mute f (carries f rd by) (keep f place to ∷ []) (moves_still f rd by) h in mute_of o _ (record { names = m.names; calls = m.calls }) refl))
+      a b
+      (λ x. (let m = still_mute f (carries f rd (beside 2 rd b)) (keep f place to ∷ []) (moves_still f rd (beside 2 rd b)) h in
+      still_of f o _ _ (moves_still f (beside 2 rd b) a) (mute_of o _ (record { names = m.names; calls = m.calls }) refl)))
+      (λ x. (let m = still_mute f (carries f rd a) (Plain (x rd 2) ∷ keep f place to ∷ []) (moves_still f rd a) (record { names = h.names; calls = h.calls }) in
+      mute_of o _ (record { names = m.names; calls = m.calls }) refl))
+      (λ answer. (let m = still_mute f (carries f rd answer) (keep f place to ∷ []) (moves_still f rd answer) h in
+      still_of f o _ _ (moves_still f 0 a) (still_of f o _ _ (moves_still f 1 b) (record {
+        names = m.names;
+        calls = subst (λ (q : List What). AllByRecursion (IsCalledBy (o ∷ [])) (FunctionOf division ∷ q)) (sym m.calls) (inl refl, tt);
+      }))))))
   op_names k (FieldGet to object field) =
-      if_has (λ xs. IsOf (FieldGet to object field) (get f place 0 object ∷ tests_null (3 * k + 1) ++ (xs ++ (put f place 0 to ∷ [])))) (nat_lt field 31) _ _
-      (record { names = refl; calls = tt }) (record { names = refl; calls = tt })
+      let o : Op = FieldGet to object field in let rd = its_register f place 0 to in let r = its_register f place 0 object in let h = kept to in
+      still_of f o _ _ (brought 0 object)
+      (if_has (λ xs. IsOf o (tests_null r (3 * k + 1) ++ (xs ++ (keep f place to ∷ [])))) (nat_lt field 31) _ _
+      (mute_of o _ (record { names = h.names; calls = h.calls }) refl) (mute_of o _ (record { names = h.names; calls = h.calls }) refl))
   op_names k (FieldSet object field from) =
-      if_has (λ xs. IsOf (FieldSet object field from) (get f place 0 object ∷ tests_null (3 * k + 1) ++ (get f place 1 from ∷ xs))) (nat_lt field 31) _ _
-      (record { names = refl; calls = tt }) (record { names = refl; calls = tt })
+      let o : Op = FieldSet object field from in let rs = its_register f place 1 from in let r = its_register f place 0 object in
+      let h : IsMute (bring f place 1 from ∷ stores_field rs r field) = still_mute f _ _ (brought 1 from) (if_mute (nat_lt field 31) _ _ (record { names = refl; calls = refl }) (record { names = refl; calls = refl })) in
+      still_of f o _ _ (brought 0 object) (mute_of o _ (record { names = h.names; calls = h.calls }) refl)
   op_names k (Call to function args) =
       let a = passes_mute 0 args in let xs = passes f place 0 args in let ys : List Piece = CallTo function ∷ put f place 0 to ∷ [] in
       let e : called (xs ++ ys) ≡ FunctionOf function ∷ [] = called_append xs ys ∙ ap (λ (q : List What). q ++ called ys) a.calls in

@@ -1,8 +1,9 @@
--- The pieces of each op, of a function's entry, and of a function. r0 to r3 are free between ops; temporaries stand in their places.
+-- The pieces of each op, of a function's entry, and of a function. r0 to r3 are free between ops; temporaries stand in their places. An op reads a
+-- temporary in its own register, or in a scratch register into which it comes first; so with its result.
 use Rattle.std.specs.Prelude.{ℕ, zero, suc, ◌+◌, ◌*◌, min, List, [], ◌∷◌, ◌++◌, length, Bool, true, ◌==◌, ◌||◌, nat_lt, if◌then◌else◌}
 use Rattle.std.specs.Int.{cast_unsigned, w32}
 use Rattle.thumb_code.specs.declared.instructions.Instr.{Instr}
-use Rattle.thumb_code.specs.declared.instructions.Instr.TheVariants.{MovImm, CmpImm, CmpReg, AddReg, SubReg, AddImm8, SubImm8, And, Eor, Orr, Mul, Mvn, Rsb, LslImm, LslReg, AsrReg, LsrReg, MovHigh, StrSp, LdrSp, StrImm, LdrImm, StrReg, LdrReg, Push, Pop as PopMany, Svc, Blx}
+use Rattle.thumb_code.specs.declared.instructions.Instr.TheVariants.{MovImm, CmpImm, CmpReg, AddReg, SubReg, AddImm3, SubImm3, AddImm8, SubImm8, And, Eor, Orr, Mul, Mvn, Rsb, LslImm, LslReg, AsrReg, LsrReg, MovHigh, StrSp, LdrSp, StrImm, LdrImm, StrReg, LdrReg, Push, Pop as PopMany, Svc, Blx}
 use Rattle.thumb_layout.specs.declared.pieces.What.TheVariants.{Function as FunctionOf, Text, Class}
 use Rattle.thumb_layout.specs.declared.pieces.Piece.{Piece}
 use Rattle.thumb_layout.specs.declared.pieces.Piece.TheVariants.{Plain, Label, Go, CallTo, Number, Address}
@@ -14,7 +15,7 @@ use Rattle.register_assign.specs.declared.places.Place.{Place}
 use Rattle.register_assign.specs.declared.places.Place.TheVariants.{Reg, Slot, Incoming}
 use Rattle.register_assign.specs.declared.places.Placed.{Placed}
 use Rattle.register_assign.specs.Sound.{place_of}
-use Rattle.thumb_emit.specs.Frame.{own, words, from_place, to_place, raises, lowers, kept_registers}
+use Rattle.thumb_emit.specs.Frame.{own, words, from_place, to_place, idle_piece, register_of, brings, keeps, copies, carries, raises, lowers, kept_registers}
 
 -- conditions of branches (ARM DDI 0419, table A6-1)
 abbrev pub equal : ℕ
@@ -53,75 +54,88 @@ counted_word n = min n 4294967295
 abbrev pub unless : ℕ → ℕ → ℕ → List Piece
 unless cond code label = Go cond label ∷ Plain (MovImm 0 code) ∷ Plain (Svc 1) ∷ Label label ∷ []
 
--- r0 isn't null, or panic 105
-abbrev pub tests_null : ℕ → List Piece
-tests_null label = Plain (CmpImm 0 0) ∷ unless unequal 105 label
+-- the register isn't null, or panic 105
+abbrev pub tests_null : ℕ → ℕ → List Piece
+tests_null r label = Plain (CmpImm r 0) ∷ unless unequal 105 label
 
--- the index in r1 is below the length of the array at r0, as words, or panic 104
-abbrev pub tests_index : ℕ → List Piece
-tests_index label = Plain (LdrImm 2 0 1) ∷ Plain (CmpReg 1 2) ∷ unless below_unsigned 104 label
+-- the index in a register is below the length of the array at another, as words, or panic 104
+abbrev pub tests_index : ℕ → ℕ → ℕ → List Piece
+tests_index array index label = Plain (LdrImm 2 array 1) ∷ Plain (CmpReg index 2) ∷ unless below_unsigned 104 label
 
--- the item of the array at r0 with the index in r1 stands at r2 + r1
-abbrev pub finds_item : List Piece
-finds_item = Plain (LdrImm 2 0 3) ∷ Plain (LslImm 1 1 2) ∷ []
+-- the item of the array at a register with the index in another stands at r2 + r1
+abbrev pub finds_item : ℕ → ℕ → List Piece
+finds_item array index = Plain (LdrImm 2 array 3) ∷ Plain (LslImm 1 index 2) ∷ []
 
--- r0 becomes 1 where the condition holds of r0 against r1, and else 0
-abbrev pub compares : ℕ → ℕ → List Piece
-compares cond label = Plain (MovImm 2 1) ∷ Plain (CmpReg 0 1) ∷ Go cond label ∷ Plain (MovImm 2 0) ∷ Label label ∷ Plain (MovHigh 0 2) ∷ []
+-- a register becomes 1 where the condition holds behind a comparison, and else 0, by way of another one
+abbrev pub decides : Function → ℕ → ℕ → Instr → ℕ → ℕ → List Piece
+decides f rd by compared cond label =
+    Plain (MovImm by 1) ∷ Plain compared ∷ Go cond label ∷ Plain (MovImm by 0) ∷ Label label ∷ carries f rd by ∷ []
 
--- r0 shifted by r1 modulo 32
-abbrev pub shifts : Instr → List Piece
-shifts instr = Plain (MovImm 2 31) ∷ Plain (And 1 2) ∷ Plain instr ∷ []
+-- a result's register, or a scratch register where that is an operand's
+abbrev pub beside : ℕ → ℕ → ℕ → ℕ
+beside scratch rd operand = if rd == operand then scratch else rd
 
--- r0 becomes 1 where it is 0, and else 0
-abbrev pub inverts : ℕ → List Piece
-inverts label = Plain (MovImm 1 1) ∷ Plain (CmpImm 0 0) ∷ Go equal label ∷ Plain (MovImm 1 0) ∷ Label label ∷ Plain (MovHigh 0 1) ∷ []
+abbrev pub compares : Function → ℕ → ℕ → ℕ → ℕ → ℕ → List Piece
+compares f rd left right cond label = decides f rd (beside 2 (beside 2 rd left) right) (CmpReg left right) cond label
 
--- a prefix operator of r0, by its number: `-`, `+`, `!`, `~`, one more, one less
-abbrev pub unary : ℕ → ℕ → List Piece
-unary op label =
-    if op == 1 then Plain (Rsb 0 0) ∷ []
-    else if op == 2 then []
-    else if op == 3 then inverts label
-    else if op == 4 then Plain (Mvn 0 0) ∷ []
-    else if op == 5 then Plain (AddImm8 0 1) ∷ []
-    else Plain (SubImm8 0 1) ∷ []
+-- an instruction whose target is its first operand
+abbrev pub combines : Function → ℕ → ℕ → ℕ → (ℕ → ℕ → Instr) → List Piece
+combines f rd left right instr =
+    carries f (beside 2 rd right) left ∷ Plain (instr (beside 2 rd right) right) ∷ carries f rd (beside 2 rd right) ∷ []
 
--- an operator of r0 and r1, by its number: `|`, `^`, `&`, `==`, `!=`, `<`, `>`, `<=`, `>=`, `<<`, `>>`, `>>>`, `+`, `-`, `*`, `/`, `%`
-abbrev pub binary : ℕ → ℕ → List Piece
-binary op label =
-    if op == 1 then Plain (Orr 0 1) ∷ []
-    else if op == 2 then Plain (Eor 0 1) ∷ []
-    else if op == 3 then Plain (And 0 1) ∷ []
-    else if op == 4 then compares equal label
-    else if op == 5 then compares unequal label
-    else if op == 6 then compares less label
-    else if op == 7 then compares greater label
-    else if op == 8 then compares at_most label
-    else if op == 9 then compares at_least label
-    else if op == 10 then shifts (LslReg 0 1)
-    else if op == 11 then shifts (AsrReg 0 1)
-    else if op == 12 then shifts (LsrReg 0 1)
-    else if op == 13 then Plain (AddReg 0 0 1) ∷ []
-    else if op == 14 then Plain (SubReg 0 0 1) ∷ []
-    else if op == 15 then Plain (Mul 0 1) ∷ []
-    else if op == 16 then CallTo division ∷ []
-    else CallTo division ∷ Plain (MovHigh 0 1) ∷ []
+-- one register shifted by another modulo 32
+abbrev pub shifts : Function → ℕ → ℕ → ℕ → (ℕ → ℕ → Instr) → List Piece
+shifts f rd left right instr = Plain (MovImm 2 31) ∷ Plain (And 2 right) ∷ carries f rd left ∷ Plain (instr rd 2) ∷ []
 
--- A field of the object at r0 stands behind the object's class. An immediate counts to 31 words; a field past them is found by r2.
+-- the division routine has the quotient in r0 and the remainder in r1
+abbrev pub divides : Function → ℕ → ℕ → ℕ → ℕ → List Piece
+divides f rd left right answer = carries f 0 left ∷ carries f 1 right ∷ CallTo division ∷ carries f rd answer ∷ []
+
+-- a prefix operator, by its number: `-`, `+`, `!`, `~`, one more, one less
+abbrev pub unary : Function → ℕ → ℕ → ℕ → ℕ → List Piece
+unary f rd from op label =
+    if op == 1 then Plain (Rsb rd from) ∷ []
+    else if op == 2 then Plain (MovHigh rd from) ∷ []
+    else if op == 3 then decides f rd (beside 1 rd from) (CmpImm from 0) equal label
+    else if op == 4 then Plain (Mvn rd from) ∷ []
+    else if op == 5 then Plain (AddImm3 rd from 1) ∷ []
+    else Plain (SubImm3 rd from 1) ∷ []
+
+-- an operator, by its number: `|`, `^`, `&`, `==`, `!=`, `<`, `>`, `<=`, `>=`, `<<`, `>>`, `>>>`, `+`, `-`, `*`, `/`, `%`
+abbrev pub binary : Function → ℕ → ℕ → ℕ → ℕ → ℕ → List Piece
+binary f rd left right op label =
+    if op == 1 then combines f rd left right Orr
+    else if op == 2 then combines f rd left right Eor
+    else if op == 3 then combines f rd left right And
+    else if op == 4 then compares f rd left right equal label
+    else if op == 5 then compares f rd left right unequal label
+    else if op == 6 then compares f rd left right less label
+    else if op == 7 then compares f rd left right greater label
+    else if op == 8 then compares f rd left right at_most label
+    else if op == 9 then compares f rd left right at_least label
+    else if op == 10 then shifts f rd left right LslReg
+    else if op == 11 then shifts f rd left right AsrReg
+    else if op == 12 then shifts f rd left right LsrReg
+    else if op == 13 then Plain (AddReg rd left right) ∷ []
+    else if op == 14 then Plain (SubReg rd left right) ∷ []
+    else if op == 15 then combines f rd left right Mul
+    else if op == 16 then divides f rd left right 0
+    else divides f rd left right 1
+
+-- A field stands behind its object's class. An immediate counts to 31 words; a field past them is found by r2.
 abbrev pub field_offset : ℕ → ℕ
 field_offset field = counted_word (4 * (field + 1))
 
-abbrev pub loads_field : ℕ → List Piece
-loads_field field =
-    if nat_lt field 31 then Plain (LdrImm 0 0 (field + 1)) ∷ []
-    else Number 2 (field_offset field) ∷ Plain (LdrReg 0 0 2) ∷ []
+abbrev pub loads_field : ℕ → ℕ → ℕ → List Piece
+loads_field rd object field =
+    if nat_lt field 31 then Plain (LdrImm rd object (field + 1)) ∷ []
+    else Number 2 (field_offset field) ∷ Plain (LdrReg rd object 2) ∷ []
 
--- r1 goes there
-abbrev pub stores_field : ℕ → List Piece
-stores_field field =
-    if nat_lt field 31 then Plain (StrImm 1 0 (field + 1)) ∷ []
-    else Number 2 (field_offset field) ∷ Plain (StrReg 1 0 2) ∷ []
+-- a register goes there
+abbrev pub stores_field : ℕ → ℕ → ℕ → List Piece
+stores_field rs object field =
+    if nat_lt field 31 then Plain (StrImm rs object (field + 1)) ∷ []
+    else Number 2 (field_offset field) ∷ Plain (StrReg rs object 2) ∷ []
 
 -- the global's address into r1
 abbrev pub finds_global : ℕ → Piece
@@ -145,15 +159,15 @@ makes_array room =
     Number 0 (counted_word (4 + room)) ∷ Plain (Svc 18) ∷ Number 1 (counted_word room) ∷ Plain (StrImm 1 0 2)
     ∷ Plain (MovHigh 1 0) ∷ Plain (AddImm8 1 16) ∷ Plain (StrImm 1 0 3) ∷ []
 
--- the last item of the array at r0 into r0, and the length one less; of an empty one it is panic 104
-abbrev pub pops : ℕ → List Piece
-pops label =
-    Plain (LdrImm 1 0 1) ∷ Plain (CmpImm 1 0) ∷ unless unequal 104 label
-    ++ (Plain (SubImm8 1 1) ∷ Plain (StrImm 1 0 1) ∷ finds_item ++ (Plain (LdrReg 0 2 1) ∷ []))
+-- the last item of the array at a register into another, and the length one less; of an empty one it is panic 104
+abbrev pub pops : ℕ → ℕ → ℕ → List Piece
+pops rd array label =
+    Plain (LdrImm 1 array 1) ∷ Plain (CmpImm 1 0) ∷ unless unequal 104 label
+    ++ (Plain (SubImm8 1 1) ∷ Plain (StrImm 1 array 1) ∷ finds_item array 1 ++ (Plain (LdrReg rd 2 1) ∷ []))
 
 -- the method in a slot of the class of the object in the first outgoing word is called
 abbrev pub calls_slot : ℕ → ℕ → List Piece
-calls_slot slot label = Plain (LdrSp 0 0) ∷ tests_null label ++ (Plain (LdrImm 1 0 0) ∷ Plain (LdrImm 1 1 (slot + 1)) ∷ Plain (Blx 1) ∷ [])
+calls_slot slot label = Plain (LdrSp 0 0) ∷ tests_null 0 label ++ (Plain (LdrImm 1 0 0) ∷ Plain (LdrImm 1 1 (slot + 1)) ∷ Plain (Blx 1) ∷ [])
 
 -- a function, and the place of each temporary
 module _ (f : Function) (place : ℕ → Place) where
@@ -164,10 +178,20 @@ module _ (f : Function) (place : ℕ → Place) where
   abbrev pub put : ℕ → ℕ → Piece
   put rs t = to_place f rs (place t)
 
+  -- the register of a temporary, the piece that brings it there, and the one that takes a result from there
+  abbrev pub its_register : ℕ → ℕ → ℕ
+  its_register scratch t = register_of scratch (place t)
+
+  abbrev pub bring : ℕ → ℕ → Piece
+  bring scratch t = brings f scratch (place t)
+
+  abbrev pub keep : ℕ → Piece
+  keep t = keeps f 0 (place t)
+
   -- arguments into outgoing words, from word k on; and into registers, from rk on
   abbrev pub passes : ℕ → List ℕ → List Piece
   passes k [] = []
-  passes k (t ∷ ts) = get 0 t ∷ Plain (StrSp 0 k) ∷ passes (k + 1) ts
+  passes k (t ∷ ts) = bring 0 t ∷ Plain (StrSp (its_register 0 t) k) ∷ passes (k + 1) ts
 
   abbrev pub loads : ℕ → List ℕ → List Piece
   loads k [] = []
@@ -175,35 +199,42 @@ module _ (f : Function) (place : ℕ → Place) where
 
   -- Op k. The labels 3 k + 1 and 3 k + 2 are its own.
   abbrev pub op_pieces : ℕ → Op → List Piece
-  op_pieces k (Const to value) = Number 0 (cast_unsigned w32 value) ∷ put 0 to ∷ []
-  op_pieces k (Copy to from) = get 0 from ∷ put 0 to ∷ []
-  op_pieces k (Unary to op from) = get 0 from ∷ unary op (3 * k + 1) ++ (put 0 to ∷ [])
-  op_pieces k (Binary to op left right) = get 0 left ∷ get 1 right ∷ binary op (3 * k + 1) ++ (put 0 to ∷ [])
-  op_pieces k (GlobalGet to slot) = finds_global slot ∷ Plain (LdrImm 0 1 0) ∷ put 0 to ∷ []
-  op_pieces k (GlobalSet slot from) = get 0 from ∷ finds_global slot ∷ Plain (StrImm 0 1 0) ∷ []
-  op_pieces k (FieldGet to object field) = get 0 object ∷ tests_null (3 * k + 1) ++ (loads_field field ++ (put 0 to ∷ []))
-  op_pieces k (FieldSet object field from) = get 0 object ∷ tests_null (3 * k + 1) ++ (get 1 from ∷ stores_field field)
+  op_pieces k (Const to value) = Number (its_register 0 to) (cast_unsigned w32 value) ∷ keep to ∷ []
+  op_pieces k (Copy to from) = copies f (place to) (place from)
+  op_pieces k (Unary to op from) = bring 0 from ∷ unary f (its_register 0 to) (its_register 0 from) op (3 * k + 1) ++ (keep to ∷ [])
+  op_pieces k (Binary to op left right) =
+      bring 0 left ∷ bring 1 right ∷ binary f (its_register 0 to) (its_register 0 left) (its_register 1 right) op (3 * k + 1) ++ (keep to ∷ [])
+  op_pieces k (GlobalGet to slot) = finds_global slot ∷ Plain (LdrImm (its_register 0 to) 1 0) ∷ keep to ∷ []
+  op_pieces k (GlobalSet slot from) = bring 0 from ∷ finds_global slot ∷ Plain (StrImm (its_register 0 from) 1 0) ∷ []
+  op_pieces k (FieldGet to object field) =
+      bring 0 object ∷ tests_null (its_register 0 object) (3 * k + 1) ++ (loads_field (its_register 0 to) (its_register 0 object) field ++ (keep to ∷ []))
+  op_pieces k (FieldSet object field from) =
+      bring 0 object ∷ tests_null (its_register 0 object) (3 * k + 1) ++ (bring 1 from ∷ stores_field (its_register 1 from) (its_register 0 object) field)
   op_pieces k (ItemGet to array index) =
-      get 0 array ∷ get 1 index ∷ tests_null (3 * k + 1) ++ (tests_index (3 * k + 2) ++ (finds_item ++ (Plain (LdrReg 0 2 1) ∷ put 0 to ∷ [])))
+      bring 0 array ∷ bring 1 index ∷ tests_null (its_register 0 array) (3 * k + 1) ++ (tests_index (its_register 0 array) (its_register 1 index) (3 * k + 2)
+      ++ (finds_item (its_register 0 array) (its_register 1 index) ++ (Plain (LdrReg (its_register 0 to) 2 1) ∷ keep to ∷ [])))
   op_pieces k (ItemSet array index from) =
-      get 0 array ∷ get 1 index ∷ tests_null (3 * k + 1) ++ (tests_index (3 * k + 2) ++ (finds_item ++ (get 3 from ∷ Plain (StrReg 3 2 1) ∷ [])))
-  op_pieces k (Length to array) = get 0 array ∷ tests_null (3 * k + 1) ++ (Plain (LdrImm 0 0 1) ∷ put 0 to ∷ [])
-  op_pieces k (Pop to array) = get 0 array ∷ tests_null (3 * k + 1) ++ (pops (3 * k + 2) ++ (put 0 to ∷ []))
-  op_pieces k (TextOf to text) = Address 0 (Text text) ∷ put 0 to ∷ []
+      bring 0 array ∷ bring 1 index ∷ tests_null (its_register 0 array) (3 * k + 1) ++ (tests_index (its_register 0 array) (its_register 1 index) (3 * k + 2)
+      ++ (finds_item (its_register 0 array) (its_register 1 index) ++ (bring 3 from ∷ Plain (StrReg (its_register 3 from) 2 1) ∷ [])))
+  op_pieces k (Length to array) =
+      bring 0 array ∷ tests_null (its_register 0 array) (3 * k + 1) ++ (Plain (LdrImm (its_register 0 to) (its_register 0 array) 1) ∷ keep to ∷ [])
+  op_pieces k (Pop to array) =
+      bring 0 array ∷ tests_null (its_register 0 array) (3 * k + 1) ++ (pops (its_register 0 to) (its_register 0 array) (3 * k + 2) ++ (keep to ∷ []))
+  op_pieces k (TextOf to text) = Address (its_register 0 to) (Text text) ∷ keep to ∷ []
   op_pieces k (MakeObject to class) = makes_object class ++ (put 0 to ∷ [])
   op_pieces k (MakeArray to room) = makes_array room ++ (put 0 to ∷ [])
   op_pieces k (Call to function args) = passes 0 args ++ (CallTo function ∷ put 0 to ∷ [])
   op_pieces k (CallSlot to slot args) = passes 0 args ++ (calls_slot slot (3 * k + 1) ++ (put 0 to ∷ []))
-  op_pieces k (HandlerOf to function) = Address 0 (FunctionOf function) ∷ put 0 to ∷ []
+  op_pieces k (HandlerOf to function) = Address (its_register 0 to) (FunctionOf function) ∷ keep to ∷ []
   op_pieces k (Ask to service args) = loads 0 args ++ (asks service ++ (put 0 to ∷ []))
   op_pieces k (Jump target) = Go always (3 * target) ∷ []
-  op_pieces k (Branch when target) = get 0 when ∷ Plain (CmpImm 0 0) ∷ Go unequal (3 * target) ∷ []
+  op_pieces k (Branch when target) = bring 0 when ∷ Plain (CmpImm (its_register 0 when) 0) ∷ Go unequal (3 * target) ∷ []
   op_pieces k (Return from) = get 0 from ∷ raises (own f) ++ (Plain (PopMany kept_registers true) ∷ [])
 
-  -- a parameter that doesn't stay where it comes in is moved to its place, by way of r0
+  -- a parameter that doesn't stay where it comes in is moved to its place
   abbrev pub move_pieces : Place → ℕ → List Piece
   move_pieces (Incoming j) t = []
-  move_pieces (Reg r) t = from_place f 0 (Incoming t) ∷ to_place f 0 (Reg r) ∷ []
+  move_pieces (Reg r) t = from_place f r (Incoming t) ∷ idle_piece f ∷ []
   move_pieces (Slot j) t = from_place f 0 (Incoming t) ∷ to_place f 0 (Slot j) ∷ []
 
   -- so are the n parameters from t on

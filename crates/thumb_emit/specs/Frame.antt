@@ -1,9 +1,9 @@
--- A function's frame, and how a word comes into a low register from a temporary's place and goes back there.
-use Rattle.std.specs.Prelude.{ℕ, ◌+◌, ◌-◌, List, [], ◌∷◌, nat_lt, if◌then◌else◌}
+-- A function's frame, and the registers in which its temporaries are read and written.
+use Rattle.std.specs.Prelude.{ℕ, ◌+◌, ◌-◌, ◌*◌, List, [], ◌∷◌, length, nat_lt, ◌==◌, if◌then◌else◌}
 use Rattle.thumb_code.specs.declared.instructions.Instr.{Instr}
 use Rattle.thumb_code.specs.declared.instructions.Instr.TheVariants.{MovHigh, LdrSp, StrSp, AddSpImm, SubSpImm}
 use Rattle.thumb_layout.specs.declared.pieces.Piece.{Piece}
-use Rattle.thumb_layout.specs.declared.pieces.Piece.TheVariants.{Plain}
+use Rattle.thumb_layout.specs.declared.pieces.Piece.TheVariants.{Plain, Label}
 use Rattle.flat_ir.specs.declared.ops.Function.{Function}
 use Rattle.register_assign.specs.declared.places.Place.{Place}
 use Rattle.register_assign.specs.declared.places.Place.TheVariants.{Reg, Slot, Incoming}
@@ -32,6 +32,37 @@ from_place f rd p = Plain (from_instr f rd p)
 
 abbrev pub to_place : Function → ℕ → Place → Piece
 to_place f rs p = Plain (to_instr f rs p)
+
+-- A piece that takes nothing: a label to which nobody goes.
+abbrev pub idle_piece : Function → Piece
+idle_piece f = Label (3 * length f.ops + 1)
+
+-- the register in which a temporary at a place is read or written: its own, or a scratch register for it
+abbrev pub register_of : ℕ → Place → ℕ
+register_of scratch (Reg r) = r
+register_of scratch (Slot j) = scratch
+register_of scratch (Incoming j) = scratch
+
+-- a temporary comes into that register, and goes from there to its place, unless that is its place
+abbrev pub brings : Function → ℕ → Place → Piece
+brings f scratch (Reg r) = idle_piece f
+brings f scratch (Slot j) = from_place f scratch (Slot j)
+brings f scratch (Incoming j) = from_place f scratch (Incoming j)
+
+abbrev pub keeps : Function → ℕ → Place → Piece
+keeps f scratch (Reg r) = idle_piece f
+keeps f scratch (Slot j) = to_place f scratch (Slot j)
+keeps f scratch (Incoming j) = to_place f scratch (Incoming j)
+
+-- a copy from a place to another, the first of which is the target's: straight into its register, or straight from the source's
+abbrev pub copies : Function → Place → Place → List Piece
+copies f (Reg r) from = from_place f r from ∷ idle_piece f ∷ []
+copies f (Slot j) from = brings f 0 from ∷ to_place f (register_of 0 from) (Slot j) ∷ []
+copies f (Incoming j) from = brings f 0 from ∷ to_place f (register_of 0 from) (Incoming j) ∷ []
+
+-- a word from one low register to another, unless it is there
+abbrev pub carries : Function → ℕ → ℕ → Piece
+carries f rd rs = if rd == rs then idle_piece f else Plain (MovHigh rd rs)
 
 -- SP up and down by so many words. One instruction counts to 127.
 abbrev pub raises : ℕ → List Piece

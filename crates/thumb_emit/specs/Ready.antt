@@ -12,7 +12,7 @@ use Rattle.thumb_code.specs.declared.instructions.Instr.TheVariants.{MovHigh, Cm
 use Rattle.thumb_layout.specs.declared.pieces.Piece.{Piece}
 use Rattle.thumb_layout.specs.declared.pieces.Piece.TheVariants.{Plain, Number}
 use Rattle.thumb_emit.specs.Frame.{words}
-use Rattle.thumb_emit.specs.Emit.{get, put, op_pieces, ops_pieces, entry_pieces, unless, at_least_unsigned, tests_null, tests_index, finds_item}
+use Rattle.thumb_emit.specs.Emit.{get, put, its_register, bring, keep, op_pieces, ops_pieces, entry_pieces, unless, at_least_unsigned, tests_null, tests_index, finds_item}
 
 -- the function is well formed, and its places are sound
 pub record IsReady (p : Placed) : Type 0 where
@@ -24,7 +24,7 @@ pub record IsReadyAt (p : Placed) (k : ℕ) (op : Op) : Type 0 where
   pub ready : IsReady p
   pub there : k < length p.function.ops
   pub within : IsOpWithin (temporaries p.function) (length p.function.ops) p.function.outgoing op
-  pub labels : 3 * length p.function.ops < 2 ^ 32
+  pub labels : 3 * length p.function.ops + 1 < 2 ^ 32
 
 -- the op calls, asks, makes a value of a function, or goes elsewhere
 abbrev pub IsGoing : Op → Type 0
@@ -52,6 +52,15 @@ gets p = get p.function (place_of p.places)
 abbrev pub puts : Placed → ℕ → ℕ → Piece
 puts p = put p.function (place_of p.places)
 
+abbrev pub register : Placed → ℕ → ℕ → ℕ
+register p = its_register p.function (place_of p.places)
+
+abbrev pub brought : Placed → ℕ → ℕ → Piece
+brought p = bring p.function (place_of p.places)
+
+abbrev pub kept : Placed → ℕ → Piece
+kept p = keep p.function (place_of p.places)
+
 abbrev pub pieces_of : Placed → ℕ → Op → List Piece
 pieces_of p = op_pieces p.function (place_of p.places)
 
@@ -61,9 +70,11 @@ rest_of p = ops_pieces p.function (place_of p.places)
 abbrev pub entry_of : Placed → List Piece
 entry_of p = entry_pieces p.function (place_of p.places)
 
--- op k comes to an item: the array in r0 isn't null, the index in r1 is below its length, and the item stands at r2 + r1
+-- op k comes to an item: the array isn't null, the index is below its length, and the item stands at r2 + r1
 abbrev pub reaches_item : Placed → ℕ → ℕ → ℕ → List Piece
-reaches_item p k array index = gets p 0 array ∷ gets p 1 index ∷ tests_null (3 * k + 1) ++ (tests_index (3 * k + 2) ++ finds_item)
+reaches_item p k array index =
+    brought p 0 array ∷ brought p 1 index ∷ tests_null (register p 0 array) (3 * k + 1)
+    ++ (tests_index (register p 0 array) (register p 1 index) (3 * k + 2) ++ finds_item (register p 0 array) (register p 1 index))
 
 -- the entry up to where the frame is written
 abbrev pub tests_depth : Placed → ℕ → List Piece

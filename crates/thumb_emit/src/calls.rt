@@ -7,7 +7,7 @@ ghost use Rattle.register_assign.specs.Sound.{place_of};
 ghost use Rattle.thumb_emit.specs.Emit.{passes, loads, answers, asks, calls_slot};
 ghost use Rattle.thumb_emit.specs.Ready.{IsReady, pieces_of};
 
-use crate::frame::{get, own, put, raise};
+use crate::frame::{bring, get, keep, own, put, raise, register};
 use crate::pieces::{ALWAYS, NE, add, load, test_null};
 use register_assign::Placed;
 use sts_base::{NoMemory, Seq};
@@ -22,12 +22,14 @@ fn pass(out: &mut Seq<Piece>, placed: &Placed, args: &[u32]) -> Result<(), NoMem
     requires ready { IsReady placed.now }
     requires known { AllByRecursion (λ t. t < temporaries placed.now.function) args.now }
     requires few { length args.now ≤ placed.now.function.outgoing }
+    requires labels { 3 * length placed.now.function.ops + 1 < 2 ^ 32 }
     ensures { OnOk result (out.new ≡ out.old ++ passes placed.now.function (place_of placed.now.places) 0 args.now) }
 {
     for (at, t) in args.iter().enumerate() {
-        out.push(get(placed, 0, *t))?;
+        out.push(bring(placed, 0, *t))?;
+        let rt = register(placed, 0, *t);
         let imm = at as u8;
-        out.push(Piece::Plain(Instr::StrSp { rt: 0, imm }))?;
+        out.push(Piece::Plain(Instr::StrSp { rt, imm }))?;
     }
     Ok(())
 }
@@ -57,6 +59,7 @@ pub(crate) fn call(
     requires to { to < temporaries placed.now.function }
     requires known { AllByRecursion (λ t. t < temporaries placed.now.function) args.now }
     requires few { length args.now ≤ placed.now.function.outgoing }
+    requires labels { 3 * length placed.now.function.ops + 1 < 2 ^ 32 }
     ensures { OnOk result (out.new ≡ out.old ++ pieces_of placed.now 0 (o.Call to function args.now)) }
 {
     pass(out, placed, args.as_slice())?;
@@ -69,7 +72,7 @@ fn call_method(out: &mut Seq<Piece>, slot: u32, label: u32) -> Result<(), NoMemo
     ensures { OnOk result (out.new ≡ out.old ++ calls_slot slot label) }
 {
     out.push(Piece::Plain(Instr::LdrSp { rt: 0, imm: 0 }))?;
-    test_null(out, label)?;
+    test_null(out, 0, label)?;
     let at = (slot + 1) as u8;
     add(
         out,
@@ -96,6 +99,7 @@ pub(crate) fn call_slot(
     requires known { AllByRecursion (λ t. t < temporaries placed.now.function) args.now }
     requires few { length args.now ≤ placed.now.function.outgoing }
     requires label { 3 * k + 1 < 2 ^ 32 }
+    requires labels { 3 * length placed.now.function.ops + 1 < 2 ^ 32 }
     ensures { OnOk result (out.new ≡ out.old ++ pieces_of placed.now k (o.CallSlot to slot args.now)) }
 {
     pass(out, placed, args.as_slice())?;
@@ -112,10 +116,12 @@ pub(crate) fn handler(
 ) -> Result<(), NoMemory>
     requires ready { IsReady placed.now }
     requires to { to < temporaries placed.now.function }
+    requires labels { 3 * length placed.now.function.ops + 1 < 2 ^ 32 }
     ensures { OnOk result (out.new ≡ out.old ++ pieces_of placed.now 0 (o.HandlerOf to function)) }
 {
     let what = What::Function(function);
-    add(out, &[Piece::Address { rd: 0, what }, put(placed, 0, to)])
+    let rd = register(placed, 0, to);
+    add(out, &[Piece::Address { rd, what }, keep(placed, to)])
 }
 
 /// The services that answer in r0.
@@ -176,14 +182,16 @@ pub(crate) fn branch(
     requires ready { IsReady placed.now }
     requires when { when < temporaries placed.now.function }
     requires label { 3 * target < 2 ^ 32 }
+    requires labels { 3 * length placed.now.function.ops + 1 < 2 ^ 32 }
     ensures { OnOk result (out.new ≡ out.old ++ pieces_of placed.now 0 (o.Branch when target)) }
 {
     let label = 3 * target;
+    let rd = register(placed, 0, when);
     add(
         out,
         &[
-            get(placed, 0, when),
-            Piece::Plain(Instr::CmpImm { rd: 0, imm: 0 }),
+            bring(placed, 0, when),
+            Piece::Plain(Instr::CmpImm { rd, imm: 0 }),
             Piece::Go { cond: NE, label },
         ],
     )

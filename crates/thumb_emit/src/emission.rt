@@ -20,7 +20,7 @@ use sts_base::{NoMemory, Seq};
 use thumb_layout::Piece;
 
 /// So many ops have labels of 32 bits.
-const MOST_OPS: usize = 1_431_655_765;
+const MOST_OPS: usize = 1_431_655_764;
 
 /// Op k, which calls, asks, makes a value of a function, or goes elsewhere.
 fn put_going(out: &mut Seq<Piece>, placed: &Placed, k: u32, op: &Op) -> Result<(), NoMemory>
@@ -76,7 +76,7 @@ fn put_op(out: &mut Seq<Piece>, placed: &Placed, k: u32, op: &Op) -> Result<(), 
 
 /// The pieces of a function whose temporaries have places: its entry, and its ops in their order, each behind its label. They can be laid.
 ///
-/// `NoMemory` is for want of memory. It also comes where there are more than 1,431,655,765 ops, which have no labels of 32 bits and whose
+/// `NoMemory` is for want of memory. It also comes where there are more than 1,431,655,764 ops, which have no labels of 32 bits and whose
 /// pieces would take more than 34 gigabytes.
 pub fn emit(alloc: Global, placed: &Placed) -> Result<Seq<Piece>, NoMemory>
     requires formed { IsWellFormedFunction placed.now.function }

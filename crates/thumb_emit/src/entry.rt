@@ -5,7 +5,7 @@ ghost use Rattle.thumb_emit.specs.Emit.{move_pieces, moves_pieces};
 ghost use Rattle.thumb_emit.specs.Ready.{IsReady, entry_of, tests_depth};
 
 use crate::calls::KEPT_REGISTERS;
-use crate::frame::{from_place, lower, own, place_of, to_place, words};
+use crate::frame::{from_place, idle_piece, lower, own, place_of, to_place, words};
 use crate::pieces::{CS, add, unless};
 use register_assign::{Place, Placed};
 use sts_base::{NoMemory, Seq};
@@ -43,11 +43,19 @@ fn move_parameter(
     requires ready { IsReady placed.now }
     requires within { IsWithin placed.now.function place }
     requires parameter { t < placed.now.function.params }
+    requires labels { 3 * length placed.now.function.ops + 1 < 2 ^ 32 }
     ensures { OnOk result (out.new ≡ out.old ++ move_pieces placed.now.function (place_of placed.now.places) place t) }
 {
     match place {
         Place::Incoming(_) => Ok(()),
-        Place::Reg(_) | Place::Slot(_) => add(
+        Place::Reg(r) => add(
+            out,
+            &[
+                from_place(placed, r, Place::Incoming(t)),
+                idle_piece(placed),
+            ],
+        ),
+        Place::Slot(_) => add(
             out,
             &[
                 from_place(placed, 0, Place::Incoming(t)),
@@ -59,7 +67,8 @@ fn move_parameter(
 
 /// So are all parameters.
 fn move_parameters(out: &mut Seq<Piece>, placed: &Placed) -> Result<(), NoMemory>
-    requires { IsReady placed.now }
+    requires ready { IsReady placed.now }
+    requires labels { 3 * length placed.now.function.ops + 1 < 2 ^ 32 }
     ensures { OnOk result (out.new ≡ out.old ++ moves_pieces placed.now.function (place_of placed.now.places) 0 placed.now.function.params) }
 {
     for t in 0..placed.function.params {
@@ -71,7 +80,7 @@ fn move_parameters(out: &mut Seq<Piece>, placed: &Placed) -> Result<(), NoMemory
 /// The entry, whose label is 3 times the number of ops.
 pub(crate) fn enter(out: &mut Seq<Piece>, placed: &Placed) -> Result<(), NoMemory>
     requires ready { IsReady placed.now }
-    requires label { 3 * length placed.now.function.ops < 2 ^ 32 }
+    requires label { 3 * length placed.now.function.ops + 1 < 2 ^ 32 }
     ensures { OnOk result (out.new ≡ out.old ++ entry_of placed.now) }
 {
     test_depth(out, placed, 3 * placed.function.ops.len() as u32)?;

@@ -1,9 +1,9 @@
 //! A function's frame, and the piece that brings a temporary into a low register or back.
-ghost use Rattle.std.specs.Prelude.{◌≡◌, ◌+◌, ◌<◌, ◌≤◌, ◌++◌, OnOk};
+ghost use Rattle.std.specs.Prelude.{◌≡◌, ◌+◌, ◌*◌, ◌^◌, ◌<◌, ◌≤◌, ◌++◌, length, OnOk};
 ghost use Rattle.flat_ir.specs.WellFormed.{temporaries};
 ghost use Rattle.register_assign.specs.Sound.{IsWithin, place_of};
-ghost use Rattle.thumb_emit.specs.Frame.{own, words, from_place, to_place, raises, lowers};
-ghost use Rattle.thumb_emit.specs.Ready.{IsReady, gets, puts};
+ghost use Rattle.thumb_emit.specs.Frame.{own, words, from_place, to_place, idle_piece, register_of, brings, keeps, carries, raises, lowers};
+ghost use Rattle.thumb_emit.specs.Ready.{IsReady, gets, puts, register, brought, kept};
 
 use crate::pieces::add;
 use register_assign::{Place, Placed};
@@ -94,6 +94,64 @@ pub(crate) fn put(placed: &Placed, rs: u8, t: u32) -> Piece
     ensures { result ≡ puts placed.now rs t }
 {
     to_place(placed, rs, place_of(placed, t))
+}
+
+/// A piece that takes nothing: a label to which nobody goes.
+pub(crate) fn idle_piece(placed: &Placed) -> Piece
+    requires { 3 * length placed.now.function.ops + 1 < 2 ^ 32 }
+    ensures { result ≡ idle_piece placed.now.function }
+{
+    Piece::Label(3 * placed.function.ops.len() as u32 + 1)
+}
+
+/// The register in which a temporary is read or written: its own, or a scratch register for it.
+pub(crate) fn register(placed: &Placed, scratch: u8, t: u32) -> u8
+    requires ready { IsReady placed.now }
+    requires known { t < temporaries placed.now.function }
+    ensures { result ≡ register placed.now scratch t }
+{
+    match place_of(placed, t) {
+        Place::Reg(r) => r,
+        _ => scratch,
+    }
+}
+
+/// A temporary comes into that register.
+pub(crate) fn bring(placed: &Placed, scratch: u8, t: u32) -> Piece
+    requires ready { IsReady placed.now }
+    requires known { t < temporaries placed.now.function }
+    requires labels { 3 * length placed.now.function.ops + 1 < 2 ^ 32 }
+    ensures { result ≡ brought placed.now scratch t }
+{
+    match place_of(placed, t) {
+        Place::Reg(_) => idle_piece(placed),
+        place => from_place(placed, scratch, place),
+    }
+}
+
+/// A result goes from that register, for which r0 is the scratch register, to its place.
+pub(crate) fn keep(placed: &Placed, t: u32) -> Piece
+    requires ready { IsReady placed.now }
+    requires known { t < temporaries placed.now.function }
+    requires labels { 3 * length placed.now.function.ops + 1 < 2 ^ 32 }
+    ensures { result ≡ kept placed.now t }
+{
+    match place_of(placed, t) {
+        Place::Reg(_) => idle_piece(placed),
+        place => to_place(placed, 0, place),
+    }
+}
+
+/// A word from one low register to another, unless it is there.
+pub(crate) fn moved(placed: &Placed, rd: u8, rs: u8) -> Piece
+    requires labels { 3 * length placed.now.function.ops + 1 < 2 ^ 32 }
+    ensures { result ≡ carries placed.now.function rd rs }
+{
+    if rd == rs {
+        idle_piece(placed)
+    } else {
+        Piece::Plain(Instr::MovHigh { rd, rm: rs })
+    }
 }
 
 /// SP goes up by so many words.

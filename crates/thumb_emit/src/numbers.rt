@@ -1,14 +1,15 @@
 //! Pieces of numbers and operators.
-ghost use Rattle.std.specs.Prelude.{◌≡◌, ◌+◌, ◌*◌, ◌^◌, ◌<◌, ◌++◌, OnOk};
+ghost use Rattle.std.specs.Prelude.{◌≡◌, ℕ, ◌+◌, ◌*◌, ◌^◌, ◌<◌, ◌++◌, length, OnOk};
 ghost use Rattle.thumb_code.specs.declared.instructions.Instr.{Instr};
+ghost use Rattle.thumb_code.specs.declared.instructions.Instr.TheVariants as i;
 ghost use Rattle.flat_ir.specs.declared.ops.Op.TheVariants as o;
 ghost use Rattle.flat_ir.specs.WellFormed.{temporaries};
-ghost use Rattle.thumb_emit.specs.Emit.{compares, shifts, inverts, unary, binary};
+ghost use Rattle.thumb_emit.specs.Emit.{decides, beside, compares, combines, shifts, divides, unary, binary};
 ghost use Rattle.thumb_emit.specs.Ready.{IsReady, pieces_of};
 
-use crate::frame::{get, put};
+use crate::frame::{bring, get, idle_piece, keep, moved, place_of, register, to_place};
 use crate::pieces::{EQ, GE, GT, LE, LT, NE, add};
-use register_assign::Placed;
+use register_assign::{Place, Placed};
 use sts_base::{NoMemory, Seq};
 use sts_syntax::operators::{
     ADD, AT_LEAST, AT_MOST, BIT_AND, BIT_OR, BIT_XOR, COMPLEMENT, DIVIDE, EQUAL, GREATER, LESS,
@@ -32,10 +33,12 @@ pub(crate) fn constant(
 ) -> Result<(), NoMemory>
     requires ready { IsReady placed.now }
     requires to { to < temporaries placed.now.function }
+    requires labels { 3 * length placed.now.function.ops + 1 < 2 ^ 32 }
     ensures { OnOk result (out.new ≡ out.old ++ pieces_of placed.now 0 (o.Const to value)) }
 {
     let value = value.cast_unsigned();
-    add(out, &[Piece::Number { rd: 0, value }, put(placed, 0, to)])
+    let rd = register(placed, 0, to);
+    add(out, &[Piece::Number { rd, value }, keep(placed, to)])
 }
 
 /// A further copy.
@@ -48,109 +51,213 @@ pub(crate) fn copy(
     requires ready { IsReady placed.now }
     requires to { to < temporaries placed.now.function }
     requires from { from < temporaries placed.now.function }
+    requires labels { 3 * length placed.now.function.ops + 1 < 2 ^ 32 }
     ensures { OnOk result (out.new ≡ out.old ++ pieces_of placed.now 0 (o.Copy to from)) }
 {
-    add(out, &[get(placed, 0, from), put(placed, 0, to)])
-}
-
-/// r0 becomes 1 where it is 0, and else 0.
-fn invert(out: &mut Seq<Piece>, label: u32) -> Result<(), NoMemory>
-    ensures { OnOk result (out.new ≡ out.old ++ inverts label) }
-{
-    add(
-        out,
-        &[
-            Piece::Plain(Instr::MovImm { rd: 1, imm: 1 }),
-            Piece::Plain(Instr::CmpImm { rd: 0, imm: 0 }),
-            Piece::Go { cond: EQ, label },
-            Piece::Plain(Instr::MovImm { rd: 1, imm: 0 }),
-            Piece::Label(label),
-            Piece::Plain(Instr::MovHigh { rd: 0, rm: 1 }),
-        ],
-    )
-}
-
-/// A prefix operator of r0.
-fn put_prefix(out: &mut Seq<Piece>, op: u8, label: u32) -> Result<(), NoMemory>
-    ensures { OnOk result (out.new ≡ out.old ++ unary op label) }
-{
-    match op {
-        NEGATE => add(out, &[Piece::Plain(Instr::Rsb { rdn: 0, rm: 0 })]),
-        PLUS => Ok(()),
-        NOT => invert(out, label),
-        COMPLEMENT => add(out, &[Piece::Plain(Instr::Mvn { rdn: 0, rm: 0 })]),
-        ONE_MORE => add(out, &[Piece::Plain(Instr::AddImm8 { rd: 0, imm: 1 })]),
-        _ => add(out, &[Piece::Plain(Instr::SubImm8 { rd: 0, imm: 1 })]),
+    match place_of(placed, to) {
+        Place::Reg(r) => add(out, &[get(placed, r, from), idle_piece(placed)]),
+        place => {
+            let rs = register(placed, 0, from);
+            add(out, &[bring(placed, 0, from), to_place(placed, rs, place)])
+        }
     }
 }
 
-/// r0 becomes 1 where the condition holds of r0 against r1, and else 0.
-fn compare(out: &mut Seq<Piece>, cond: u8, label: u32) -> Result<(), NoMemory>
-    ensures { OnOk result (out.new ≡ out.old ++ compares cond label) }
+/// A result's register, or a scratch register where that is an operand's.
+fn beside(scratch: u8, rd: u8, operand: u8) -> u8
+    ensures { result ≡ beside scratch rd operand }
+{
+    if rd == operand { scratch } else { rd }
+}
+
+/// A register becomes 1 where the condition holds behind a comparison, and else 0, by way of another one.
+fn decide(
+    out: &mut Seq<Piece>,
+    placed: &Placed,
+    rd: u8,
+    by: u8,
+    compared: Instr,
+    cond: u8,
+    label: u32,
+) -> Result<(), NoMemory>
+    requires labels { 3 * length placed.now.function.ops + 1 < 2 ^ 32 }
+    ensures { OnOk result (out.new ≡ out.old ++ decides placed.now.function rd by compared cond label) }
 {
     add(
         out,
         &[
-            Piece::Plain(Instr::MovImm { rd: 2, imm: 1 }),
-            Piece::Plain(Instr::CmpReg { rdn: 0, rm: 1 }),
+            Piece::Plain(Instr::MovImm { rd: by, imm: 1 }),
+            Piece::Plain(compared),
             Piece::Go { cond, label },
-            Piece::Plain(Instr::MovImm { rd: 2, imm: 0 }),
+            Piece::Plain(Instr::MovImm { rd: by, imm: 0 }),
             Piece::Label(label),
-            Piece::Plain(Instr::MovHigh { rd: 0, rm: 2 }),
+            moved(placed, rd, by),
         ],
     )
 }
 
-/// r0 shifted by r1 modulo 32.
-fn shift(out: &mut Seq<Piece>, instr: Instr) -> Result<(), NoMemory>
-    ensures { OnOk result (out.new ≡ out.old ++ shifts instr) }
+/// A prefix operator.
+fn put_prefix(
+    out: &mut Seq<Piece>,
+    placed: &Placed,
+    rd: u8,
+    from: u8,
+    op: u8,
+    label: u32,
+) -> Result<(), NoMemory>
+    requires labels { 3 * length placed.now.function.ops + 1 < 2 ^ 32 }
+    ensures { OnOk result (out.new ≡ out.old ++ unary placed.now.function rd from op label) }
 {
+    let instr = match op {
+        NEGATE => Instr::Rsb { rdn: rd, rm: from },
+        PLUS => Instr::MovHigh { rd, rm: from },
+        NOT => {
+            let compared = Instr::CmpImm { rd: from, imm: 0 };
+            return decide(out, placed, rd, beside(1, rd, from), compared, EQ, label);
+        }
+        COMPLEMENT => Instr::Mvn { rdn: rd, rm: from },
+        ONE_MORE => Instr::AddImm3 {
+            rd,
+            rn: from,
+            imm: 1,
+        },
+        _ => Instr::SubImm3 {
+            rd,
+            rn: from,
+            imm: 1,
+        },
+    };
+    add(out, &[Piece::Plain(instr)])
+}
+
+/// The registers of an operator's result and operands.
+#[derive(Clone, Copy, Drop)]
+struct Three {
+    rd: u8,
+    left: u8,
+    right: u8,
+}
+
+/// A register becomes 1 where the condition holds of one against another, and else 0.
+fn compare(
+    out: &mut Seq<Piece>,
+    placed: &Placed,
+    r: Three,
+    cond: u8,
+    label: u32,
+) -> Result<(), NoMemory>
+    requires labels { 3 * length placed.now.function.ops + 1 < 2 ^ 32 }
+    ensures { OnOk result (out.new ≡ out.old ++ compares placed.now.function r.rd r.left r.right cond label) }
+{
+    let by = beside(2, beside(2, r.rd, r.left), r.right);
+    let compared = Instr::CmpReg {
+        rdn: r.left,
+        rm: r.right,
+    };
+    decide(out, placed, r.rd, by, compared, cond, label)
+}
+
+/// An instruction whose target is its first operand: `|`, `^`, `&`, and else `*`.
+fn combine(out: &mut Seq<Piece>, placed: &Placed, r: Three, op: u8) -> Result<(), NoMemory>
+    requires labels { 3 * length placed.now.function.ops + 1 < 2 ^ 32 }
+    ensures bit_or { op ≡ 1 → OnOk result (out.new ≡ out.old ++ combines placed.now.function r.rd r.left r.right i.Orr) }
+    ensures bit_xor { op ≡ 2 → OnOk result (out.new ≡ out.old ++ combines placed.now.function r.rd r.left r.right i.Eor) }
+    ensures bit_and { op ≡ 3 → OnOk result (out.new ≡ out.old ++ combines placed.now.function r.rd r.left r.right i.And) }
+    ensures multiply { op ≡ 15 → OnOk result (out.new ≡ out.old ++ combines placed.now.function r.rd r.left r.right i.Mul) }
+{
+    let rdn = beside(2, r.rd, r.right);
+    let rm = r.right;
+    let instr = match op {
+        BIT_OR => Instr::Orr { rdn, rm },
+        BIT_XOR => Instr::Eor { rdn, rm },
+        BIT_AND => Instr::And { rdn, rm },
+        _ => Instr::Mul { rdn, rm },
+    };
+    add(
+        out,
+        &[
+            moved(placed, rdn, r.left),
+            Piece::Plain(instr),
+            moved(placed, r.rd, rdn),
+        ],
+    )
+}
+
+/// One register shifted by another modulo 32: `<<`, `>>`, and else `>>>`.
+fn shift(out: &mut Seq<Piece>, placed: &Placed, r: Three, op: u8) -> Result<(), NoMemory>
+    requires labels { 3 * length placed.now.function.ops + 1 < 2 ^ 32 }
+    ensures left { op ≡ 10 → OnOk result (out.new ≡ out.old ++ shifts placed.now.function r.rd r.left r.right i.LslReg) }
+    ensures right { op ≡ 11 → OnOk result (out.new ≡ out.old ++ shifts placed.now.function r.rd r.left r.right i.AsrReg) }
+    ensures unsigned { op ≡ 12 → OnOk result (out.new ≡ out.old ++ shifts placed.now.function r.rd r.left r.right i.LsrReg) }
+{
+    let rdn = r.rd;
+    let instr = match op {
+        SHIFT_LEFT => Instr::LslReg { rdn, rm: 2 },
+        SHIFT_RIGHT => Instr::AsrReg { rdn, rm: 2 },
+        _ => Instr::LsrReg { rdn, rm: 2 },
+    };
     add(
         out,
         &[
             Piece::Plain(Instr::MovImm { rd: 2, imm: 31 }),
-            Piece::Plain(Instr::And { rdn: 1, rm: 2 }),
+            Piece::Plain(Instr::And {
+                rdn: 2,
+                rm: r.right,
+            }),
+            moved(placed, rdn, r.left),
             Piece::Plain(instr),
         ],
     )
 }
 
-/// An operator of r0 and r1.
-fn put_operator(out: &mut Seq<Piece>, op: u8, label: u32) -> Result<(), NoMemory>
-    ensures { OnOk result (out.new ≡ out.old ++ binary op label) }
+/// A call of the division routine, of whose answers the quotient comes in r0 and the remainder in r1.
+fn divide(out: &mut Seq<Piece>, placed: &Placed, r: Three, answer: u8) -> Result<(), NoMemory>
+    requires labels { 3 * length placed.now.function.ops + 1 < 2 ^ 32 }
+    ensures { OnOk result (out.new ≡ out.old ++ divides placed.now.function r.rd r.left r.right answer) }
+{
+    add(
+        out,
+        &[
+            moved(placed, 0, r.left),
+            moved(placed, 1, r.right),
+            Piece::CallTo { function: DIVISION },
+            moved(placed, r.rd, answer),
+        ],
+    )
+}
+
+/// An operator.
+fn put_operator(
+    out: &mut Seq<Piece>,
+    placed: &Placed,
+    r: Three,
+    op: u8,
+    label: u32,
+) -> Result<(), NoMemory>
+    requires labels { 3 * length placed.now.function.ops + 1 < 2 ^ 32 }
+    ensures { OnOk result (out.new ≡ out.old ++ binary placed.now.function r.rd r.left r.right op label) }
 {
     match op {
-        BIT_OR => out.push(Piece::Plain(Instr::Orr { rdn: 0, rm: 1 })),
-        BIT_XOR => out.push(Piece::Plain(Instr::Eor { rdn: 0, rm: 1 })),
-        BIT_AND => out.push(Piece::Plain(Instr::And { rdn: 0, rm: 1 })),
-        EQUAL => compare(out, EQ, label),
-        UNEQUAL => compare(out, NE, label),
-        LESS => compare(out, LT, label),
-        GREATER => compare(out, GT, label),
-        AT_MOST => compare(out, LE, label),
-        AT_LEAST => compare(out, GE, label),
-        SHIFT_LEFT => shift(out, Instr::LslReg { rdn: 0, rm: 1 }),
-        SHIFT_RIGHT => shift(out, Instr::AsrReg { rdn: 0, rm: 1 }),
-        SHIFT_RIGHT_UNSIGNED => shift(out, Instr::LsrReg { rdn: 0, rm: 1 }),
+        BIT_OR | BIT_XOR | BIT_AND | MULTIPLY => combine(out, placed, r, op),
+        EQUAL => compare(out, placed, r, EQ, label),
+        UNEQUAL => compare(out, placed, r, NE, label),
+        LESS => compare(out, placed, r, LT, label),
+        GREATER => compare(out, placed, r, GT, label),
+        AT_MOST => compare(out, placed, r, LE, label),
+        AT_LEAST => compare(out, placed, r, GE, label),
+        SHIFT_LEFT | SHIFT_RIGHT | SHIFT_RIGHT_UNSIGNED => shift(out, placed, r, op),
         ADD => out.push(Piece::Plain(Instr::AddReg {
-            rd: 0,
-            rn: 0,
-            rm: 1,
+            rd: r.rd,
+            rn: r.left,
+            rm: r.right,
         })),
         SUBTRACT => out.push(Piece::Plain(Instr::SubReg {
-            rd: 0,
-            rn: 0,
-            rm: 1,
+            rd: r.rd,
+            rn: r.left,
+            rm: r.right,
         })),
-        MULTIPLY => out.push(Piece::Plain(Instr::Mul { rdn: 0, rm: 1 })),
-        DIVIDE => out.push(Piece::CallTo { function: DIVISION }),
-        _ => add(
-            out,
-            &[
-                Piece::CallTo { function: DIVISION },
-                Piece::Plain(Instr::MovHigh { rd: 0, rm: 1 }),
-            ],
-        ),
+        DIVIDE => divide(out, placed, r, 0),
+        _ => divide(out, placed, r, 1),
     }
 }
 
@@ -167,11 +274,13 @@ pub(crate) fn unary(
     requires to { to < temporaries placed.now.function }
     requires from { from < temporaries placed.now.function }
     requires label { 3 * k + 1 < 2 ^ 32 }
+    requires labels { 3 * length placed.now.function.ops + 1 < 2 ^ 32 }
     ensures { OnOk result (out.new ≡ out.old ++ pieces_of placed.now k (o.Unary to op from)) }
 {
-    out.push(get(placed, 0, from))?;
-    put_prefix(out, op, 3 * k + 1)?;
-    out.push(put(placed, 0, to))
+    out.push(bring(placed, 0, from))?;
+    let rd = register(placed, 0, to);
+    put_prefix(out, placed, rd, register(placed, 0, from), op, 3 * k + 1)?;
+    out.push(keep(placed, to))
 }
 
 /// An operator between two operands.
@@ -189,10 +298,16 @@ pub(crate) fn binary(
     requires left { left < temporaries placed.now.function }
     requires right { right < temporaries placed.now.function }
     requires label { 3 * k + 1 < 2 ^ 32 }
+    requires labels { 3 * length placed.now.function.ops + 1 < 2 ^ 32 }
     ensures { OnOk result (out.new ≡ out.old ++ pieces_of placed.now k (o.Binary to op left right)) }
 {
-    out.push(get(placed, 0, left))?;
-    out.push(get(placed, 1, right))?;
-    put_operator(out, op, 3 * k + 1)?;
-    out.push(put(placed, 0, to))
+    out.push(bring(placed, 0, left))?;
+    out.push(bring(placed, 1, right))?;
+    let registers = Three {
+        rd: register(placed, 0, to),
+        left: register(placed, 0, left),
+        right: register(placed, 1, right),
+    };
+    put_operator(out, placed, registers, op, 3 * k + 1)?;
+    out.push(keep(placed, to))
 }

@@ -66,19 +66,24 @@ pub(crate) fn unless(out: &mut Seq<Piece>, cond: u8, code: u8, label: u32) -> Re
     )
 }
 
-/// Panic 105 where r0 is null.
-pub(crate) fn test_null(out: &mut Seq<Piece>, label: u32) -> Result<(), NoMemory>
-    ensures { OnOk result (out.new ≡ out.old ++ tests_null label) }
+/// Panic 105 where a register is null.
+pub(crate) fn test_null(out: &mut Seq<Piece>, r: u8, label: u32) -> Result<(), NoMemory>
+    ensures { OnOk result (out.new ≡ out.old ++ tests_null r label) }
 {
-    out.push(Piece::Plain(Instr::CmpImm { rd: 0, imm: 0 }))?;
+    out.push(Piece::Plain(Instr::CmpImm { rd: r, imm: 0 }))?;
     unless(out, NE, 105, label)
 }
 
-/// Panic 104 where the index in r1 isn't below the length of the array at r0.
-pub(crate) fn test_index(out: &mut Seq<Piece>, label: u32) -> Result<(), NoMemory>
-    ensures { OnOk result (out.new ≡ out.old ++ tests_index label) }
+/// Panic 104 where the index in a register isn't below the length of the array at another.
+pub(crate) fn test_index(
+    out: &mut Seq<Piece>,
+    array: u8,
+    index: u8,
+    label: u32,
+) -> Result<(), NoMemory>
+    ensures { OnOk result (out.new ≡ out.old ++ tests_index array index label) }
 {
-    out.push(load(2, 0, 1))?;
-    out.push(Piece::Plain(Instr::CmpReg { rdn: 1, rm: 2 }))?;
+    out.push(load(2, array, 1))?;
+    out.push(Piece::Plain(Instr::CmpReg { rdn: index, rm: 2 }))?;
     unless(out, CC, 104, label)
 }

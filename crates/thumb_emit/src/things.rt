@@ -1,5 +1,5 @@
 //! Pieces of globals, objects, arrays and texts.
-ghost use Rattle.std.specs.Prelude.{◌≡◌, ◌+◌, ◌*◌, ◌^◌, ◌<◌, ◌++◌, OnOk};
+ghost use Rattle.std.specs.Prelude.{◌≡◌, ◌+◌, ◌*◌, ◌^◌, ◌<◌, ◌++◌, length, OnOk};
 ghost use Rattle.thumb_layout.specs.declared.pieces.Piece.TheVariants as p;
 ghost use Rattle.thumb_code.specs.declared.instructions.Instr.TheVariants as i;
 ghost use Rattle.flat_ir.specs.declared.ops.Op.TheVariants as o;
@@ -7,7 +7,7 @@ ghost use Rattle.flat_ir.specs.WellFormed.{temporaries};
 ghost use Rattle.thumb_emit.specs.Emit.{tests_null, tests_index, finds_item, loads_field, stores_field, field_offset, finds_global, pops};
 ghost use Rattle.thumb_emit.specs.Ready.{IsReady, pieces_of, reaches_item};
 
-use crate::frame::{get, put};
+use crate::frame::{bring, keep, put, register};
 use crate::pieces::{NE, add, load, store, test_index, test_null, unless};
 use register_assign::Placed;
 use sts_base::{NoMemory, Seq};
@@ -50,9 +50,11 @@ pub(crate) fn get_global(
     requires ready { IsReady placed.now }
     requires to { to < temporaries placed.now.function }
     requires slot { slot < 256 }
+    requires labels { 3 * length placed.now.function.ops + 1 < 2 ^ 32 }
     ensures { OnOk result (out.new ≡ out.old ++ pieces_of placed.now 0 (o.GlobalGet to slot)) }
 {
-    add(out, &[find_global(slot), load(0, 1, 0), put(placed, 0, to)])
+    let rd = register(placed, 0, to);
+    add(out, &[find_global(slot), load(rd, 1, 0), keep(placed, to)])
 }
 
 /// Writes a global.
@@ -65,11 +67,13 @@ pub(crate) fn set_global(
     requires ready { IsReady placed.now }
     requires from { from < temporaries placed.now.function }
     requires slot { slot < 256 }
+    requires labels { 3 * length placed.now.function.ops + 1 < 2 ^ 32 }
     ensures { OnOk result (out.new ≡ out.old ++ pieces_of placed.now 0 (o.GlobalSet slot from)) }
 {
+    let rs = register(placed, 0, from);
     add(
         out,
-        &[get(placed, 0, from), find_global(slot), store(0, 1, 0)],
+        &[bring(placed, 0, from), find_global(slot), store(rs, 1, 0)],
     )
 }
 
@@ -80,26 +84,32 @@ fn field_offset(field: u32) -> u32
     field.saturating_add(1).saturating_mul(4)
 }
 
-/// A field of the object at r0 into r0.
-fn load_field(out: &mut Seq<Piece>, field: u32) -> Result<(), NoMemory>
-    ensures { OnOk result (out.new ≡ out.old ++ loads_field field) }
+/// A field of the object at a register into another.
+fn load_field(out: &mut Seq<Piece>, rd: u8, object: u8, field: u32) -> Result<(), NoMemory>
+    ensures { OnOk result (out.new ≡ out.old ++ loads_field rd object field) }
 {
     if field < 31 {
-        return out.push(load(0, 0, (field + 1) as u8));
+        return out.push(load(rd, object, (field + 1) as u8));
     }
     let value = field_offset(field);
-    add(out, &[Piece::Number { rd: 2, value }, load_at(0, 0, 2)])
+    add(
+        out,
+        &[Piece::Number { rd: 2, value }, load_at(rd, object, 2)],
+    )
 }
 
-/// r1 into a field of the object at r0.
-fn store_field(out: &mut Seq<Piece>, field: u32) -> Result<(), NoMemory>
-    ensures { OnOk result (out.new ≡ out.old ++ stores_field field) }
+/// A register into a field of the object at another.
+fn store_field(out: &mut Seq<Piece>, rs: u8, object: u8, field: u32) -> Result<(), NoMemory>
+    ensures { OnOk result (out.new ≡ out.old ++ stores_field rs object field) }
 {
     if field < 31 {
-        return out.push(store(1, 0, (field + 1) as u8));
+        return out.push(store(rs, object, (field + 1) as u8));
     }
     let value = field_offset(field);
-    add(out, &[Piece::Number { rd: 2, value }, store_at(1, 0, 2)])
+    add(
+        out,
+        &[Piece::Number { rd: 2, value }, store_at(rs, object, 2)],
+    )
 }
 
 /// Reads a field.
@@ -115,12 +125,14 @@ pub(crate) fn get_field(
     requires to { to < temporaries placed.now.function }
     requires object { object < temporaries placed.now.function }
     requires label { 3 * k + 1 < 2 ^ 32 }
+    requires labels { 3 * length placed.now.function.ops + 1 < 2 ^ 32 }
     ensures { OnOk result (out.new ≡ out.old ++ pieces_of placed.now k (o.FieldGet to object field)) }
 {
-    out.push(get(placed, 0, object))?;
-    test_null(out, 3 * k + 1)?;
-    load_field(out, field)?;
-    out.push(put(placed, 0, to))
+    out.push(bring(placed, 0, object))?;
+    let rn = register(placed, 0, object);
+    test_null(out, rn, 3 * k + 1)?;
+    load_field(out, register(placed, 0, to), rn, field)?;
+    out.push(keep(placed, to))
 }
 
 /// Writes a field.
@@ -136,33 +148,47 @@ pub(crate) fn set_field(
     requires object { object < temporaries placed.now.function }
     requires from { from < temporaries placed.now.function }
     requires label { 3 * k + 1 < 2 ^ 32 }
+    requires labels { 3 * length placed.now.function.ops + 1 < 2 ^ 32 }
     ensures { OnOk result (out.new ≡ out.old ++ pieces_of placed.now k (o.FieldSet object field from)) }
 {
-    out.push(get(placed, 0, object))?;
-    test_null(out, 3 * k + 1)?;
-    out.push(get(placed, 1, from))?;
-    store_field(out, field)
+    out.push(bring(placed, 0, object))?;
+    let rn = register(placed, 0, object);
+    test_null(out, rn, 3 * k + 1)?;
+    out.push(bring(placed, 1, from))?;
+    store_field(out, register(placed, 1, from), rn, field)
 }
 
-/// The address of the items of the array at r0 into r2, and how far behind it that of the index in r1 stands into r1.
-fn find_item(out: &mut Seq<Piece>) -> Result<(), NoMemory>
-    ensures { OnOk result (out.new ≡ out.old ++ finds_item) }
+/// How far behind the items' address the one with the index in a register stands, into r1.
+fn scaled(index: u8) -> Piece
+    ensures { result ≡ p.Plain (i.LslImm 1 index 2) }
 {
-    let scaled = Instr::LslImm {
+    Piece::Plain(Instr::LslImm {
         rd: 1,
-        rm: 1,
+        rm: index,
         imm: 2,
-    };
-    add(out, &[load(2, 0, 3), Piece::Plain(scaled)])
+    })
 }
 
-/// The array in r0 isn't null and the index in r1 is below its length; then the item's address.
-fn test_item(out: &mut Seq<Piece>, null: u32, index: u32) -> Result<(), NoMemory>
-    ensures { OnOk result (out.new ≡ out.old ++ (tests_null null ++ (tests_index index ++ finds_item))) }
+/// The address of the items of the array at a register into r2, and how far behind it that of the index in another stands into r1.
+fn find_item(out: &mut Seq<Piece>, array: u8, index: u8) -> Result<(), NoMemory>
+    ensures { OnOk result (out.new ≡ out.old ++ finds_item array index) }
 {
-    test_null(out, null)?;
-    test_index(out, index)?;
-    find_item(out)
+    add(out, &[load(2, array, 3), scaled(index)])
+}
+
+/// The array isn't null and the index is below its length; then the item's address.
+fn test_item(
+    out: &mut Seq<Piece>,
+    array: u8,
+    index: u8,
+    null: u32,
+    past: u32,
+) -> Result<(), NoMemory>
+    ensures { OnOk result (out.new ≡ out.old ++ (tests_null array null ++ (tests_index array index past ++ finds_item array index))) }
+{
+    test_null(out, array, null)?;
+    test_index(out, array, index, past)?;
+    find_item(out, array, index)
 }
 
 /// Comes to an item, whose address is then the sum of r2 and r1.
@@ -177,10 +203,12 @@ fn reach_item(
     requires array { array < temporaries placed.now.function }
     requires index { index < temporaries placed.now.function }
     requires label { 3 * k + 2 < 2 ^ 32 }
+    requires labels { 3 * length placed.now.function.ops + 1 < 2 ^ 32 }
     ensures { OnOk result (out.new ≡ out.old ++ reaches_item placed.now k array index) }
 {
-    add(out, &[get(placed, 0, array), get(placed, 1, index)])?;
-    test_item(out, 3 * k + 1, 3 * k + 2)
+    add(out, &[bring(placed, 0, array), bring(placed, 1, index)])?;
+    let rn = register(placed, 0, array);
+    test_item(out, rn, register(placed, 1, index), 3 * k + 1, 3 * k + 2)
 }
 
 /// Reads an item.
@@ -197,10 +225,12 @@ pub(crate) fn get_item(
     requires array { array < temporaries placed.now.function }
     requires index { index < temporaries placed.now.function }
     requires label { 3 * k + 2 < 2 ^ 32 }
+    requires labels { 3 * length placed.now.function.ops + 1 < 2 ^ 32 }
     ensures { OnOk result (out.new ≡ out.old ++ pieces_of placed.now k (o.ItemGet to array index)) }
 {
     reach_item(out, placed, k, array, index)?;
-    add(out, &[load_at(0, 2, 1), put(placed, 0, to)])
+    let rd = register(placed, 0, to);
+    add(out, &[load_at(rd, 2, 1), keep(placed, to)])
 }
 
 /// Writes an item.
@@ -217,10 +247,12 @@ pub(crate) fn set_item(
     requires index { index < temporaries placed.now.function }
     requires from { from < temporaries placed.now.function }
     requires label { 3 * k + 2 < 2 ^ 32 }
+    requires labels { 3 * length placed.now.function.ops + 1 < 2 ^ 32 }
     ensures { OnOk result (out.new ≡ out.old ++ pieces_of placed.now k (o.ItemSet array index from)) }
 {
     reach_item(out, placed, k, array, index)?;
-    add(out, &[get(placed, 3, from), store_at(3, 2, 1)])
+    let rs = register(placed, 3, from);
+    add(out, &[bring(placed, 3, from), store_at(rs, 2, 1)])
 }
 
 /// The length of an array.
@@ -235,27 +267,38 @@ pub(crate) fn length(
     requires to { to < temporaries placed.now.function }
     requires array { array < temporaries placed.now.function }
     requires label { 3 * k + 1 < 2 ^ 32 }
+    requires labels { 3 * length placed.now.function.ops + 1 < 2 ^ 32 }
     ensures { OnOk result (out.new ≡ out.old ++ pieces_of placed.now k (o.Length to array)) }
 {
-    out.push(get(placed, 0, array))?;
-    test_null(out, 3 * k + 1)?;
-    out.push(load(0, 0, 1))?;
-    out.push(put(placed, 0, to))
+    out.push(bring(placed, 0, array))?;
+    let rn = register(placed, 0, array);
+    test_null(out, rn, 3 * k + 1)?;
+    out.push(load(register(placed, 0, to), rn, 1))?;
+    out.push(keep(placed, to))
 }
 
-/// The last item of the array at r0 into r0, and the array's length one less.
-fn take_last(out: &mut Seq<Piece>, label: u32) -> Result<(), NoMemory>
-    ensures { OnOk result (out.new ≡ out.old ++ pops label) }
+/// The last item of the array at a register into another, and the array's length one less.
+fn take_last(out: &mut Seq<Piece>, rd: u8, array: u8, label: u32) -> Result<(), NoMemory>
+    ensures { OnOk result (out.new ≡ out.old ++ pops rd array label) }
 {
     add(
         out,
-        &[load(1, 0, 1), Piece::Plain(Instr::CmpImm { rd: 1, imm: 0 })],
+        &[
+            load(1, array, 1),
+            Piece::Plain(Instr::CmpImm { rd: 1, imm: 0 }),
+        ],
     )?;
     unless(out, NE, 104, label)?;
-    out.push(Piece::Plain(Instr::SubImm8 { rd: 1, imm: 1 }))?;
-    out.push(store(1, 0, 1))?;
-    find_item(out)?;
-    out.push(load_at(0, 2, 1))
+    add(
+        out,
+        &[
+            Piece::Plain(Instr::SubImm8 { rd: 1, imm: 1 }),
+            store(1, array, 1),
+            load(2, array, 3),
+            scaled(1),
+            load_at(rd, 2, 1),
+        ],
+    )
 }
 
 /// Takes the last item off an array.
@@ -270,12 +313,14 @@ pub(crate) fn pop(
     requires to { to < temporaries placed.now.function }
     requires array { array < temporaries placed.now.function }
     requires label { 3 * k + 2 < 2 ^ 32 }
+    requires labels { 3 * length placed.now.function.ops + 1 < 2 ^ 32 }
     ensures { OnOk result (out.new ≡ out.old ++ pieces_of placed.now k (o.Pop to array)) }
 {
-    out.push(get(placed, 0, array))?;
-    test_null(out, 3 * k + 1)?;
-    take_last(out, 3 * k + 2)?;
-    out.push(put(placed, 0, to))
+    out.push(bring(placed, 0, array))?;
+    let rn = register(placed, 0, array);
+    test_null(out, rn, 3 * k + 1)?;
+    take_last(out, register(placed, 0, to), rn, 3 * k + 2)?;
+    out.push(keep(placed, to))
 }
 
 /// A text.
@@ -287,10 +332,12 @@ pub(crate) fn text(
 ) -> Result<(), NoMemory>
     requires ready { IsReady placed.now }
     requires to { to < temporaries placed.now.function }
+    requires labels { 3 * length placed.now.function.ops + 1 < 2 ^ 32 }
     ensures { OnOk result (out.new ≡ out.old ++ pieces_of placed.now 0 (o.TextOf to text)) }
 {
     let what = What::Text(text);
-    add(out, &[Piece::Address { rd: 0, what }, put(placed, 0, to)])
+    let rd = register(placed, 0, to);
+    add(out, &[Piece::Address { rd, what }, keep(placed, to)])
 }
 
 /// A new object.

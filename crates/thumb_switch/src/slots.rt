@@ -3,7 +3,7 @@ ghost use Rattle.std.specs.Prelude.{◌≡◌, ◌%◌, ◌<◌, ◌^◌, ◌/�
 ghost use Rattle.thumb_code.specs.Forms.{Access};
 ghost use Rattle.thumb_code.specs.Map.{flash_word};
 ghost use Rattle.thumb_switch.specs.Space.{part_of, half_access};
-ghost use Rattle.thumb_switch.specs.ReadOnce.{TellsFetched, AreRead};
+ghost use Rattle.thumb_switch.specs.ReadOnce.{TellsFetch, AreRead};
 
 use crate::desk::code_word;
 use crate::parts::part;
@@ -29,7 +29,7 @@ fn half(code: &[u8], at: u32) -> u16
 fn read(code: &[u8], at: u32) -> Slot
     requires even { at % 2 ≡ 0 }
     requires low { at < 64 }
-    ensures { TellsFetched code.now at result }
+    ensures { TellsFetch code.now at result }
 {
     if at as usize + 2 > code.len() {
         return None;

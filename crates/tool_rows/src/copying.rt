@@ -47,6 +47,7 @@ impl Device for CopyingDevice {
         self.faults = self.faults.saturating_add(1);
         false
     }
+
     fn settle(&mut self) -> bool {
         true
     }

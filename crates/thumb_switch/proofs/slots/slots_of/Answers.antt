@@ -1,4 +1,4 @@
-use Rattle.std.proofs.Common.{◌≡◌, ◌<◌, ◌∙◌, length, refl, length-set, arith}
+use Rattle.std.proofs.Common.{◌<◌, ◌∙◌, length, refl, length-set, arith}
 use Rattle.thumb_switch.proofs.ReadOnce.{nones_tell, one_read}
 use Rattle.thumb_switch.proofs.slots.slots_of.Goals as goal
 

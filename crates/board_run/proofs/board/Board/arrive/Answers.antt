@@ -1,4 +1,4 @@
-use Rattle.std.proofs.Common.{◌≡◌, refl}
+use Rattle.std.proofs.Common.{refl}
 use Rattle.board_run.specs.declared.engine.Engine.{Engine}
 use Rattle.board_run.proofs.Parted.{ports_arrived, whole_arrived, arrives_now}
 use Rattle.board_run.proofs.board.Board.arrive.Goals as goal

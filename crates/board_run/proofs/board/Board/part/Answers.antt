@@ -1,7 +1,6 @@
-use Rattle.std.proofs.Common.{◌≡◌, ℕ, ◌+◌, ◌⊎◌, inl, inr, subst, sym, ap, ◌∙◌, arith, IsSome, is_some, false, refl}
+use Rattle.std.proofs.Common.{◌≡◌, ◌+◌, inl, inr, subst, sym, ap, ◌∙◌, arith, is_some, false, refl}
 use Rattle.std.proofs.lemmas.Bool.{false≢true}
-use Rattle.board_run.specs.Advancing.{Advances, Fails, HasExecuted}
-use Rattle.board_run.specs.Parting.{Closed}
+use Rattle.board_run.specs.Advancing.{Advances}
 use Rattle.board_run.proofs.Parted.{none_of}
 use Rattle.board_run.proofs.Executing.{whole_idle, advances_idle, advances_then, fails_then}
 use Rattle.board_run.proofs.board.Board.part.Goals as goal

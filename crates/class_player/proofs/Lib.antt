@@ -1,0 +1,5 @@
+mod Seen
+mod Coming
+mod Going
+mod Hearing
+pub mod Laws

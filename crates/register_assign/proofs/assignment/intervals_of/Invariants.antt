@@ -1,0 +1,5 @@
+use Rattle.register_assign.specs.Intervals.{AreIntervals}
+use Rattle.register_assign.proofs.assignment.intervals_of.Given as goal
+
+abbrev pub invariant-loop-t : goal.invariant-loop-t
+invariant-loop-t l = AreIntervals l.function l.intervals.items l.t

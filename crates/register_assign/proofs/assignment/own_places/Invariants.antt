@@ -1,0 +1,5 @@
+use Rattle.register_assign.specs.Intervals.{AreHomes}
+use Rattle.register_assign.proofs.assignment.own_places.Given as goal
+
+abbrev pub invariant-loop-t : goal.invariant-loop-t
+invariant-loop-t l = AreHomes l.function l.places.items l.t
