@@ -1,0 +1,9 @@
+use Rattle.std.proofs.Common.{◌≡◌, ◌≤◌, length}
+use Rattle.around_place.specs.Words as spec
+use Rattle.around_place.proofs.words.behind_run.Given as goal
+
+abbrev pub invariant-loop-rest : goal.invariant-loop-rest
+invariant-loop-rest l = (spec.behind_run (spec.in_kind l.kind) l.rest ≡ spec.behind_run (spec.in_kind l.kind) l.fn.text) × (length l.rest ≤ length l.fn.text)
+
+abbrev pub decreases-loop-rest : goal.decreases-loop-rest
+decreases-loop-rest l = length l.rest

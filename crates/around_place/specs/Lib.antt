@@ -1,0 +1,5 @@
+pub mod Around
+pub mod Brackets
+pub mod Rows
+pub mod Telling
+pub mod Words

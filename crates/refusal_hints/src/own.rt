@@ -1,0 +1,92 @@
+// The sentence of each code, as docs/LANGUAGE.md has it, for where no row fits.
+
+use around_place::Explanation;
+
+/// The explanation of what is no code, and those of the codes 1 to 15.
+static OWN: [Explanation; 16] = [
+    Explanation {
+        sentence: "This number is no code of a refusal.",
+        example: "",
+        opened: None,
+    },
+    Explanation {
+        sentence: "The text has more than 65,536 bytes: take comments and blank lines out.",
+        example: "",
+        opened: None,
+    },
+    Explanation {
+        sentence: "The text is no UTF-8: save the file as UTF-8.",
+        example: "",
+        opened: None,
+    },
+    Explanation {
+        sentence: "No token begins there, or a `/*` isn't closed: take letters from `A` to `z` for names, `\"` for quotes; close the comment by `*/`.",
+        example: "let n = 1",
+        opened: None,
+    },
+    Explanation {
+        sentence: "A digit stands there, and no number: write a whole number without 0 before it: count in tenths.",
+        example: "let n = 15",
+        opened: None,
+    },
+    Explanation {
+        sentence: "A text literal is not closed, or has another escape or `${`: close it on its line by the quote that opens it; write several lines in backquotes; write a number beside a text by a call of its own.",
+        example: "let t = \"a\"",
+        opened: None,
+    },
+    Explanation {
+        sentence: "The text spells no program of such a nesting: see that token and the one before it: a `;`, an operator or a bracket is missing or too many, or it is a form that isn't here, as `switch`.",
+        example: "let a = 1; let b = 2",
+        opened: None,
+    },
+    Explanation {
+        sentence: "The text has a token at which more than 64 brackets are open: give inner parts names of their own.",
+        example: "",
+        opened: None,
+    },
+    Explanation {
+        sentence: "A name or member isn't known, or a class is used as a value, `this` stands outside a method, or a name begins with `$`: see how the name is written, upper and lower case; declare it before it is used, in this block or outside.",
+        example: "let x = 1; serial.writeNumber(x)",
+        opened: None,
+    },
+    Explanation {
+        sentence: "A name stands twice: two globals, functions or classes; two parameters; two members; two locals of a block; a field that a base has: give one of them another name.",
+        example: "let a = 1; let b = 2",
+        opened: None,
+    },
+    Explanation {
+        sentence: "A handler uses a local of the function around it, or `this`: make it a global.",
+        example: "let v = 5",
+        opened: None,
+    },
+    Explanation {
+        sentence: "A type doesn't fit, the number of arguments is another, a `const` is set, `super(..)` is missing or stands elsewhere: see what type the place takes: for a test write a comparison.",
+        example: "let a = 1 + 1",
+        opened: None,
+    },
+    Explanation {
+        sentence: "A type can't be told: write the type: `let v: string = null`.",
+        example: "let v: string = null",
+        opened: None,
+    },
+    Explanation {
+        sentence: "A function is used as a value, or a handler has parameters or a value; a call of the board isn't called: give handlers to calls of the board alone.",
+        example: "basic.forever(function () { })",
+        opened: None,
+    },
+    Explanation {
+        sentence: "A class has itself among its bases: take the circle apart.",
+        example: "class B extends A { }",
+        opened: None,
+    },
+    Explanation {
+        sentence: "A limit is passed: divide a long function in two; write a drawing as data.",
+        example: "",
+        opened: None,
+    },
+];
+
+/// What a code says by itself.
+pub fn own_of(code: u32) -> Explanation {
+    OWN[if code < 16 { code as usize } else { 0 }]
+}

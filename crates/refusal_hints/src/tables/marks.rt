@@ -1,0 +1,259 @@
+// Rows: the first that fits is told.
+use around_place::Inside::{Bracket, Nothing, Unclosed};
+use around_place::Test::{Any, Is, Name, Number, Sign, Text};
+use around_place::{ANYWHERE, Row};
+
+/// Code 6: brackets and marks that are missing or too many.
+pub fn marks_1() -> &'static [Row] {
+    &MARKS_1
+}
+
+static MARKS_1: [Row; 11] = [
+    Row {
+        last: true,
+        inside: Unclosed(b'{'),
+        sentence: "A `{` isn't closed: a `}` is missing, here at the end at the latest. The first line that stands less far in than it should shows where.",
+        example: "if (true) { basic.pause(1) }",
+        ..ANYWHERE
+    },
+    Row {
+        last: true,
+        inside: Unclosed(b'('),
+        sentence: "A `(` isn't closed: a `)` is missing.",
+        example: "basic.pause(1)",
+        ..ANYWHERE
+    },
+    Row {
+        last: true,
+        inside: Unclosed(b'['),
+        sentence: "A `[` isn't closed: a `]` is missing.",
+        example: "let a = [1, 2]",
+        ..ANYWHERE
+    },
+    Row {
+        at: &[Is(")")],
+        inside: Unclosed(b'{'),
+        sentence: "A `{` isn't closed: a `}` is missing before this `)`.",
+        example: "basic.forever(function () { basic.pause(1) })",
+        ..ANYWHERE
+    },
+    Row {
+        at: &[Is(")")],
+        inside: Unclosed(b'['),
+        sentence: "A `[` isn't closed: a `]` is missing before this `)`.",
+        example: "serial.writeNumber(a[0])",
+        ..ANYWHERE
+    },
+    Row {
+        at: &[Is("]")],
+        inside: Unclosed(b'('),
+        sentence: "A `(` isn't closed: a `)` is missing before this `]`.",
+        example: "let x = a[(1 + 2)]",
+        ..ANYWHERE
+    },
+    Row {
+        at: &[Is("]")],
+        inside: Unclosed(b'{'),
+        sentence: "A `{` isn't closed: a `}` is missing before this `]`.",
+        example: "",
+        ..ANYWHERE
+    },
+    Row {
+        at: &[Is("}")],
+        inside: Unclosed(b'('),
+        sentence: "A `(` isn't closed: a `)` is missing before this `}`.",
+        example: "if (true) { basic.pause(1) }",
+        ..ANYWHERE
+    },
+    Row {
+        at: &[Is("}")],
+        inside: Unclosed(b'['),
+        sentence: "A `[` isn't closed: a `]` is missing before this `}`.",
+        example: "if (true) { a = [1, 2] }",
+        ..ANYWHERE
+    },
+    Row {
+        at: &[Is("{")],
+        inside: Unclosed(b'('),
+        sentence: "A `(` isn't closed: a `)` is missing before this `{`.",
+        example: "while (a == 1) { }",
+        ..ANYWHERE
+    },
+    Row {
+        at: &[Is(";")],
+        inside: Unclosed(b'('),
+        sentence: "A `(` isn't closed: a `)` is missing before this `;`.",
+        example: "basic.pause(1);",
+        ..ANYWHERE
+    },
+];
+
+/// Code 6: brackets and marks that are missing or too many, part 2.
+pub fn marks_2() -> &'static [Row] {
+    &MARKS_2
+}
+
+static MARKS_2: [Row; 11] = [
+    Row {
+        at: &[Is(";")],
+        inside: Unclosed(b'['),
+        sentence: "A `[` isn't closed: a `]` is missing before this `;`.",
+        example: "let a = [1, 2];",
+        ..ANYWHERE
+    },
+    Row {
+        alone: true,
+        at: &[Any],
+        inside: Unclosed(b'('),
+        sentence: "A `(` isn't closed: a `)` is missing before this line.",
+        example: "basic.pause(1)",
+        ..ANYWHERE
+    },
+    Row {
+        alone: true,
+        at: &[Any],
+        inside: Unclosed(b'['),
+        sentence: "A `[` isn't closed: a `]` is missing before this line.",
+        example: "let a = [1, 2]",
+        ..ANYWHERE
+    },
+    Row {
+        at: &[Is(")")],
+        inside: Nothing,
+        sentence: "This `)` closes nothing: take it out, or see where its `(` is missing.",
+        example: "",
+        ..ANYWHERE
+    },
+    Row {
+        at: &[Is("]")],
+        inside: Nothing,
+        sentence: "This `]` closes nothing: take it out, or see where its `[` is missing.",
+        example: "",
+        ..ANYWHERE
+    },
+    Row {
+        at: &[Is("}")],
+        inside: Nothing,
+        sentence: "This `}` closes nothing: take it out, or see where its `{` is missing.",
+        example: "",
+        ..ANYWHERE
+    },
+    Row {
+        before: &[Number],
+        at: &[Is("=")],
+        sentence: "What is set stands on the left of `=`.",
+        example: "x = 5",
+        ..ANYWHERE
+    },
+    Row {
+        before: &[Is(")")],
+        at: &[Is("=")],
+        sentence: "What is set by `=` is a name, a member or an item. Equal is written `==`.",
+        example: "if (f(x) == 3) { }",
+        ..ANYWHERE
+    },
+    Row {
+        before: &[Sign],
+        sentence: "A value is missing behind this sign.",
+        example: "let x = 5 + 3",
+        ..ANYWHERE
+    },
+    Row {
+        before: &[Number],
+        at: &[Number],
+        inside: Bracket(b'('),
+        sentence: "A comma is missing between two arguments.",
+        example: "led.plot(1, 2)",
+        ..ANYWHERE
+    },
+    Row {
+        before: &[Number],
+        at: &[Name],
+        inside: Bracket(b'('),
+        sentence: "A comma or a sign is missing between these two.",
+        example: "led.plot(1, i)",
+        ..ANYWHERE
+    },
+];
+
+/// Code 6: brackets and marks that are missing or too many, part 3.
+pub fn marks_3() -> &'static [Row] {
+    &MARKS_3
+}
+
+static MARKS_3: [Row; 10] = [
+    Row {
+        before: &[Name],
+        at: &[Number],
+        inside: Bracket(b'('),
+        sentence: "A comma or a sign is missing between these two.",
+        example: "led.plot(i, 1)",
+        ..ANYWHERE
+    },
+    Row {
+        before: &[Name],
+        at: &[Name],
+        inside: Bracket(b'('),
+        sentence: "A comma or a sign is missing between these two.",
+        example: "led.plot(i, i)",
+        ..ANYWHERE
+    },
+    Row {
+        before: &[Text],
+        at: &[Name],
+        inside: Bracket(b'('),
+        sentence: "Texts aren't joined: a call takes one text.",
+        example: "serial.writeString(\"x = \"); serial.writeNumber(x)",
+        ..ANYWHERE
+    },
+    Row {
+        line: &[Is("let")],
+        before: &[Number, Is(",")],
+        at: &[Number],
+        sentence: "A number is whole, so there is none with a comma: count in tenths.",
+        example: "let tenths = 35",
+        ..ANYWHERE
+    },
+    Row {
+        before: &[Number],
+        at: &[Is("if")],
+        sentence: "A choice of two values is written with `?` and `:`.",
+        example: "let a = test ? 5 : 6",
+        ..ANYWHERE
+    },
+    Row {
+        before: &[Number],
+        at: &[Name],
+        sentence: "A statement ends where its line ends, or with `;`; or a sign is missing between these two.",
+        example: "x = 5; y = 6",
+        ..ANYWHERE
+    },
+    Row {
+        before: &[Is(")")],
+        at: &[Is("{")],
+        sentence: "A `{` stands here behind a closed `)`: behind `else` stands no test, and the handler of a call stands within its parentheses.",
+        example: "basic.forever(function () { })",
+        ..ANYWHERE
+    },
+    Row {
+        before: &[Is(")")],
+        at: &[Name],
+        sentence: "A statement ends where its line ends, or with `;`; or a sign is missing between these two.",
+        example: "basic.pause(1); basic.clearScreen()",
+        ..ANYWHERE
+    },
+    Row {
+        before: &[Text],
+        at: &[Name],
+        sentence: "A statement ends where its line ends, or with `;`.",
+        example: "let s = \"a\"; let t = \"b\"",
+        ..ANYWHERE
+    },
+    Row {
+        before: &[Name],
+        at: &[Name],
+        sentence: "Two names stand side by side: a statement ends where its line ends, or with `;`; or a sign is missing between these two.",
+        example: "x = y; y = z",
+        ..ANYWHERE
+    },
+];

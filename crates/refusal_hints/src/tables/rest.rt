@@ -1,0 +1,255 @@
+// Rows: the first that fits is told.
+use around_place::Inside::Bracket;
+use around_place::Test::{Is, Name};
+use around_place::{ANYWHERE, Row};
+
+/// Code 9: names that stand twice.
+pub fn twice() -> &'static [Row] {
+    &TWICE
+}
+
+static TWICE: [Row; 3] = [
+    Row {
+        before: &[Is("let")],
+        at: &[Name],
+        sentence: "The name stands twice: to set it anew leave `let` out.",
+        example: "a = 2",
+        ..ANYWHERE
+    },
+    Row {
+        before: &[Is("const")],
+        at: &[Name],
+        sentence: "The name stands twice, and a `const` is never set anew: give one of them another name.",
+        example: "const second = 2",
+        ..ANYWHERE
+    },
+    Row {
+        before: &[Is("function")],
+        at: &[Name],
+        sentence: "Two functions, or a function and a global, have this name: give one of them another.",
+        example: "function second(): void { }",
+        ..ANYWHERE
+    },
+];
+
+/// Code 10: what a handler can't reach.
+pub fn captured() -> &'static [Row] {
+    &CAPTURED
+}
+
+static CAPTURED: [Row; 2] = [
+    Row {
+        at: &[Is("this")],
+        sentence: "A handler can't use `this` of the method around it: let a global hold the object.",
+        example: "let player = new Player()",
+        ..ANYWHERE
+    },
+    Row {
+        at: &[Name],
+        sentence: "A handler can't use a local of the function around it: make it a global, declared outside.",
+        example: "let n = 0",
+        ..ANYWHERE
+    },
+];
+
+/// Code 12: types that can't be told.
+pub fn untold() -> &'static [Row] {
+    &UNTOLD
+}
+
+static UNTOLD: [Row; 7] = [
+    Row {
+        before: &[Is("let")],
+        at: &[Name, Is("="), Is("["), Is("]")],
+        sentence: "An empty list wants its type.",
+        example: "let a: number[] = []",
+        ..ANYWHERE
+    },
+    Row {
+        before: &[Is("let")],
+        at: &[Name, Is("="), Is("null")],
+        sentence: "What is null at first wants its type.",
+        example: "let p: string = null",
+        ..ANYWHERE
+    },
+    Row {
+        before: &[Is("let")],
+        at: &[Name],
+        sentence: "A name without a value wants its type.",
+        example: "let x: number",
+        ..ANYWHERE
+    },
+    Row {
+        line: &[Is("function")],
+        at: &[Name],
+        inside: Bracket(b'('),
+        sentence: "A parameter wants its type.",
+        example: "function f(n: number): void { }",
+        ..ANYWHERE
+    },
+    Row {
+        at: &[Name],
+        inside: Bracket(b'('),
+        sentence: "A parameter wants its type.",
+        example: "class A { f(n: number): void { } }",
+        ..ANYWHERE
+    },
+    Row {
+        at: &[Name, Is("(")],
+        sentence: "A function that calls itself wants the type of its result.",
+        example: "function f(): number { return f() }",
+        ..ANYWHERE
+    },
+    Row {
+        at: &[Name],
+        sentence: "A name without a value wants its type.",
+        example: "class A { x: number }",
+        ..ANYWHERE
+    },
+];
+
+/// Code 13: functions and handlers.
+pub fn handlers_1() -> &'static [Row] {
+    &HANDLERS_1
+}
+
+static HANDLERS_1: [Row; 8] = [
+    Row {
+        at: &[Is("basic"), Is("."), Is("forever"), Is("("), Is("function")],
+        sentence: "`basic.forever` takes a handler: a function without parameters that gives no value.",
+        example: "basic.forever(function () { })",
+        ..ANYWHERE
+    },
+    Row {
+        at: &[
+            Is("control"),
+            Is("."),
+            Is("inBackground"),
+            Is("("),
+            Is("function"),
+        ],
+        sentence: "`control.inBackground` takes a handler: a function without parameters that gives no value.",
+        example: "control.inBackground(function () { })",
+        ..ANYWHERE
+    },
+    Row {
+        at: &[
+            Is("input"),
+            Is("."),
+            Is("onButtonPressed"),
+            Is("("),
+            Is("Button"),
+            Is("."),
+            Name,
+            Is(","),
+            Is("function"),
+        ],
+        sentence: "`input.onButtonPressed` takes a button and a handler: a function without parameters that gives no value.",
+        example: "input.onButtonPressed(Button.A, function () { })",
+        ..ANYWHERE
+    },
+    Row {
+        at: &[Is("basic"), Is("."), Is("forever"), Is("("), Name, Is("(")],
+        sentence: "A handler is given by its name alone, without parentheses.",
+        example: "basic.forever(f)",
+        ..ANYWHERE
+    },
+    Row {
+        at: &[
+            Is("control"),
+            Is("."),
+            Is("inBackground"),
+            Is("("),
+            Name,
+            Is("("),
+        ],
+        sentence: "A handler is given by its name alone, without parentheses.",
+        example: "control.inBackground(f)",
+        ..ANYWHERE
+    },
+    Row {
+        at: &[
+            Is("input"),
+            Is("."),
+            Is("onButtonPressed"),
+            Is("("),
+            Is("Button"),
+            Is("."),
+            Name,
+            Is(","),
+            Name,
+            Is("("),
+        ],
+        sentence: "A handler is given by its name alone, without parentheses.",
+        example: "input.onButtonPressed(Button.A, f)",
+        ..ANYWHERE
+    },
+    Row {
+        at: &[Is("basic"), Is("."), Is("forever"), Is("(")],
+        sentence: "`basic.forever` takes a handler: a function without parameters that gives no value.",
+        example: "basic.forever(function () { })",
+        ..ANYWHERE
+    },
+    Row {
+        at: &[Is("control"), Is("."), Is("inBackground"), Is("(")],
+        sentence: "`control.inBackground` takes a handler: a function without parameters that gives no value.",
+        example: "control.inBackground(function () { })",
+        ..ANYWHERE
+    },
+];
+
+/// Code 13: functions and handlers, part 2.
+pub fn handlers_2() -> &'static [Row] {
+    &HANDLERS_2
+}
+
+static HANDLERS_2: [Row; 8] = [
+    Row {
+        at: &[Is("input"), Is("."), Is("onButtonPressed"), Is("(")],
+        sentence: "`input.onButtonPressed` takes a button and a handler: a function without parameters that gives no value.",
+        example: "input.onButtonPressed(Button.A, function () { })",
+        ..ANYWHERE
+    },
+    Row {
+        at: &[Is("control"), Is("."), Is("onEvent"), Is("(")],
+        sentence: "`control.onEvent` takes two numbers and a handler: a function without parameters that gives no value.",
+        example: "control.onEvent(50, 1, function () { })",
+        ..ANYWHERE
+    },
+    Row {
+        at: &[Name, Is("."), Name, Is("[")],
+        sentence: "What a call is given stands in `( )`.",
+        example: "basic.pause(100)",
+        ..ANYWHERE
+    },
+    Row {
+        at: &[Name, Is("."), Name, Is("=")],
+        sentence: "A call of the board is no variable: what it is given stands in `( )`.",
+        example: "led.plot(2, 2)",
+        ..ANYWHERE
+    },
+    Row {
+        at: &[Name, Is("."), Name],
+        sentence: "A call has parentheses behind its name, also where it is given nothing.",
+        example: "basic.clearScreen()",
+        ..ANYWHERE
+    },
+    Row {
+        at: &[Is("function")],
+        sentence: "A function without a name stands as a handler in a call alone: write it by its name.",
+        example: "function f(): void { }",
+        ..ANYWHERE
+    },
+    Row {
+        at: &[Is("(")],
+        sentence: "An arrow stands as a handler in a call alone: write a function by its name.",
+        example: "function f(): void { }",
+        ..ANYWHERE
+    },
+    Row {
+        at: &[Name],
+        sentence: "A function is no value: parentheses behind its name call it.",
+        example: "f()",
+        ..ANYWHERE
+    },
+];
