@@ -107,7 +107,7 @@ pub const NOTES: [Note; 50] = [
     Note {
         begins: "refused 3 ",
         ends: "",
-        says: "no token begins there; an unclosed `/*`: take letters from `A` to `z` for names, `\"` for quotes; close the comment by `*/`",
+        says: "no token begins there, or a `/*` isn't closed: take letters from `A` to `z` for names, `\"` for quotes; close the comment by `*/`",
     },
     Note {
         begins: "refused 7 ",
