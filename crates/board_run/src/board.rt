@@ -208,6 +208,7 @@ impl<D: Device> Board<D> {
         ensures settled { OnOk result (IsSettled self.new.engine) }
         ensures whole { OnOk result (IsWhole self.new.engine self.new.instructions) }
         ensures cut { OnErr result (Fails D.log D.faults most self.old.engine self.old.plugs self.new.plugs (K.taken out.old) (K.taken out.new)) }
+        ensures few { self.new.instructions ≤ self.old.instructions + most }
         ensures later { K.faults out.old ≤ K.faults out.new }
         ensures failed { OnErr result (Rose (K.faults out.old) (K.faults out.new)) }
     {
@@ -235,7 +236,7 @@ impl<D: Device> Board<D> {
     ///
     /// The answer is how the run ended; `Budget` exactly where it hasn't ended within the budget. `SinkFault` comes only where the sink's
     /// count of faults rose in this call: then a part of the transcript was written, and the devices are as the run had left them before the
-    /// line that was cut. No memory is taken.
+    /// line that was cut. Whatever the answer, no more instructions were executed and counted than the budget. No memory is taken.
     pub fn run<K: Sink>(&mut self, budget: u32, out: &mut K) -> End
         requires fresh { (image : List ℕ) × (script : EventScript) × IsMounted image script self.old.engine }
         requires counted { self.old.instructions ≡ 0 }
@@ -243,6 +244,7 @@ impl<D: Device> Board<D> {
         requires most { budget ≤ 2147483648 }
         ensures ran { (image : List ℕ) (script : EventScript) (places : List (Option D)) → IsMounted image script self.old.engine → Follows D.log D.faults [] places self.old.plugs
             → Ran D.log D.faults image script budget self.new.engine self.new.instructions (K.taken out.old) (K.taken out.new) (K.faults out.old) (K.faults out.new) places self.new.plugs.places result }
+        ensures counted { self.new.instructions ≤ budget }
         ensures later { K.faults out.old ≤ K.faults out.new }
     {
         self.engine.settle(&mut self.plugs);

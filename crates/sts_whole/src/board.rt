@@ -17,8 +17,8 @@ use tool_io::Sink;
 /// line. How the run ended, and what was counted.
 ///
 /// `Budget` comes exactly where the run hasn't ended within the budget. `SinkFault` comes only where the sink's count of faults rose in this call;
-/// a part of the transcript was taken then, and the devices are as the run had left them before the line that was cut. After `NoMemory` nothing
-/// was written, and the devices are unchanged.
+/// a part of the transcript was taken then, and the devices are as the run had left them before the line that was cut. Whatever the end, no more
+/// instructions were counted than the budget. After `NoMemory` nothing was written, and the devices are unchanged.
 pub fn run_image<K: Sink, D: Device>(
     alloc: Global,
     image: Vec<u8>,
@@ -33,6 +33,7 @@ pub fn run_image<K: Sink, D: Device>(
     requires most { budget ≤ 2147483648 }
     ensures ran { IfOk result (λ r. RunsImage D.log D.faults image.items script budget (K.taken out.old) (K.taken out.new) (K.faults out.old) (K.faults out.new)
         places.old.items places.new.items r.0 r.1) }
+    ensures counted { IfOk result (λ r. r.1.instructions ≤ budget) }
     ensures nothing { OnErr result (Took (K.taken out.old) (K.taken out.new) []) }
     ensures unchanged { OnErr result (places.new.items ≡ places.old.items) }
     ensures later { K.faults out.old ≤ K.faults out.new }

@@ -25,3 +25,6 @@ returns-in_err-advance-clause-cut g c =
     on_err c.from_residual.result
     (fails_then g.D.Device.log g.D.Device.faults c.loop.counter 1 c.args.most c.args.self.now.engine c.loop.self.engine c.args.self.now.plugs c.loop.self.plugs c.advance.new.self.plugs
     (g.K.Sink.taken c.args.out.now) (g.K.Sink.taken c.loop.out) (g.K.Sink.taken c.advance.new.out) c.loop.invariant.0 c.in_err-advance.ensures.cut (omega (arith, c.loop-test.true)))
+
+pub returns-in_err-advance-clause-few : goal.returns-in_err-advance-clause-few
+returns-in_err-advance-clause-few g c = omega (arith, c.advance.ensures.counted, c.loop.invariant.3, c.loop-test.true)
