@@ -38,6 +38,13 @@ impl Flash {
         Ok(Flash { bytes, slots })
     }
 
+    /// The bytes.
+    pub fn bytes(&self) -> &[u8]
+        ensures { result.now ≡ self.now }
+    {
+        self.bytes.as_slice()
+    }
+
     /// The halfword at an address.
     #[inline(always)]
     pub fn half(&self, at: u32) -> u16

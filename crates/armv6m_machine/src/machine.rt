@@ -134,6 +134,13 @@ impl Machine {
         self.memory.set_base(base);
     }
 
+    /// The bytes of the image in flash. Flash past them reads 0xFF.
+    pub fn flash(&self) -> &[u8]
+        ensures { result.now ≡ self.now.memory.flash }
+    {
+        self.memory.flash()
+    }
+
     /// The 1024 words of the stack region.
     pub fn stack(&self) -> &[u32]
         ensures value { result.now ≡ self.now.memory.stack }

@@ -79,6 +79,13 @@ impl MappedMemory {
         })
     }
 
+    /// The bytes of flash.
+    pub fn flash(&self) -> &[u8]
+        ensures { result.now ≡ self.now.flash }
+    {
+        self.flash.bytes()
+    }
+
     /// The halfword of flash at an address.
     #[inline(always)]
     pub fn flash_half(&self, at: u32) -> u16
