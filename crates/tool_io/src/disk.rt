@@ -11,11 +11,13 @@ use std::rt::Files;
 use std::{fs, io};
 
 /// The files of the operating system, named by their paths. It tells no content. A path that names nothing is
-/// `Missing`; a directory and every other error of the operating system are faults, but for want of memory.
+/// `Missing`; a directory and every other error of the operating system are faults, but for want of memory. Of the last opening of a file it
+/// keeps the error that it met.
 #[derive(Drop)]
 pub struct DiskFolder<R: Files + Drop> {
     rt: R,
     faults: u64,
+    met: Option<ErrorKind>,
 }
 
 impl<R: Files + Drop> DiskFolder<R> {
@@ -23,13 +25,23 @@ impl<R: Files + Drop> DiskFolder<R> {
     pub fn new(rt: R) -> DiskFolder<R>
         ensures { result.faults ≡ 0 }
     {
-        DiskFolder { rt, faults: 0 }
+        DiskFolder {
+            rt,
+            faults: 0,
+            met: None,
+        }
     }
 
-    fn found(&self, alloc: Global, name: &str, limit: usize) -> io::Result<Found>
-        ensures { IfOk result (λ found. IsWithin limit found) }
+    /// What there is of a file, or the error that the operating system told. `Missing` is the answer exactly where opening the file met the error
+    /// that there is none.
+    fn found(&mut self, alloc: Global, name: &str, limit: usize) -> io::Result<Found>
+        ensures within { IfOk result (λ found. IsWithin limit found) }
+        ensures missing { (result ≡ Ok Found.Missing) ↔ (self.new.met ≡ Some ErrorKind.NotFound) }
+        ensures faults { self.new.faults ≡ self.old.faults }
     {
-        match unless_missing(fs::File::open(&self.rt, name))? {
+        let opened = fs::File::open(&self.rt, name);
+        self.met = error_met(&opened);
+        match unless_missing(opened)? {
             Some(file) => read_up_to(alloc, file, limit),
             None => Ok(Found::Missing),
         }
@@ -41,6 +53,7 @@ impl<R: Files + Drop> DiskFolder<R> {
         ensures counted { result ≡ FetchFault.Failed → Rose self.old.faults self.new.faults }
         ensures uncounted { result ≡ FetchFault.NoMemory → self.new.faults ≡ self.old.faults }
         ensures later { self.old.faults ≤ self.new.faults }
+        ensures met { self.new.met ≡ self.old.met }
     {
         if error.kind() == ErrorKind::OutOfMemory {
             return FetchFault::NoMemory;
@@ -55,11 +68,27 @@ impl<R: Files + Drop> Folder for DiskFolder<R> {
 
     ghost faults = { λ folder. folder.faults };
 
-    fn fetch(&mut self, alloc: Global, name: &str, limit: usize) -> Result<Found, FetchFault> {
+    fn fetch(&mut self, alloc: Global, name: &str, limit: usize) -> Result<Found, FetchFault>
+        ensures within { IfOk result (λ found. IsWithin limit found) }
+        ensures missing { (result ≡ Ok Found.Missing) ↔ (self.new.met ≡ Some ErrorKind.NotFound) }
+        ensures later { self.old.faults ≤ self.new.faults }
+        ensures failed { IsErrOf result FetchFault.Failed → Rose self.old.faults self.new.faults }
+        ensures uncounted { IfOk result (λ found. self.new.faults ≡ self.old.faults) }
+    {
         match self.found(alloc, name, limit) {
             Ok(found) => Ok(found),
             Err(error) => Err(self.failed(&error)),
         }
+    }
+}
+
+/// The error that an opening met, if it met one.
+fn error_met<T>(opened: &io::Result<T>) -> Option<ErrorKind>
+    ensures { MatchResult opened.now (λ it. result ≡ None) (λ error. result ≡ Some (error_kind error)) }
+{
+    match opened {
+        Ok(_) => None,
+        Err(error) => Some(error.kind()),
     }
 }
 
@@ -80,6 +109,7 @@ fn unless_missing<T>(opened: io::Result<T>) -> io::Result<Option<T>>
 pub fn read_up_to<F: Read + Drop>(alloc: Global, file: F, limit: usize) -> io::Result<Found>
     ensures content { IfOk result (λ found. IfSome (F.remaining file) (λ left. IsFetched (Some left) limit found)) }
     ensures within { IfOk result (λ found. IsWithin limit found) }
+    ensures there { result ≢ Ok Found.Missing }
     ensures retried { IfErr result (λ error. error_kind error ≢ ErrorKind.Interrupted) }
 {
     let mut whole = Vec::new(alloc);
