@@ -2,13 +2,14 @@
 use Rattle.std.proofs.Common.{◌≡◌, ◌≢◌, ◌<◌, ◌≤◌, ℕ, inl, inr, List, [], ◌∷◌, ◌++◌, Bool, true, false, refl, sym, ap, subst, ◌∙◌, append_assoc, append-nil, arith, eqb, ◌||◌, cond}
 use Rattle.std.specs.Prelude.{Option, Some, None}
 use Rattle.std.proofs.lemmas.List.{flat_map_more}
+use Rattle.std.proofs.lemmas.Grind.{flat_map-append}
 use Rattle.std.proofs.lemmas.List.Folds.{list_any-append}
 use Rattle.std.proofs.lemmas.Bool.Decides.{Decides-eqb}
 use Rattle.std.proofs.Math.Bool.{or-false, or-true}
 use Rattle.sts_base.specs.Faults.{Rose}
-use Rattle.board_ports.specs.Logs.{Logs}
-use Rattle.board_ports.specs.Plugged.{Plugged, device_at, mark_at, OthersStay, Written, Failed, Sends, SendsAt, Settles, SettlesAt, SettledAt}
-use Rattle.board_ports.specs.History.{PortMove, Word, Unplug, entries_of, unplugs, entries_at, unplugged_at, Served, PlaceAfter, PlacesAfter, Taking, PlaceFollows, Follows}
+use Rattle.board_ports.specs.Logs.{Logs, LogsFirst, at_moment}
+use Rattle.board_ports.specs.Plugged.{Plugged, device_at, mark_at, OthersStay, Written, Failed, Sends, SendsAt, SendsAll, SendsAllAt, Settles, SettlesAt, SettledAt}
+use Rattle.board_ports.specs.History.{PortMove, Word, Unplug, words_at, entries_of, unplugs, entries_at, unplugged_at, Served, PlaceAfter, PlacesAfter, Taking, PlaceFollows, Follows}
 use Rattle.board_ports.specs.declared.sent.Sent.{Sent}
 use Rattle.board_ports.specs.declared.sent.Sent.TheVariants.{Went, Nobody, Lost}
 
@@ -43,7 +44,7 @@ module _ {B : Type 0} (log : B → Option (List (ℕ × ℕ))) (faults : B → �
         given = entries ++ entry ∷ [];
         in_order = ([], append-nil (entries ++ entry ∷ []));
         logged = logs_then (log old) (log mid) (log new) entries (entry ∷ []) (subst (λ g. Logs (log old) (log mid) g) whole t.logged) w.logged;
-        later = omega (arith, t.later, w.later);
+        later = omega (arith, t.later, w.kept);
         unmarked = λ _. refl;
         marked = λ e. absurd (cc);
       }
@@ -60,36 +61,74 @@ module _ {B : Type 0} (log : B → Option (List (ℕ × ℕ))) (faults : B → �
       }
 
   -- a word more is sent to a place
-  place_sent : (entries : List (ℕ × ℕ)) (entry : ℕ × ℕ) (u : Bool) (old mid : Option B) (mark : Bool) (new : Option B) (mark' : Bool) (sent : Sent)
-      → PlaceFollows log faults entries u mark old mid → Sends log faults entry mid mark new mark' sent → PlaceFollows log faults (entries ++ entry ∷ []) u mark' old new
-  place_sent entries entry u None mid mark new mark' Nobody k s = s.1 ∙ k
-  place_sent entries entry u None None mark new mark' Went k s = absurd s
-  place_sent entries entry u None None mark new mark' Lost k s = absurd s
-  place_sent entries entry u None (Some mid) mark new mark' Went k s = none_is_not_some mid (sym k)
-  place_sent entries entry u None (Some mid) mark new mark' Lost k s = none_is_not_some mid (sym k)
-  place_sent entries entry u (Some old) None mark new mark' Went k s = absurd s
-  place_sent entries entry u (Some old) None mark new mark' Lost k s = absurd s
-  place_sent entries entry u (Some old) None mark None mark' Nobody k s = k
-  place_sent entries entry u (Some old) None mark (Some new) mark' Nobody k s = none_is_not_some new (sym s.1)
-  place_sent entries entry u (Some old) (Some mid) mark None mark' Nobody k s = none_is_not_some mid s.1
-  place_sent entries entry u (Some old) (Some mid) false (Some new) mark' Nobody k s =
+  place_sent : (writes : B → ℕ) (entries : List (ℕ × ℕ)) (entry : ℕ × ℕ) (u : Bool) (old mid : Option B) (mark : Bool) (new : Option B) (mark' : Bool) (sent : Sent)
+      → PlaceFollows log faults entries u mark old mid → Sends log faults writes entry mid mark new mark' sent → PlaceFollows log faults (entries ++ entry ∷ []) u mark' old new
+  place_sent writes entries entry u None mid mark new mark' Nobody k s = s.1 ∙ k
+  place_sent writes entries entry u None None mark new mark' Went k s = absurd s
+  place_sent writes entries entry u None None mark new mark' Lost k s = absurd s
+  place_sent writes entries entry u None (Some mid) mark new mark' Went k s = none_is_not_some mid (sym k)
+  place_sent writes entries entry u None (Some mid) mark new mark' Lost k s = none_is_not_some mid (sym k)
+  place_sent writes entries entry u (Some old) None mark new mark' Went k s = absurd s
+  place_sent writes entries entry u (Some old) None mark new mark' Lost k s = absurd s
+  place_sent writes entries entry u (Some old) None mark None mark' Nobody k s = k
+  place_sent writes entries entry u (Some old) None mark (Some new) mark' Nobody k s = none_is_not_some new (sym s.1)
+  place_sent writes entries entry u (Some old) (Some mid) mark None mark' Nobody k s = none_is_not_some mid s.1
+  place_sent writes entries entry u (Some old) (Some mid) false (Some new) mark' Nobody k s =
       elim s.0 [ inl h ↦ none_is_not_some mid (sym h) | inr h ↦ absurd (cc) ]
-  place_sent entries entry u (Some old) (Some mid) true (Some new) mark' Nobody k s =
+  place_sent writes entries entry u (Some old) (Some mid) true (Some new) mark' Nobody k s =
       subst (λ m. PlaceFollows log faults (entries ++ entry ∷ []) u m (Some old) (Some new)) (sym s.2)
       (subst (λ n. PlaceFollows log faults (entries ++ entry ∷ []) u true (Some old) n) (sym s.1)
       (k.0, taking_marked entries (entry ∷ []) old mid k.1))
-  place_sent entries entry u (Some old) (Some mid) false (Some new) mark' Went k s =
+  place_sent writes entries entry u (Some old) (Some mid) false (Some new) mark' Went k s =
       subst (λ m. PlaceFollows log faults (entries ++ entry ∷ []) u m (Some old) (Some new)) (sym s.0)
       (k.0, taking_went entries entry old mid new k.1 s.1)
-  place_sent entries entry u (Some old) (Some mid) false (Some new) mark' Lost k s =
+  place_sent writes entries entry u (Some old) (Some mid) false (Some new) mark' Lost k s =
       subst (λ m. PlaceFollows log faults (entries ++ entry ∷ []) u m (Some old) (Some new)) (sym s.0)
       (k.0, taking_lost entries entry old mid new k.1 s.1)
-  place_sent entries entry u (Some old) (Some mid) true (Some new) mark' Went k s = absurd s
-  place_sent entries entry u (Some old) (Some mid) true (Some new) mark' Lost k s = absurd s
-  place_sent entries entry u (Some old) (Some mid) false None mark' Went k s = absurd s
-  place_sent entries entry u (Some old) (Some mid) false None mark' Lost k s = absurd s
-  place_sent entries entry u (Some old) (Some mid) true None mark' Went k s = absurd s
-  place_sent entries entry u (Some old) (Some mid) true None mark' Lost k s = absurd s
+  place_sent writes entries entry u (Some old) (Some mid) true (Some new) mark' Went k s = absurd s
+  place_sent writes entries entry u (Some old) (Some mid) true (Some new) mark' Lost k s = absurd s
+  place_sent writes entries entry u (Some old) (Some mid) false None mark' Went k s = absurd s
+  place_sent writes entries entry u (Some old) (Some mid) false None mark' Lost k s = absurd s
+  place_sent writes entries entry u (Some old) (Some mid) true None mark' Went k s = absurd s
+  place_sent writes entries entry u (Some old) (Some mid) true None mark' Lost k s = absurd s
+
+  taking_all : (entries more : List (ℕ × ℕ)) (old mid new : B) → Taking log faults entries false old mid → Logs (log mid) (log new) more → faults new ≡ faults mid → Taking log faults (entries ++ more) false old new
+  taking_all entries more old mid new t logged kept =
+      record {
+        given = entries ++ more;
+        in_order = ([], append-nil (entries ++ more));
+        logged = logs_then (log old) (log mid) (log new) entries more (subst (λ g. Logs (log old) (log mid) g) (t.unmarked refl) t.logged) logged;
+        later = omega (arith, t.later, kept);
+        unmarked = λ _. refl;
+        marked = λ e. absurd (cc);
+      }
+
+  taking_first : (entries more : List (ℕ × ℕ)) (old mid new : B) → Taking log faults entries false old mid → LogsFirst (log mid) (log new) more → faults mid ≤ faults new → Rose (faults mid) (faults new)
+      → Taking log faults (entries ++ more) true old new
+  taking_first entries more old mid new t f later rose =
+      record {
+        given = entries ++ f.given;
+        in_order = (f.in_order.0, append_assoc entries f.given f.in_order.0 ∙ ap (λ x. entries ++ x) f.in_order.1);
+        logged = logs_then (log old) (log mid) (log new) entries f.given (subst (λ g. Logs (log old) (log mid) g) (t.unmarked refl) t.logged) f.logged;
+        later = omega (arith, t.later, later);
+        unmarked = λ e. absurd (cc);
+        marked = λ _. rose_before (faults old) (faults mid) (faults new) t.later rose;
+      }
+
+  -- entries more are sent to a place
+  place_sent_all : (writes : B → ℕ) (entries more : List (ℕ × ℕ)) (u : Bool) (old mid : Option B) (mark : Bool) (new : Option B) (mark' : Bool)
+      → PlaceFollows log faults entries u mark old mid → SendsAll log faults writes more mid mark new mark' → PlaceFollows log faults (entries ++ more) u mark' old new
+  place_sent_all writes entries more u None None mark new mark' k s = s.0
+  place_sent_all writes entries more u None (Some mid) mark new mark' k s = none_is_not_some mid (sym k)
+  place_sent_all writes entries more u (Some old) None mark new mark' k s =
+      subst (λ n. PlaceFollows log faults (entries ++ more) u mark' (Some old) n) (sym s.0) k
+  place_sent_all writes entries more u (Some old) (Some mid) true new mark' k s =
+      subst (λ m. PlaceFollows log faults (entries ++ more) u m (Some old) new) (sym s.1)
+      (subst (λ n. PlaceFollows log faults (entries ++ more) u true (Some old) n) (sym s.0)
+      (k.0, taking_marked entries more old mid k.1))
+  place_sent_all writes entries more u (Some old) (Some mid) false (Some new) false k s = (k.0, taking_all entries more old mid new k.1 s.0 s.1)
+  place_sent_all writes entries more u (Some old) (Some mid) false (Some new) true k s = (k.0, taking_first entries more old mid new k.1 s.0 s.1 s.2)
+  place_sent_all writes entries more u (Some old) (Some mid) false None mark' k s = absurd s
 
   taking_settled : (entries : List (ℕ × ℕ)) (old mid new : B) → Taking log faults entries false old mid → log new ≡ log mid → faults mid ≤ faults new → Taking log faults entries false old new
   taking_settled entries old mid new t same h =
@@ -155,6 +194,34 @@ entries_there moves port at word k h =
     ∙ ap (λ b. entries_at moves k ++ cond b ((at, word) ∷ []) []) (apart port k h (eqb port k) refl)
     ∙ append-nil (entries_at moves k)
 
+-- what a word for each byte adds
+bytes_here : (port now : ℕ) (bytes : List ℕ) → entries_at (words_at port now bytes) port ≡ at_moment now bytes
+bytes_here port now [] = refl
+bytes_here port now (b ∷ bytes) =
+    ap (λ t. cond t ((now, b) ∷ []) [] ++ entries_at (words_at port now bytes) port) ((Decides-eqb port port).1 refl)
+    ∙ ap (λ l. (now, b) ∷ l) (bytes_here port now bytes)
+
+bytes_there : (port now k : ℕ) → k ≢ port → (bytes : List ℕ) → entries_at (words_at port now bytes) k ≡ []
+bytes_there port now k h [] = refl
+bytes_there port now k h (b ∷ bytes) =
+    ap (λ t. cond t ((now, b) ∷ []) [] ++ entries_at (words_at port now bytes) k) (apart port k h (eqb port k) refl) ∙ bytes_there port now k h bytes
+
+bytes_unplug_none : (port now k : ℕ) (bytes : List ℕ) → unplugged_at (words_at port now bytes) k ≡ false
+bytes_unplug_none port now k [] = refl
+bytes_unplug_none port now k (b ∷ bytes) = bytes_unplug_none port now k bytes
+
+entries_of_bytes : (moves : List PortMove) (port now : ℕ) (bytes : List ℕ) → entries_at (moves ++ words_at port now bytes) port ≡ entries_at moves port ++ at_moment now bytes
+entries_of_bytes moves port now bytes =
+    flat_map-append (entries_of port) moves (words_at port now bytes) ∙ ap (λ l. entries_at moves port ++ l) (bytes_here port now bytes)
+
+entries_beside_bytes : (moves : List PortMove) (port now : ℕ) (bytes : List ℕ) (k : ℕ) → k ≢ port → entries_at (moves ++ words_at port now bytes) k ≡ entries_at moves k
+entries_beside_bytes moves port now bytes k h =
+    flat_map-append (entries_of k) moves (words_at port now bytes) ∙ ap (λ l. entries_at moves k ++ l) (bytes_there port now k h bytes) ∙ append-nil (entries_at moves k)
+
+unplugged_by_bytes : (moves : List PortMove) (port now : ℕ) (bytes : List ℕ) (k : ℕ) → unplugged_at (moves ++ words_at port now bytes) k ≡ unplugged_at moves k
+unplugged_by_bytes moves port now bytes k =
+    list_any-append (unplugs k) moves (words_at port now bytes) ∙ ap (λ b. unplugged_at moves k || b) (bytes_unplug_none port now k bytes) ∙ or-false (unplugged_at moves k)
+
 unplugged_by_word : (moves : List PortMove) (port at word k : ℕ) → unplugged_at (moves ++ Word port at word ∷ []) k ≡ unplugged_at moves k
 unplugged_by_word moves port at word k = unplugged_more moves (Word port at word) k ∙ or-false (unplugged_at moves k)
 
@@ -191,18 +258,33 @@ module _ {B : Type 0} (log : B → Option (List (ℕ × ℕ))) (faults : B → �
       (subst (λ x. PlaceFollows log faults es u m old x) (sym h) k)))
 
   -- a word more was sent
-  pub follows_word : (moves : List PortMove) (start : List (Option B)) (old new : Plugged B) (port at word : ℕ) (sent : Sent)
-      → port < 4 → SendsAt log faults (at, word) port old new sent → OthersStay port old new → Follows log faults moves start old
+  pub follows_word : (writes : B → ℕ) (moves : List PortMove) (start : List (Option B)) (old new : Plugged B) (port at word : ℕ) (sent : Sent)
+      → port < 4 → SendsAt log faults writes (at, word) port old new sent → OthersStay port old new → Follows log faults moves start old
       → Follows log faults (moves ++ Word port at word ∷ []) start new
-  follows_word moves start old new port at word sent small s others f =
+  follows_word writes moves start old new port at word sent small s others f =
       let more = moves ++ Word port at word ∷ [] in
       record {
         same_length = others.same_length ∙ f.same_length;
         above = λ k h. others.places k (λ e. absurd (omega arith)) ∙ f.above k h;
         ports = by_port (λ k. k < 4 → PlaceFollows log faults (entries_at more k) (unplugged_at more k) (mark_at new.marks k) (device_at start k) (device_at new.places k)) port
             (λ h. place_as _ _ _ _ _ _ _ _ _ (entries_here moves port at word) (unplugged_by_word moves port at word port) refl refl
-            (place_sent log faults (entries_at moves port) (at, word) (unplugged_at moves port) (device_at start port) (device_at old.places port) (mark_at old.marks port) (device_at new.places port) (mark_at new.marks port) sent (f.ports port h) s))
+            (place_sent log faults writes (entries_at moves port) (at, word) (unplugged_at moves port) (device_at start port) (device_at old.places port) (mark_at old.marks port) (device_at new.places port) (mark_at new.marks port) sent (f.ports port h) s))
             (λ k apart h. place_as _ _ _ _ _ _ _ _ _ (entries_there moves port at word k apart) (unplugged_by_word moves port at word k) (others.marks k apart) (others.places k apart) (f.ports k h));
+      }
+
+  -- a word for each byte was sent
+  pub follows_bytes : (writes : B → ℕ) (moves : List PortMove) (start : List (Option B)) (old new : Plugged B) (port now : ℕ) (bytes : List ℕ)
+      → port < 4 → SendsAllAt log faults writes (at_moment now bytes) port old new → OthersStay port old new → Follows log faults moves start old
+      → Follows log faults (moves ++ words_at port now bytes) start new
+  follows_bytes writes moves start old new port now bytes small s others f =
+      let more = moves ++ words_at port now bytes in
+      record {
+        same_length = others.same_length ∙ f.same_length;
+        above = λ k h. others.places k (λ e. absurd (omega arith)) ∙ f.above k h;
+        ports = by_port (λ k. k < 4 → PlaceFollows log faults (entries_at more k) (unplugged_at more k) (mark_at new.marks k) (device_at start k) (device_at new.places k)) port
+            (λ h. place_as _ _ _ _ _ _ _ _ _ (entries_of_bytes moves port now bytes) (unplugged_by_bytes moves port now bytes port) refl refl
+            (place_sent_all log faults writes (entries_at moves port) (at_moment now bytes) (unplugged_at moves port) (device_at start port) (device_at old.places port) (mark_at old.marks port) (device_at new.places port) (mark_at new.marks port) (f.ports port h) s))
+            (λ k apart h. place_as _ _ _ _ _ _ _ _ _ (entries_beside_bytes moves port now bytes k apart) (unplugged_by_bytes moves port now bytes k) (others.marks k apart) (others.places k apart) (f.ports k h));
       }
 
   -- a port's device has settled

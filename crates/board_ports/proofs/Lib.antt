@@ -1,2 +1,3 @@
 pub mod Laws
 mod History
+mod Writes

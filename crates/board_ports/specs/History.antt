@@ -1,5 +1,5 @@
 -- What a run's words and unplugs have made of the devices that were plugged in when it began.
-use Rattle.std.specs.Prelude.{◌≡◌, ◌<◌, ◌≤◌, ◌==◌, ◌∷◌, [], ◌⊎◌, ℕ, List, length, Bool, true, false, if◌then◌else◌, Option, Some, None, flat_map}
+use Rattle.std.specs.Prelude.{◌≡◌, ◌<◌, ◌≤◌, ◌==◌, ◌∷◌, [], ◌⊎◌, ℕ, List, length, Bool, true, false, if◌then◌else◌, Option, Some, None, flat_map, map}
 use Rattle.std.specs.List.{list_any}
 use Rattle.sts_base.specs.Faults.{Rose}
 use Rattle.sts_base.specs.Prefix.{IsPrefix}
@@ -10,6 +10,10 @@ use Rattle.board_ports.specs.Plugged.{Plugged, device_at, mark_at}
 pub data PortMove : Type 0 where
   Word : (port at word : ℕ) → PortMove
   Unplug : (port : ℕ) → PortMove
+
+-- a word for each byte, all at a moment
+abbrev pub words_at : ℕ → ℕ → List ℕ → List PortMove
+words_at port now bytes = map (λ byte. Word port now byte) bytes
 
 -- the moments and words that a move sends to a port
 abbrev pub entries_of : ℕ → PortMove → List (ℕ × ℕ)

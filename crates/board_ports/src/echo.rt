@@ -1,9 +1,10 @@
 // A device that writes its words to a stream, as raw bytes.
-ghost use Rattle.std.specs.Prelude.{◌≡◌, ◌≤◌, ◌∷◌, [], ◌↔◌, ◌%◌, None, true, IsOk, OnOk, OnErr};
+ghost use Rattle.std.specs.Prelude.{◌≡◌, ◌≤◌, ◌∷◌, [], ◌↔◌, ◌%◌, None, true, IsOk, OnOk, OnErr, length};
 ghost use Rattle.std.specs.Bool.{OnTrue, OnFalse};
 ghost use Rattle.std.specs.Io.KnownBytes.{Appends, Keeps, append_known};
 ghost use Rattle.sts_base.specs.Faults.{Rose};
-ghost use Rattle.board_ports.specs.Counts.{one_more};
+ghost use Rattle.board_ports.specs.Counts.{one_more, some_more};
+ghost use Rattle.buffered_stream.specs.Pieces.{AppendsFront};
 
 use crate::Device;
 use buffered_stream::BufferedStream;
@@ -17,6 +18,7 @@ use std::io::Write;
 pub struct EchoDevice<W: Write + Drop> {
     stream: BufferedStream<W>,
     faults: u64,
+    writes: u64,
 }
 
 impl<W: Write + Drop> EchoDevice<W> {
@@ -25,10 +27,12 @@ impl<W: Write + Drop> EchoDevice<W> {
         ensures writer { result.stream.writer ≡ writer }
         ensures nothing { result.stream.held.items ≡ [] }
         ensures faults { result.faults ≡ 0 }
+        ensures writes { result.writes ≡ 0 }
     {
         EchoDevice {
             stream: BufferedStream::new(writer),
             faults: 0,
+            writes: 0,
         }
     }
 
@@ -39,6 +43,7 @@ impl<W: Write + Drop> EchoDevice<W> {
         ensures uncounted { OnOk done (self.new.faults ≡ self.old.faults) }
         ensures counted { OnErr done (self.new.faults ≡ one_more self.old.faults) }
         ensures stream { self.new.stream ≡ self.old.stream }
+        ensures writes { self.new.writes ≡ self.old.writes }
     {
         match done {
             Ok(()) => true,
@@ -54,6 +59,8 @@ impl<W: Write + Drop> Device for EchoDevice<W> {
     ghost log = { λ device. None };
 
     ghost faults = { λ device. device.faults };
+
+    ghost writes = { λ device. device.writes };
 
     ghost settled = { λ device. device.stream.held.items ≡ [] };
 
@@ -72,8 +79,27 @@ impl<W: Write + Drop> Device for EchoDevice<W> {
             (append_known (W.contents self.new.stream.writer) self.new.stream.held.items)) }
         ensures uncounted { OnTrue result (self.new.faults ≡ self.old.faults) }
         ensures counted { OnFalse result (self.new.faults ≡ one_more self.old.faults) }
+        ensures once { self.new.writes ≡ one_more self.old.writes }
     {
+        self.writes = self.writes.saturating_add(1);
         let appended = self.stream.append(&[(word % 256) as u8]);
+        self.went(appended)
+    }
+
+    fn write_bytes(&mut self, _now: u32, bytes: &[u8]) -> bool
+        ensures later { self.old.faults ≤ self.new.faults }
+        ensures failed { OnFalse result (Rose self.old.faults self.new.faults) }
+        ensures written { OnTrue result (Appends (append_known (W.contents self.old.stream.writer) self.old.stream.held.items)
+            (append_known (W.contents self.new.stream.writer) self.new.stream.held.items) bytes.now) }
+        ensures front { OnFalse result (AppendsFront (append_known (W.contents self.old.stream.writer) self.old.stream.held.items)
+            (append_known (W.contents self.new.stream.writer) self.new.stream.held.items) bytes.now) }
+        ensures uncounted { OnTrue result (self.new.faults ≡ self.old.faults) }
+        ensures counted { OnFalse result (self.new.faults ≡ one_more self.old.faults) }
+        ensures once { self.new.writes ≡ some_more (length bytes.now) self.old.writes }
+    {
+        let before = self.writes;
+        self.writes = before.saturating_add(bytes.len() as u64);
+        let appended = self.stream.append(bytes);
         self.went(appended)
     }
 
@@ -81,6 +107,7 @@ impl<W: Write + Drop> Device for EchoDevice<W> {
         ensures settled { OnTrue result (self.new.stream.held.items ≡ []) }
         ensures stays { Keeps (append_known (W.contents self.old.stream.writer) self.old.stream.held.items)
             (append_known (W.contents self.new.stream.writer) self.new.stream.held.items) }
+        ensures unwritten { self.new.writes ≡ self.old.writes }
         ensures later { self.old.faults ≤ self.new.faults }
         ensures failed { OnFalse result (Rose self.old.faults self.new.faults) }
         ensures uncounted { OnTrue result (self.new.faults ≡ self.old.faults) }

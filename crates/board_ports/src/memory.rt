@@ -50,6 +50,8 @@ impl Device for MemoryDevice {
 
     ghost faults = { λ device. device.faults };
 
+    ghost writes = { λ device. device.calls };
+
     fn logged(&self, at: usize) -> Option<(u32, u32)>
         ensures { result ≡ slice_get self.now.log.items at }
     {

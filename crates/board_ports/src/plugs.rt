@@ -1,7 +1,8 @@
 // Devices in their places, and a mark for each port whose device has failed.
 ghost use Rattle.std.specs.Prelude.{◌≡◌, ◌<◌, ◌∷◌, ◌++◌, [], ◌↔◌, ◌⊎◌, List, ℕ, None, true, false};
 ghost use Rattle.std.specs.declared.option.Option.{Option};
-ghost use Rattle.board_ports.specs.Plugged.{Sends, Settles};
+ghost use Rattle.board_ports.specs.Logs.{at_moment};
+ghost use Rattle.board_ports.specs.Plugged.{Sends, SendsAll, Settles};
 
 use crate::{Device, Sent};
 use std::marker::Model;
@@ -26,7 +27,7 @@ impl<D> Model for Plugs<D> {
 
 /// Sends a word to the device in a place, unless the place's mark stands.
 fn deliver<D: Device>(place: &mut Option<D>, mark: &mut bool, now: u32, word: u32) -> Sent
-    ensures { Sends D.log D.faults (now, word) place.old mark.old place.new mark.new result }
+    ensures { Sends D.log D.faults D.writes (now, word) place.old mark.old place.new mark.new result }
 {
     if *mark {
         return Sent::Nobody;
@@ -44,6 +45,16 @@ fn deliver<D: Device>(place: &mut Option<D>, mark: &mut bool, now: u32, word: u3
     }
 }
 
+/// Sends bytes to the device in a place, a word for each until one fails, unless the place's mark stands.
+fn deliver_bytes<D: Device>(place: &mut Option<D>, mark: &mut bool, now: u32, bytes: &[u8])
+    ensures { SendsAll D.log D.faults D.writes (at_moment now bytes.now) place.old mark.old place.new mark.new }
+{
+    match place {
+        Some(device) if !*mark => *mark = !device.write_bytes(now, bytes),
+        _ => {}
+    }
+}
+
 /// Lets the device in a place hear that its words have all been sent, unless the place's mark stands.
 fn settle_place<D: Device>(place: &mut Option<D>, mark: &mut bool)
     ensures { Settles D.settled D.log D.faults place.old mark.old place.new mark.new }
@@ -55,8 +66,9 @@ fn settle_place<D: Device>(place: &mut Option<D>, mark: &mut bool)
 }
 
 impl<D: Device> Plugs<D> {
-    ghost use Rattle.board_ports.specs.Plugged.{OthersStay, SendsAt, SettlesAt, SettledAt, device_at, mark_at};
-    ghost use Rattle.board_ports.specs.History.{PortMove, Word, Unplug, Follows, PlacesAfter, entries_at, unplugged_at};
+    ghost use Rattle.board_ports.specs.Logs.{at_moment};
+    ghost use Rattle.board_ports.specs.Plugged.{OthersStay, SendsAt, SendsAllAt, SettlesAt, SettledAt, device_at, mark_at};
+    ghost use Rattle.board_ports.specs.History.{PortMove, Word, Unplug, words_at, Follows, PlacesAfter, entries_at, unplugged_at};
 
     /// These places, and no mark. It is what no move has changed yet.
     pub fn new(places: Vec<Option<D>>) -> Plugs<D>
@@ -86,7 +98,7 @@ impl<D: Device> Plugs<D> {
     /// rose in this call; it stays in its place, and the port is marked. Other ports are untouched.
     pub fn send(&mut self, port: usize, now: u32, word: u32) -> Sent
         requires { port < 4 }
-        ensures sends { SendsAt D.log D.faults (now, word) port self.old self.new result }
+        ensures sends { SendsAt D.log D.faults D.writes (now, word) port self.old self.new result }
         ensures nobody { (result ≡ Sent.Nobody)
             ↔ ((device_at self.old.places port ≡ None) ⊎ (mark_at self.old.marks port ≡ true)) }
         ensures others { OthersStay port self.old self.new }
@@ -98,6 +110,22 @@ impl<D: Device> Plugs<D> {
             return Sent::Nobody;
         }
         deliver(&mut self.places[port], &mut self.marks[port], now, word)
+    }
+
+    /// Sends bytes to the device at a port, at a moment, a word for each, as `send` does one by one: where one fails the port is marked, and those
+    /// behind it are sent to nobody. Other ports are untouched.
+    pub fn send_bytes(&mut self, port: usize, now: u32, bytes: &[u8])
+        requires { port < 4 }
+        ensures sends { SendsAllAt D.log D.faults D.writes (at_moment now bytes.now) port self.old self.new }
+        ensures others { OthersStay port self.old self.new }
+        ensures follows { (moves : List PortMove) (start : List (Option D))
+            → Follows D.log D.faults moves start self.old
+            → Follows D.log D.faults (moves ++ words_at port now bytes.now) start self.new }
+    {
+        if port >= self.places.len() {
+            return;
+        }
+        deliver_bytes(&mut self.places[port], &mut self.marks[port], now, bytes);
     }
 
     /// Lets the device at a port hear that the words of one output have all been sent: it holds none back any more then. If it fails, its count

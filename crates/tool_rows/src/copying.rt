@@ -14,12 +14,17 @@ pub type Copies = Rc<RefCell<Vec<(u32, u32)>>>;
 pub struct CopyingDevice {
     copies: Copies,
     faults: u64,
+    writes: u64,
 }
 
 impl CopyingDevice {
     /// The device, without faults.
     pub fn new(copies: Copies) -> CopyingDevice {
-        CopyingDevice { copies, faults: 0 }
+        CopyingDevice {
+            copies,
+            faults: 0,
+            writes: 0,
+        }
     }
 }
 
@@ -36,11 +41,14 @@ impl Device for CopyingDevice {
 
     ghost faults = { λ device. device.faults };
 
+    ghost writes = { λ device. device.writes };
+
     fn logged(&self, _at: usize) -> Option<(u32, u32)> {
         None
     }
 
     fn write(&mut self, now: u32, word: u32) -> bool {
+        self.writes = self.writes.saturating_add(1);
         if copied(&self.copies, now, word) {
             return true;
         }
