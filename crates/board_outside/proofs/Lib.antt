@@ -3,4 +3,3 @@ mod Texts
 mod Words
 mod Moving
 mod Meeting
-mod Waiting

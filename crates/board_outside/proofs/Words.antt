@@ -1,27 +1,32 @@
 -- Words that were sent, one behind the other.
-use Rattle.std.proofs.Common.{◌≡◌, ℕ, List, [], ◌∷◌, ◌++◌, ◌∙◌, ◌<◌, ◌≤◌, ◌+◌, ap, append_assoc, sym, take, length, refl, get_or, add-one, subst, Option}
-use Rattle.std.proofs.Math.Seq.{take-suc}
-use Rattle.std.proofs.lemmas.List.{take_all, append-nil}
+use Rattle.std.proofs.Common.{◌≡◌, ℕ, List, [], ◌∷◌, ◌++◌, ◌∙◌, ◌≤◌, ◌+◌, ◌-◌, ap, append_assoc, sym, length, refl, subst, Option}
+use Rattle.std.proofs.lemmas.List.{append-nil}
 use Rattle.thumb_code.specs.Map.{flash_byte}
 use Rattle.bank_model.specs.Texts.{flash_bytes}
-use Rattle.board_ports.specs.History.{PortMove, Word, Follows}
+use Rattle.board_ports.specs.History.{PortMove, Word, words_at, Follows}
 use Rattle.board_ports.specs.Plugged.{Plugged}
 use Rattle.board_outside.specs.Ports.{bytes_sent, serial_port}
-use Rattle.board_outside.proofs.Texts.{bytes-one-more}
+use Rattle.board_outside.proofs.Texts.{bytes-one-more, bytes-parts}
 
 bytes_sent-append : (now : ℕ) (xs ys : List ℕ) → bytes_sent now (xs ++ ys) ≡ bytes_sent now xs ++ bytes_sent now ys
 bytes_sent-append now [] ys = refl
 bytes_sent-append now (x ∷ xs) ys = ap (λ l. Word serial_port now x ∷ l) (bytes_sent-append now xs ys)
 
--- one byte more
-pub sent-one-more : (moves : List PortMove) (now : ℕ) (bytes : List ℕ) (i : ℕ) → i < length bytes
-    → (moves ++ bytes_sent now (take i bytes)) ++ Word serial_port now (get_or bytes i 0) ∷ [] ≡ moves ++ bytes_sent now (take (i + 1) bytes)
-sent-one-more moves now bytes i within =
-    append_assoc moves (bytes_sent now (take i bytes)) _
-    ∙ ap (λ x. moves ++ x) (sym (bytes_sent-append now (take i bytes) _) ∙ ap (bytes_sent now) (sym (ap (λ n. take n bytes) (add-one i) ∙ take-suc bytes i 0 within)))
+-- a word for each byte to the serial port
+words-are : (now : ℕ) (bytes : List ℕ) → words_at serial_port now bytes ≡ bytes_sent now bytes
+words-are now [] = refl
+words-are now (b ∷ bytes) = ap (λ l. Word serial_port now b ∷ l) (words-are now bytes)
 
-pub sent-all : (moves : List PortMove) (now : ℕ) (bytes : List ℕ) (i : ℕ) → length bytes ≤ i → moves ++ bytes_sent now (take i bytes) ≡ moves ++ bytes_sent now bytes
-sent-all moves now bytes i past = ap (λ x. moves ++ bytes_sent now x) (take_all i bytes past)
+pub sent-all : (moves : List PortMove) (now : ℕ) (bytes : List ℕ) → moves ++ words_at serial_port now bytes ≡ moves ++ bytes_sent now bytes
+sent-all moves now bytes = ap (λ l. moves ++ l) (words-are now bytes)
+
+-- what the image has of some bytes, and what it hasn't
+pub sent-parts : (moves : List PortMove) (now : ℕ) (flash found : List ℕ) (count at : ℕ) → length found ≤ count → found ≡ flash_bytes flash (length found) at
+    → (moves ++ words_at serial_port now found) ++ bytes_sent now (flash_bytes flash (count - length found) (at + length found)) ≡ moves ++ bytes_sent now (flash_bytes flash count at)
+sent-parts moves now flash found count at h is =
+    append_assoc moves (words_at serial_port now found) _
+    ∙ ap (λ x. moves ++ x) (ap (λ l. l ++ bytes_sent now (flash_bytes flash (count - length found) (at + length found))) (words-are now found)
+    ∙ sym (bytes_sent-append now found _) ∙ ap (bytes_sent now) (bytes-parts flash found count at h is))
 
 -- one byte of flash more
 pub sent-flash-more : (moves : List PortMove) (now : ℕ) (flash : List ℕ) (at i : ℕ)

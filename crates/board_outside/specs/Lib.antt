@@ -2,4 +2,3 @@ pub mod Moves
 pub mod Ports
 pub mod Sights
 pub mod Cuts
-pub mod Waiting

@@ -1,18 +1,14 @@
 // The lines of a transcript.
-ghost use Rattle.std.specs.Prelude.{◌≡◌, ◌<◌, ◌≤◌, ◌^◌, ◌+◌, ◌++◌, ◌∷◌, [], List, ℕ, All, codes, length};
+ghost use Rattle.std.specs.Prelude.{◌≡◌, ◌<◌, ◌≤◌, ◌^◌, ◌+◌, ◌*◌, ◌++◌, ◌∷◌, [], List, ℕ, codes, length, take};
 ghost use Rattle.std.specs.declared.option.Option.{Option};
-ghost use Rattle.arrayvec.specs.ArrayVec.{array_vec_len};
 ghost use Rattle.tool_io.specs.Putting.{Puts};
-ghost use Rattle.board_outside.specs.Waiting.{PutsBut};
 ghost use Rattle.board_world.specs.Observations.{Show, Serial, Pin, Radio, Quietly, By_script, Panicked, Faulted};
-ghost use Rattle.thumb_code.specs.Map.{flash_end};
 ghost use Rattle.armv6m_machine.specs.Answers.{number_of};
 ghost use Rattle.bank_model.specs.Texts.{flash_bytes, text_at};
 ghost use Rattle.board_world.specs.Transcript.{hex_digit, hex_text, lights, frame_text, decimal_text, line, closing_line};
 
-use crate::flash::{flash_byte, flash_number};
+use crate::flash::{flash_byte, flash_number, image_bytes};
 use armv6m_machine::{Fault, Machine, number};
-use arrayvec::ArrayVec;
 use itoa::Buffer;
 use tool_io::{PutFailed, Sink, then_put, then_put_decimal};
 
@@ -28,44 +24,35 @@ fn hex_digit(digit: u8) -> u8
     }
 }
 
-/// So many digits wait at most, until they are put together.
-const DIGITS: usize = 512;
+/// So many bytes are put together at most.
+const TOGETHER: usize = 128;
 
-/// Puts the digits that wait, where there is no room for two more.
-fn then_make_room<K: Sink>(
-    before: Result<(), PutFailed>,
-    out: &mut K,
-    waiting: &mut ArrayVec<u8, DIGITS>,
-) -> Result<(), PutFailed>
-    ensures puts { (taken : Option (List ℕ)) (faults : ℕ) (text : List ℕ)
-        → PutsBut waiting.old.items taken (K.taken out.old) faults (K.faults out.old) text before
-        → PutsBut waiting.new.items taken (K.taken out.new) faults (K.faults out.new) text result }
-    ensures room { array_vec_len waiting.new + 2 ≤ 512 }
+/// Writes the two digits of each byte, from the front on.
+fn write_digits(digits: &mut [u8; 256], bytes: &[u8])
+    requires { length bytes.now ≤ 128 }
+    ensures { take (2 * length bytes.now) digits.new ≡ hex_text bytes.now }
 {
-    if waiting.remaining_capacity() >= 2 {
-        return before;
+    for i in 0..bytes.len() {
+        let byte = bytes[i];
+        digits[2 * i] = hex_digit(byte / 16);
+        digits[2 * i + 1] = hex_digit(byte % 16);
     }
-    let put = then_put(before, out, waiting.as_slice());
-    waiting.truncate(0);
-    put
 }
 
-/// Goes on with a byte as two hexadecimal digits, which wait with the digits before them; where there is no room for them, those before are
-/// put first.
-fn then_hex_byte<K: Sink>(
+/// Puts a few bytes as hexadecimal text, two digits each, in one piece.
+fn then_put_few<K: Sink>(
     before: Result<(), PutFailed>,
     out: &mut K,
-    waiting: &mut ArrayVec<u8, DIGITS>,
-    byte: u8,
+    bytes: &[u8],
 ) -> Result<(), PutFailed>
+    requires { length bytes.now ≤ 128 }
     ensures { (taken : Option (List ℕ)) (faults : ℕ) (text : List ℕ)
-        → PutsBut waiting.old.items taken (K.taken out.old) faults (K.faults out.old) text before
-        → PutsBut waiting.new.items taken (K.taken out.new) faults (K.faults out.new) (text ++ hex_text (byte ∷ [])) result }
+        → Puts taken (K.taken out.old) faults (K.faults out.old) text before
+        → Puts taken (K.taken out.new) faults (K.faults out.new) (text ++ hex_text bytes.now) result }
 {
-    let put = then_make_room(before, out, waiting);
-    waiting.push(hex_digit(byte / 16));
-    waiting.push(hex_digit(byte % 16));
-    put
+    let mut digits = [0; 2 * TOGETHER];
+    write_digits(&mut digits, bytes);
+    then_put(before, out, &digits[..2 * bytes.len()])
 }
 
 /// Puts bytes as hexadecimal text, two digits each.
@@ -78,12 +65,13 @@ fn then_put_hex<K: Sink>(
         → Puts taken (K.taken out.old) faults (K.faults out.old) text before
         → Puts taken (K.taken out.new) faults (K.faults out.new) (text ++ hex_text bytes.now) result }
 {
-    let mut waiting = ArrayVec::new();
     let mut put = before;
-    for byte in bytes {
-        put = then_hex_byte(put, out, &mut waiting, *byte);
+    for i in 0..bytes.len().div_ceil(TOGETHER) {
+        let from = i * TOGETHER;
+        let next = bytes.len().min(from + TOGETHER);
+        put = then_put_few(put, out, &bytes[from..next]);
     }
-    then_put(put, out, waiting.as_slice())
+    put
 }
 
 /// Puts the line of bytes that were written to the serial port at a moment.
@@ -103,7 +91,27 @@ pub fn then_put_serial<K: Sink>(
     then_put(put, out, b"\n")
 }
 
-/// Puts bytes of flash, from an address on, as hexadecimal text.
+/// Puts bytes of flash, from an address on, as hexadecimal text, one by one.
+fn then_put_each_hex<K: Sink>(
+    before: Result<(), PutFailed>,
+    out: &mut K,
+    machine: &Machine,
+    at: u64,
+    count: u32,
+) -> Result<(), PutFailed>
+    requires small { at < 2 ^ 34 }
+    ensures { (taken : Option (List ℕ)) (faults : ℕ) (text : List ℕ)
+        → Puts taken (K.taken out.old) faults (K.faults out.old) text before
+        → Puts taken (K.taken out.new) faults (K.faults out.new) (text ++ hex_text (flash_bytes machine.now.memory.flash count at)) result }
+{
+    let mut put = before;
+    for i in 0..count {
+        put = then_put_few(put, out, &[flash_byte(machine, at + u64::from(i))]);
+    }
+    put
+}
+
+/// Puts bytes of flash, from an address on, as hexadecimal text: those of the image together, and those past it one by one.
 fn then_put_flash_hex<K: Sink>(
     before: Result<(), PutFailed>,
     out: &mut K,
@@ -112,23 +120,19 @@ fn then_put_flash_hex<K: Sink>(
     count: u32,
 ) -> Result<(), PutFailed>
     requires small { at < 2 ^ 33 }
-    requires size { length machine.now.memory.flash ≤ flash_end }
-    requires bytes { All (λ b. b < 256) machine.now.memory.flash }
     ensures { (taken : Option (List ℕ)) (faults : ℕ) (text : List ℕ)
         → Puts taken (K.taken out.old) faults (K.faults out.old) text before
         → Puts taken (K.taken out.new) faults (K.faults out.new) (text ++ hex_text (flash_bytes machine.now.memory.flash count at)) result }
 {
-    let mut waiting = ArrayVec::new();
-    let mut put = before;
-    for i in 0..count {
-        put = then_hex_byte(
-            put,
-            out,
-            &mut waiting,
-            flash_byte(machine, at + u64::from(i)),
-        );
-    }
-    then_put(put, out, waiting.as_slice())
+    let bytes = image_bytes(machine, at, count);
+    let put = then_put_hex(before, out, bytes);
+    then_put_each_hex(
+        put,
+        out,
+        machine,
+        at + bytes.len() as u64,
+        count - bytes.len() as u32,
+    )
 }
 
 /// Puts the line of a text in flash that was written to the serial port at a moment.
@@ -139,8 +143,6 @@ pub fn then_put_text<K: Sink>(
     machine: &Machine,
     address: u32,
 ) -> Result<(), PutFailed>
-    requires size { length machine.now.memory.flash ≤ flash_end }
-    requires bytes { All (λ b. b < 256) machine.now.memory.flash }
     ensures { (taken : Option (List ℕ)) (faults : ℕ) (text : List ℕ)
         → Puts taken (K.taken out.old) faults (K.faults out.old) text before
         → Puts taken (K.taken out.new) faults (K.faults out.new) (text ++ line (Serial at (text_at machine.now.memory.flash address))) result }

@@ -1,14 +1,13 @@
 // The words of what was seen, to the devices at the board's ports.
-ghost use Rattle.std.specs.Prelude.{◌≡◌, ◌<◌, ◌≤◌, ◌+◌, ◌*◌, ◌^◌, ◌++◌, ◌∷◌, [], List, ℕ, All, length};
+ghost use Rattle.std.specs.Prelude.{◌≡◌, ◌<◌, ◌≤◌, ◌+◌, ◌*◌, ◌^◌, ◌++◌, ◌∷◌, [], List, ℕ};
 ghost use Rattle.std.specs.declared.option.Option.{Option};
 ghost use Rattle.std.specs.Int.{cast_unsigned, w32};
-ghost use Rattle.thumb_code.specs.Map.{flash_end};
 ghost use Rattle.bank_model.specs.Texts.{flash_bytes, text_at};
 ghost use Rattle.board_ports.specs.History.{PortMove, Word, Follows};
 ghost use Rattle.board_outside.specs.Ports.{serial_port, bytes_sent};
 ghost use Rattle.board_ports.specs.Plugged.{SettledAt};
 
-use crate::flash::{flash_byte, flash_number};
+use crate::flash::{flash_byte, flash_number, image_bytes};
 use armv6m_machine::Machine;
 use board_ports::{Device, Plugs};
 
@@ -21,25 +20,39 @@ pub fn send_bytes<D: Device>(plugs: &mut Plugs<D>, now: u32, bytes: &[u8])
     ensures sends { (moves : List PortMove) (start : List (Option D)) → Follows D.log D.faults moves start plugs.old
         → Follows D.log D.faults (moves ++ bytes_sent now bytes.now) start plugs.new }
 {
-    for byte in bytes {
-        let _ = plugs.send(SERIAL, now, u32::from(*byte));
-    }
+    plugs.send_bytes(SERIAL, now, bytes);
     plugs.settle(SERIAL);
 }
 
-/// Sends bytes of flash to the serial port, from an address on, and lets the device there settle.
-fn send_flash<D: Device>(plugs: &mut Plugs<D>, now: u32, machine: &Machine, at: u64, count: u32)
-    requires small { at < 2 ^ 33 }
-    requires size { length machine.now.memory.flash ≤ flash_end }
-    requires bytes { All (λ b. b < 256) machine.now.memory.flash }
-    ensures settled { SettledAt D.settled serial_port plugs.new }
-    ensures sends { (moves : List PortMove) (start : List (Option D)) → Follows D.log D.faults moves start plugs.old
+/// Sends bytes of flash to the serial port, from an address on, one by one.
+fn send_each<D: Device>(plugs: &mut Plugs<D>, now: u32, machine: &Machine, at: u64, count: u32)
+    requires small { at < 2 ^ 34 }
+    ensures { (moves : List PortMove) (start : List (Option D)) → Follows D.log D.faults moves start plugs.old
         → Follows D.log D.faults (moves ++ bytes_sent now (flash_bytes machine.now.memory.flash count at)) start plugs.new }
 {
     for i in 0..count {
         let byte = flash_byte(machine, at + u64::from(i));
         let _ = plugs.send(SERIAL, now, u32::from(byte));
     }
+}
+
+/// Sends bytes of flash to the serial port, from an address on: those of the image together, and those past it one by one. Lets the device
+/// there settle.
+fn send_flash<D: Device>(plugs: &mut Plugs<D>, now: u32, machine: &Machine, at: u64, count: u32)
+    requires small { at < 2 ^ 33 }
+    ensures settled { SettledAt D.settled serial_port plugs.new }
+    ensures sends { (moves : List PortMove) (start : List (Option D)) → Follows D.log D.faults moves start plugs.old
+        → Follows D.log D.faults (moves ++ bytes_sent now (flash_bytes machine.now.memory.flash count at)) start plugs.new }
+{
+    let bytes = image_bytes(machine, at, count);
+    plugs.send_bytes(SERIAL, now, bytes);
+    send_each(
+        plugs,
+        now,
+        machine,
+        at + bytes.len() as u64,
+        count - bytes.len() as u32,
+    );
     plugs.settle(SERIAL);
 }
 
@@ -56,8 +69,6 @@ pub fn send_word<D: Device>(plugs: &mut Plugs<D>, port: usize, now: u32, word: u
 
 /// Sends the text at an address of flash to the serial port.
 pub fn send_text<D: Device>(plugs: &mut Plugs<D>, now: u32, machine: &Machine, address: u32)
-    requires size { length machine.now.memory.flash ≤ flash_end }
-    requires bytes { All (λ b. b < 256) machine.now.memory.flash }
     ensures settled { SettledAt D.settled serial_port plugs.new }
     ensures sends { (moves : List PortMove) (start : List (Option D)) → Follows D.log D.faults moves start plugs.old
         → Follows D.log D.faults (moves ++ bytes_sent now (text_at machine.now.memory.flash address)) start plugs.new }

@@ -1,7 +1,6 @@
 // A line, and then its words.
-ghost use Rattle.std.specs.Prelude.{◌≡◌, ◌<◌, ◌≤◌, ◌^◌, ◌++◌, ◌∷◌, [], List, ℕ, All, OnOk, OnErr, length};
+ghost use Rattle.std.specs.Prelude.{◌≡◌, ◌++◌, ◌∷◌, [], List, ℕ, OnOk, OnErr};
 ghost use Rattle.std.specs.declared.option.Option.{Option};
-ghost use Rattle.thumb_code.specs.Map.{flash_end};
 ghost use Rattle.tool_io.specs.Putting.{Puts};
 ghost use Rattle.board_world.specs.Transcript.{decimal_text, lines};
 ghost use Rattle.std.specs.Int.{cast_unsigned, w32};
@@ -44,8 +43,6 @@ fn put_sight<K: Sink>(
     machine: &Machine,
     out: &mut K,
 ) -> Result<(), PutFailed>
-    requires size { length machine.now.memory.flash ≤ flash_end }
-    requires bytes { All (λ b. b < 256) machine.now.memory.flash }
     ensures puts { Puts (K.taken out.old) (K.taken out.new) (K.faults out.old) (K.faults out.new)
         (lines (seen_of (moves_of machine.now.memory.flash now sight))) result }
     ensures seen { OnErr result (IsSeen machine.now.memory.flash now sight) }
@@ -81,8 +78,6 @@ fn send_radio<D: Device>(now: u32, number: i32, plugs: &mut Plugs<D>)
 
 /// Sends the words of what was seen at a moment, and lets the device that they go to settle.
 fn send_sight<D: Device>(sight: Sight, now: u32, machine: &Machine, plugs: &mut Plugs<D>)
-    requires size { length machine.now.memory.flash ≤ flash_end }
-    requires bytes { All (λ b. b < 256) machine.now.memory.flash }
     ensures settled { HasSettled D.settled sight plugs.new }
     ensures sends { (moves : List PortMove) (start : List (Option D)) → Follows D.log D.faults moves start plugs.old
         → Follows D.log D.faults (moves ++ port_moves (moves_of machine.now.memory.flash now sight)) start plugs.new }
@@ -107,8 +102,6 @@ pub fn show<K: Sink, D: Device>(
     out: &mut K,
     plugs: &mut Plugs<D>,
 ) -> Result<(), PutFailed>
-    requires size { length machine.now.memory.flash ≤ flash_end }
-    requires bytes { All (λ b. b < 256) machine.now.memory.flash }
     ensures puts { Puts (K.taken out.old) (K.taken out.new) (K.faults out.old) (K.faults out.new)
         (lines (seen_of (moves_of machine.now.memory.flash now sight))) result }
     ensures sends { OnOk result ((moves : List PortMove) (start : List (Option D)) → Follows D.log D.faults moves start plugs.old

@@ -3,7 +3,7 @@ use Rattle.std.specs.declared.option.Option.{Option}
 use Rattle.bank_model.specs.Texts.{flash_bytes}
 use Rattle.board_ports.specs.History.{PortMove, Follows}
 use Rattle.board_outside.specs.Ports.{bytes_sent}
-use Rattle.board_outside.proofs.sending.send_flash.Given as goal
+use Rattle.board_outside.proofs.sending.send_each.Given as goal
 
 -- the bytes so far have been sent
 abbrev pub invariant-loop-i : goal.invariant-loop-i

@@ -1,24 +1,11 @@
-use Rattle.std.proofs.Common.{rules, ◌≡◌, ap, ◌∷◌, [], ◌++◌, ◌∙◌, ◌+◌, subst}
-use Rattle.thumb_code.specs.Map.{flash_byte}
-use Rattle.bank_model.specs.Texts.{flash_bytes}
-use Rattle.board_ports.specs.History.{Word, Follows}
-use Rattle.board_outside.specs.Ports.{bytes_sent}
-use Rattle.board_outside.proofs.Words.{sent-flash-more, none-sent}
+use Rattle.std.proofs.Common.{subst}
+use Rattle.board_ports.specs.History.{Follows}
+use Rattle.board_outside.proofs.Words.{sent-parts}
 use Rattle.board_outside.proofs.sending.send_flash.Goals as goal
-
-pub loop-i-init : goal.loop-i-init
-loop-i-init g c = λ moves start f. none-sent g.D.Device.log g.D.Device.faults moves start _ f
-
-pub loop-i-preserved : goal.loop-i-preserved
-loop-i-preserved g c = λ moves start f.
-    let flash = c.args.machine.now.memory.flash in
-    subst (λ ms. Follows g.D.Device.log g.D.Device.faults ms start c.send.new.self)
-    (ap (λ b. (moves ++ bytes_sent c.args.now (flash_bytes flash c.loop-i.i c.args.at)) ++ Word 1 c.args.now b ∷ []) (c.from-in-loop-i.ensures ∙ c.flash_byte-byte.ensures ∙ ap (λ k. flash_byte flash (c.args.at + k)) c.from.ensures)
-    ∙ sent-flash-more moves c.args.now flash c.args.at c.loop-i.i)
-    (c.send.ensures.follows _ start (c.loop-i.invariant moves start f))
 
 pub returns-clause-sends : goal.returns-clause-sends
 returns-clause-sends g c = λ moves start f.
-    let same : c.loop-i.i ≡ c.args.count = search rules in
     c.settle.ensures.follows _ start
-    (subst (λ n. Follows g.D.Device.log g.D.Device.faults (moves ++ bytes_sent c.args.now (flash_bytes c.args.machine.now.memory.flash n c.args.at)) start c.loop-i.plugs) same (c.loop-i.invariant moves start f))
+    (subst (λ ms. Follows g.D.Device.log g.D.Device.faults ms start c.send_each.new.plugs)
+    (sent-parts moves c.args.now c.args.machine.now.memory.flash c.image_bytes-bytes.result.now c.args.count c.args.at c.image_bytes-bytes.ensures.within c.image_bytes-bytes.ensures.bytes)
+    (c.send_each.ensures _ start (c.send_bytes.ensures.follows moves start f)))
