@@ -10,7 +10,7 @@ use std::io;
 use std::io::{ErrorKind, Write};
 
 /// So many bytes are held back at most.
-pub const ROOM: usize = 4096;
+pub const ROOM: usize = 32_800;
 
 /// A stream, and the bytes that are for it and not yet written. Whoever owns it says when they are written out; before that they are where
 /// there is no room for more. After an error the bytes that weren't written are still held back, and the next call tries them again.
@@ -101,6 +101,16 @@ fn forget_front(held: &mut ArrayVec<u8, ROOM>, count: usize)
         held.clear();
         return;
     }
+    keep_behind(held, count);
+}
+
+/// Takes so many bytes away from the front, where a writer took no more: in a function of its own, since the room for the others is made at its beginning.
+#[cold]
+#[inline(never)]
+fn keep_behind(held: &mut ArrayVec<u8, ROOM>, count: usize)
+    requires { count ≤ length held.now.items }
+    ensures { held.new.items ≡ drop count held.old.items }
+{
     let mut left = ArrayVec::new();
     match left.try_extend_from_slice(&held.as_slice()[count..]) {
         Ok(()) => *held = left,
