@@ -6,8 +6,6 @@
 mod arena;
 mod arrays;
 mod service;
-#[cfg(test)]
-mod tests;
 mod words;
 
 pub use arena::{Arena, Pushed};

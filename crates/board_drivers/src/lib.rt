@@ -4,8 +4,6 @@
 mod buttons;
 mod display;
 mod font;
-#[cfg(test)]
-mod tests;
 
 pub use buttons::Buttons;
 pub use display::Display;

@@ -4,7 +4,5 @@
 
 mod pool;
 mod record;
-#[cfg(test)]
-mod tests;
 
 pub use pool::Pool;

@@ -5,8 +5,6 @@
 mod meanings;
 mod queues;
 mod search;
-#[cfg(test)]
-mod tests;
 
 pub use meanings::{
     keys_are_chosen_alike, keys_stand_for_activities, moves_are_calls, wakings_add_up,

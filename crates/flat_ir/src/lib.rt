@@ -3,8 +3,6 @@
 
 mod check;
 mod ops;
-#[cfg(test)]
-mod tests;
 
 pub use check::well_formed;
 pub use ops::{FlatClass, FlatCode, Function, Op};

@@ -6,8 +6,6 @@ mod agreement;
 mod bus;
 mod held;
 mod registration;
-#[cfg(test)]
-mod tests;
 mod worked;
 
 pub use agreement::{

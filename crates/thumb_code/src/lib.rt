@@ -11,8 +11,6 @@ mod halfwords;
 mod instructions;
 mod register_file;
 mod services;
-#[cfg(test)]
-mod tests;
 
 pub use decoding::{decode, is_wide};
 pub use encoding::encode;

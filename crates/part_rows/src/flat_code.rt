@@ -1,6 +1,6 @@
 // A small program, and the same with one thing wrong.
 
-use crate::{FlatClass, FlatCode, Function, Op, well_formed};
+use flat_ir::{FlatClass, FlatCode, Function, Op, well_formed};
 use std::alloc::Global;
 use std::test::Fail;
 use sts_base::{NoMemory, Seq};

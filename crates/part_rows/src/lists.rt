@@ -1,7 +1,7 @@
 //! Worked rows: who wakes when, and in which order.
 
-use crate::Queues;
 use board_world::Event;
+use fiber_queues::Queues;
 use std::test::Fail;
 
 #[test]

@@ -1,6 +1,6 @@
 //! Worked rows: clicks, the frame, and the font as text.
 
-use crate::{Buttons, Display, glyph};
+use board_drivers::{Buttons, Display, glyph};
 use board_world::Event;
 use message_bus::Bus;
 use std::alloc::{AllocError, Global};

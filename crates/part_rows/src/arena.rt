@@ -1,4 +1,4 @@
-use crate::{Arena, Pushed};
+use arena_heap::{Arena, Pushed};
 use armv6m_machine::Machine;
 use std::test::Fail;
 

@@ -1,6 +1,6 @@
 //! Worked rows: all records taken, and one given back and taken again.
 
-use crate::Pool;
+use fiber_pool::Pool;
 use std::test::Fail;
 use thumb_code::Registers;
 

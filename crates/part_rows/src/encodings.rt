@@ -2,8 +2,8 @@
 //! cortex-m3, since for cortex-m0 it writes MOV R8, R8 in its place; BL as GNU ld links it).
 ghost use Rattle.thumb_code.specs.Table.{Fits};
 
-use crate::{Half, Instr, decode, encode};
 use std::process::Abort;
+use thumb_code::{Half, Instr, decode, encode};
 
 fn expect(rt: &impl Abort, instr: Instr, want: Half)
     requires { Fits instr }

@@ -2,8 +2,8 @@
 
 ghost use Rattle.std.specs.Prelude.{◌≡◌, pos};
 
-use crate::{Bus, ListenersFull, Raised};
 use board_world::{Event, Listener};
+use message_bus::{Bus, ListenersFull, Raised};
 use std::test::Fail;
 
 /// A listener for every event of source 50.
