@@ -3,7 +3,7 @@ use Rattle.std.proofs.Common.{◌≡◌, ℕ, List, [], ◌∷◌, ◌++◌, ◌
 use Rattle.std.proofs.lemmas.List.{append-nil}
 use Rattle.thumb_code.specs.Map.{flash_byte}
 use Rattle.bank_model.specs.Texts.{flash_bytes}
-use Rattle.board_ports.specs.History.{PortMove, Word, words_at, Follows}
+use Rattle.board_ports.specs.History.{PortMove, Word, words_sent, Follows}
 use Rattle.board_ports.specs.Plugged.{Plugged}
 use Rattle.board_outside.specs.Ports.{bytes_sent, serial_port}
 use Rattle.board_outside.proofs.Texts.{bytes-one-more, bytes-parts}
@@ -13,18 +13,18 @@ bytes_sent-append now [] ys = refl
 bytes_sent-append now (x ∷ xs) ys = ap (λ l. Word serial_port now x ∷ l) (bytes_sent-append now xs ys)
 
 -- a word for each byte to the serial port
-words-are : (now : ℕ) (bytes : List ℕ) → words_at serial_port now bytes ≡ bytes_sent now bytes
+words-are : (now : ℕ) (bytes : List ℕ) → words_sent serial_port now bytes ≡ bytes_sent now bytes
 words-are now [] = refl
 words-are now (b ∷ bytes) = ap (λ l. Word serial_port now b ∷ l) (words-are now bytes)
 
-pub sent-all : (moves : List PortMove) (now : ℕ) (bytes : List ℕ) → moves ++ words_at serial_port now bytes ≡ moves ++ bytes_sent now bytes
+pub sent-all : (moves : List PortMove) (now : ℕ) (bytes : List ℕ) → moves ++ words_sent serial_port now bytes ≡ moves ++ bytes_sent now bytes
 sent-all moves now bytes = ap (λ l. moves ++ l) (words-are now bytes)
 
 -- what the image has of some bytes, and what it hasn't
 pub sent-parts : (moves : List PortMove) (now : ℕ) (flash found : List ℕ) (count at : ℕ) → length found ≤ count → found ≡ flash_bytes flash (length found) at
-    → (moves ++ words_at serial_port now found) ++ bytes_sent now (flash_bytes flash (count - length found) (at + length found)) ≡ moves ++ bytes_sent now (flash_bytes flash count at)
+    → (moves ++ words_sent serial_port now found) ++ bytes_sent now (flash_bytes flash (count - length found) (at + length found)) ≡ moves ++ bytes_sent now (flash_bytes flash count at)
 sent-parts moves now flash found count at h is =
-    append_assoc moves (words_at serial_port now found) _
+    append_assoc moves (words_sent serial_port now found) _
     ∙ ap (λ x. moves ++ x) (ap (λ l. l ++ bytes_sent now (flash_bytes flash (count - length found) (at + length found))) (words-are now found)
     ∙ sym (bytes_sent-append now found _) ∙ ap (bytes_sent now) (bytes-parts flash found count at h is))
 

@@ -9,7 +9,7 @@ use Rattle.std.proofs.Math.Bool.{or-false, or-true}
 use Rattle.sts_base.specs.Faults.{Rose}
 use Rattle.board_ports.specs.Logs.{Logs, LogsFirst, at_moment}
 use Rattle.board_ports.specs.Plugged.{Plugged, device_at, mark_at, OthersStay, Written, Failed, Sends, SendsAt, SendsAll, SendsAllAt, Settles, SettlesAt, SettledAt}
-use Rattle.board_ports.specs.History.{PortMove, Word, Unplug, words_at, entries_of, unplugs, entries_at, unplugged_at, Served, PlaceAfter, PlacesAfter, Taking, PlaceFollows, Follows}
+use Rattle.board_ports.specs.History.{PortMove, Word, Unplug, words_sent, entries_of, unplugs, entries_at, unplugged_at, Served, PlaceAfter, PlacesAfter, Taking, PlaceFollows, Follows}
 use Rattle.board_ports.specs.declared.sent.Sent.{Sent}
 use Rattle.board_ports.specs.declared.sent.Sent.TheVariants.{Went, Nobody, Lost}
 
@@ -195,32 +195,32 @@ entries_there moves port at word k h =
     ∙ append-nil (entries_at moves k)
 
 -- what a word for each byte adds
-bytes_here : (port now : ℕ) (bytes : List ℕ) → entries_at (words_at port now bytes) port ≡ at_moment now bytes
+bytes_here : (port now : ℕ) (bytes : List ℕ) → entries_at (words_sent port now bytes) port ≡ at_moment now bytes
 bytes_here port now [] = refl
 bytes_here port now (b ∷ bytes) =
-    ap (λ t. cond t ((now, b) ∷ []) [] ++ entries_at (words_at port now bytes) port) ((Decides-eqb port port).1 refl)
+    ap (λ t. cond t ((now, b) ∷ []) [] ++ entries_at (words_sent port now bytes) port) ((Decides-eqb port port).1 refl)
     ∙ ap (λ l. (now, b) ∷ l) (bytes_here port now bytes)
 
-bytes_there : (port now k : ℕ) → k ≢ port → (bytes : List ℕ) → entries_at (words_at port now bytes) k ≡ []
+bytes_there : (port now k : ℕ) → k ≢ port → (bytes : List ℕ) → entries_at (words_sent port now bytes) k ≡ []
 bytes_there port now k h [] = refl
 bytes_there port now k h (b ∷ bytes) =
-    ap (λ t. cond t ((now, b) ∷ []) [] ++ entries_at (words_at port now bytes) k) (apart port k h (eqb port k) refl) ∙ bytes_there port now k h bytes
+    ap (λ t. cond t ((now, b) ∷ []) [] ++ entries_at (words_sent port now bytes) k) (apart port k h (eqb port k) refl) ∙ bytes_there port now k h bytes
 
-bytes_unplug_none : (port now k : ℕ) (bytes : List ℕ) → unplugged_at (words_at port now bytes) k ≡ false
+bytes_unplug_none : (port now k : ℕ) (bytes : List ℕ) → unplugged_at (words_sent port now bytes) k ≡ false
 bytes_unplug_none port now k [] = refl
 bytes_unplug_none port now k (b ∷ bytes) = bytes_unplug_none port now k bytes
 
-entries_of_bytes : (moves : List PortMove) (port now : ℕ) (bytes : List ℕ) → entries_at (moves ++ words_at port now bytes) port ≡ entries_at moves port ++ at_moment now bytes
+entries_of_bytes : (moves : List PortMove) (port now : ℕ) (bytes : List ℕ) → entries_at (moves ++ words_sent port now bytes) port ≡ entries_at moves port ++ at_moment now bytes
 entries_of_bytes moves port now bytes =
-    flat_map-append (entries_of port) moves (words_at port now bytes) ∙ ap (λ l. entries_at moves port ++ l) (bytes_here port now bytes)
+    flat_map-append (entries_of port) moves (words_sent port now bytes) ∙ ap (λ l. entries_at moves port ++ l) (bytes_here port now bytes)
 
-entries_beside_bytes : (moves : List PortMove) (port now : ℕ) (bytes : List ℕ) (k : ℕ) → k ≢ port → entries_at (moves ++ words_at port now bytes) k ≡ entries_at moves k
+entries_beside_bytes : (moves : List PortMove) (port now : ℕ) (bytes : List ℕ) (k : ℕ) → k ≢ port → entries_at (moves ++ words_sent port now bytes) k ≡ entries_at moves k
 entries_beside_bytes moves port now bytes k h =
-    flat_map-append (entries_of k) moves (words_at port now bytes) ∙ ap (λ l. entries_at moves k ++ l) (bytes_there port now k h bytes) ∙ append-nil (entries_at moves k)
+    flat_map-append (entries_of k) moves (words_sent port now bytes) ∙ ap (λ l. entries_at moves k ++ l) (bytes_there port now k h bytes) ∙ append-nil (entries_at moves k)
 
-unplugged_by_bytes : (moves : List PortMove) (port now : ℕ) (bytes : List ℕ) (k : ℕ) → unplugged_at (moves ++ words_at port now bytes) k ≡ unplugged_at moves k
+unplugged_by_bytes : (moves : List PortMove) (port now : ℕ) (bytes : List ℕ) (k : ℕ) → unplugged_at (moves ++ words_sent port now bytes) k ≡ unplugged_at moves k
 unplugged_by_bytes moves port now bytes k =
-    list_any-append (unplugs k) moves (words_at port now bytes) ∙ ap (λ b. unplugged_at moves k || b) (bytes_unplug_none port now k bytes) ∙ or-false (unplugged_at moves k)
+    list_any-append (unplugs k) moves (words_sent port now bytes) ∙ ap (λ b. unplugged_at moves k || b) (bytes_unplug_none port now k bytes) ∙ or-false (unplugged_at moves k)
 
 unplugged_by_word : (moves : List PortMove) (port at word k : ℕ) → unplugged_at (moves ++ Word port at word ∷ []) k ≡ unplugged_at moves k
 unplugged_by_word moves port at word k = unplugged_more moves (Word port at word) k ∙ or-false (unplugged_at moves k)
@@ -275,9 +275,9 @@ module _ {B : Type 0} (log : B → Option (List (ℕ × ℕ))) (faults : B → �
   -- a word for each byte was sent
   pub follows_bytes : (writes : B → ℕ) (moves : List PortMove) (start : List (Option B)) (old new : Plugged B) (port now : ℕ) (bytes : List ℕ)
       → port < 4 → SendsAllAt log faults writes (at_moment now bytes) port old new → OthersStay port old new → Follows log faults moves start old
-      → Follows log faults (moves ++ words_at port now bytes) start new
+      → Follows log faults (moves ++ words_sent port now bytes) start new
   follows_bytes writes moves start old new port now bytes small s others f =
-      let more = moves ++ words_at port now bytes in
+      let more = moves ++ words_sent port now bytes in
       record {
         same_length = others.same_length ∙ f.same_length;
         above = λ k h. others.places k (λ e. absurd (omega arith)) ∙ f.above k h;

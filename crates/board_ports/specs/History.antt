@@ -12,8 +12,8 @@ pub data PortMove : Type 0 where
   Unplug : (port : ℕ) → PortMove
 
 -- a word for each byte, all at a moment
-abbrev pub words_at : ℕ → ℕ → List ℕ → List PortMove
-words_at port now bytes = map (λ byte. Word port now byte) bytes
+abbrev pub words_sent : ℕ → ℕ → List ℕ → List PortMove
+words_sent port now bytes = map (λ byte. Word port now byte) bytes
 
 -- the moments and words that a move sends to a port
 abbrev pub entries_of : ℕ → PortMove → List (ℕ × ℕ)

@@ -68,7 +68,7 @@ fn settle_place<D: Device>(place: &mut Option<D>, mark: &mut bool)
 impl<D: Device> Plugs<D> {
     ghost use Rattle.board_ports.specs.Logs.{at_moment};
     ghost use Rattle.board_ports.specs.Plugged.{OthersStay, SendsAt, SendsAllAt, SettlesAt, SettledAt, device_at, mark_at};
-    ghost use Rattle.board_ports.specs.History.{PortMove, Word, Unplug, words_at, Follows, PlacesAfter, entries_at, unplugged_at};
+    ghost use Rattle.board_ports.specs.History.{PortMove, Word, Unplug, words_sent, Follows, PlacesAfter, entries_at, unplugged_at};
 
     /// These places, and no mark. It is what no move has changed yet.
     pub fn new(places: Vec<Option<D>>) -> Plugs<D>
@@ -120,7 +120,7 @@ impl<D: Device> Plugs<D> {
         ensures others { OthersStay port self.old self.new }
         ensures follows { (moves : List PortMove) (start : List (Option D))
             → Follows D.log D.faults moves start self.old
-            → Follows D.log D.faults (moves ++ words_at port now bytes.now) start self.new }
+            → Follows D.log D.faults (moves ++ words_sent port now bytes.now) start self.new }
     {
         if port >= self.places.len() {
             return;
