@@ -174,44 +174,44 @@ module _ (C : FlatCode) (placed : List Placed) (flash : List ℕ) (a : Addresses
   -- all services
   asked_for : (service : ℕ) → Made service
   asked_for service =
-      or_else service 19 (λ e nf. asks_turn C placed flash a texts image to 19 args p f callers base c used h t e x sh _ refl (serve_19 e nf)) (λ n19.
-      or_else service 1 (λ e nf. asks_turn C placed flash a texts image to 1 args p f callers base c used h t e x sh _ refl
+      or_else service 19 (λ e nf. asks_turn C placed flash a texts image to 19 args p f callers base c used h t e x sh _ (serve_19 e nf)) (λ n19.
+      or_else service 1 (λ e nf. asks_turn C placed flash a texts image to 1 args p f callers base c used h t e x sh _
       (serve_1 C placed flash a texts image to args p f callers base c used h t x sh e nf)) (λ n1.
-      or_else service 2 (λ e nf. asks_turn C placed flash a texts image to 2 args p f callers base c used h t e x sh _ refl
+      or_else service 2 (λ e nf. asks_turn C placed flash a texts image to 2 args p f callers base c used h t e x sh _
       (serve_2 C placed flash a texts image to args p f callers base c used h t x sh e nf)) (λ n2.
-      or_else service 3 (λ e nf. asks_turn C placed flash a texts image to 3 args p f callers base c used h t e x sh _ refl
+      or_else service 3 (λ e nf. asks_turn C placed flash a texts image to 3 args p f callers base c used h t e x sh _
       (serve_3 C placed flash a texts image to args p f callers base c used h t x sh e nf)) (λ n3.
-      or_else service 4 (λ e nf. asks_turn C placed flash a texts image to 4 args p f callers base c used h t e x sh _ refl
+      or_else service 4 (λ e nf. asks_turn C placed flash a texts image to 4 args p f callers base c used h t e x sh _
       (serve_4 C placed flash a texts image to args p f callers base c used h t x sh e nf)) (λ n4.
-      or_else service 5 (λ e nf. asks_turn C placed flash a texts image to 5 args p f callers base c used h t e x sh _ refl
+      or_else service 5 (λ e nf. asks_turn C placed flash a texts image to 5 args p f callers base c used h t e x sh _
       (serve_5 C placed flash a texts image to args p f callers base c used h t x sh e nf)) (λ n5.
-      or_else service 6 (λ e nf. asks_turn C placed flash a texts image to 6 args p f callers base c used h t e x sh _ refl
+      or_else service 6 (λ e nf. asks_turn C placed flash a texts image to 6 args p f callers base c used h t e x sh _
       (serve_6 C placed flash a texts image to args p f callers base c used h t x sh e nf)) (λ n6.
-      or_else service 7 (λ e nf. asks_turn C placed flash a texts image to 7 args p f callers base c used h t e x sh _ refl
+      or_else service 7 (λ e nf. asks_turn C placed flash a texts image to 7 args p f callers base c used h t e x sh _
       (serve_7 C placed flash a texts image to args p f callers base c used h t x sh e nf)) (λ n7.
-      or_else service 8 (λ e nf. asks_turn C placed flash a texts image to 8 args p f callers base c used h t e x sh _ refl
+      or_else service 8 (λ e nf. asks_turn C placed flash a texts image to 8 args p f callers base c used h t e x sh _
       (serve_8 C placed flash a texts image to args p f callers base c used h t x sh e nf)) (λ n8.
-      or_else service 9 (λ e nf. asks_turn C placed flash a texts image to 9 args p f callers base c used h t e x sh _ refl
+      or_else service 9 (λ e nf. asks_turn C placed flash a texts image to 9 args p f callers base c used h t e x sh _
       (serve_9 C placed flash a texts image to args p f callers base c used h t x sh e nf)) (λ n9.
-      or_else service 10 (λ e nf. asks_turn C placed flash a texts image to 10 args p f callers base c used h t e x sh _ refl
+      or_else service 10 (λ e nf. asks_turn C placed flash a texts image to 10 args p f callers base c used h t e x sh _
       (serve_10 C placed flash a texts image to args p f callers base c used h t x sh e nf)) (λ n10.
-      or_else service 11 (λ e nf. asks_turn C placed flash a texts image to 11 args p f callers base c used h t e x sh _ refl
+      or_else service 11 (λ e nf. asks_turn C placed flash a texts image to 11 args p f callers base c used h t e x sh _
       (serve_11 C placed flash a texts image to args p f callers base c used h t x sh e nf)) (λ n11.
-      or_else service 12 (λ e nf. asks_turn C placed flash a texts image to 12 args p f callers base c used h t e x sh _ refl
+      or_else service 12 (λ e nf. asks_turn C placed flash a texts image to 12 args p f callers base c used h t e x sh _
       (serve_12 C placed flash a texts image to args p f callers base c used h t x sh e nf)) (λ n12.
-      or_else service 13 (λ e nf. asks_turn C placed flash a texts image to 13 args p f callers base c used h t e x sh _ refl
+      or_else service 13 (λ e nf. asks_turn C placed flash a texts image to 13 args p f callers base c used h t e x sh _
       (serve_13 C placed flash a texts image to args p f callers base c used h t x sh e nf)) (λ n13.
-      or_else service 14 (λ e nf. asks_turn C placed flash a texts image to 14 args p f callers base c used h t e x sh _ refl
+      or_else service 14 (λ e nf. asks_turn C placed flash a texts image to 14 args p f callers base c used h t e x sh _
       (serve_14 C placed flash a texts image to args p f callers base c used h t x sh e nf)) (λ n14.
-      or_else service 15 (λ e nf. asks_turn C placed flash a texts image to 15 args p f callers base c used h t e x sh _ refl
+      or_else service 15 (λ e nf. asks_turn C placed flash a texts image to 15 args p f callers base c used h t e x sh _
       (serve_15 C placed flash a texts image to args p f callers base c used h t x sh e nf)) (λ n15.
-      or_else service 16 (λ e nf. asks_turn C placed flash a texts image to 16 args p f callers base c used h t e x sh _ refl
+      or_else service 16 (λ e nf. asks_turn C placed flash a texts image to 16 args p f callers base c used h t e x sh _
       (serve_16 C placed flash a texts image to args p f callers base c used h t x sh e nf)) (λ n16.
-      or_else service 17 (λ e nf. asks_turn C placed flash a texts image to 17 args p f callers base c used h t e x sh _ refl
+      or_else service 17 (λ e nf. asks_turn C placed flash a texts image to 17 args p f callers base c used h t e x sh _
       (serve_17 C placed flash a texts image to args p f callers base c used h t x sh e nf)) (λ n17.
-      or_else service 22 (λ e nf. asks_turn C placed flash a texts image to 22 args p f callers base c used h t e x sh _ refl
+      or_else service 22 (λ e nf. asks_turn C placed flash a texts image to 22 args p f callers base c used h t e x sh _
       (serve_22 C placed flash a texts image to args p f callers base c used h t x sh e nf)) (λ n22.
-      or_else service 23 (λ e nf. asks_turn C placed flash a texts image to 23 args p f callers base c used h t e x sh _ refl
+      or_else service 23 (λ e nf. asks_turn C placed flash a texts image to 23 args p f callers base c used h t e x sh _
       (serve_23 C placed flash a texts image to args p f callers base c used h t x sh e nf)) (λ n23.
       λ e nf. absurd (subst (λ (o : Outcome Request). NoFault (after o (λ r. asked (maker C texts h f callers base to (answers service)) r)))
       (nothing_asked service n1 n2 n3 n4 n5 n6 n7 n8 n9 n10 n11 n12 n13 n14 n15 n16 n17 n22 n23 (map f.temps args))

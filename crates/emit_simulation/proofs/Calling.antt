@@ -23,7 +23,7 @@ use Rattle.register_assign.specs.Sound.{place_of}
 use Rattle.flat_meaning.specs.Operators.{FlatHeap}
 use Rattle.flat_meaning.specs.Frames.{FlatFrame}
 use Rattle.flat_meaning.specs.Steps.{called}
-use Rattle.thumb_emit.specs.Emit.{passes, put, function_pieces}
+use Rattle.thumb_emit.specs.Emit.{passes, land, function_pieces}
 use Rattle.thumb_emit.specs.Bounds.{op_instructions, total_cost}
 use Rattle.thumb_emit.specs.InFlash.{Addresses, callee_at}
 use Rattle.placed_frames.specs.View.{View, registers_of, bank_of}
@@ -124,9 +124,9 @@ module _ (C : FlatCode) (placed : List Placed) (flash : List ℕ) (a : Addresses
       (passes_none C placed flash a texts image p f callers base c used h t op e x sh (0, omega arith, refl)) in
       let v = y.seen in
       let c1 = flows fetch flash pl pieces fw.laid ps s1 (view_in c t) v c.registers b t.free
-      (first_of pieces s1 ps (CallTo g ∷ (put p.function place 0 to ∷ [])) k.stands) fw.at refl y.flow in
+      (first_of pieces s1 ps (CallTo g ∷ (land p.function place f.place to ∷ [])) k.stands) fw.at refl y.flow in
       let i1 = s1 + length ps in
-      let st1 = rest_of pieces s1 ps (CallTo g ∷ (put p.function place 0 to ∷ [])) k.stands in
+      let st1 = rest_of pieces s1 ps (CallTo g ∷ (land p.function place f.place to ∷ [])) k.stands in
       let gc : slice_get pieces i1 ≡ Some (CallTo g) = ap (slice_get pieces) (omega arith) ∙ st1 0 (omega arith) in
       let ev = fw.laid.behind_call i1 g gc in
       let e1 = ev.1 in

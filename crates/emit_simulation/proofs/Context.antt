@@ -14,6 +14,7 @@ use Rattle.flat_ir.specs.WellFormed.{IsFunctionAmong}
 use Rattle.flat_ir.specs.Liveness.{is_read, is_kept}
 use Rattle.register_assign.specs.declared.places.Placed.{Placed}
 use Rattle.register_assign.specs.Sound.{place_of}
+use Rattle.register_assign.proofs.Laws.{unread_not_live}
 use Rattle.flat_meaning.specs.Frames.{FlatFrame}
 use Rattle.thumb_emit.specs.Emit.{op_pieces, function_pieces}
 use Rattle.thumb_emit.specs.InFlash.{Addresses, callee_at, word_for}
@@ -92,4 +93,5 @@ module _ (C : FlatCode) (placed : List Placed) (flash : List ℕ) (a : Addresses
         reads_live = λ u h. is_read f.place op e h;
         kept_live = λ u k g l n. is_kept f.place k op e n g l;
         apart = λ to u k g m l lt lu n q. n (w.sound.written f.place to u op e g (op, k, e, m, l) lt lu q);
+        unread = λ to k u m g l. unread_not_live p.function f.place to k op u e m g l;
       }

@@ -16,6 +16,7 @@ use Rattle.flat_ir.specs.Liveness.{IsLiveAt}
 use Rattle.flat_ir.specs.WellFormed.{temporaries}
 use Rattle.register_assign.specs.declared.places.Placed.{Placed}
 use Rattle.register_assign.specs.Sound.{place_of, IsWithin}
+use Rattle.register_assign.specs.Unread.{is_unread}
 use Rattle.sts_meaning.specs.Values.{Value, Outcome, Gives, Breaks, Stuck}
 use Rattle.sts_meaning.specs.Heaps.{read_field, write_field}
 use Rattle.sts_meaning.specs.Frames.{after}
@@ -24,7 +25,7 @@ use Rattle.flat_meaning.specs.Frames.{FlatFrame, Stands, given}
 use Rattle.flat_meaning.specs.Frames.{placed as placed_at}
 use Rattle.flat_meaning.specs.Steps.{FlatTurn}
 use Rattle.thumb_emit.specs.Emit.{op_pieces, tests_null, field_offset}
-use Rattle.thumb_emit.specs.Frame.{register_of, brings, keeps}
+use Rattle.thumb_emit.specs.Frame.{register_of, brings, keeps, result_in}
 use Rattle.thumb_emit.specs.InFlash.{Addresses}
 use Rattle.thumb_emit.specs.Bounds.{op_instructions}
 use Rattle.placed_frames.specs.View.{View, with_low, InArena, ToArena, Get, GetAt, Put, PutAt}
@@ -35,7 +36,7 @@ use Rattle.emit_simulation.specs.Starts.{start}
 use Rattle.emit_simulation.specs.Ties.{IsAt, IsShared, IsImage, Means, IsText, IsCode, spots}
 use Rattle.emit_simulation.specs.Context.{view_in}
 use Rattle.emit_simulation.specs.Makes.{MakesOp}
-use Rattle.emit_simulation.proofs.Placed.{store_low, result_set, register_small, not_scratch, brought, brought_word, brought_other, brought_store, brought_length}
+use Rattle.emit_simulation.proofs.Placed.{store_low, result_set, not_scratch, brought, brought_word, brought_other, brought_store, brought_length, made_small}
 use Rattle.emit_simulation.proofs.Meanings.{small, none_some}
 use Rattle.emit_simulation.proofs.Ops.{here, word, word_means, word_small, brings_word}
 use Rattle.emit_simulation.proofs.Turns.{Owed}
@@ -72,7 +73,7 @@ module _ (C : FlatCode) (placed : List Placed) (flash : List ℕ) (a : Addresses
 
     -- the registers of the result and of the object
     abbrev d : ℕ
-    d = register_of 0 (place_of p.places to)
+    d = result_in (is_unread p.function f.place) (place_of p.places to)
 
     abbrev r : ℕ
     r = register_of 0 (place_of p.places object)
@@ -91,7 +92,7 @@ module _ (C : FlatCode) (placed : List Placed) (flash : List ℕ) (a : Addresses
     store_u = brought_store (place_of p.places object) 0 w v (omega arith)
 
     small_d : d < 8
-    small_d = register_small p.function (place_of p.places to) 0 (omega arith)
+    small_d = made_small p.function (is_unread p.function f.place) (place_of p.places to)
         (((here C placed flash a texts image p f callers base c used h t op e x sh).within_function).inside to names.0)
 
     -- the object isn't in r2
@@ -121,10 +122,10 @@ module _ (C : FlatCode) (placed : List Placed) (flash : List ℕ) (a : Addresses
         by : (b : Bool) → nat_lt field 31 ≡ b → Makes (GoesTurn (Stands (given to y f) callers base) h)
         by true q =
             let ls : ps ≡ brings p.function 0 (place_of p.places object) ∷ tests_null r (3 * f.place + 1) ++
-            (Plain (LdrImm d r (field + 1)) ∷ keeps p.function 0 (place_of p.places to) ∷ [])
+            (Plain (LdrImm d r (field + 1)) ∷ keeps p.function (is_unread p.function f.place) (place_of p.places to) ∷ [])
             = ap (λ b. brings p.function 0 (place_of p.places object) ∷ tests_null r (3 * f.place + 1) ++
             ((if b then Plain (LdrImm d r (field + 1)) ∷ [] else Number 2 (field_offset field) ∷ Plain (LdrReg d r 2) ∷ []) ++
-            (keeps p.function 0 (place_of p.places to) ∷ []))) q in
+            (keeps p.function (is_unread p.function f.place) (place_of p.places to) ∷ []))) q in
             let m = s.within in let n = lw in
             let load : Flows flash spot (Plain (LdrImm d r (field + 1))) u (with_low d z u)
             = OfInstr (LdrImm d r (field + 1)) u (with_low d z u) refl
@@ -135,9 +136,9 @@ module _ (C : FlatCode) (placed : List Placed) (flash : List ℕ) (a : Addresses
         by false q =
             let o = field_offset field in let n = lw in
             let ls : ps ≡ brings p.function 0 (place_of p.places object) ∷ tests_null r (3 * f.place + 1) ++
-            (Number 2 o ∷ Plain (LdrReg d r 2) ∷ keeps p.function 0 (place_of p.places to) ∷ [])
+            (Number 2 o ∷ Plain (LdrReg d r 2) ∷ keeps p.function (is_unread p.function f.place) (place_of p.places to) ∷ [])
             = ap (λ b. brings p.function 0 (place_of p.places object) ∷ tests_null r (3 * f.place + 1) ++
-            ((if b then Plain (LdrImm d r (field + 1)) ∷ [] else Number 2 o ∷ Plain (LdrReg d r 2) ∷ []) ++ (keeps p.function 0 (place_of p.places to) ∷
+            ((if b then Plain (LdrImm d r (field + 1)) ∷ [] else Number 2 o ∷ Plain (LdrReg d r 2) ∷ []) ++ (keeps p.function (is_unread p.function f.place) (place_of p.places to) ∷
             []))) q in
             let m = s.within in
             let off : o ≡ 4 * (field + 1) = omega arith in

@@ -13,6 +13,7 @@ use Rattle.flat_ir.specs.WellFormed.{temporaries}
 use Rattle.flat_ir.specs.Liveness.{IsLiveAt}
 use Rattle.register_assign.specs.declared.places.Placed.{Placed}
 use Rattle.register_assign.specs.Sound.{place_of}
+use Rattle.register_assign.specs.Unread.{is_unread}
 use Rattle.sts_syntax.specs.TypeRules.{entry}
 use Rattle.sts_meaning.specs.Values.{Value, Gives, then_gives, there, changed}
 use Rattle.sts_meaning.specs.Frames.{after}
@@ -28,8 +29,8 @@ use Rattle.emit_simulation.specs.Starts.{start}
 use Rattle.emit_simulation.specs.Ties.{IsAt, IsShared, IsImage, IsText, IsCode}
 use Rattle.emit_simulation.specs.Context.{view_in}
 use Rattle.emit_simulation.specs.Makes.{MakesOp}
-use Rattle.emit_simulation.proofs.Placed.{store_low, result_set, register_small, not_scratch, brought, brought_word, brought_store, brought_length}
-use Rattle.thumb_emit.specs.Frame.{register_of}
+use Rattle.emit_simulation.proofs.Placed.{store_low, result_set, not_scratch, brought, brought_word, brought_store, brought_length, made_small}
+use Rattle.thumb_emit.specs.Frame.{register_of, result_in}
 use Rattle.emit_simulation.proofs.Meanings.{small}
 use Rattle.emit_simulation.proofs.Turns.{Owed}
 use Rattle.emit_simulation.proofs.Ops.{here, word, word_means, word_small, brings_word, straight_gives, straight_goes}
@@ -59,7 +60,7 @@ module _ (C : FlatCode) (placed : List Placed) (flash : List ℕ) (a : Addresses
         let rg = x.registers in
         let fw = k.within_function in
         let lt : to < temporaries p.function = ((k.op_within).names).0 in
-        let d = register_of 0 (place_of p.places to) in
+        let d = result_in (is_unread p.function f.place) (place_of p.places to) in
         let u1 : View = record v { low = slice_set v.low 1 ad; flags = loaded_flags v.flags ad } in
         let u2 = with_low d w u1 in
         let r1 : slice_index u1.low 1 ≡ ad = get_or-set_same v.low 1 ad 0 (omega arith) in
@@ -75,7 +76,7 @@ module _ (C : FlatCode) (placed : List Placed) (flash : List ℕ) (a : Addresses
           ),
         )
         (omega arith) refl (0, omega arith, refl) lt
-        (result_set d w v u1 u2 (register_small p.function (place_of p.places to) 0 (omega arith) (fw.inside to lt)) (store_low 1 ad v (omega arith)) n1 refl refl)
+        (result_set d w v u1 u2 (made_small p.function (is_unread p.function f.place) (place_of p.places to) (fw.inside to lt)) (store_low 1 ad v (omega arith)) n1 refl refl)
         s.1 refl refl
 
     sets : (from : ℕ) → slice_get p.function.ops f.place ≡ Some (GlobalSet slot from) → Standing → IsShared C placed flash a used h t → (o : Option Value)

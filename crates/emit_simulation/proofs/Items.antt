@@ -14,6 +14,7 @@ use Rattle.flat_ir.specs.Liveness.{IsLiveAt}
 use Rattle.flat_ir.specs.WellFormed.{temporaries}
 use Rattle.register_assign.specs.declared.places.Placed.{Placed}
 use Rattle.register_assign.specs.Sound.{place_of}
+use Rattle.register_assign.specs.Unread.{is_unread}
 use Rattle.sts_meaning.specs.Values.{Value, Outcome, Gives, Breaks, Stuck}
 use Rattle.sts_meaning.specs.Heaps.{read_item, write_item, length_at}
 use Rattle.sts_meaning.specs.Frames.{after}
@@ -21,7 +22,7 @@ use Rattle.flat_meaning.specs.Operators.{FlatHeap}
 use Rattle.flat_meaning.specs.Frames.{FlatFrame, Stands, given}
 use Rattle.flat_meaning.specs.Frames.{placed as placed_at}
 use Rattle.flat_meaning.specs.Steps.{FlatTurn}
-use Rattle.thumb_emit.specs.Frame.{register_of, brings}
+use Rattle.thumb_emit.specs.Frame.{register_of, brings, result_in}
 use Rattle.thumb_emit.proofs.Laws.{brings_still, still_takes}
 use Rattle.thumb_layout.specs.Holds.{cost}
 use Rattle.placed_frames.specs.Places.{get}
@@ -35,7 +36,7 @@ use Rattle.emit_simulation.specs.Starts.{start}
 use Rattle.emit_simulation.specs.Ties.{IsAt, IsShared, IsImage, Means, IsText, IsCode, spots}
 use Rattle.emit_simulation.specs.Context.{view_in}
 use Rattle.emit_simulation.specs.Makes.{MakesOp}
-use Rattle.emit_simulation.proofs.Placed.{result_set, register_small, brought, brought_word, brought_other, brought_store, brought_length}
+use Rattle.emit_simulation.proofs.Placed.{result_set, brought, brought_word, brought_other, brought_store, brought_length, made_small}
 use Rattle.emit_simulation.proofs.Meanings.{small, none_some}
 use Rattle.emit_simulation.proofs.Ops.{here, word, word_means, word_small, brings_word}
 use Rattle.emit_simulation.proofs.Turns.{Owed}
@@ -80,8 +81,8 @@ module _ (C : FlatCode) (placed : List Placed) (flash : List ℕ) (a : Addresses
         let z = slice_index t.arena (s.first + wi) in
         let small_z = small C placed flash a texts image y z s.shows in
         let n = k.low in
-        let d = register_of 0 (place_of p.places to) in
-        let fd = register_small p.function (place_of p.places to) 0 (omega arith)
+        let d = result_in (is_unread p.function f.place) (place_of p.places to) in
+        let fd = made_small p.function (is_unread p.function f.place) (place_of p.places to)
         (((here C placed flash a texts image p f callers base c used h t op e x sh).within_function).inside to names.0) in
         let load : Flows flash spot (Plain (LdrReg d 2 1)) u (with_low d z u)
         = OfInstr (LdrReg d 2 1) u (with_low d z u) refl (GetAt d 2 1 z u (InArena (s.first + wi) (omega arith) ((λ i. k.r2 i + k.r1 i) ∙ omega arith) refl)
@@ -213,8 +214,8 @@ module _ (C : FlatCode) (placed : List Placed) (flash : List ℕ) (a : Addresses
         let w = word C placed flash a texts image p f callers base c used h t length_op e x sh array in
         let v = view_in c t in
         let q = place_of p.places array in
-        let r = register_of 0 q in let d = register_of 0 (place_of p.places to) in
-        let fd = register_small p.function (place_of p.places to) 0 (omega arith)
+        let r = register_of 0 q in let d = result_in (is_unread p.function f.place) (place_of p.places to) in
+        let fd = made_small p.function (is_unread p.function f.place) (place_of p.places to)
         (((here C placed flash a texts image p f callers base c used h t length_op e x sh).within_function).inside to length_names.0) in
         let u = tested C placed flash a texts image p f callers base c used h t length_op e x sh (brought 0 q w v) w 0 in
         let there : 0 < w = (let q = hd.at in omega arith) in

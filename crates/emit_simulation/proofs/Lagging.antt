@@ -1,5 +1,6 @@
--- Behind a service that lets others run, r0 becomes 0 and is put: the activity lags so far, whatever others do to what is shared.
-use Rattle.std.proofs.Common.{suc, ◌≡◌, ℕ, ◌+◌, ◌<◌, List, length, true, false, ◌==◌, Some, refl, sym, ap, ◌∙◌, subst, arith, slice_get, slice_set, slice_index, get_or-set_same}
+-- Behind a service that lets others run, r0 becomes 0 and is put, where somebody reads it: the activity lags so far, whatever others do to what is shared.
+-- Where nobody does, it stands at the next op.
+use Rattle.std.proofs.Common.{suc, ◌≡◌, ℕ, ◌+◌, ◌*◌, ◌<◌, List, length, true, false, ◌==◌, Some, refl, sym, ap, ◌∙◌, subst, arith, slice_get, slice_set, slice_index, get_or-set_same}
 use Rattle.std.specs.Prelude.{Contains}
 use Rattle.std.proofs.lemmas.List.{length-set}
 use Rattle.thumb_code.specs.declared.instructions.Instr.TheVariants.{MovImm, Svc}
@@ -25,11 +26,12 @@ use Rattle.register_assign.specs.declared.places.Place.{Place}
 use Rattle.register_assign.specs.declared.places.Place.TheVariants.{Reg, Slot, Incoming}
 use Rattle.register_assign.specs.declared.places.Placed.{Placed}
 use Rattle.register_assign.specs.Sound.{place_of, IsWithin}
+use Rattle.register_assign.specs.Unread.{is_unread}
 use Rattle.sts_meaning.specs.Values.{default, with_entry}
 use Rattle.flat_meaning.specs.Operators.{FlatHeap}
 use Rattle.flat_meaning.specs.Frames.{FlatFrame, Stands, given}
 use Rattle.thumb_emit.specs.Emit.{function_pieces}
-use Rattle.thumb_emit.specs.Frame.{to_place, to_instr}
+use Rattle.thumb_emit.specs.Frame.{to_place, to_instr, idle_piece}
 use Rattle.thumb_emit.specs.InFlash.{Addresses}
 use Rattle.placed_frames.specs.View.{View, registers_of, bank_of, Quiet}
 use Rattle.emit_simulation.specs.Laid.{over, store_of}
@@ -38,11 +40,14 @@ use Rattle.emit_simulation.specs.Ties.{IsAt, IsTied, AtOp, IsShared, IsImage, Me
 use Rattle.emit_simulation.specs.Context.{view_in, bank_in, fiber_seen}
 use Rattle.emit_simulation.proofs.Paths.{path}
 use Rattle.emit_simulation.proofs.Placed.{put_view, put_low, store_low}
-use Rattle.emit_simulation.proofs.Straight.{puts_last, runs_on}
+use Rattle.emit_simulation.proofs.Straight.{lands_last, runs_on, runs_with}
 use Rattle.emit_simulation.proofs.Meanings.{small}
 use Rattle.emit_simulation.proofs.Ops.{here, stands_behind}
 use Rattle.emit_simulation.proofs.Walk.{first, pieces, stands}
 use Rattle.emit_simulation.proofs.Steady.{does_of, plain_steps, holds_at}
+
+not_both : false ≡ true → ⊥
+not_both q = cc
 
 -- what is shared has no part in a put
 put_apart : (f : Function) (q : Place) (w : ℕ) (v : View) (gl ar : List ℕ) → put_view f q w (record v { globals = gl; arena = ar }) ≡ record (put_view f q w v)
@@ -118,7 +123,7 @@ module _ (C : FlatCode) (placed : List Placed) (flash : List ℕ) (a : Addresses
       let z : suc f.place ≡ f.place + 1 = omega arith in
       let run = runs_on flash spot (Means C placed flash a) (small C placed flash a texts image) C.functions (place_in C placed flash a)
       (return_to C placed flash a) fn place fw.inside
-      (λ u. IsLiveAt fn.ops u f.place) f.temps (frames_of callers) (view_in c t) x.running (λ u. IsLiveAt fn.ops u (f.place + 1)) to 0 default v1 lt e1 l1 is0
+      (λ u. IsLiveAt fn.ops u f.place) f.temps (frames_of callers) (view_in c t) x.running false (λ u. IsLiveAt fn.ops u (f.place + 1)) to 0 default v1 lt e1 l1 is0 (λ q live. not_both q)
       (λ m lm d live. (
         k.kept_live m (suc f.place) on (subst (IsLiveAt fn.ops m) (sym z) live) (λ k. d (let b : Some to ≡ Some m = sym wr ∙ k in let b' : m ≡ to = cc in b')),
         k.apart to m (suc f.place) wr on (subst (IsLiveAt fn.ops m) (sym z) live) lt lm d,
@@ -143,9 +148,9 @@ module _ (C : FlatCode) (placed : List Placed) (flash : List ℕ) (a : Addresses
       (sym z1)
       (m1.2 w w1 s b u.free at long (Quiet (MovImm 0 0) w (slice_set v.low 0 0) (nz v.flags 0) (λ next pc s. refl))) in
       let put = does_of flash spot (to_instr fn 0 (place to)) w1 (put_view fn (place to) 0 w1)
-      (puts_last flash spot (Means C placed flash a) (small C placed flash a texts image) C.functions (place_in C placed flash a) (return_to C placed flash a)
+      (lands_last flash spot (Means C placed flash a) (small C placed flash a texts image) C.functions (place_in C placed flash a) (return_to C placed flash a)
       fn place fw.inside
-      (λ n. IsLiveAt fn.ops n f.place) f.temps (frames_of callers) (view_in c t) x.running to 0 w1 lt e1 r0 (omega arith)) in
+      (λ n. IsLiveAt fn.ops n f.place) f.temps (frames_of callers) (view_in c t) x.running false to 0 w1 lt e1 (λ q. r0) (omega arith)) in
       let y2 : Silent over (fetched flash c.base) (m2.0 + 1)
       (registers_of w1 (spot.behind (first C placed flash a texts image p f callers base c used h t op e x sh + (i + 1))) s) (bank_of w1 b, u.free)
       (registers_of w2 (spot.behind (first C placed flash a texts image p f callers base c used h t op e x sh + (i + 1 + 1))) s) (bank_of w2 b, u.free)
@@ -169,3 +174,37 @@ module _ (C : FlatCode) (placed : List Placed) (flash : List ℕ) (a : Addresses
         alone = alone;
         active = subst (λ j. IsTied C placed flash a (Stands (given to default f) callers base) (fiber_seen c v2 j lr)) (sym nx) tied;
       }
+
+  pub stands_behind_service : (i number to : ℕ) (v : View) (lr : ℕ)
+      → slice_get (pieces C placed flash a texts image p f callers base c used h t op e x sh) i ≡ Some (Plain (Svc number))
+      → slice_get (pieces C placed flash a texts image p f callers base c used h t op e x sh) (i + 1) ≡ Some (idle_piece p.function)
+      → length (pieces C placed flash a texts image p f callers base c used h t op e x sh) ≡ i + 2 → is_unread p.function f.place ≡ true → writes op ≡ Some to
+      → Contains (goes_on_at f.place op) (suc f.place) → to < temporaries p.function → store_of v ≡ store_of (view_in c t) → length v.low ≡ 13
+      → length v.words ≡ length c.bank
+      → IsTied C placed flash a (Stands (given to default f) callers base)
+      (fiber_seen c v (spot.behind (first C placed flash a texts image p f callers base c used h t op e x sh + i)) lr)
+  stands_behind_service i number to v lr q0 q1 n ur wr on lt es lw long =
+      let place = place_of p.places in
+      let fn = p.function in
+      let k = here C placed flash a texts image p f callers base c used h t op e x sh in
+      let fw = k.within_function in
+      let s1 = first C placed flash a texts image p f callers base c used h t op e x sh in
+      let z1 : spot.behind (s1 + i) ≡ spot.at (s1 + (i + 1)) = (fw.laid).next (s1 + i) (Plain (Svc number))
+      (stands C placed flash a texts image p f callers base c used h t op e x sh i _ q0) refl ∙ ap spot.at (let y : s1 + i + 1 ≡ s1 + (i + 1) = omega arith in y) in
+      let z2 : spot.at (s1 + (i + 1)) ≡ spot.at (start fn place (f.place + 1)) = (fw.laid).label (s1 + (i + 1)) (3 * length fn.ops + 1)
+      (stands C placed flash a texts image p f callers base c used h t op e x sh (i + 1) _ q1) ∙ ap spot.at (let y = k.next in omega arith) in
+      let z : suc f.place ≡ f.place + 1 = omega arith in
+      let is0 : Means C placed flash a default 0 = (refl, omega arith) in
+      let run = runs_with flash spot (Means C placed flash a) (small C placed flash a texts image) C.functions (place_in C placed flash a)
+      (return_to C placed flash a) fn place fw.inside
+      (λ u. IsLiveAt fn.ops u f.place) f.temps (frames_of callers) (view_in c t) x.running true (λ u. IsLiveAt fn.ops u (f.place + 1)) to 0 default v lt es is0
+      (λ q live. k.unread to (suc f.place) ur wr on (subst (IsLiveAt fn.ops to) (sym z) live))
+      (λ m lm d live. (
+        k.kept_live m (suc f.place) on (subst (IsLiveAt fn.ops m) (sym z) live) (λ k. d (let b : Some to ≡ Some m = sym wr ∙ k in let b' : m ≡ to = cc in b')),
+        k.apart to m (suc f.place) wr on (subst (IsLiveAt fn.ops m) (sym z) live) lt lm d,
+      )) in
+      let f' : FlatFrame = given to default f in
+      subst (λ j. IsTied C placed flash a (Stands f' callers base) (fiber_seen c v j lr)) (sym (z1 ∙ z2))
+      (AtOp p f' callers base (fiber_seen c v (spot.at (start fn place (f.place + 1))) lr)
+      (stands_behind C placed flash a texts p (λ u. IsLiveAt fn.ops u f.place) (λ u. IsLiveAt fn.ops u (f.place + 1)) f callers base (start fn place f.place)
+      (start fn place (f.place + 1)) (start fn place (f.place + 1)) (f.place + 1) c v lr (with_entry to default f.temps) x long lw refl run))

@@ -13,12 +13,13 @@ use Rattle.flat_ir.specs.Liveness.{IsLiveAt}
 use Rattle.flat_ir.specs.WellFormed.{temporaries}
 use Rattle.register_assign.specs.declared.places.Placed.{Placed}
 use Rattle.register_assign.specs.Sound.{place_of}
+use Rattle.register_assign.specs.Unread.{is_unread}
 use Rattle.sts_syntax.specs.TypeRules.{entry}
 use Rattle.sts_meaning.specs.Values.{Value}
 use Rattle.flat_meaning.specs.Operators.{FlatHeap}
 use Rattle.flat_meaning.specs.Frames.{FlatFrame}
 use Rattle.thumb_emit.specs.Emit.{loads, asks}
-use Rattle.thumb_emit.specs.Frame.{from_place, to_place}
+use Rattle.thumb_emit.specs.Frame.{from_place, lands}
 use Rattle.thumb_emit.specs.InFlash.{Addresses}
 use Rattle.placed_frames.specs.View.{View, with_low}
 use Rattle.emit_simulation.specs.Laid.{store_of}
@@ -79,7 +80,7 @@ module _ (C : FlatCode) (placed : List Placed) (flash : List ℕ) (a : Addresses
   get rd u = from_place p.function rd (place_of p.places u)
 
   abbrev tail : List Piece
-  tail = asks service ++ (to_place p.function 0 (place_of p.places to) ∷ [])
+  tail = asks (is_unread p.function f.place) service ++ (lands p.function (is_unread p.function f.place) (place_of p.places to) ∷ [])
 
   -- each value stands in its register
   abbrev pub Stand : List ℕ → ℕ → View → Type 0

@@ -106,7 +106,7 @@ module _ (C : FlatCode) (placed : List Placed) (flash : List ℕ) (a : Addresses
         let r = put_behind C placed flash a texts image p f callers base c used h t op e x sh to (Object used) at
         (Address 1 (Class class) ∷ Plain (LdrImm 0 1 0) ∷ Plain (Svc 18) ∷ []) (Plain (StrImm 1 0 0) ∷ []) v3 u lr (used + suc n) t.free refl refl
         (0, omega arith, refl) ((k.op_within).names).0
-        (u, store, refl) (ap length ws) (store_low 0 at v2 (omega arith) ∙ es) (length-set v2.low 0 at ∙ l2) y0 (refl, omega arith) (omega arith) in
+        (u, store, refl) (ap length ws) (store_low 0 at v2 (omega arith) ∙ es) (length-set v2.low 0 at ∙ l2) (λ q. y0) (refl, omega arith) (omega arith) in
         record {
           fiber = r.0;
           shared = shared_seen (used + suc n) u t.free;
@@ -238,7 +238,7 @@ module _ (C : FlatCode) (placed : List Placed) (flash : List ℕ) (a : Addresses
         (StrImm 1 0 3) ∷ []) v3 u lr (used + (4 + room)) t.free refl refl (0, omega arith, refl)
         ((k.op_within).names).0 (v4, OfNumber 1 rm v3, (v5, store_room, (v6, move, (v7, add, (u, store_items, refl))))) refl
         (store_low 1 sum v6 (omega arith) ∙ (store_low 1 at v5 (omega arith) ∙
-        (store_low 1 rm v3 (omega arith) ∙ (store_low 0 at array_view (omega arith) ∙ store_low 0 asked_words array_v (omega arith))))) n7 d0
+        (store_low 1 rm v3 (omega arith) ∙ (store_low 0 at array_view (omega arith) ∙ store_low 0 asked_words array_v (omega arith))))) n7 (λ q. d0)
         (refl, omega arith) (omega arith) in
         record {
           fiber = r.0;

@@ -15,12 +15,13 @@ use Rattle.flat_ir.specs.WellFormed.{temporaries}
 use Rattle.flat_ir.specs.Liveness.{IsLiveAt}
 use Rattle.register_assign.specs.declared.places.Placed.{Placed}
 use Rattle.register_assign.specs.Sound.{place_of}
+use Rattle.register_assign.specs.Unread.{is_unread}
 use Rattle.sts_meaning.specs.Values.{Value, Whole, Outcome, Gives, Breaks, Stuck, then_gives, whole, to_int32, negated, applied}
 use Rattle.sts_meaning.specs.Frames.{after}
 use Rattle.flat_meaning.specs.Operators.{FlatHeap, prefixed_by}
 use Rattle.flat_meaning.specs.Frames.{FlatFrame, Stands, given}
 use Rattle.thumb_emit.specs.Emit.{op_pieces, function_pieces, unary, binary}
-use Rattle.thumb_emit.specs.Frame.{register_of, brings, keeps}
+use Rattle.thumb_emit.specs.Frame.{register_of, brings, keeps, result_in}
 use Rattle.thumb_layout.specs.Holds.{cost}
 use Rattle.thumb_emit.specs.Bounds.{op_instructions, total_cost}
 use Rattle.thumb_emit.proofs.Laws.{brings_still, keeps_still, still_takes}
@@ -36,7 +37,7 @@ use Rattle.emit_simulation.specs.Context.{view_in, bank_in}
 use Rattle.emit_simulation.specs.Leaving.{AllLeave}
 use Rattle.emit_simulation.specs.Makes.{MakesOp}
 use Rattle.emit_simulation.proofs.Flowing.{flows, flows_one, then}
-use Rattle.emit_simulation.proofs.Placed.{brought, brought_word, brought_other, brought_store, brought_length, register_small, not_scratch, result_over, kept_view, kept_shared, kept_low, store_kept}
+use Rattle.emit_simulation.proofs.Placed.{brought, brought_word, brought_other, brought_store, brought_length, register_small, not_scratch, result_over, kept_view, kept_shared, kept_low, store_kept, made_small, made_not}
 use Rattle.emit_simulation.proofs.Starts.{first_of, rest_of}
 use Rattle.emit_simulation.proofs.Straight.{keeps_last}
 use Rattle.emit_simulation.proofs.Context.{base_fits}
@@ -53,11 +54,11 @@ module _ (C : FlatCode) (placed : List Placed) (flash : List ℕ) (a : Addresses
       (sh : IsShared C placed flash a used h t) where
     -- PIECES THAT READ, pieces that compute, and the keeping of the result
     pub computed_gives : (to : ℕ) (value : Value) (w most : ℕ) (gs xs : List Piece) (u : View) → op_pieces p.function (place_of p.places) f.place op ≡ gs ++
-        (xs ++ keeps p.function 0 (place_of p.places to) ∷ [])
+        (xs ++ keeps p.function (is_unread p.function f.place) (place_of p.places to) ∷ [])
         → AllFlow flash (spots C placed flash a f.function p) gs (view_in c t) u → store_of u ≡ store_of (view_in c t)
         → u.globals ≡ t.globals → u.arena ≡ t.arena
         → AllLeave (fetched flash c.base) flash (spots C placed flash a f.function p) (function_pieces p) (bank_in flash c t) t.free xs u
-        (register_of 0 (place_of p.places to)) w most
+        (result_in (is_unread p.function f.place) (place_of p.places to)) w most
         → writes op ≡ Some to → Contains (goes_on f.place op) (suc f.place) → to < temporaries p.function → Means C placed flash a value w
         → total_cost gs + most + 2 ≤ op_instructions op
         → Owed C placed flash a texts (op_instructions op) used h t (Goes (Stands (given to value f) callers base) h) c t
@@ -71,7 +72,7 @@ module _ (C : FlatCode) (placed : List Placed) (flash : List ℕ) (a : Addresses
         let b = bank_in flash c t in
         let s1 = start p.function place f.place + 1 in
         let st = subst (λ q. StandAt pieces s1 q) ps k.stands in
-        let kept = keeps p.function 0 (place to) in
+        let kept = keeps p.function (is_unread p.function f.place) (place to) in
         let i1 = s1 + length gs in
         let i2 = i1 + length xs in
         let st1 = rest_of pieces s1 gs (xs ++ kept ∷ []) st in
@@ -79,13 +80,13 @@ module _ (C : FlatCode) (placed : List Placed) (flash : List ℕ) (a : Addresses
         let l = lv i1 (record c.registers { lr = c1.link }) (first_of pieces i1 xs (kept ∷ []) st1) fw.at c1.long in
         let c2 = l.comes in
         let v = l.seen in
-        let r = result_over (register_of 0 (place to)) w (view_in c t) u v es l.result in
+        let r = result_over (result_in (is_unread p.function f.place) (place to)) w (view_in c t) u v es l.result in
         let last = keeps_last flash pl (Means C placed flash a) (small C placed flash a texts image) C.functions (place_in C placed flash a)
         (return_to C placed flash a) p.function place fw.inside
-        (λ n. IsLiveAt p.function.ops n f.place) f.temps (frames_of callers) (view_in c t) x.running to w v lt r
+        (λ n. IsLiveAt p.function.ops n f.place) f.temps (frames_of callers) (view_in c t) x.running (is_unread p.function f.place) to w v lt r
         (small C placed flash a texts image value w m) in
-        let v' = kept_view p.function (place to) w v in
-        let q = kept_shared p.function (place to) w v in
+        let v' = kept_view p.function (is_unread p.function f.place) (place to) w v in
+        let q = kept_shared p.function (is_unread p.function f.place) (place to) w v in
         let st2 = rest_of pieces i1 xs (kept ∷ []) st1 in
         let c3 = flows_one fetch flash pl pieces fw.laid i2 kept v v' (record c.registers { lr = c2.link }) b t.free
         (ap (slice_get pieces) (omega arith) ∙ st2 0 (omega arith)) fw.at c2.long last in
@@ -94,13 +95,13 @@ module _ (C : FlatCode) (placed : List Placed) (flash : List ℕ) (a : Addresses
         c23 in
         let ln : length (op_pieces p.function place f.place op) ≡ length gs + (length xs + 1) = ap length ps ∙ lengths gs xs kept in
         let z : i2 + 1 ≡ s1 + length (op_pieces p.function place f.place op) = omega arith in
-        let takes = still_takes p.function kept (keeps_still p.function 0 (place to)) in
+        let takes = still_takes p.function kept (keeps_still p.function (is_unread p.function f.place) (place to)) in
         wider C placed flash a texts (total_cost gs + (most + cost kept)) (op_instructions op) used h t (Goes (Stands (given to value f) callers base) h) c t
         (omega arith)
         (gives C placed flash a texts image p f callers base c used h t op e x sh to value (steps_of gs + (1 + step_of kept)) (total_cost gs + (most + cost kept)) w v' wr on
         (omega arith) lt
         (subst (λ j. Comes fetch pl (steps_of gs + (1 + step_of kept)) (total_cost gs + (most + cost kept)) s1 j (view_in c t) v' c.registers b t.free) z c123)
-        (store_kept p.function (place to) w (view_in c t) v (fw.inside to lt) x.registers r) (kept_low p.function (place to) w v r.low) m
+        (store_kept p.function (is_unread p.function f.place) (place to) w (view_in c t) v (fw.inside to lt) x.registers r) (kept_low p.function (is_unread p.function f.place) (place to) w v r.low) m
         (q.0 ∙ (l.globals ∙ eg)) (q.1 ∙ (l.arena ∙ ea)))
       where
         lengths : (gs xs : List Piece) (q : Piece) → length (gs ++ (xs ++ q ∷ [])) ≡ length gs + (length xs + 1)
@@ -162,14 +163,14 @@ module _ (C : FlatCode) (placed : List Placed) (flash : List ℕ) (a : Addresses
             let bs = brings_still p.function 0 pf in
             let cb = still_takes p.function (brings p.function 0 pf) bs in
             computed_gives p f callers base c used h t (Unary to op from) e x sh to value (prefix_word op w) 11
-            (brings p.function 0 pf ∷ []) (unary p.function (register_of 0 (place_of p.places to)) r op (3 * f.place + 1)) u refl (
+            (brings p.function 0 pf ∷ []) (unary p.function (result_in (is_unread p.function f.place) (place_of p.places to)) r op (3 * f.place + 1)) u refl (
               u,
               brings_word C placed flash a texts image p f callers base c used h t (Unary to op from) e x sh from 0 v lf (0, omega arith, refl) (omega arith)
                   refl,
               refl,
             ) (brought_store pf 0 w v (omega arith)) refl refl
             (unary_leaves (fetched flash c.base) flash (spots C placed flash a f.function p) (function_pieces p) fw.laid (bank_in flash c t)
-            t.free u n1 p.function (register_of 0 (place_of p.places to)) (register_small p.function (place_of p.places to) 0 (omega arith) (fw.inside to lt)) r op
+            t.free u n1 p.function (result_in (is_unread p.function f.place) (place_of p.places to)) (made_small p.function (is_unread p.function f.place) (place_of p.places to) (fw.inside to lt)) r op
             (3 * f.place + 1) w (register_small p.function pf 0 (omega arith) (fw.inside from lf))
             (not_scratch p.function pf 0 1 (omega arith) (λ e. omega arith) (fw.inside from lf))
             (brought_word p.function pf 0 w v (omega arith) (fw.inside from lf) rg refl))
@@ -196,7 +197,7 @@ module _ (C : FlatCode) (placed : List Placed) (flash : List ℕ) (a : Addresses
         let fw = k.within_function in
         let lt : to < temporaries fn = ((k.op_within).names).0 in
         let pa = place_of p.places left in let pb = place_of p.places right in
-        let ra = register_of 0 pa in let rb = register_of 1 pb in let d = register_of 0 (place_of p.places to) in
+        let ra = register_of 0 pa in let rb = register_of 1 pb in let d = result_in (is_unread p.function f.place) (place_of p.places to) in
         let ia = fw.inside left ll in let ib = fw.inside right lr in let it = fw.inside to lt in
         let u1 = brought 0 pa w1 v in
         let u2 = brought 1 pb w2 u1 in
@@ -207,11 +208,11 @@ module _ (C : FlatCode) (placed : List Placed) (flash : List ℕ) (a : Addresses
         let not_one = not_scratch fn pa 0 1 (omega arith) (λ e. omega arith) ia in
         let r0 : slice_index u2.low ra ≡ w1 = brought_other pb 1 w2 ra u1.low not_one ∙ brought_word fn pa 0 w1 v (omega arith) ia rg refl in
         let r1 : slice_index u2.low rb ≡ w2 = brought_word fn pb 1 w2 u1 (omega arith) ib n1 (ap (get fn pb) e1) in
-        let fd = register_small fn (place_of p.places to) 0 (omega arith) it in
+        let fd = made_small fn (is_unread p.function f.place) (place_of p.places to) it in
         let fa = register_small fn pa 0 (omega arith) ia in let fb = register_small fn pb 1 (omega arith) ib in
         let na = not_scratch fn pa 0 2 (omega arith) (λ e. omega arith) ia in let nb = not_scratch fn pb 1 2 (omega arith) (λ e. omega arith) ib in
         let nz = not_scratch fn pb 1 0 (omega arith) (λ e. omega arith) ib in
-        let nt = not_scratch fn (place_of p.places to) 0 2 (omega arith) (λ e. omega arith) it in
+        let nt = made_not fn (is_unread p.function f.place) (place_of p.places to) 2 (omega arith) (omega arith) it in
         let at = fw.at in
         let lo = at.low in
         let fits = base_fits c.base at.aligned (omega arith) at.high in

@@ -13,16 +13,17 @@ use Rattle.flat_ir.specs.WellFormed.{temporaries}
 use Rattle.flat_ir.specs.Liveness.{IsLiveAt}
 use Rattle.register_assign.specs.declared.places.Placed.{Placed}
 use Rattle.register_assign.specs.Sound.{place_of}
+use Rattle.register_assign.specs.Unread.{is_unread}
 use Rattle.sts_meaning.specs.Values.{Value, with_entry}
 use Rattle.flat_meaning.specs.Operators.{FlatHeap}
 use Rattle.flat_meaning.specs.Frames.{FlatFrame, FlatActivity, Stands, given}
 use Rattle.arena_values.specs.Lies.{Shows}
 use Rattle.placed_frames.specs.View.{View, with_low, At}
-use Rattle.placed_frames.specs.Places.{get, put}
+use Rattle.placed_frames.specs.Places.{get}
 use Rattle.placed_frames.specs.Frames.{Running}
 use Rattle.thumb_code.specs.declared.register_file.Registers.{Registers}
 use Rattle.thumb_layout.specs.declared.pieces.Piece.{Piece}
-use Rattle.thumb_emit.specs.Frame.{from_place, register_of, brings, keeps}
+use Rattle.thumb_emit.specs.Frame.{from_place, brings, keeps, result_in}
 use Rattle.thumb_emit.specs.Emit.{op_pieces, function_pieces}
 use Rattle.thumb_emit.proofs.Laws.{op_takes}
 use Rattle.thumb_emit.specs.Bounds.{op_instructions, total_cost}
@@ -33,7 +34,7 @@ use Rattle.emit_simulation.specs.Ties.{IsAt, AtOp, IsShared, IsImage, Means, spo
 use Rattle.emit_simulation.specs.Context.{view_in, bank_in, fiber_seen, shared_seen, AtOpOf}
 use Rattle.emit_simulation.proofs.Flowing.{flows}
 use Rattle.emit_simulation.specs.Leaving.{StandsIn}
-use Rattle.emit_simulation.proofs.Placed.{brought, kept_view, store_kept, kept_low, kept_shared}
+use Rattle.emit_simulation.proofs.Placed.{brought, kept_view, store_kept, kept_low, kept_shared, put_result}
 use Rattle.emit_simulation.proofs.Straight.{runs_with, keeps_last, brings_read, reads as reads_to}
 use Rattle.emit_simulation.proofs.Turns.{Owed, makes_goes}
 use Rattle.emit_simulation.proofs.Context.{at_op}
@@ -136,7 +137,7 @@ module _ (C : FlatCode) (placed : List Placed) (flash : List ℕ) (a : Addresses
     pub gives : (to : ℕ) (value : Value) (least most w : ℕ) (v : View) → writes op ≡ Some to → Contains (goes_on f.place op) (suc f.place) → 0 < least
         → to < temporaries p.function
         → Reached p f c t least most (start p.function (place_of p.places) f.place + 1 + length (op_pieces p.function (place_of p.places) f.place op)) v
-        → store_of v ≡ put p.function (place_of p.places to) w (store_of (view_in c t)) → length v.low ≡ 13 → Means C placed flash a value w
+        → store_of v ≡ put_result p.function (is_unread p.function f.place) (place_of p.places to) w (store_of (view_in c t)) → length v.low ≡ 13 → Means C placed flash a value w
         → v.globals ≡ t.globals → v.arena ≡ t.arena
         → Owed C placed flash a texts most used h t (Goes (Stands (given to value f) callers base) h) c t
     gives to value least most w v wr on l lt y es n i g r =
@@ -146,8 +147,8 @@ module _ (C : FlatCode) (placed : List Placed) (flash : List ℕ) (a : Addresses
         h l y (sym here.next)
         (runs_with flash (spots C placed flash a f.function p) (Means C placed flash a) (small C placed flash a texts image) C.functions
         (place_in C placed flash a) (return_to C placed flash a) p.function place ((here.within_function).inside)
-        (λ u. IsLiveAt p.function.ops u f.place) f.temps (frames_of callers) (view_in c t) x.running (λ u. IsLiveAt p.function.ops u (f.place + 1)) to w value
-        v lt es i
+        (λ u. IsLiveAt p.function.ops u f.place) f.temps (frames_of callers) (view_in c t) x.running (is_unread p.function f.place) (λ u. IsLiveAt p.function.ops u (f.place + 1)) to w value
+        v lt es i (λ q live. here.unread to (suc f.place) q wr on (subst (IsLiveAt p.function.ops to) (sym z) live))
         (λ m lm d live. (
           here.kept_live m (suc f.place) on (subst (IsLiveAt p.function.ops m) (sym z) live)
               (λ k. d (let b : Some to ≡ Some m = sym wr ∙ k in let b' : m ≡ to = cc in b')),
@@ -218,7 +219,7 @@ module _ (C : FlatCode) (placed : List Placed) (flash : List ℕ) (a : Addresses
         → AllFlow flash (spots C placed flash a f.function p) (op_pieces p.function (place_of p.places) f.place op) (view_in c t) v
         → 0 < steps_of (op_pieces p.function (place_of p.places) f.place op)
         → writes op ≡ Some to → Contains (goes_on f.place op) (suc f.place) → to < temporaries p.function
-        → store_of v ≡ put p.function (place_of p.places to) w (store_of (view_in c t)) → length v.low ≡ 13 → Means C placed flash a value w
+        → store_of v ≡ put_result p.function (is_unread p.function f.place) (place_of p.places to) w (store_of (view_in c t)) → length v.low ≡ 13 → Means C placed flash a value w
         → v.globals ≡ t.globals → v.arena ≡ t.arena
         → Owed C placed flash a texts (op_instructions op) used h t (Goes (Stands (given to value f) callers base) h) c t
     straight_puts to value w v whole pos wr on lt es n i g ar =
@@ -237,27 +238,27 @@ module _ (C : FlatCode) (placed : List Placed) (flash : List ℕ) (a : Addresses
 
     -- STRAIGHT PIECES that leave a result, which is kept
     pub straight_gives : (to : ℕ) (value : Value) (w : ℕ) (u : View) (xs : List Piece) → op_pieces p.function (place_of p.places) f.place op ≡ xs ++
-        keeps p.function 0 (place_of p.places to) ∷ [] → AllFlow flash (spots C placed flash a f.function p) xs (view_in c t) u → 0 < steps_of xs
+        keeps p.function (is_unread p.function f.place) (place_of p.places to) ∷ [] → AllFlow flash (spots C placed flash a f.function p) xs (view_in c t) u → 0 < steps_of xs
         → writes op ≡ Some to → Contains (goes_on f.place op) (suc f.place) → to < temporaries p.function
-        → StandsIn (register_of 0 (place_of p.places to)) w (view_in c t) u → Means C placed flash a value w → u.globals ≡ t.globals → u.arena ≡ t.arena
+        → StandsIn (result_in (is_unread p.function f.place) (place_of p.places to)) w (view_in c t) u → Means C placed flash a value w → u.globals ≡ t.globals → u.arena ≡ t.arena
         → Owed C placed flash a texts (op_instructions op) used h t (Goes (Stands (given to value f) callers base) h) c t
     straight_gives to value w u xs ps fl some wr on lt r i g ar =
         let place = place_of p.places in
         let pl = spots C placed flash a f.function p in
         let k = here in
         let fw = k.within_function in
-        let v = kept_view p.function (place to) w u in
-        let q = kept_shared p.function (place to) w u in
+        let v = kept_view p.function (is_unread p.function f.place) (place to) w u in
+        let q = kept_shared p.function (is_unread p.function f.place) (place to) w u in
         let last = keeps_last flash pl (Means C placed flash a) (small C placed flash a texts image) C.functions (place_in C placed flash a)
         (return_to C placed flash a) p.function place fw.inside
-        (λ n. IsLiveAt p.function.ops n f.place) f.temps (frames_of callers) (view_in c t) x.running to w u lt r
+        (λ n. IsLiveAt p.function.ops n f.place) f.temps (frames_of callers) (view_in c t) x.running (is_unread p.function f.place) to w u lt r
         (small C placed flash a texts image value w i) in
         let whole : AllFlow flash pl (op_pieces p.function place f.place op) (view_in c t) v = subst (λ q. AllFlow flash pl q (view_in c t) v) (sym ps)
-        (all_append flash pl xs (keeps p.function 0 (place to) ∷ []) (view_in c t) u v fl (v, last, refl)) in
+        (all_append flash pl xs (keeps p.function (is_unread p.function f.place) (place to) ∷ []) (view_in c t) u v fl (v, last, refl)) in
         let pos : 0 < steps_of (op_pieces p.function place f.place op) = subst (λ q. 0 < steps_of q) (sym ps)
-        (steps_more xs (keeps p.function 0 (place to) ∷ []) some) in
-        straight_puts to value w v whole pos wr on lt (store_kept p.function (place to) w (view_in c t) u (fw.inside to lt) x.registers r)
-        (kept_low p.function (place to) w u r.low) i (q.0 ∙ g) (q.1 ∙ ar)
+        (steps_more xs (keeps p.function (is_unread p.function f.place) (place to) ∷ []) some) in
+        straight_puts to value w v whole pos wr on lt (store_kept p.function (is_unread p.function f.place) (place to) w (view_in c t) u (fw.inside to lt) x.registers r)
+        (kept_low p.function (is_unread p.function f.place) (place to) w u r.low) i (q.0 ∙ g) (q.1 ∙ ar)
 
     -- STRAIGHT PIECES that leave the frames as they are
     pub straight_goes : (h' : FlatHeap) (v : View) → AllFlow flash (spots C placed flash a f.function p) (op_pieces p.function (place_of p.places) f.place op)

@@ -13,7 +13,7 @@ use Rattle.placed_frames.proofs.Laws.{four}
 use Rattle.placed_frames.specs.Places.{Store, words, put, get, IsRoom}
 use Rattle.thumb_layout.specs.declared.pieces.Piece.TheVariants.{Plain, Label}
 use Rattle.thumb_layout.specs.Pieces.{Places}
-use Rattle.thumb_emit.specs.Frame.{from_place, to_place, register_of, brings, keeps, copies, carries}
+use Rattle.thumb_emit.specs.Frame.{from_place, to_place, register_of, brings, result_in, keeps, lands, copies, carries}
 use Rattle.emit_simulation.specs.Laid.{Flows, AllFlow, OfInstr, OfLabel, steps_of}
 use Rattle.emit_simulation.specs.Leaving.{StandsIn}
 use Rattle.emit_simulation.specs.Laid.{store_of}
@@ -160,6 +160,15 @@ not_scratch f (Reg r) rd k l d i e = let a = i.0 in let z : k ≡ r = e in omega
 not_scratch f (Slot j) rd k l d i e = d (sym e)
 not_scratch f (Incoming j) rd k l d i e = d (sym e)
 
+-- so is that in which a result is made
+pub made_small : (f : Function) (b : Bool) (q : Place) → IsWithin f q → result_in b q < 8
+made_small f true q i = omega arith
+made_small f false q i = register_small f q 0 (omega arith) i
+
+pub made_not : (f : Function) (b : Bool) (q : Place) (k : ℕ) → 0 < k → k < 4 → IsWithin f q → k ≡ result_in b q → ⊥
+made_not f true q k l m i e = let z : k ≡ 0 = e in omega arith
+made_not f false q k l m i e = not_scratch f q 0 k m (λ z. omega arith) i e
+
 -- MOVE: a word from one low register to another, unless it is there
 abbrev pub moved_low : ℕ → ℕ → ℕ → List ℕ → List ℕ
 moved_low rd rs w low = if rd == rs then low else slice_set low rd w
@@ -196,11 +205,17 @@ moved_length rd rs w low = by (rd == rs)
     by true = refl
     by false = length-set low rd w
 
--- KEEP: what is seen behind the piece that takes a result from its register to its place
-abbrev pub kept_view : Function → Place → ℕ → View → View
-kept_view f (Reg r) w u = u
-kept_view f (Slot j) w u = put_view f (Slot j) w u
-kept_view f (Incoming j) w u = put_view f (Incoming j) w u
+-- KEEP: what is seen behind the piece that takes a result from its register to its place, unless nobody reads it
+abbrev pub kept_view : Function → Bool → Place → ℕ → View → View
+kept_view f true q w u = u
+kept_view f false (Reg r) w u = u
+kept_view f false (Slot j) w u = put_view f (Slot j) w u
+kept_view f false (Incoming j) w u = put_view f (Incoming j) w u
+
+-- the frames then
+abbrev pub put_result : Function → Bool → Place → ℕ → Store → Store
+put_result f true q w s = s
+put_result f false q w s = put f q w s
 
 same_store : (v u : View) → slice_index u.low 4 ≡ slice_index v.low 4 → slice_index u.low 5 ≡ slice_index v.low 5 → slice_index u.low 6 ≡ slice_index v.low 6
     → slice_index u.low 7 ≡ slice_index v.low 7 → u.words ≡ v.words → store_of u ≡ store_of v
@@ -226,27 +241,55 @@ result_store d w v u n k r =
     same_store (with_low d w v) u (result_at d w 4 v u n k r (omega arith) (omega arith)) (result_at d w 5 v u n k r (omega arith) (omega arith))
     (result_at d w 6 v u n k r (omega arith) (omega arith)) (result_at d w 7 v u n k r (omega arith) (omega arith)) r.words
 
-pub keeps_flows : (flash : List ℕ) (p : Places) (f : Function) (q : Place) (w : ℕ) (v u : View) → IsWithin f q → IsRoom f (store_of v)
-    → StandsIn (register_of 0 q) w v u → w < 2 ^ 32 → Flows flash p (keeps f 0 q) u (kept_view f q w u)
-keeps_flows flash p f (Reg r) w v u i h x m = OfLabel (3 * length f.ops + 1) u
-keeps_flows flash p f (Slot j) w v u i h x m = puts flash p f (Slot j) 0 w u (omega arith) i (subst (IsRoom f) (sym (scratch_store 0 w v u (omega arith) x)) h) x.word_is m
-keeps_flows flash p f (Incoming j) w v u i h x m = puts flash p f (Incoming j) 0 w u (omega arith) i (subst (IsRoom f) (sym (scratch_store 0 w v u (omega arith) x)) h) x.word_is m
+pub keeps_flows : (flash : List ℕ) (p : Places) (f : Function) (b : Bool) (q : Place) (w : ℕ) (v u : View) → IsWithin f q → IsRoom f (store_of v)
+    → StandsIn (result_in b q) w v u → w < 2 ^ 32 → Flows flash p (keeps f b q) u (kept_view f b q w u)
+keeps_flows flash p f true q w v u i h x m = OfLabel (3 * length f.ops + 1) u
+keeps_flows flash p f false (Reg r) w v u i h x m = OfLabel (3 * length f.ops + 1) u
+keeps_flows flash p f false (Slot j) w v u i h x m = puts flash p f (Slot j) 0 w u (omega arith) i (subst (IsRoom f) (sym (scratch_store 0 w v u (omega arith) x)) h) x.word_is m
+keeps_flows flash p f false (Incoming j) w v u i h x m = puts flash p f (Incoming j) 0 w u (omega arith) i (subst (IsRoom f) (sym (scratch_store 0 w v u (omega arith) x)) h) x.word_is m
 
-pub store_kept : (f : Function) (q : Place) (w : ℕ) (v u : View) → IsWithin f q → length v.low ≡ 13 → StandsIn (register_of 0 q) w v u
-    → store_of (kept_view f q w u) ≡ put f q w (store_of v)
-store_kept f (Reg r) w v u i n x = result_store r w v u n (let a = i.1 in omega arith) x ∙ store_put f (Reg r) w v i n
-store_kept f (Slot j) w v u i n x = ap (put f (Slot j) w) (scratch_store 0 w v u (omega arith) x)
-store_kept f (Incoming j) w v u i n x = ap (put f (Incoming j) w) (scratch_store 0 w v u (omega arith) x)
+pub store_kept : (f : Function) (b : Bool) (q : Place) (w : ℕ) (v u : View) → IsWithin f q → length v.low ≡ 13 → StandsIn (result_in b q) w v u
+    → store_of (kept_view f b q w u) ≡ put_result f b q w (store_of v)
+store_kept f true q w v u i n x = scratch_store 0 w v u (omega arith) x
+store_kept f false (Reg r) w v u i n x = result_store r w v u n (let a = i.1 in omega arith) x ∙ store_put f (Reg r) w v i n
+store_kept f false (Slot j) w v u i n x = ap (put f (Slot j) w) (scratch_store 0 w v u (omega arith) x)
+store_kept f false (Incoming j) w v u i n x = ap (put f (Incoming j) w) (scratch_store 0 w v u (omega arith) x)
 
-pub kept_low : (f : Function) (q : Place) (w : ℕ) (u : View) → length u.low ≡ 13 → length (kept_view f q w u).low ≡ 13
-kept_low f (Reg r) w u n = n
-kept_low f (Slot j) w u n = n
-kept_low f (Incoming j) w u n = n
+pub kept_low : (f : Function) (b : Bool) (q : Place) (w : ℕ) (u : View) → length u.low ≡ 13 → length (kept_view f b q w u).low ≡ 13
+kept_low f true q w u n = n
+kept_low f false (Reg r) w u n = n
+kept_low f false (Slot j) w u n = n
+kept_low f false (Incoming j) w u n = n
 
-pub kept_shared : (f : Function) (q : Place) (w : ℕ) (u : View) → ((kept_view f q w u).globals ≡ u.globals) × ((kept_view f q w u).arena ≡ u.arena)
-kept_shared f (Reg r) w u = (refl, refl)
-kept_shared f (Slot j) w u = (refl, refl)
-kept_shared f (Incoming j) w u = (refl, refl)
+pub kept_shared : (f : Function) (b : Bool) (q : Place) (w : ℕ) (u : View) → ((kept_view f b q w u).globals ≡ u.globals) × ((kept_view f b q w u).arena ≡ u.arena)
+kept_shared f true q w u = (refl, refl)
+kept_shared f false (Reg r) w u = (refl, refl)
+kept_shared f false (Slot j) w u = (refl, refl)
+kept_shared f false (Incoming j) w u = (refl, refl)
+
+-- LAND: what is seen behind the piece that takes a result from r0 to its place, unless nobody reads it
+abbrev pub landed_view : Function → Bool → Place → ℕ → View → View
+landed_view f true q w u = u
+landed_view f false q w u = put_view f q w u
+
+pub lands_flows : (flash : List ℕ) (p : Places) (f : Function) (b : Bool) (q : Place) (w : ℕ) (u : View) → IsWithin f q → IsRoom f (store_of u)
+    → (b ≡ false → slice_index u.low 0 ≡ w) → w < 2 ^ 32 → Flows flash p (lands f b q) u (landed_view f b q w u)
+lands_flows flash p f true q w u i h e m = OfLabel (3 * length f.ops + 1) u
+lands_flows flash p f false q w u i h e m = puts flash p f q 0 w u (omega arith) i h (e refl) m
+
+pub store_landed : (f : Function) (b : Bool) (q : Place) (w : ℕ) (u : View) → IsWithin f q → length u.low ≡ 13
+    → store_of (landed_view f b q w u) ≡ put_result f b q w (store_of u)
+store_landed f true q w u i n = refl
+store_landed f false q w u i n = store_put f q w u i n
+
+pub landed_low : (f : Function) (b : Bool) (q : Place) (w : ℕ) (u : View) → length u.low ≡ 13 → length (landed_view f b q w u).low ≡ 13
+landed_low f true q w u n = n
+landed_low f false q w u n = put_low f q w u n
+
+pub landed_shared : (f : Function) (b : Bool) (q : Place) (w : ℕ) (u : View)
+    → ((landed_view f b q w u).globals ≡ u.globals) × ((landed_view f b q w u).arena ≡ u.arena)
+landed_shared f true q w u = (refl, refl)
+landed_shared f false q w u = put_shared f q w u
 
 pub same_kept : (i : ℕ) (m v : View) → store_of m ≡ store_of v → 4 ≤ i → i < 8 → slice_index m.low i ≡ slice_index v.low i
 same_kept i m v e a b = sym (kept_is m i a (omega arith)) ∙ (ap (λ (q : Store). slice_index q.kept (i - 4)) e ∙ kept_is v i a (omega arith))
@@ -270,11 +313,11 @@ result_set d w v m u l e n s k = record {
 }
 
 -- COPY: a word goes from a place to another
-pub record Copied (flash : List ℕ) (p : Places) (f : Function) (q from : Place) (w : ℕ) (v : View) : Type 0 where
+pub record Copied (flash : List ℕ) (p : Places) (f : Function) (b : Bool) (q from : Place) (w : ℕ) (v : View) : Type 0 where
   pub seen : View
-  pub flow : AllFlow flash p (copies f q from) v seen
-  pub some : 0 < steps_of (copies f q from)
-  pub store : store_of seen ≡ put f q w (store_of v)
+  pub flow : AllFlow flash p (copies f b q from) v seen
+  pub some : 0 < steps_of (copies f b q from)
+  pub store : store_of seen ≡ put_result f b q w (store_of v)
   pub low : length seen.low ≡ 13
   pub globals : seen.globals ≡ v.globals
   pub arena : seen.arena ≡ v.arena
@@ -306,9 +349,18 @@ copied_down flash p f q from w v i k h n e m =
       s.1,
     )
 
-pub copied : (flash : List ℕ) (p : Places) (f : Function) (q from : Place) (w : ℕ) (v : View) → IsWithin f q → IsWithin f from → IsRoom f (store_of v)
-    → length v.low ≡ 13 → get f from (store_of v) ≡ w → w < 2 ^ 32 → Copied flash p f q from w v
-copied flash p f (Reg r) from w v i k h n e m = record {
+pub copied : (flash : List ℕ) (p : Places) (f : Function) (b : Bool) (q from : Place) (w : ℕ) (v : View) → IsWithin f q → IsWithin f from → IsRoom f (store_of v)
+    → length v.low ≡ 13 → get f from (store_of v) ≡ w → w < 2 ^ 32 → Copied flash p f b q from w v
+copied flash p f true q from w v i k h n e m = record {
+  seen = with_low 0 w v;
+  flow = (with_low 0 w v, gets flash p f from 0 w v (omega arith) k h e m, (with_low 0 w v, OfLabel (3 * length f.ops + 1) (with_low 0 w v), refl));
+  some = omega arith;
+  store = store_low 0 w v (omega arith);
+  low = length-set v.low 0 w ∙ n;
+  globals = refl;
+  arena = refl;
+}
+copied flash p f false (Reg r) from w v i k h n e m = record {
   seen = with_low r w v;
   flow = (with_low r w v, gets flash p f from r w v (let a = i.1 in omega arith) k h e m, (with_low r w v, OfLabel (3 * length f.ops + 1) (with_low r w v), refl));
   some = omega arith;
@@ -317,9 +369,9 @@ copied flash p f (Reg r) from w v i k h n e m = record {
   globals = refl;
   arena = refl;
 }
-copied flash p f (Slot j) from w v i k h n e m =
+copied flash p f false (Slot j) from w v i k h n e m =
     let d = copied_down flash p f (Slot j) from w v i k h n e m in
     record { seen = d.0; flow = d.1; some = omega arith; store = d.2; low = d.3; globals = d.4; arena = d.5 }
-copied flash p f (Incoming j) from w v i k h n e m =
+copied flash p f false (Incoming j) from w v i k h n e m =
     let d = copied_down flash p f (Incoming j) from w v i k h n e m in
     record { seen = d.0; flow = d.1; some = omega arith; store = d.2; low = d.3; globals = d.4; arena = d.5 }

@@ -16,6 +16,7 @@ use Rattle.flat_ir.specs.Liveness.{IsLiveAt}
 use Rattle.flat_ir.specs.WellFormed.{temporaries}
 use Rattle.register_assign.specs.declared.places.Placed.{Placed}
 use Rattle.register_assign.specs.Sound.{place_of}
+use Rattle.register_assign.specs.Unread.{is_unread}
 use Rattle.sts_meaning.specs.Values.{Value, Outcome, Gives, Breaks, Stuck}
 use Rattle.sts_meaning.specs.Heaps.{popped}
 use Rattle.sts_meaning.specs.Frames.{after}
@@ -32,8 +33,8 @@ use Rattle.emit_simulation.specs.Starts.{start}
 use Rattle.emit_simulation.specs.Ties.{IsAt, IsShared, IsImage, Means, IsText, IsCode, spots}
 use Rattle.emit_simulation.specs.Context.{view_in}
 use Rattle.emit_simulation.specs.Makes.{MakesOp}
-use Rattle.emit_simulation.proofs.Placed.{store_low, result_set, register_small, not_scratch, brought, brought_length, brought_store}
-use Rattle.thumb_emit.specs.Frame.{register_of}
+use Rattle.emit_simulation.proofs.Placed.{store_low, result_set, not_scratch, brought, brought_length, brought_store, made_small}
+use Rattle.thumb_emit.specs.Frame.{register_of, result_in}
 use Rattle.emit_simulation.proofs.Meanings.{small}
 use Rattle.emit_simulation.proofs.Ops.{here, word, word_means}
 use Rattle.emit_simulation.proofs.Turns.{Owed}
@@ -78,7 +79,7 @@ module _ (C : FlatCode) (placed : List Placed) (flash : List ℕ) (a : Addresses
 
     -- the registers of the result and of the array
     abbrev d0 : ℕ
-    d0 = register_of 0 (place_of p.places to)
+    d0 = result_in (is_unread p.function f.place) (place_of p.places to)
 
     abbrev rn : ℕ
     rn = register_of 0 (place_of p.places array)
@@ -162,7 +163,7 @@ module _ (C : FlatCode) (placed : List Placed) (flash : List ℕ) (a : Addresses
         let small_z = small C placed flash a texts image y z s.shows in
         let same : slice_index u.arena (first + less) ≡ z = get_or-set_other t.arena (k + 1) (first + less) less 0 (omega arith) in
         let nu = fd'.low in
-        let fd = register_small p.function (place_of p.places to) 0 (omega arith)
+        let fd = made_small p.function (is_unread p.function f.place) (place_of p.places to)
         (((here C placed flash a texts image p f callers base c used h t op e x sh).within_function).inside to names.0) in
         let load : Flows flash spot (Plain (LdrReg d0 2 1)) u (with_low d0 z u)
         = OfInstr (LdrReg d0 2 1) u (with_low d0 z u) refl (GetAt d0 2 1 z u (InArena (first + less) (omega arith) ((λ i. fd'.r2 i + fd'.r1 i) ∙ omega arith) same)

@@ -21,7 +21,7 @@ use Rattle.bank_model.specs.BoardMachine.{fibers, memory_of, fiber_of, shared_in
 use Rattle.thumb_layout.specs.declared.pieces.Piece.{Piece}
 use Rattle.thumb_layout.specs.declared.pieces.Piece.TheVariants.{Plain, CallTo, Label}
 use Rattle.thumb_layout.specs.Pieces.{Places, goes_on as piece_goes_on}
-use Rattle.thumb_layout.specs.Holds.{Reaches}
+use Rattle.thumb_layout.specs.Holds.{cost, Reaches}
 use Rattle.thumb_layout.proofs.Laws.{reaches_add}
 use Rattle.flat_ir.specs.declared.ops.Op.{Op}
 use Rattle.flat_ir.specs.declared.ops.Op.TheVariants.{Return, Call, CallSlot}
@@ -33,6 +33,7 @@ use Rattle.flat_ir.specs.Liveness.{IsLiveAt}
 use Rattle.register_assign.specs.declared.places.Place.{Place}
 use Rattle.register_assign.specs.declared.places.Placed.{Placed}
 use Rattle.register_assign.specs.Sound.{place_of}
+use Rattle.register_assign.specs.Unread.{is_unread}
 use Rattle.sts_syntax.specs.TypeRules.{entry}
 use Rattle.sts_meaning.specs.Frames.{after}
 use Rattle.flat_meaning.specs.Operators.{FlatHeap}
@@ -40,27 +41,28 @@ use Rattle.flat_meaning.specs.Frames.{FlatFrame, Enters, Stands, given, op_of, r
 use Rattle.flat_meaning.specs.Steps.{ended}
 use Rattle.sts_implements.specs.Passes.{trailing_instructions}
 use Rattle.thumb_emit.specs.Emit.{op_pieces, function_pieces, passes, calls_slot}
-use Rattle.thumb_emit.specs.Frame.{to_place}
+use Rattle.thumb_emit.specs.Frame.{lands}
+use Rattle.thumb_emit.proofs.Laws.{lands_still, still_takes}
 use Rattle.thumb_emit.specs.Bounds.{op_instructions}
 use Rattle.thumb_emit.specs.InFlash.{Addresses}
 use Rattle.arena_values.specs.Lies.{Shows}
 use Rattle.placed_frames.specs.View.{registers_of, bank_of}
 use Rattle.placed_frames.specs.Places.{words}
 use Rattle.placed_frames.specs.Frames.{HasFrame, HasFrames, HasWaiting, Running, Waits, saved_at, words_at, writes_at}
-use Rattle.emit_simulation.specs.Laid.{Fm, over, Laid, IsEven, store_of}
+use Rattle.emit_simulation.specs.Laid.{Fm, over, Laid, IsEven, step_of, store_of}
 use Rattle.emit_simulation.specs.Starts.{start}
 use Rattle.emit_simulation.specs.Ties.{IsAt, AtEntry, AtOp, IsShared, IsImage, Means, spots, place_in, place_at, return_in, return_to, frame_of, frames_of, calls_at, calling_of, stack_end}
 use Rattle.emit_simulation.specs.Context.{view_in, bank_in}
 use Rattle.emit_simulation.specs.Makes.{MakesOp}
 use Rattle.emit_simulation.proofs.Flowing.{flows_one}
-use Rattle.emit_simulation.proofs.Placed.{put_view, put_low, put_shared}
+use Rattle.emit_simulation.proofs.Placed.{landed_view, landed_low, landed_shared}
 use Rattle.emit_simulation.proofs.Paths.{path}
 use Rattle.emit_simulation.proofs.Starts.{op_stands, later}
-use Rattle.emit_simulation.proofs.Straight.{runs_on, puts_last}
+use Rattle.emit_simulation.proofs.Straight.{runs_on, lands_last}
 use Rattle.emit_simulation.proofs.Context.{at_op, laid_at, function_at, base_fits}
 use Rattle.emit_simulation.proofs.Meanings.{small, placed_inside, entry_is}
 use Rattle.emit_simulation.proofs.Turns.{Owed, asks_does, makes_reach, onward, tied_now}
-use Rattle.emit_simulation.proofs.Ops.{here, pc_behind, word, word_means}
+use Rattle.emit_simulation.proofs.Ops.{here, pc_behind, wider, word, word_means}
 use Rattle.emit_simulation.proofs.Passing.{passes_length}
 use Rattle.emit_simulation.proofs.Returning.{Returned, returns}
 
@@ -99,7 +101,7 @@ module _ (C : FlatCode) (placed : List Placed) (flash : List ℕ) (a : Addresses
   pub record Calls (fn : Function) (place : ℕ → Place) (k : ℕ) (op : Op) (to : ℕ) : Type 0 where
     pub piece : Piece
     pub calls : slice_get (op_pieces fn place k op) (calls_at op) ≡ Some piece
-    pub puts : slice_get (op_pieces fn place k op) (calls_at op + 1) ≡ Some (to_place fn 0 (place to))
+    pub puts : slice_get (op_pieces fn place k op) (calls_at op + 1) ≡ Some (lands fn (is_unread fn k) (place to))
     pub long : length (op_pieces fn place k op) ≡ calls_at op + 2
     pub goes : piece_goes_on piece ≡ true
     pub even : (p : Places) (pieces : List Piece) (base i : ℕ) → Laid (fetched flash base) flash p pieces → slice_get pieces i ≡ Some piece
@@ -110,7 +112,7 @@ module _ (C : FlatCode) (placed : List Placed) (flash : List ℕ) (a : Addresses
   call_pieces : (fn : Function) (place : ℕ → Place) (k to g : ℕ) (args : List ℕ) → Calls fn place k (Call to g args) to
   call_pieces fn place k to g args =
       let ps = passes fn place 0 args in
-      let ys = CallTo g ∷ (to_place fn 0 (place to) ∷ []) in
+      let ys = CallTo g ∷ (lands fn (is_unread fn k) (place to) ∷ []) in
       let n = passes_length fn place 0 args in
       let ln = length-append ps ys in
       record {
@@ -127,7 +129,7 @@ module _ (C : FlatCode) (placed : List Placed) (flash : List ℕ) (a : Addresses
   slot_pieces : (fn : Function) (place : ℕ → Place) (k to slot : ℕ) (args : List ℕ) → Calls fn place k (CallSlot to slot args) to
   slot_pieces fn place k to slot args =
       let ps = passes fn place 0 args in
-      let ys = calls_slot slot (3 * k + 1) ++ (to_place fn 0 (place to) ∷ []) in
+      let ys = calls_slot slot (3 * k + 1) ++ (lands fn (is_unread fn k) (place to) ∷ []) in
       let n = passes_length fn place 0 args in
       let ln = length-append ps ys in
       record {
@@ -231,7 +233,7 @@ module _ (C : FlatCode) (placed : List Placed) (flash : List ℕ) (a : Addresses
         let ci = s1 + calls_at op in
         let ln = cs.long in
         let gc : slice_get pieces ci ≡ Some cs.piece = st (calls_at op) (omega arith) ∙ cs.calls in
-        let gp : slice_get pieces (ci + 1) ≡ Some (to_place fn 0 (place to)) = ap (slice_get pieces) (omega arith) ∙
+        let gp : slice_get pieces (ci + 1) ≡ Some (lands fn (is_unread fn fr.place) (place to)) = ap (slice_get pieces) (omega arith) ∙
         (st (calls_at op + 1) (omega arith) ∙ cs.puts) in
         let ev = cs.even pl pieces c.base ci laid gc in
         let at = pl.behind ci in
@@ -275,33 +277,37 @@ module _ (C : FlatCode) (placed : List Placed) (flash : List ℕ) (a : Addresses
         let mw = word_means C placed flash a texts image p f callers base c used h t (Return from) e x sh from lf (0, omega arith, refl) in
         let lt : to < temporaries fn = written_below op to (temporaries fn) cs.writes_to (k2.op_within).names in
         let v = view_in c2 t2 in
-        let put = puts_last flash pl Is (small C placed flash a texts image) C.functions pin ret fn place fw.inside (Waits fn fr.place) fr.temps (frames_of fs)
-        v run to w v lt refl y.answer (small C placed flash a texts image (f.temps from) w mw) in
-        let v' = put_view fn (place to) w v in
+        let b3 = is_unread fn fr.place in
+        let put = lands_last flash pl Is (small C placed flash a texts image) C.functions pin ret fn place fw.inside (Waits fn fr.place) fr.temps (frames_of fs)
+        v run b3 to w v lt refl (λ q. y.answer) (small C placed flash a texts image (f.temps from) w mw) in
+        let v' = landed_view fn b3 (place to) w v in
+        let takes = still_takes fn (lands fn b3 (place to)) (lands_still fn b3 (place to)) in
         let b2 = bank_in flash c2 t2 in
-        let c3 = flows_one fetch flash pl pieces laid (ci + 1) (to_place fn 0 (place to)) v v' c2.registers b2 t2.free gp fw.at refl put in
+        let c3 = flows_one fetch flash pl pieces laid (ci + 1) (lands fn b3 (place to)) v v' c2.registers b2 t2.free gp fw.at refl put in
         let q3 = registers_of v' (pl.at (ci + 1 + 1)) (record c2.registers { lr = c3.link }) in
         let m3 : Fm = (bank_of v' b2, t2.free) in
-        let step2 = subst (λ n. Reaches over fetch 1 2 (record q { pc = n }) m q3 m3) (sym (laid.next ci cs.piece gc cs.goes)) c3.reach in
-        let whole = reaches_add over fetch 3 8 1 2 c.registers (memory_of flash c t) q m q3 m3 (back_reach at y) step2 in
+        let step2 = subst (λ n. Reaches over fetch (step_of (lands fn b3 (place to))) (cost (lands fn b3 (place to))) (record q { pc = n }) m q3 m3) (sym (laid.next ci cs.piece gc cs.goes)) c3.reach in
+        let whole = reaches_add over fetch 3 8 (step_of (lands fn b3 (place to))) (cost (lands fn b3 (place to))) c.registers (memory_of flash c t) q m q3 m3 (back_reach at y) step2 in
         let z : suc fr.place ≡ fr.place + 1 = omega arith in
         let nx = k2.next in
         let ni : ci + 1 + 1 ≡ start fn place (fr.place + 1) = omega arith in
         let run' = runs_on flash pl Is (small C placed flash a texts image) C.functions pin ret fn place fw.inside (Waits fn fr.place) fr.temps (frames_of fs)
-        v run (λ u. IsLiveAt fn.ops u (fr.place + 1)) to w (f.temps from) v lt refl y.low mw
+        v run b3 (λ u. IsLiveAt fn.ops u (fr.place + 1)) to w (f.temps from) v lt refl y.low mw
+        (λ q live. k2.unread to (suc fr.place) q cs.writes_to cs.on (subst (IsLiveAt fn.ops to) (sym z) live))
         (λ u lu d live. (
           ((λ n. d (some_same to u (sym cs.writes_to ∙ (ap writes_at (sym e') ∙ n)))), live),
           k2.apart to u (suc fr.place) cs.writes_to cs.on (subst (IsLiveAt fn.ops u) (sym z) live) lt lu d,
         )) in
-        let ps = put_shared fn (place to) w v in
+        let ps = landed_shared fn b3 (place to) w v in
         let l3 = c3.long in
         let si = y.sp_is in
         let f' = given to (f.temps from) fr in
-        makes_reach C placed flash a texts used 4 10 h h t c t q3 m3 (Stands f' fs base) (omega arith) sh.0 whole
+        wider C placed flash a texts (8 + cost (lands fn b3 (place to))) (op_instructions (Return from)) used h t (Goes (Stands f' fs base) h) c t (omega arith)
+        (makes_reach C placed flash a texts used (3 + step_of (lands fn b3 (place to))) (8 + cost (lands fn b3 (place to))) h h t c t q3 m3 (Stands f' fs base) (omega arith) sh.0 whole
         (AtOp pr f' fs base (fiber_of q3 m3) (record {
           there = there;
           running = run';
-          registers = put_low fn (place to) w v y.low;
+          registers = landed_low fn b3 (place to) w v y.low;
           pc = ap pl.at ni;
           base_is = x.base_is;
           sp_is = omega arith;
@@ -310,7 +316,7 @@ module _ (C : FlatCode) (placed : List Placed) (flash : List ℕ) (a : Addresses
           refl,
           subst (λ n. Shows Is a.class h used n v'.arena) (sym (ps.0 ∙ y.globals))
               (subst (λ n. Shows Is a.class h used t.globals n) (sym (ps.1 ∙ y.arena)) sh.1),
-        )
+        ))
 
     by_call : (fr : FlatFrame) (fs : List FlatFrame) → callers ≡ fr ∷ fs → (fn : Function) → entry C.functions fr.function ≡ Some fn → (o : Option Op)
         → entry fn.ops fr.place ≡ o

@@ -1,5 +1,5 @@
 -- At the SVC of an op that asks: what each service's turn comes to.
-use Rattle.std.proofs.Common.{suc, ◌≡◌, ℕ, ◌+◌, ◌*◌, ◌<◌, List, [], ◌∷◌, ◌++◌, length, Some, refl, sym, ap, ◌∙◌, subst, arith, slice_get, slice_set, get_or-set_same}
+use Rattle.std.proofs.Common.{suc, ◌≡◌, ℕ, ◌+◌, ◌*◌, ◌<◌, ◌≤◌, Bool, true, false, ◌||◌, if◌then◌else◌, List, [], ◌∷◌, ◌++◌, length, Some, refl, sym, ap, ◌∙◌, subst, arith, slice_get, slice_set, slice_index, get_or-set_same}
 use Rattle.std.specs.Prelude.{ℤ}
 use Rattle.std.proofs.lemmas.List.{length-set, length-append}
 use Rattle.thumb_code.specs.declared.instructions.Instr.TheVariants.{MovImm, Svc}
@@ -21,31 +21,32 @@ use Rattle.flat_ir.specs.Liveness.{IsLiveAt}
 use Rattle.flat_ir.specs.WellFormed.{temporaries}
 use Rattle.register_assign.specs.declared.places.Placed.{Placed}
 use Rattle.register_assign.specs.Sound.{place_of}
+use Rattle.register_assign.specs.Unread.{is_unread}
 use Rattle.sts_syntax.specs.TypeRules.{entry}
 use Rattle.sts_meaning.specs.Values.{Value, Whole, default, to_int32}
 use Rattle.sts_implements.specs.Passes.{trailing_instructions}
 use Rattle.flat_meaning.specs.Operators.{FlatHeap}
 use Rattle.flat_meaning.specs.Frames.{FlatFrame, Stands, given, depth_of, words_of}
 use Rattle.flat_meaning.specs.Steps.{FlatTurn, flat}
-use Rattle.thumb_emit.specs.Emit.{loads, asks}
-use Rattle.thumb_emit.specs.Frame.{to_place}
+use Rattle.thumb_emit.specs.Emit.{loads, answers, asks}
+use Rattle.thumb_emit.specs.Frame.{lands, idle_piece}
 use Rattle.thumb_emit.specs.InFlash.{Addresses}
-use Rattle.thumb_emit.specs.Bounds.{op_instructions}
+use Rattle.thumb_emit.specs.Bounds.{op_instructions, total_cost}
 use Rattle.placed_frames.specs.View.{View, with_low, Quiet}
 use Rattle.arena_values.specs.Lies.{Shows}
 use Rattle.arena_values.proofs.Laws.{answer_reads}
-use Rattle.emit_simulation.specs.Laid.{OfInstr, Flows}
+use Rattle.emit_simulation.specs.Laid.{OfInstr, Flows, AllFlow, store_of}
 use Rattle.emit_simulation.specs.Starts.{start}
 use Rattle.emit_simulation.specs.Ties.{IsAt, IsTied, IsShared, IsImage, Means, ties, spots}
 use Rattle.emit_simulation.specs.Context.{fiber_seen, shared_seen}
 use Rattle.emit_simulation.proofs.Placed.{store_low}
 use Rattle.emit_simulation.proofs.Ops.{here}
-use Rattle.emit_simulation.proofs.Turns.{Owed, going, onward}
+use Rattle.emit_simulation.proofs.Turns.{Owed, going, onward, tied_now}
 use Rattle.emit_simulation.proofs.Walk.{pieces, first, asked, behind_svc}
 use Rattle.emit_simulation.proofs.Behind.{put_behind}
 use Rattle.emit_simulation.proofs.Serving.{serves}
-use Rattle.emit_simulation.proofs.Lagging.{lags}
-use Rattle.emit_simulation.proofs.Loading.{Loaded, loaded, behind_front}
+use Rattle.emit_simulation.proofs.Lagging.{lags, stands_behind_service}
+use Rattle.emit_simulation.proofs.Loading.{Loaded, loaded}
 use Rattle.emit_simulation.proofs.Calls.{frames_fill}
 use Rattle.emit_simulation.proofs.Meanings.{entry_is}
 
@@ -75,7 +76,7 @@ module _ (C : FlatCode) (placed : List Placed) (flash : List ℕ) (a : Addresses
   front_length k (u ∷ ts) = ap suc (front_length (k + 1) ts)
 
   abbrev put : Piece
-  put = to_place p.function 0 (place_of p.places to)
+  put = lands p.function (is_unread p.function f.place) (place_of p.places to)
 
   -- what is seen at the SVC
   abbrev pub held : Loaded C placed flash a texts image to number args p f callers base c used h t e x sh count
@@ -109,55 +110,76 @@ module _ (C : FlatCode) (placed : List Placed) (flash : List ℕ) (a : Addresses
     pub completes : (at : ℕ) → Completes (fibers flash) one trailing_instructions used (service flash at number asking_fiber asking_shared) (below at)
     pub matches : (at : ℕ) → Matches (flat C texts) (fibers flash) (ties C placed flash a) used h t turn (below at)
 
-  pub asks_turn : (turn : FlatTurn) → slice_get (asks number) 0 ≡ Some (Plain (Svc number)) → Serves turn → Owed C placed flash a texts (op_instructions op)
-      used h t turn c t
-  asks_turn turn q s =
+  -- what stands behind the arguments
+  asks_first : (b : Bool) (n : ℕ) → slice_get (asks b n) 0 ≡ Some (Plain (Svc n))
+  asks_first b n = by (b || answers n)
+    where
+      by : (y : Bool) → slice_get (if y then Plain (Svc n) ∷ [] else Plain (Svc n) ∷ Plain (MovImm 0 0) ∷ []) 0 ≡ Some (Plain (Svc n))
+      by true = refl
+      by false = refl
+
+  asks_left : (b : Bool) (n : ℕ) → b ≡ true → asks b n ≡ Plain (Svc n) ∷ []
+  asks_left b n e = rw e refl
+
+  asks_answers : (b : Bool) (n : ℕ) → answers n ≡ true → asks b n ≡ Plain (Svc n) ∷ []
+  asks_answers true n e = refl
+  asks_answers false n e = rw e refl
+
+  asks_read : (b : Bool) (n : ℕ) → b ≡ false → answers n ≡ false → asks b n ≡ Plain (Svc n) ∷ Plain (MovImm 0 0) ∷ []
+  asks_read b n e g = rw e (rw g refl)
+
+  svc_at : slice_get (pieces C placed flash a texts image p f callers base c used h t op e x sh) count ≡ Some (Plain (Svc number))
+  svc_at =
       let n = front_length 0 args in
-      let at_svc : slice_get (pieces C placed flash a texts image p f callers base c used h t op e x sh) count ≡ Some (Plain (Svc number)) = ap
-      (slice_get (pieces C placed flash a texts image p f callers base c used h t op e x sh)) (let z : count ≡ length front + 0 = omega arith in z) ∙
-      behind_at front (asks number ++ put ∷ []) 0 (Plain (Svc number)) (first_of (asks number) (put ∷ []) (Plain (Svc number)) q) in
-      let y = asked C placed flash a texts image p f callers base c used h t op e x sh count (2 * count) number v held.got at_svc in
-      serves C placed flash a texts (2 * count + 2) (op_instructions op) used number h c t _ _ turn (s.below y.at) (omega arith) y (s.completes y.at)
-      (s.matches y.at)
+      ap (slice_get (pieces C placed flash a texts image p f callers base c used h t op e x sh)) (let z : count ≡ length front + 0 = omega arith in z) ∙
+      behind_at front (asks (is_unread p.function f.place) number ++ put ∷ []) 0 (Plain (Svc number)) (first_of (asks (is_unread p.function f.place) number) (put ∷ []) (Plain (Svc number))
+      (asks_first (is_unread p.function f.place) number))
     where
       first_of : (xs ys : List Piece) (y : Piece) → slice_get xs 0 ≡ Some y → slice_get (xs ++ ys) 0 ≡ Some y
       first_of [] ys y e = cc
       first_of (x ∷ xs) ys y e = e
 
-  -- A service that answers nothing: r0 becomes 0, and that is put.
-  module _ (quiet : asks number ≡ Plain (Svc number) ∷ Plain (MovImm 0 0) ∷ []) where
-    whole : pieces C placed flash a texts image p f callers base c used h t op e x sh ≡ front ++ (Plain (Svc number) ∷ Plain (MovImm 0 0) ∷ put ∷ [])
-    whole = ap (λ xs. front ++ (xs ++ put ∷ [])) quiet
+  pub asks_turn : (turn : FlatTurn) → Serves turn → Owed C placed flash a texts (op_instructions op) used h t turn c t
+  asks_turn turn s =
+      let y = asked C placed flash a texts image p f callers base c used h t op e x sh count (2 * count) number v held.got svc_at in
+      serves C placed flash a texts (2 * count + 2) (op_instructions op) used number h c t _ _ turn (s.below y.at) (omega arith) y (s.completes y.at)
+      (s.matches y.at)
 
-    piece_at : (n : ℕ) (y : Piece) → slice_get (Plain (Svc number) ∷ Plain (MovImm 0 0) ∷ put ∷ []) n ≡ Some y
-        → slice_get (pieces C placed flash a texts image p f callers base c used h t op e x sh) (count + n) ≡ Some y
-    piece_at n y q =
+  -- A service that answers nothing: r0 becomes 0, and that is put, where somebody reads it.
+  module _ (quiet : answers number ≡ false) where
+    whole : is_unread p.function f.place ≡ false
+        → pieces C placed flash a texts image p f callers base c used h t op e x sh ≡ front ++ (Plain (Svc number) ∷ (Plain (MovImm 0 0) ∷ [] ++ put ∷ []))
+    whole u = ap (λ xs. front ++ (xs ++ put ∷ [])) (asks_read (is_unread p.function f.place) number u quiet)
+
+    whole_left : is_unread p.function f.place ≡ true
+        → pieces C placed flash a texts image p f callers base c used h t op e x sh ≡ front ++ (Plain (Svc number) ∷ ([] ++ put ∷ []))
+    whole_left u = ap (λ xs. front ++ (xs ++ put ∷ [])) (asks_left (is_unread p.function f.place) number u)
+
+    piece_at : (ys : List Piece) → pieces C placed flash a texts image p f callers base c used h t op e x sh ≡ front ++ ys → (n : ℕ) (y : Piece)
+        → slice_get ys n ≡ Some y → slice_get (pieces C placed flash a texts image p f callers base c used h t op e x sh) (count + n) ≡ Some y
+    piece_at ys w n y q =
         let l = front_length 0 args in
         let z : count + n ≡ length front + n = omega arith in
-        ap (λ xs. slice_get xs (count + n)) whole ∙ (ap (slice_get (front ++ (Plain (Svc number) ∷ Plain (MovImm 0 0) ∷ put ∷ []))) z ∙ behind_at front
-        (Plain (Svc number) ∷ Plain (MovImm 0 0) ∷ put ∷ []) n y q)
+        ap (λ xs. slice_get xs (count + n)) w ∙ (ap (slice_get (front ++ ys)) z ∙ behind_at front ys n y q)
 
-    svc_at : slice_get (pieces C placed flash a texts image p f callers base c used h t op e x sh) count ≡ Some (Plain (Svc number))
-    svc_at = ap (slice_get (pieces C placed flash a texts image p f callers base c used h t op e x sh)) (let z : count ≡ count + 0 = omega arith in z) ∙
-        piece_at 0 _ refl
-
-    -- it goes on with 0, whatever the arena has become
-    pub settled_over : (ar : List ℕ) (used' : ℕ)
-        → (d : Fiber) × Comes (fibers flash) one trailing_instructions (asking_fiber, shared_seen used' (record v { arena = ar }) t.free)
+    abbrev Settled : List ℕ → ℕ → Type 0
+    Settled ar used' = (d : Fiber) × Comes (fibers flash) one trailing_instructions (asking_fiber, shared_seen used' (record v { arena = ar }) t.free)
         (d, shared_seen used' (record v { arena = ar }) t.free) × IsTied C placed flash a (Stands (given to default f) callers base) d
-    settled_over ar used' =
+
+    settles : (ar : List ℕ) (used' : ℕ) (xs : List Piece) (low' : List ℕ) (flags' : ℕ)
+        → pieces C placed flash a texts image p f callers base c used h t op e x sh ≡ front ++ (Plain (Svc number) ∷ (xs ++ put ∷ []))
+        → AllFlow flash spot xs (record v { arena = ar }) (record v { low = low'; flags = flags'; arena = ar })
+        → store_of (record v { low = low' }) ≡ store_of v → length low' ≡ 13 → (is_unread p.function f.place ≡ false → slice_index low' 0 ≡ 0)
+        → total_cost xs + 2 ≤ trailing_instructions → Settled ar used'
+    settles ar used' xs low' flags' w fl es lw r few =
         let n = front_length 0 args in
         let pre = front ++ Plain (Svc number) ∷ [] in
         let l : length pre ≡ count + 1 = length-append front (Plain (Svc number) ∷ []) ∙ (let z : length front + 1 ≡ count + 1 = omega arith in z) in
         let va : View = record v { arena = ar } in
-        let u : View = record va { low = slice_set v.low 0 0; flags = nz v.flags 0 } in
-        let lw = held.low in
-        let mov : Flows flash spot (Plain (MovImm 0 0)) va u = OfInstr (MovImm 0 0) va u refl (Quiet (MovImm 0 0) va (slice_set v.low 0 0) (nz v.flags 0)
-        (λ next pc s. refl)) in
-        let r = put_behind C placed flash a texts image p f callers base c used h t op e x sh to default 0 pre (Plain (MovImm 0 0) ∷ []) va u
-        held.got.comes.link used' t.free (whole ∙ split front (Plain (MovImm 0 0) ∷ put ∷ []) (Plain (Svc number))) refl (0, omega arith, refl) its_names
-        (u, mov, refl) its_length (store_low 0 0 v (omega arith) ∙ held.store) (length-set v.low 0 0 ∙ held.low) (get_or-set_same v.low 0 0 0 (omega arith))
-        (refl, omega arith) (omega arith) in
+        let u : View = record v { low = low'; flags = flags'; arena = ar } in
+        let r = put_behind C placed flash a texts image p f callers base c used h t op e x sh to default 0 pre xs va u
+        held.got.comes.link used' t.free (w ∙ split front (xs ++ put ∷ []) (Plain (Svc number))) refl (0, omega arith, refl) its_names
+        fl its_length (es ∙ held.store) lw r (refl, omega arith) few in
         let pc : spot.behind (first C placed flash a texts image p f callers base c used h t op e x sh + count) ≡ spot.at
         (first C placed flash a texts image p f callers base c used h t op e x sh + length pre) = behind_svc C placed flash a texts image p f callers base
         c used h t op e x sh count number svc_at ∙ ap (λ j. spot.at (first C placed flash a texts image p f callers base c used h t op e x sh + j))
@@ -172,25 +194,52 @@ module _ (C : FlatCode) (placed : List Placed) (flash : List ℕ) (a : Addresses
         split [] ys y = refl
         split (x ∷ xs) ys y = ap (λ l. x ∷ l) (split xs ys y)
 
-    abbrev pub settled : (d : Fiber) × Comes (fibers flash) one trailing_instructions (asking_fiber, asking_shared) (d, asking_shared) × IsTied C placed flash
-        a (Stands (given to default f) callers base) d
+    -- it goes on with 0, whatever the arena has become
+    pub settled_over : (ar : List ℕ) (used' : ℕ) → Settled ar used'
+    settled_over ar used' = by (is_unread p.function f.place) refl
+      where
+        by : (b : Bool) → is_unread p.function f.place ≡ b → Settled ar used'
+        by true u = settles ar used' [] v.low v.flags (whole_left u) refl refl held.low (λ q. (let z : true ≡ false = sym u ∙ q in absurd (cc))) (omega arith)
+        by false u =
+            let va : View = record v { arena = ar } in
+            let w : View = record va { low = slice_set v.low 0 0; flags = nz v.flags 0 } in
+            let lw = held.low in
+            let mov : Flows flash spot (Plain (MovImm 0 0)) va w = OfInstr (MovImm 0 0) va w refl (Quiet (MovImm 0 0) va (slice_set v.low 0 0) (nz v.flags 0)
+            (λ next pc s. refl)) in
+            settles ar used' (Plain (MovImm 0 0) ∷ []) (slice_set v.low 0 0) (nz v.flags 0) (whole u) (w, mov, refl) (store_low 0 0 v (omega arith))
+            (length-set v.low 0 0 ∙ held.low) (λ q. get_or-set_same v.low 0 0 0 (omega arith)) (omega arith)
+
+    abbrev pub settled : Settled v.arena used
     settled = settled_over v.arena used
 
     pub goes_settled : Going (ties C placed flash a) used h t (Stands (given to default f) callers base, h) (settled.0, asking_shared)
     goes_settled = let s = settled in going C placed flash a texts used h h t asking_shared (Stands (given to default f) callers base) s.0 s.2 its_shows
 
     -- it lets others run, and lags
-    pub goes_lagging : Going (ties C placed flash a) used h t (Stands (given to default f) callers base, h) (asking_fiber, asking_shared)
-    goes_lagging =
+    lagging_on : (b : Bool) → is_unread p.function f.place ≡ b → (ties C placed flash a).Active h asking_shared (Stands (given to default f) callers base) asking_fiber
+    lagging_on true u =
         let n = front_length 0 args in
-        let long = ap length whole ∙ length-append front (Plain (Svc number) ∷ Plain (MovImm 0 0) ∷ put ∷ []) in
-        record {
-          self = lags C placed flash a texts image p f callers base c used h t op e x sh count number to v held.got.comes.link h asking_shared svc_at
-              (piece_at 1 _ refl) (ap (slice_get (pieces C placed flash a texts image p f callers base c used h t op e x sh))
-              (let z : count + 1 + 1 ≡ count + 2 = omega arith in z) ∙ piece_at 2 _ refl) (omega arith) refl (0, omega arith, refl) its_names held.store
-              held.low its_length;
-          onward = onward C placed flash a texts used h h t asking_shared its_shows;
-        }
+        let w = whole_left u in
+        let long = ap length w ∙ length-append front (Plain (Svc number) ∷ put ∷ []) in
+        tied_now C placed flash a texts h asking_shared (Stands (given to default f) callers base) asking_fiber
+        (stands_behind_service C placed flash a texts image p f callers base c used h t op e x sh count number to v held.got.comes.link svc_at
+        (piece_at (Plain (Svc number) ∷ put ∷ []) w 1 (idle_piece p.function) (ap (λ b. Some (lands p.function b (place_of p.places to))) u)) (omega arith) u refl
+        (0, omega arith, refl) its_names held.store held.low its_length)
+    lagging_on false u =
+        let n = front_length 0 args in
+        let w = whole u in
+        let ys : List Piece = Plain (Svc number) ∷ Plain (MovImm 0 0) ∷ put ∷ [] in
+        let long = ap length w ∙ length-append front ys in
+        lags C placed flash a texts image p f callers base c used h t op e x sh count number to v held.got.comes.link h asking_shared svc_at
+        (piece_at ys w 1 _ refl) (ap (slice_get (pieces C placed flash a texts image p f callers base c used h t op e x sh))
+        (let z : count + 1 + 1 ≡ count + 2 = omega arith in z) ∙ piece_at ys w 2 _ (ap (λ b. Some (lands p.function b (place_of p.places to))) u)) (omega arith) refl
+        (0, omega arith, refl) its_names held.store held.low its_length
+
+    pub goes_lagging : Going (ties C placed flash a) used h t (Stands (given to default f) callers base, h) (asking_fiber, asking_shared)
+    goes_lagging = record {
+      self = lagging_on (is_unread p.function f.place) refl;
+      onward = onward C placed flash a texts used h h t asking_shared its_shows;
+    }
 
     -- it tells the board something
     pub tells_board : (q r : Question) → q ≡ r → ((at : ℕ) → service flash at number asking_fiber asking_shared ≡ Asks r (λ n. (asking_fiber, asking_shared)))
@@ -204,16 +253,10 @@ module _ (C : FlatCode) (placed : List Placed) (flash : List ℕ) (a : Addresses
           matches = λ at. (s, λ n. goes_settled);
         }
 
-  -- A service that answers in r0, which is put.
-  module _ (answering : asks number ≡ Plain (Svc number) ∷ []) where
+  -- A service that answers in r0, which is put, where somebody reads it.
+  module _ (answering : answers number ≡ true) where
     whole_answer : pieces C placed flash a texts image p f callers base c used h t op e x sh ≡ front ++ (Plain (Svc number) ∷ put ∷ [])
-    whole_answer = ap (λ xs. front ++ (xs ++ put ∷ [])) answering
-
-    svc_there : slice_get (pieces C placed flash a texts image p f callers base c used h t op e x sh) count ≡ Some (Plain (Svc number))
-    svc_there =
-        let l = front_length 0 args in
-        ap (λ xs. slice_get xs count) whole_answer ∙ (ap (slice_get (front ++ (Plain (Svc number) ∷ put ∷ []))) (let z : count ≡ length front = omega arith in
-        z) ∙ behind_front front (put ∷ []) (Plain (Svc number)))
+    whole_answer = ap (λ xs. front ++ (xs ++ put ∷ [])) (asks_answers (is_unread p.function f.place) number answering)
 
     pub answers_back : (z : ℤ) → (d : Fiber) × Comes (fibers flash) one trailing_instructions (answered_word asking_fiber (number_word z), asking_shared)
         (d, asking_shared) × IsTied C placed flash a (Stands (given to (Whole (to_int32 z)) f) callers base) d
@@ -226,11 +269,11 @@ module _ (C : FlatCode) (placed : List Placed) (flash : List ℕ) (a : Addresses
         let lw = held.low in
         let r = put_behind C placed flash a texts image p f callers base c used h t op e x sh to (Whole (to_int32 z)) w pre [] u u held.got.comes.link used
         t.free (whole_answer ∙ split front (put ∷ []) (Plain (Svc number))) refl (0, omega arith, refl) its_names
-        refl its_length (store_low 0 w v (omega arith) ∙ held.store) (length-set v.low 0 w ∙ held.low) (get_or-set_same v.low 0 w 0 (omega arith))
+        refl its_length (store_low 0 w v (omega arith) ∙ held.store) (length-set v.low 0 w ∙ held.low) (λ q. get_or-set_same v.low 0 w 0 (omega arith))
         (answer_reads z) (omega arith) in
         let pc : spot.behind (first C placed flash a texts image p f callers base c used h t op e x sh + count) ≡ spot.at
         (first C placed flash a texts image p f callers base c used h t op e x sh + length pre) = behind_svc C placed flash a texts image p f callers base
-        c used h t op e x sh count number svc_there ∙ ap (λ j. spot.at (first C placed flash a texts image p f callers base c used h t op e x sh + j))
+        c used h t op e x sh count number svc_at ∙ ap (λ j. spot.at (first C placed flash a texts image p f callers base c used h t op e x sh + j))
         (sym l) in (
           r.0,
           subst (λ j. Comes (fibers flash) one trailing_instructions (fiber_seen c u j held.got.comes.link, asking_shared) (r.0, asking_shared)) (sym pc) r.1,

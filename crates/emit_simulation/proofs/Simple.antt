@@ -13,9 +13,10 @@ use Rattle.flat_ir.specs.Liveness.{IsLiveAt}
 use Rattle.flat_ir.specs.WellFormed.{temporaries}
 use Rattle.register_assign.specs.declared.places.Placed.{Placed}
 use Rattle.register_assign.specs.Sound.{place_of}
+use Rattle.register_assign.specs.Unread.{is_unread}
 use Rattle.sts_meaning.specs.Values.{Whole, Text, Code}
 use Rattle.thumb_emit.specs.Emit.{function_pieces}
-use Rattle.thumb_emit.specs.Frame.{register_of}
+use Rattle.thumb_emit.specs.Frame.{result_in}
 use Rattle.thumb_emit.specs.Ready.{HasNumber}
 use Rattle.thumb_emit.specs.InFlash.{Addresses}
 use Rattle.thumb_emit.proofs.Laws.{text_named}
@@ -24,7 +25,7 @@ use Rattle.emit_simulation.specs.Laid.{loaded_flags, OfNumber, OfAddress}
 use Rattle.emit_simulation.specs.Ties.{IsImage, Means, bodies, spots, place_in, return_to, frames_of}
 use Rattle.emit_simulation.specs.Context.{view_in}
 use Rattle.emit_simulation.specs.Makes.{MakesOp}
-use Rattle.emit_simulation.proofs.Placed.{register_small, result_set, copied}
+use Rattle.emit_simulation.proofs.Placed.{result_set, copied, made_small}
 use Rattle.emit_simulation.proofs.Context.{all_at, mapped_at}
 use Rattle.emit_simulation.proofs.Meanings.{small}
 use Rattle.emit_simulation.proofs.Straight.{at_room}
@@ -45,11 +46,11 @@ module _ (C : FlatCode) (placed : List Placed) (flash : List ℕ) (a : Addresses
       let lw = number_word value fits in
       let rg = x.registers in
       let lt : to < temporaries p.function = ((k.op_within).names).0 in
-      let r = register_of 0 (place_of p.places to) in
+      let r = result_in (is_unread p.function f.place) (place_of p.places to) in
       let u : View = record v { low = slice_set v.low r w; flags = loaded_flags v.flags w } in
       straight_gives C placed flash a texts image p f callers base c used h t (Const to value) e x sh to (Whole value) w u (Number r w ∷ []) refl
       (u, OfNumber r w v, refl) (omega arith) refl (0, omega arith, refl) lt
-      (result_set r w v v u (register_small p.function (place_of p.places to) 0 (omega arith) ((k.within_function).inside to lt)) refl rg refl refl)
+      (result_set r w v v u (made_small p.function (is_unread p.function f.place) (place_of p.places to) ((k.within_function).inside to lt)) refl rg refl refl)
       (sym (to_z-of_z w32 value fits), lw) refl refl
 
   -- A COPY
@@ -66,7 +67,7 @@ module _ (C : FlatCode) (placed : List Placed) (flash : List ℕ) (a : Addresses
       let room = at_room flash (spots C placed flash a f.function p) (Means C placed flash a) (small C placed flash a texts image) C.functions
       (place_in C placed flash a) (return_to C placed flash a) p.function (place_of p.places) fw.inside (λ n. IsLiveAt p.function.ops n f.place) f.temps
       (frames_of callers) v x.running in
-      let y = copied flash (spots C placed flash a f.function p) p.function (place_of p.places to) (place_of p.places from) w v (fw.inside to lt) (fw.inside from lf)
+      let y = copied flash (spots C placed flash a f.function p) p.function (is_unread p.function f.place) (place_of p.places to) (place_of p.places from) w v (fw.inside to lt) (fw.inside from lf)
       room rg refl lw in
       straight_puts C placed flash a texts image p f callers base c used h t (Copy to from) e x sh to (f.temps from) w y.seen y.flow y.some refl
       (0, omega arith, refl) lt y.store y.low
@@ -80,11 +81,11 @@ module _ (C : FlatCode) (placed : List Placed) (flash : List ℕ) (a : Addresses
       let w = a.text text in
       let rg = x.registers in
       let lt : to < temporaries p.function = ((k.op_within).names).0 in
-      let r = register_of 0 (place_of p.places to) in
+      let r = result_in (is_unread p.function f.place) (place_of p.places to) in
       straight_gives C placed flash a texts image p f callers base c used h t (TextOf to text) e x sh to (Text text) w (with_low r w v)
       (Address r (TextAt text) ∷ []) refl
       (with_low r w v, OfAddress r (TextAt text) v, refl) (omega arith) refl (0, omega arith, refl) lt
-      (result_set r w v v (with_low r w v) (register_small p.function (place_of p.places to) 0 (omega arith) ((k.within_function).inside to lt)) refl rg refl refl) (
+      (result_set r w v v (with_low r w v) (made_small p.function (is_unread p.function f.place) (place_of p.places to) ((k.within_function).inside to lt)) refl rg refl refl) (
         record {
           function = f.function;
           body = function_pieces p;
@@ -102,9 +103,9 @@ module _ (C : FlatCode) (placed : List Placed) (flash : List ℕ) (a : Addresses
       let w = a.function g + 1 in
       let rg = x.registers in
       let lt : to < temporaries p.function = ((k.op_within).names).0 in
-      let r = register_of 0 (place_of p.places to) in
+      let r = result_in (is_unread p.function f.place) (place_of p.places to) in
       straight_gives C placed flash a texts image p f callers base c used h t (HandlerOf to g) e x sh to (Code g) w (with_low r w v)
       (Address r (FunctionOf g) ∷ []) refl
       (with_low r w v, OfAddress r (FunctionOf g) v, refl) (omega arith) refl (0, omega arith, refl) lt
-      (result_set r w v v (with_low r w v) (register_small p.function (place_of p.places to) 0 (omega arith) ((k.within_function).inside to lt)) refl rg refl refl)
+      (result_set r w v v (with_low r w v) (made_small p.function (is_unread p.function f.place) (place_of p.places to) ((k.within_function).inside to lt)) refl rg refl refl)
       (k.parts, refl) refl refl

@@ -30,7 +30,7 @@ use Rattle.sts_meaning.specs.Frames.{after, first}
 use Rattle.flat_meaning.specs.Operators.{FlatHeap}
 use Rattle.flat_meaning.specs.Frames.{FlatFrame, FlatActivity}
 use Rattle.flat_meaning.specs.Steps.{called}
-use Rattle.thumb_emit.specs.Emit.{passes, put, calls_slot, op_pieces, function_pieces}
+use Rattle.thumb_emit.specs.Emit.{passes, land, calls_slot, op_pieces, function_pieces}
 use Rattle.thumb_emit.specs.Bounds.{op_instructions}
 use Rattle.thumb_emit.specs.InFlash.{Addresses}
 use Rattle.arena_values.specs.Seen.{SeesClass, ClassSeen}
@@ -87,7 +87,7 @@ module _ (C : FlatCode) (placed : List Placed) (flash : List ℕ) (a : Addresses
     n = 2 * length args
 
     abbrev tail : List Piece
-    tail = calls_slot slot (3 * f.place + 1) ++ (put p.function (place_of p.places) 0 to ∷ [])
+    tail = calls_slot slot (3 * f.place + 1) ++ (land p.function (place_of p.places) f.place to ∷ [])
 
     -- the pieces behind those that pass arguments
     at_tail : (j : ℕ) → slice_get (op_pieces p.function (place_of p.places) f.place op) (n + j) ≡ slice_get tail j

@@ -1,19 +1,23 @@
 -- Temporaries into scratch registers and back, in the running function's frame.
-use Rattle.std.proofs.Common.{◌≡◌, ◌≢◌, ℕ, ◌<◌, ◌^◌, List, length, sym, ap, ◌∙◌, subst, arith, slice_index}
+use Rattle.std.proofs.Common.{◌≡◌, ◌≢◌, ℕ, ◌<◌, ◌^◌, List, length, Bool, true, false, nat_eq, inl, inr, refl, sym, ap, ◌∙◌, subst, arith, slice_index}
+use Rattle.std.proofs.lemmas.Bool.{cases_eq}
 use Rattle.flat_ir.specs.declared.ops.Function.{Function}
 use Rattle.flat_ir.specs.WellFormed.{temporaries}
 use Rattle.register_assign.specs.declared.places.Place.{Place}
 use Rattle.register_assign.specs.Sound.{IsWithin}
 use Rattle.thumb_layout.specs.Pieces.{Places}
-use Rattle.thumb_emit.specs.Frame.{from_place, to_place, register_of, brings, keeps}
+use Rattle.thumb_emit.specs.Frame.{from_place, result_in, brings, keeps, lands}
 use Rattle.sts_meaning.specs.Values.{Value, with_entry}
 use Rattle.placed_frames.specs.View.{View, with_low}
-use Rattle.placed_frames.specs.Places.{get, put, IsRoom}
+use Rattle.placed_frames.specs.Places.{get, IsRoom}
 use Rattle.placed_frames.specs.Frames.{Frame, Running}
 use Rattle.placed_frames.proofs.Laws.{puts as running_puts, room}
 use Rattle.emit_simulation.specs.Laid.{Flows, store_of}
 use Rattle.emit_simulation.specs.Leaving.{StandsIn}
-use Rattle.emit_simulation.proofs.Placed.{gets, puts, put_view, store_put, brings_flows, brought, keeps_flows, kept_view}
+use Rattle.emit_simulation.proofs.Placed.{gets, brings_flows, brought, keeps_flows, kept_view, put_result, lands_flows, landed_view, store_landed}
+
+entry_apart : (to t : ℕ) (value : Value) (temps : ℕ → Value) → (t ≡ to → ⊥) → with_entry to value temps t ≡ temps t
+entry_apart to t value temps n = let e : nat_eq t to ≡ false = grind arith in rw e refl
 
 module _ (flash : List ℕ) (p : Places) (Is : Value → ℕ → Type 0) (small : (v : Value) (w : ℕ) → Is v w → w < 2 ^ 32) (code : List Function)
     (places : ℕ → ℕ → Place) (return_to : List (Frame Value) → ℕ)
@@ -46,30 +50,49 @@ module _ (flash : List ℕ) (p : Places) (Is : Value → ℕ → Type 0) (small 
       (small_word t l n)
 
   -- a result goes from its register to its place
-  pub keeps_last : (to w : ℕ) (u : View) → to < temporaries fn → StandsIn (register_of 0 (place to)) w v u → w < 2 ^ 32
-      → Flows flash p (keeps fn 0 (place to)) u (kept_view fn (place to) w u)
-  keeps_last to w u l e m = keeps_flows flash p fn (place to) w v u (inside to l) at_room e m
+  pub keeps_last : (b : Bool) (to w : ℕ) (u : View) → to < temporaries fn → StandsIn (result_in b (place to)) w v u → w < 2 ^ 32
+      → Flows flash p (keeps fn b (place to)) u (kept_view fn b (place to) w u)
+  keeps_last b to w u l e m = keeps_flows flash p fn b (place to) w v u (inside to l) at_room e m
 
-  -- what is needed of the frames stands there behind a value, wherever that was put
-  pub runs_with : (need' : ℕ → Type 0) (to w : ℕ) (value : Value) (u : View) → to < temporaries fn → store_of u ≡ put fn (place to) w (store_of v) → Is value w
+  -- the frames hold what is needed behind a value, wherever that was put, or where it isn't needed
+  runs_by : (b : Bool) (need' : ℕ → Type 0) (to w : ℕ) (value : Value) → to < temporaries fn → Is value w → (b ≡ true → need' to → ⊥)
+      → ((t : ℕ) → t < temporaries fn → t ≢ to → need' t → need t × (place t ≢ place to))
+      → Running Is code places return_to fn place need' (with_entry to value temps) fs (put_result fn b (place to) w (store_of v))
+  runs_by true need' to w value l i d g =
+      let fr = x.frame in record {
+        four = x.four;
+        frame = record {
+          temporary = λ t lt n. elim (cases_eq t to) [
+            | inl s ↦ absurd (d refl (subst need' s n))
+            | inr o ↦ subst (λ y. Is y (word_of t)) (sym (entry_apart to t value temps o)) (fr.temporary t lt (g t lt o n).0)
+          ];
+          link = fr.link;
+          params = fr.params;
+          small = fr.small;
+        };
+        above = x.above;
+      }
+  runs_by false need' to w value l i d g = running_puts Is code places return_to fn place need need' temps fs to value w (store_of v) i (small value w i) inside l g x
+
+  -- what is needed of the frames stands there behind a value
+  pub runs_with : (b : Bool) (need' : ℕ → Type 0) (to w : ℕ) (value : Value) (u : View) → to < temporaries fn
+      → store_of u ≡ put_result fn b (place to) w (store_of v) → Is value w → (b ≡ true → need' to → ⊥)
       → ((t : ℕ) → t < temporaries fn → t ≢ to → need' t → need t × (place t ≢ place to))
       → Running Is code places return_to fn place need' (with_entry to value temps) fs (store_of u)
-  runs_with need' to w value u l e i g =
-      subst (λ q. Running Is code places return_to fn place need' (with_entry to value temps) fs q) (sym e)
-      (running_puts Is code places return_to fn place need need' temps fs to value w (store_of v) i (small value w i) inside l g x)
+  runs_with b need' to w value u l e i d g =
+      subst (λ q. Running Is code places return_to fn place need' (with_entry to value temps) fs q) (sym e) (runs_by b need' to w value l i d g)
 
-  -- the word in a scratch register is put, where the frames are the same
-  abbrev pub behind : ℕ → ℕ → View → View
-  behind to w u = put_view fn (place to) w u
+  -- the word in r0 is put, where the frames are the same, unless nobody reads it
+  abbrev pub behind : Bool → ℕ → ℕ → View → View
+  behind b to w u = landed_view fn b (place to) w u
 
-  pub puts_last : (to w : ℕ) (u : View) → to < temporaries fn → store_of u ≡ store_of v → slice_index u.low 0 ≡ w → w < 2 ^ 32
-      → Flows flash p (to_place fn 0 (place to)) u (behind to w u)
-  puts_last to w u l e f m = puts flash p fn (place to) 0 w u (omega arith) (inside to l) (subst (IsRoom fn) (sym e) at_room) f m
+  pub lands_last : (b : Bool) (to w : ℕ) (u : View) → to < temporaries fn → store_of u ≡ store_of v → (b ≡ false → slice_index u.low 0 ≡ w) → w < 2 ^ 32
+      → Flows flash p (lands fn b (place to)) u (behind b to w u)
+  lands_last b to w u l e f m = lands_flows flash p fn b (place to) w u (inside to l) (subst (IsRoom fn) (sym e) at_room) f m
 
-  pub runs_on : (need' : ℕ → Type 0) (to w : ℕ) (value : Value) (u : View) → to < temporaries fn → store_of u ≡ store_of v → length u.low ≡ 13 → Is value w
+  pub runs_on : (b : Bool) (need' : ℕ → Type 0) (to w : ℕ) (value : Value) (u : View) → to < temporaries fn → store_of u ≡ store_of v → length u.low ≡ 13
+      → Is value w → (b ≡ true → need' to → ⊥)
       → ((t : ℕ) → t < temporaries fn → t ≢ to → need' t → need t × (place t ≢ place to))
-      → Running Is code places return_to fn place need' (with_entry to value temps) fs (store_of (behind to w u))
-  runs_on need' to w value u l e n i g =
-      subst (λ q. Running Is code places return_to fn place need' (with_entry to value temps) fs q)
-      (sym (store_put fn (place to) w u (inside to l) n ∙ ap (put fn (place to) w) e))
-      (running_puts Is code places return_to fn place need need' temps fs to value w (store_of v) i (small value w i) inside l g x)
+      → Running Is code places return_to fn place need' (with_entry to value temps) fs (store_of (behind b to w u))
+  runs_on b need' to w value u l e n i d g =
+      runs_with b need' to w value (behind b to w u) l (store_landed fn b (place to) w u (inside to l) n ∙ ap (put_result fn b (place to) w) e) i d g

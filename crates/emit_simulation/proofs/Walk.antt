@@ -19,6 +19,7 @@ use Rattle.flat_ir.specs.declared.ops.FlatCode.{FlatCode}
 use Rattle.flat_ir.specs.Liveness.{IsLiveAt}
 use Rattle.register_assign.specs.declared.places.Placed.{Placed}
 use Rattle.register_assign.specs.Sound.{place_of}
+use Rattle.register_assign.specs.Unread.{is_unread}
 use Rattle.flat_meaning.specs.Operators.{FlatHeap}
 use Rattle.flat_meaning.specs.Frames.{FlatFrame, Stands, given}
 use Rattle.flat_meaning.specs.Frames.{placed as placed_at}
@@ -27,7 +28,7 @@ use Rattle.flat_ir.specs.Ops.{goes_on as goes_on_at}
 use Rattle.flat_ir.specs.WellFormed.{temporaries}
 use Rattle.sts_meaning.specs.Values.{Value, with_entry}
 use Rattle.arena_values.specs.Lies.{Shows}
-use Rattle.thumb_emit.specs.Frame.{register_of, brings, keeps}
+use Rattle.thumb_emit.specs.Frame.{register_of, brings, keeps, result_in}
 use Rattle.thumb_emit.proofs.Laws.{brings_still, keeps_still, still_takes}
 use Rattle.register_assign.specs.Sound.{IsWithin}
 use Rattle.emit_simulation.specs.Leaving.{StandsIn}
@@ -222,25 +223,25 @@ module _ (C : FlatCode) (placed : List Placed) (flash : List ℕ) (a : Addresses
   -- The op's last pieces: an instruction leaves a result, which is kept. Behind them the value is in its temporary, and what is shared shows a heap.
   pub finished : (i most bound to w : ℕ) (value : Value) (h' : FlatHeap) (m u : View) (y : Instr) → Got i most m → slice_get pieces i ≡ Some (Plain y)
       → Flows flash spot (Plain y) m u
-      → slice_get pieces (i + 1) ≡ Some (keeps p.function 0 (place_of p.places to)) → length pieces ≡ i + 1 + 1
+      → slice_get pieces (i + 1) ≡ Some (keeps p.function (is_unread p.function f.place) (place_of p.places to)) → length pieces ≡ i + 1 + 1
       → writes op ≡ Some to → Contains (goes_on_at f.place op) (suc f.place) → to < temporaries p.function
-      → StandsIn (register_of 0 (place_of p.places to)) w (view_in c t) u → Means C placed flash a value w
+      → StandsIn (result_in (is_unread p.function f.place) (place_of p.places to)) w (view_in c t) u → Means C placed flash a value w
       → IsShared C placed flash a used h' (shared_seen used u t.free) → most + 4 ≤ bound → Owed C placed flash a texts bound used h t
       (GoesTurn (Stands (given to value f) callers base) h') c t
   finished i most bound to w value h' m' u y g q0 fl q n wr on lt r m s b =
       let place = place_of p.places in
       let k = here C placed flash a texts image p f callers base c used h t op e x sh in
       let fw = k.within_function in
-      let kept = keeps p.function 0 (place to) in
+      let kept = keeps p.function (is_unread p.function f.place) (place to) in
       let last = keeps_last flash spot (Means C placed flash a) (small C placed flash a texts image) C.functions (place_in C placed flash a)
       (return_to C placed flash a) p.function place fw.inside
-      (λ n. IsLiveAt p.function.ops n f.place) f.temps (frames_of callers) (view_in c t) x.running to w u lt r
+      (λ n. IsLiveAt p.function.ops n f.place) f.temps (frames_of callers) (view_in c t) x.running (is_unread p.function f.place) to w u lt r
       (small C placed flash a texts image value w m) in
-      let v = kept_view p.function (place to) w u in
+      let v = kept_view p.function (is_unread p.function f.place) (place to) w u in
       let z : suc f.place ≡ f.place + 1 = omega arith in
-      let q' = kept_shared p.function (place to) w u in
+      let q' = kept_shared p.function (is_unread p.function f.place) (place to) w u in
       let s' = s.1 in
-      let takes = still_takes p.function kept (keeps_still p.function 0 (place to)) in
+      let takes = still_takes p.function kept (keeps_still p.function (is_unread p.function f.place) (place to)) in
       let g1 : Got (i + 1) (most + 2) u = record { least = g.least + 1; comes = step i most m' u (Plain y) g q0 fl } in
       let shared : IsShared C placed flash a used h' (shared_seen used v t.free) = (
         refl,
@@ -253,14 +254,14 @@ module _ (C : FlatCode) (placed : List Placed) (flash : List ℕ) (a : Addresses
       (ap (λ j. first + j) (sym n) ∙ sym k.next)
       (runs_with flash spot (Means C placed flash a) (small C placed flash a texts image) C.functions (place_in C placed flash a) (return_to C placed flash a)
       p.function place fw.inside
-      (λ u. IsLiveAt p.function.ops u f.place) f.temps (frames_of callers) (view_in c t) x.running (λ u. IsLiveAt p.function.ops u (f.place + 1)) to w value v
-      lt (store_kept p.function (place to) w (view_in c t) u (fw.inside to lt) x.registers r) m
+      (λ u. IsLiveAt p.function.ops u f.place) f.temps (frames_of callers) (view_in c t) x.running (is_unread p.function f.place) (λ u. IsLiveAt p.function.ops u (f.place + 1)) to w value v
+      lt (store_kept p.function (is_unread p.function f.place) (place to) w (view_in c t) u (fw.inside to lt) x.registers r) m (λ q live. k.unread to (suc f.place) q wr on (subst (IsLiveAt p.function.ops to) (sym z) live))
       (λ m lm d live. (
         k.kept_live m (suc f.place) on (subst (IsLiveAt p.function.ops m) (sym z) live)
             (λ k. d (let b : Some to ≡ Some m = sym wr ∙ k in let b' : m ≡ to = cc in b')),
         k.apart to m (suc f.place) wr on (subst (IsLiveAt p.function.ops m) (sym z) live) lt lm d,
       )))
-      (kept_low p.function (place to) w u r.low) shared)
+      (kept_low p.function (is_unread p.function f.place) (place to) w u r.low) shared)
 
   -- The op's last piece leaves the frames as they are, and what is shared shows a heap.
   pub stored : (i most bound : ℕ) (h' : FlatHeap) (u v : View) (y : Instr) → Got i most u → slice_get pieces i ≡ Some (Plain y) → length pieces ≡ i + 1

@@ -1,5 +1,5 @@
 -- What is known where a fiber stands at an op.
-use Rattle.std.specs.Prelude.{◌≡◌, ◌≢◌, ℕ, ◌+◌, ◌*◌, ◌<◌, List, length, Contains, Some, slice_get}
+use Rattle.std.specs.Prelude.{◌≡◌, ◌≢◌, ℕ, ◌+◌, ◌*◌, ◌<◌, List, length, Contains, Some, true, slice_get}
 use Rattle.thumb_code.specs.Step.{fetched}
 use Rattle.bank_model.specs.Bank.{Bank}
 use Rattle.bank_model.specs.Fibers.{Fiber, Shared}
@@ -11,6 +11,7 @@ use Rattle.flat_ir.specs.WellFormed.{temporaries, IsWellFormedFunction, IsOpWith
 use Rattle.flat_ir.specs.Liveness.{IsLiveAt}
 use Rattle.register_assign.specs.declared.places.Placed.{Placed}
 use Rattle.register_assign.specs.Sound.{place_of, IsWithin, ArePlacesSound}
+use Rattle.register_assign.specs.Unread.{is_unread}
 use Rattle.flat_meaning.specs.Frames.{FlatFrame}
 use Rattle.thumb_emit.specs.Emit.{op_pieces, function_pieces}
 use Rattle.thumb_emit.specs.InFlash.{Addresses}
@@ -59,3 +60,5 @@ module _ (C : FlatCode) (placed : List Placed) (flash : List ℕ) (a : Addresses
     pub kept_live : (u k : ℕ) → Contains (goes_on f.place op) k → IsLiveAt p.function.ops u k → writes op ≢ Some u → IsLiveAt p.function.ops u f.place
     pub apart : (to u k : ℕ) → writes op ≡ Some to → Contains (goes_on f.place op) k → IsLiveAt p.function.ops u k → to < temporaries p.function
         → u < temporaries p.function → u ≢ to → place_of p.places u ≢ place_of p.places to
+    -- a result that nobody reads isn't live where it goes on
+    pub unread : (to k : ℕ) → is_unread p.function f.place ≡ true → writes op ≡ Some to → Contains (goes_on f.place op) k → IsLiveAt p.function.ops to k → ⊥

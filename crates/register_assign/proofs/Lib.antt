@@ -2,3 +2,5 @@ pub mod Marking
 pub mod Covering
 pub mod Assigning
 pub mod Checking
+pub mod Unreading
+pub mod Laws

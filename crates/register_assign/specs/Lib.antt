@@ -2,3 +2,4 @@ pub mod Sound
 pub mod Marks
 pub mod Intervals
 pub mod Checks
+pub mod Unread

@@ -8,8 +8,10 @@ mod intervals;
 mod liveness;
 mod ops;
 mod places;
+mod unread;
 mod uses;
 
 pub use assignment::assign;
 pub use checks::check_places;
 pub use places::{Place, Placed};
+pub use unread::{unread_results, unread_results_are_dead};

@@ -11,7 +11,7 @@ use Rattle.flat_ir.specs.declared.ops.Function.{Function}
 use Rattle.register_assign.specs.declared.places.Place.{Place}
 use Rattle.register_assign.specs.declared.places.Place.TheVariants.{Reg, Slot, Incoming}
 use Rattle.register_assign.specs.Sound.{IsWithin}
-use Rattle.thumb_emit.specs.Frame.{words, from_place, to_place, register_of, brings, keeps, carries, raises, lowers}
+use Rattle.thumb_emit.specs.Frame.{words, from_place, to_place, register_of, brings, result_in, keeps, lands, carries, raises, lowers}
 use Rattle.thumb_emit.specs.Emit.{tests_null, tests_index, finds_item, decides, beside, compares, combines, shifts, divides, unary, binary, equal, unequal, at_least, less, greater, at_most, loads_field, stores_field, finds_global, asks, makes_object, makes_array, pops, calls_slot, counted_word, field_offset}
 use Rattle.thumb_emit.proofs.Lists.{if_has}
 
@@ -54,10 +54,15 @@ brings_fine f rd (Reg r) m l w = (tt, tt)
 brings_fine f rd (Slot j) m l w = from_fine f rd (Slot j) m l w
 brings_fine f rd (Incoming j) m l w = from_fine f rd (Incoming j) m l w
 
-pub keeps_fine : (f : Function) (rs : ℕ) (p : Place) → IsSmall f → rs < 8 → IsWithin f p → IsFine (keeps f rs p)
-keeps_fine f rs (Reg r) m l w = (tt, tt)
-keeps_fine f rs (Slot j) m l w = to_fine f rs (Slot j) m l w
-keeps_fine f rs (Incoming j) m l w = to_fine f rs (Incoming j) m l w
+pub keeps_fine : (f : Function) (unread : Bool) (p : Place) → IsSmall f → IsWithin f p → IsFine (keeps f unread p)
+keeps_fine f true p m w = (tt, tt)
+keeps_fine f false (Reg r) m w = (tt, tt)
+keeps_fine f false (Slot j) m w = to_fine f 0 (Slot j) m (omega arith) w
+keeps_fine f false (Incoming j) m w = to_fine f 0 (Incoming j) m (omega arith) w
+
+pub lands_fine : (f : Function) (unread : Bool) (p : Place) → IsSmall f → IsWithin f p → IsFine (lands f unread p)
+lands_fine f true p m w = (tt, tt)
+lands_fine f false p m w = to_fine f 0 p m (omega arith) w
 
 pub moves_fine : (f : Function) (rd rs : ℕ) → rd < 8 → rs < 8 → IsFine (carries f rd rs)
 moves_fine f rd rs l m = if_has IsFine (rd == rs) _ _ (tt, tt) (move_fine rd rs l m)
@@ -66,6 +71,10 @@ pub register_low : (f : Function) (scratch : ℕ) (p : Place) → scratch < 8 �
 register_low f scratch (Reg r) l w = let a = w.1 in omega arith
 register_low f scratch (Slot j) l w = l
 register_low f scratch (Incoming j) l w = l
+
+pub made_low : (f : Function) (unread : Bool) (p : Place) → IsWithin f p → result_in unread p < 8
+made_low f true p w = omega arith
+made_low f false p w = register_low f 0 p (omega arith) w
 
 -- SP moves by one instruction or by two
 move_sp : (b : Bool) (n : ℕ) → nat_lt 127 n ≡ b → n ≤ 136 → AreFine (if b then Plain (AddSpImm 127) ∷ Plain (AddSpImm (n - 127)) ∷ [] else Plain (AddSpImm n) ∷ [])
@@ -190,5 +199,5 @@ stores_fine rs object field l m = stored_by (nat_lt field 31) rs object field l 
 pub global_fine : (slot : ℕ) → slot < 256 → IsFine (finds_global slot)
 global_fine slot l = (omega arith, omega arith)
 
-pub asks_fine : (service : ℕ) → service < 24 → AreFine (asks service)
-asks_fine service l = let a : service < 256 = omega arith in search (rules, if_has)
+pub asks_fine : (unread : Bool) (service : ℕ) → service < 24 → AreFine (asks unread service)
+asks_fine unread service l = let a : service < 256 = omega arith in search (rules, if_has)

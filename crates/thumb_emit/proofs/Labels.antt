@@ -1,8 +1,8 @@
 -- Each label that a function's pieces go to stands once among them.
-use Rattle.std.proofs.Common.{◌≡◌, ℕ, zero, suc, ◌+◌, ◌*◌, ◌<◌, ◌==◌, Bool, true, false, nat_lt, if◌then◌else◌, List, [], ◌∷◌, ◌++◌, length, refl, ap, sym, ◌∙◌, zero-add, arith}
+use Rattle.std.proofs.Common.{◌≡◌, ℕ, zero, suc, ◌+◌, ◌*◌, ◌<◌, ◌==◌, ◌||◌, Bool, true, false, nat_lt, if◌then◌else◌, List, [], ◌∷◌, ◌++◌, length, refl, ap, sym, ◌∙◌, zero-add, arith}
 use Rattle.std.proofs.lemmas.Bool.Decides.{nat_tests}
 use Rattle.thumb_code.specs.declared.instructions.Instr.{Instr}
-use Rattle.thumb_code.specs.declared.instructions.Instr.TheVariants.{MovImm, And, SubImm8, StrImm, StrSp, LdrReg, MovHigh, Push, Pop as PopMany}
+use Rattle.thumb_code.specs.declared.instructions.Instr.TheVariants.{MovImm, And, SubImm8, StrImm, StrSp, LdrImm, LdrReg, Blx, MovHigh, Push, Pop as PopMany}
 use Rattle.thumb_layout.specs.declared.pieces.Piece.{Piece}
 use Rattle.thumb_layout.specs.declared.pieces.Piece.TheVariants.{Plain, Label, Go, CallTo, Number, Address}
 use Rattle.thumb_layout.specs.Soundness.{times}
@@ -12,10 +12,11 @@ use Rattle.flat_ir.specs.declared.ops.Function.{Function}
 use Rattle.flat_ir.specs.WellFormed.{GoesBelow}
 use Rattle.register_assign.specs.declared.places.Place.{Place}
 use Rattle.register_assign.specs.declared.places.Place.TheVariants.{Reg, Slot, Incoming}
+use Rattle.register_assign.specs.Unread.{is_unread}
 use Rattle.thumb_emit.specs.Frame.{own, from_instr, to_instr, from_place, register_of, idle_piece, copies, carries, raises, lowers, kept_registers}
-use Rattle.thumb_emit.specs.Emit.{put, its_register, bring, keep, passes, loads, op_pieces, unless, unequal, below_unsigned, at_least_unsigned, tests_null, tests_index, finds_item, decides, beside, combines, shifts, divides, loads_field, stores_field, asks, answers, calls_slot, move_pieces, moves_pieces, entry_pieces}
+use Rattle.thumb_emit.specs.Emit.{its_register, bring, made_in, keep, land, passes, loads, op_pieces, unless, unequal, below_unsigned, at_least_unsigned, tests_null, tests_index, finds_item, decides, beside, combines, shifts, divides, loads_field, stores_field, asks, answers, calls_slot, move_pieces, moves_pieces, entry_pieces}
 use Rattle.thumb_emit.proofs.Lists.{if_has, times_append}
-use Rattle.thumb_emit.proofs.Still.{IsStill, Idle, Single, brings_still, keeps_still, moves_still}
+use Rattle.thumb_emit.proofs.Still.{IsStill, Idle, Single, brings_still, keeps_still, lands_still, moves_still}
 use Rattle.thumb_emit.proofs.Operators.{unary_has, binary_has}
 
 -- the labels that pieces go to
@@ -101,8 +102,8 @@ module _ (f : Function) where
   lowers_bare : (n : ℕ) → IsMarked [] [] (lowers n)
   lowers_bare n = if_bare (nat_lt 127 n) _ _ (record { stand = λ l d. refl; goes = refl }) (record { stand = λ l d. refl; goes = refl })
 
-  asks_bare : (service : ℕ) → IsMarked [] [] (asks service)
-  asks_bare service = if_bare (answers service) _ _ (record { stand = λ l d. refl; goes = refl }) (record { stand = λ l d. refl; goes = refl })
+  asks_bare : (unread : Bool) (service : ℕ) → IsMarked [] [] (asks unread service)
+  asks_bare unread service = if_bare (unread || answers service) _ _ (record { stand = λ l d. refl; goes = refl }) (record { stand = λ l d. refl; goes = refl })
 
   -- The pieces of op k of n ops have no labels but their own two, the first or both, each of which they go to; or they go to an op.
   pub data Marks (k n : ℕ) (xs : List Piece) : Type 0 where
@@ -122,8 +123,11 @@ module _ (f : Function) where
     brought : (scratch t : ℕ) → IsStill f (bring f place scratch t)
     brought scratch t = brings_still f scratch (place t)
 
-    kept : (t : ℕ) → IsMarked [] [] (keep f place t ∷ [])
-    kept t = still_before [] [] (keep f place t) [] (keeps_still f 0 (place t)) bare_end
+    kept : (k t : ℕ) → IsMarked [] [] (keep f place k t ∷ [])
+    kept k t = still_before [] [] (keep f place k t) [] (keeps_still f (is_unread f k) (place t)) bare_end
+
+    landed : (k t : ℕ) → IsMarked [] [] (land f place k t ∷ [])
+    landed k t = still_before [] [] (land f place k t) [] (lands_still f (is_unread f k) (place t)) bare_end
 
     passes_bare : (k : ℕ) (ts : List ℕ) → IsMarked [] [] (passes f place k ts)
     passes_bare k [] = bare_end
@@ -136,34 +140,35 @@ module _ (f : Function) where
     loads_bare k (t ∷ ts) = let h = loads_bare (k + 1) ts in record { stand = h.stand; goes = h.goes }
 
     -- the kinds of operators, with the keeping of their result
-    decides_marks : (k n rd by : ℕ) (x : Instr) (cond to : ℕ) → Marks k n (decides f rd by x cond (3 * k + 1) ++ (keep f place to ∷ []))
+    decides_marks : (k n rd by : ℕ) (x : Instr) (cond to : ℕ) → Marks k n (decides f rd by x cond (3 * k + 1) ++ (keep f place k to ∷ []))
     decides_marks k n rd by x cond to =
-        let h = still_before [] [] (carries f rd by) (keep f place to ∷ []) (moves_still f rd by) (kept to) in
-        let m = label_before [] [] (3 * k + 1) (carries f rd by ∷ keep f place to ∷ []) h in
+        let h = still_before [] [] (carries f rd by) (keep f place k to ∷ []) (moves_still f rd by) (kept k to) in
+        let m = label_before [] [] (3 * k + 1) (carries f rd by ∷ keep f place k to ∷ []) h in
         One (record { stand = m.stand; goes = ap (λ (q : List ℕ). (3 * k + 1) ∷ q) m.goes })
 
-    one_marks : (k n : ℕ) (x : Instr) (to : ℕ) → Marks k n (Plain x ∷ keep f place to ∷ [])
-    one_marks k n x to = still_marks k n (Plain x) (keep f place to ∷ []) (Single x) (None (kept to))
+    one_marks : (k n : ℕ) (x : Instr) (to : ℕ) → Marks k n (Plain x ∷ keep f place k to ∷ [])
+    one_marks k n x to = still_marks k n (Plain x) (keep f place k to ∷ []) (Single x) (None (kept k to))
 
-    combines_marks : (k n rd left right : ℕ) (x : ℕ → ℕ → Instr) (to : ℕ) → Marks k n (combines f rd left right x ++ (keep f place to ∷ []))
+    combines_marks : (k n rd left right : ℕ) (x : ℕ → ℕ → Instr) (to : ℕ) → Marks k n (combines f rd left right x ++ (keep f place k to ∷ []))
     combines_marks k n rd left right x to =
         let b = beside 2 rd right in
-        still_marks k n _ _ (moves_still f b left) (still_marks k n _ _ (Single (x b right)) (still_marks k n _ _ (moves_still f rd b) (None (kept to))))
+        still_marks k n _ _ (moves_still f b left) (still_marks k n _ _ (Single (x b right)) (still_marks k n _ _ (moves_still f rd b) (None (kept k to))))
 
-    shifts_marks : (k n rd left right : ℕ) (x : ℕ → ℕ → Instr) (to : ℕ) → Marks k n (shifts f rd left right x ++ (keep f place to ∷ []))
+    shifts_marks : (k n rd left right : ℕ) (x : ℕ → ℕ → Instr) (to : ℕ) → Marks k n (shifts f rd left right x ++ (keep f place k to ∷ []))
     shifts_marks k n rd left right x to =
         still_marks k n _ _ (Single (MovImm 2 31)) (still_marks k n _ _ (Single (And 2 right)) (still_marks k n _ _ (moves_still f rd left)
-        (still_marks k n _ _ (Single (x rd 2)) (None (kept to)))))
+        (still_marks k n _ _ (Single (x rd 2)) (None (kept k to)))))
 
-    divides_marks : (k n rd left right answer to : ℕ) → Marks k n (divides f rd left right answer ++ (keep f place to ∷ []))
+    divides_marks : (k n rd left right answer to : ℕ) → Marks k n (divides f rd left right answer ++ (keep f place k to ∷ []))
     divides_marks k n rd left right answer to =
-        let h = still_before [] [] (carries f rd answer) (keep f place to ∷ []) (moves_still f rd answer) (kept to) in
+        let h = still_before [] [] (carries f rd answer) (keep f place k to ∷ []) (moves_still f rd answer) (kept k to) in
         still_marks k n _ _ (moves_still f 0 left) (still_marks k n _ _ (moves_still f 1 right) (None (record { stand = h.stand; goes = h.goes })))
 
-    copies_bare : (q p : Place) → IsMarked [] [] (copies f q p)
-    copies_bare (Reg r) p = still_before [] [] (from_place f r p) (idle_piece f ∷ []) (Single (from_instr f r p)) (still_before [] [] (idle_piece f) [] Idle bare_end)
-    copies_bare (Slot j) p = still_before [] [] _ _ (brings_still f 0 p) (still_before [] [] _ [] (Single (to_instr f (register_of 0 p) (Slot j))) bare_end)
-    copies_bare (Incoming j) p = still_before [] [] _ _ (brings_still f 0 p) (still_before [] [] _ [] (Single (to_instr f (register_of 0 p) (Incoming j))) bare_end)
+    copies_bare : (unread : Bool) (q p : Place) → IsMarked [] [] (copies f unread q p)
+    copies_bare true q p = still_before [] [] (from_place f 0 p) (idle_piece f ∷ []) (Single (from_instr f 0 p)) (still_before [] [] (idle_piece f) [] Idle bare_end)
+    copies_bare false (Reg r) p = still_before [] [] (from_place f r p) (idle_piece f ∷ []) (Single (from_instr f r p)) (still_before [] [] (idle_piece f) [] Idle bare_end)
+    copies_bare false (Slot j) p = still_before [] [] _ _ (brings_still f 0 p) (still_before [] [] _ [] (Single (to_instr f (register_of 0 p) (Slot j))) bare_end)
+    copies_bare false (Incoming j) p = still_before [] [] _ _ (brings_still f 0 p) (still_before [] [] _ [] (Single (to_instr f (register_of 0 p) (Incoming j))) bare_end)
 
     -- what begins with a test for null
     null_marks : (k n r : ℕ) (xs : List Piece) → IsMarked [] [] xs → Marks k n (tests_null r (3 * k + 1) ++ xs)
@@ -177,50 +182,54 @@ module _ (f : Function) where
         Two (null_before ((3 * k + 2) ∷ []) ((3 * k + 2) ∷ []) array (3 * k + 1) _ (index_before [] [] array index (3 * k + 2) _ g))
 
     pub op_marks : (k n : ℕ) (op : Op) → GoesBelow n op → Marks k n (op_pieces f place k op)
-    op_marks k n (Const to value) w = let h = kept to in None (record { stand = h.stand; goes = h.goes })
-    op_marks k n (Copy to from) w = None (copies_bare (place to) (place from))
+    op_marks k n (Const to value) w = let h = kept k to in None (record { stand = h.stand; goes = h.goes })
+    op_marks k n (Copy to from) w = None (copies_bare (is_unread f k) (place to) (place from))
     op_marks k n (Unary to op from) w =
-        still_marks k n _ _ (brought 0 from) (unary_has (λ xs. Marks k n (xs ++ (keep f place to ∷ []))) f (its_register f place 0 to) op (3 * k + 1)
-        (λ x. one_marks k n x to) (λ by x cond. decides_marks k n (its_register f place 0 to) by x cond to) (its_register f place 0 from))
+        still_marks k n _ _ (brought 0 from) (unary_has (λ xs. Marks k n (xs ++ (keep f place k to ∷ []))) f (made_in f place k to) op (3 * k + 1)
+        (λ x. one_marks k n x to) (λ by x cond. decides_marks k n (made_in f place k to) by x cond to) (its_register f place 0 from))
     op_marks k n (Binary to op left right) w =
-        let rd = its_register f place 0 to in let a = its_register f place 0 left in let b = its_register f place 1 right in
+        let rd = made_in f place k to in let a = its_register f place 0 left in let b = its_register f place 1 right in
         still_marks k n _ _ (brought 0 left) (still_marks k n _ _ (brought 1 right)
-        (binary_has (λ xs. Marks k n (xs ++ (keep f place to ∷ []))) f rd op (3 * k + 1)
+        (binary_has (λ xs. Marks k n (xs ++ (keep f place k to ∷ []))) f rd op (3 * k + 1)
         (λ x. one_marks k n x to) (λ by x cond. decides_marks k n rd by x cond to) a b
         (λ x. combines_marks k n rd a b x to) (λ x. shifts_marks k n rd a b x to) (λ answer. divides_marks k n rd a b answer to)))
-    op_marks k n (GlobalGet to slot) w = let h = kept to in None (record { stand = h.stand; goes = h.goes })
+    op_marks k n (GlobalGet to slot) w = let h = kept k to in None (record { stand = h.stand; goes = h.goes })
     op_marks k n (GlobalSet slot from) w = still_marks k n _ _ (brought 0 from) (None (record { stand = λ l d. refl; goes = refl }))
     op_marks k n (FieldGet to object field) w =
-        still_marks k n _ _ (brought 0 object) (null_marks k n (its_register f place 0 object) _ (bare_before [] [] _ _ (fields_bare (its_register f place 0 to) (its_register f place 0 object) field) (kept to)))
+        still_marks k n _ _ (brought 0 object) (null_marks k n (its_register f place 0 object) _ (bare_before [] [] _ _ (fields_bare (made_in f place k to) (its_register f place 0 object) field) (kept k to)))
     op_marks k n (FieldSet object field from) w =
         still_marks k n _ _ (brought 0 object) (null_marks k n (its_register f place 0 object) _
         (still_before [] [] (bring f place 1 from) _ (brought 1 from) (stored_bare (its_register f place 1 from) (its_register f place 0 object) field)))
     op_marks k n (ItemGet to array index) w =
-        let h = kept to in
+        let h = kept k to in
         still_marks k n _ _ (brought 0 array) (still_marks k n _ _ (brought 1 index) (item_marks k n (its_register f place 0 array) (its_register f place 1 index) _
         (record { stand = h.stand; goes = h.goes })))
     op_marks k n (ItemSet array index from) w =
         still_marks k n _ _ (brought 0 array) (still_marks k n _ _ (brought 1 index) (item_marks k n (its_register f place 0 array) (its_register f place 1 index) _
         (still_before [] [] (bring f place 3 from) _ (brought 3 from) (record { stand = λ l d. refl; goes = refl }))))
     op_marks k n (Length to array) w =
-        let h = kept to in still_marks k n _ _ (brought 0 array) (null_marks k n (its_register f place 0 array) _ (record { stand = h.stand; goes = h.goes }))
+        let h = kept k to in still_marks k n _ _ (brought 0 array) (null_marks k n (its_register f place 0 array) _ (record { stand = h.stand; goes = h.goes }))
     op_marks k n (Pop to array) w =
-        let h = kept to in
-        let g : IsMarked [] [] (Plain (SubImm8 1 1) ∷ Plain (StrImm 1 (its_register f place 0 array) 1) ∷ finds_item (its_register f place 0 array) 1 ++ (Plain (LdrReg (its_register f place 0 to) 2 1) ∷ keep f place to ∷ []))
+        let h = kept k to in
+        let g : IsMarked [] [] (Plain (SubImm8 1 1) ∷ Plain (StrImm 1 (its_register f place 0 array) 1) ∷ finds_item (its_register f place 0 array) 1 ++ (Plain (LdrReg (made_in f place k to) 2 1) ∷ keep f place k to ∷ []))
         = record { stand = h.stand; goes = h.goes } in
         let m = unless_before [] [] unequal 104 (3 * k + 2) _ g in
         still_marks k n _ _ (brought 0 array) (Two (null_before ((3 * k + 2) ∷ []) ((3 * k + 2) ∷ []) (its_register f place 0 array) (3 * k + 1) _ (record { stand = m.stand; goes = m.goes })))
-    op_marks k n (TextOf to text) w = let h = kept to in None (record { stand = h.stand; goes = h.goes })
-    op_marks k n (MakeObject to class) w = None (record { stand = λ l d. refl; goes = refl })
-    op_marks k n (MakeArray to room) w = None (record { stand = λ l d. refl; goes = refl })
-    op_marks k n (Call to function args) w = None (bare_before [] [] (passes f place 0 args) (CallTo function ∷ put f place 0 to ∷ []) (passes_bare 0 args) (record { stand = λ l d. refl; goes = refl }))
+    op_marks k n (TextOf to text) w = let h = kept k to in None (record { stand = h.stand; goes = h.goes })
+    op_marks k n (MakeObject to class) w = let h = landed k to in None (record { stand = h.stand; goes = h.goes })
+    op_marks k n (MakeArray to room) w = let h = landed k to in None (record { stand = h.stand; goes = h.goes })
+    op_marks k n (Call to function args) w = None (bare_before [] [] (passes f place 0 args) (CallTo function ∷ land f place k to ∷ []) (passes_bare 0 args)
+        (let h = landed k to in record { stand = h.stand; goes = h.goes }))
     op_marks k n (CallSlot to slot args) w =
-        One (bare_before ((3 * k + 1) ∷ []) ((3 * k + 1) ∷ []) (passes f place 0 args) (calls_slot slot (3 * k + 1) ++ (put f place 0 to ∷ [])) (passes_bare 0 args)
-        (record { stand = λ l d. refl; goes = refl }))
-    op_marks k n (HandlerOf to function) w = let h = kept to in None (record { stand = h.stand; goes = h.goes })
+        let h = landed k to in
+        let g : IsMarked [] [] (Plain (LdrImm 1 0 0) ∷ Plain (LdrImm 1 1 (slot + 1)) ∷ Plain (Blx 1) ∷ land f place k to ∷ []) = record { stand = h.stand; goes = h.goes } in
+        let m = null_before [] [] 0 (3 * k + 1) _ g in
+        One (bare_before ((3 * k + 1) ∷ []) ((3 * k + 1) ∷ []) (passes f place 0 args) (calls_slot slot (3 * k + 1) ++ (land f place k to ∷ [])) (passes_bare 0 args)
+        (record { stand = m.stand; goes = m.goes }))
+    op_marks k n (HandlerOf to function) w = let h = kept k to in None (record { stand = h.stand; goes = h.goes })
     op_marks k n (Ask to service args) w =
-        let h = bare_before [] [] (asks service) (put f place 0 to ∷ []) (asks_bare service) (record { stand = λ l d. refl; goes = refl }) in
-        None (bare_before [] [] (loads f place 0 args) (asks service ++ (put f place 0 to ∷ [])) (loads_bare 0 args) h)
+        let h = bare_before [] [] (asks (is_unread f k) service) (land f place k to ∷ []) (asks_bare (is_unread f k) service) (landed k to) in
+        None (bare_before [] [] (loads f place 0 args) (asks (is_unread f k) service ++ (land f place k to ∷ [])) (loads_bare 0 args) h)
     op_marks k n (Jump target) w = Away target w.0 (record { stand = λ l d. refl; goes = refl })
     op_marks k n (Branch when target) w = still_marks k n _ _ (brought 0 when) (Away target w.0 (record { stand = λ l d. refl; goes = refl }))
     op_marks k n (Return from) w =

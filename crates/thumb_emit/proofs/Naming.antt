@@ -1,5 +1,5 @@
 -- The pieces of a function name what its ops name.
-use Rattle.std.proofs.Common.{◌≡◌, ℕ, zero, suc, ◌+◌, ◌*◌, inl, inr, true, nat_lt, Bool, if◌then◌else◌, List, [], ◌∷◌, ◌++◌, Contains, Some, slice_get, refl, ap, sym, ◌∙◌, subst, arith}
+use Rattle.std.proofs.Common.{◌≡◌, ℕ, zero, suc, ◌+◌, ◌*◌, inl, inr, true, false, ◌||◌, nat_lt, Bool, if◌then◌else◌, List, [], ◌∷◌, ◌++◌, Contains, Some, slice_get, refl, ap, sym, ◌∙◌, subst, arith}
 use Rattle.std.specs.List.{AllByRecursion}
 use Rattle.std.proofs.lemmas.List.Elements.{Contains-append_left, Contains-append_right}
 use Rattle.std.proofs.lemmas.List.{append-nil}
@@ -16,11 +16,12 @@ use Rattle.register_assign.specs.declared.places.Place.{Place}
 use Rattle.register_assign.specs.declared.places.Place.TheVariants.{Reg, Slot, Incoming}
 use Rattle.register_assign.specs.declared.places.Placed.{Placed}
 use Rattle.register_assign.specs.Sound.{place_of}
+use Rattle.register_assign.specs.Unread.{is_unread}
 use Rattle.thumb_emit.specs.Frame.{own, copies, carries, lowers, kept_registers}
-use Rattle.thumb_emit.specs.Emit.{get, put, its_register, bring, keep, passes, loads, op_pieces, beside, division, stores_field, tests_null, asks, answers, calls_slot, move_pieces, moves_pieces, entry_pieces, ops_pieces, function_pieces}
+use Rattle.thumb_emit.specs.Emit.{get, its_register, bring, made_in, keep, land, passes, loads, op_pieces, beside, division, stores_field, tests_null, asks, answers, calls_slot, move_pieces, moves_pieces, entry_pieces, ops_pieces, function_pieces}
 use Rattle.thumb_emit.specs.Names.{name_of, names_of, call_of, calls_of, IsCalledBy}
 use Rattle.thumb_emit.proofs.Lists.{if_has, all_append, named_append, called_append}
-use Rattle.thumb_emit.proofs.Still.{IsStill, brings_still, keeps_still, moves_still, still_names, still_calls}
+use Rattle.thumb_emit.proofs.Still.{IsStill, brings_still, keeps_still, lands_still, moves_still, still_names, still_calls}
 use Rattle.thumb_emit.proofs.Operators.{unary_has, binary_has}
 
 -- pieces that name nothing, and call nothing
@@ -62,8 +63,11 @@ module _ (f : Function) (place : ℕ → Place) where
   brought : (scratch t : ℕ) → IsStill f (bring f place scratch t)
   brought scratch t = brings_still f scratch (place t)
 
-  kept : (t : ℕ) → IsMute (keep f place t ∷ [])
-  kept t = still_mute f _ [] (keeps_still f 0 (place t)) mute_end
+  kept : (k t : ℕ) → IsMute (keep f place k t ∷ [])
+  kept k t = still_mute f _ [] (keeps_still f (is_unread f k) (place t)) mute_end
+
+  landed : (k t : ℕ) → IsMute (land f place k t ∷ [])
+  landed k t = still_mute f _ [] (lands_still f (is_unread f k) (place t)) mute_end
 
   passes_mute : (k : ℕ) (ts : List ℕ) → IsMute (passes f place k ts)
   passes_mute k [] = mute_end
@@ -71,86 +75,93 @@ module _ (f : Function) (place : ℕ → Place) where
       let h = passes_mute (k + 1) ts in
       still_mute f (bring f place 0 t) (Plain (StrSp (its_register f place 0 t) k) ∷ passes f place (k + 1) ts) (brought 0 t) (record { names = h.names; calls = h.calls })
 
-  copies_mute : (q p : Place) → IsMute (copies f q p)
-  copies_mute (Reg r) p = record { names = refl; calls = refl }
-  copies_mute (Slot j) p = still_mute f _ _ (brings_still f 0 p) (record { names = refl; calls = refl })
-  copies_mute (Incoming j) p = still_mute f _ _ (brings_still f 0 p) (record { names = refl; calls = refl })
+  copies_mute : (unread : Bool) (q p : Place) → IsMute (copies f unread q p)
+  copies_mute true q p = record { names = refl; calls = refl }
+  copies_mute false (Reg r) p = record { names = refl; calls = refl }
+  copies_mute false (Slot j) p = still_mute f _ _ (brings_still f 0 p) (record { names = refl; calls = refl })
+  copies_mute false (Incoming j) p = still_mute f _ _ (brings_still f 0 p) (record { names = refl; calls = refl })
 
   loads_mute : (k : ℕ) (ts : List ℕ) → IsMute (loads f place k ts)
   loads_mute k [] = record { names = refl; calls = refl }
   loads_mute k (t ∷ ts) = let h = loads_mute (k + 1) ts in record { names = h.names; calls = h.calls }
 
   op_names : (k : ℕ) (op : Op) → IsOf op (op_pieces f place k op)
-  op_names k (MakeArray to room) = record { names = refl; calls = tt }
+  op_names k (MakeArray to room) = let h = landed k to in mute_of (MakeArray to room) _ (record { names = h.names; calls = h.calls }) refl
   op_names k (Jump target) = record { names = refl; calls = tt }
-  op_names k (MakeObject to class) = record { names = refl; calls = tt }
-  op_names k (Const to value) = let h = kept to in mute_of (Const to value) _ (record { names = h.names; calls = h.calls }) refl
-  op_names k (Copy to from) = mute_of (Copy to from) _ (copies_mute (place to) (place from)) refl
-  op_names k (GlobalGet to slot) = let h = kept to in mute_of (GlobalGet to slot) _ (record { names = h.names; calls = h.calls }) refl
+  op_names k (MakeObject to class) =
+      let h = landed k to in record {
+        names = ap (λ (q : List What). ClassOf class ∷ q) h.names;
+        calls = subst (λ (q : List What). AllByRecursion (IsCalledBy (MakeObject to class ∷ [])) q) (sym h.calls) tt;
+      }
+  op_names k (Const to value) = let h = kept k to in mute_of (Const to value) _ (record { names = h.names; calls = h.calls }) refl
+  op_names k (Copy to from) = mute_of (Copy to from) _ (copies_mute (is_unread f k) (place to) (place from)) refl
+  op_names k (GlobalGet to slot) = let h = kept k to in mute_of (GlobalGet to slot) _ (record { names = h.names; calls = h.calls }) refl
   op_names k (GlobalSet slot from) = still_of f _ _ _ (brought 0 from) (record { names = refl; calls = tt })
   op_names k (Branch when target) = still_of f _ _ _ (brought 0 when) (record { names = refl; calls = tt })
   op_names k (TextOf to text) =
-      let h = kept to in
+      let h = kept k to in
       record { names = ap (λ (q : List What). Text text ∷ q) h.names; calls = subst (λ (q : List What). AllByRecursion (IsCalledBy (TextOf to text ∷ [])) q) (sym h.calls) tt }
   op_names k (HandlerOf to function) =
-      let h = kept to in
+      let h = kept k to in
       record { names = ap (λ (q : List What). FunctionOf function ∷ q) h.names; calls = subst (λ (q : List What). AllByRecursion (IsCalledBy (HandlerOf to function ∷ [])) q) (sym h.calls) tt }
   op_names k (ItemGet to array index) =
-      let h = kept to in
+      let h = kept k to in
       still_of f _ _ _ (brought 0 array) (still_of f _ _ _ (brought 1 index) (mute_of (ItemGet to array index) _ (record { names = h.names; calls = h.calls }) refl))
   op_names k (ItemSet array index from) =
       let h = still_mute f (bring f place 3 from) (Plain (StrReg (its_register f place 3 from) 2 1) ∷ []) (brought 3 from) (record { names = refl; calls = refl }) in
       still_of f _ _ _ (brought 0 array) (still_of f _ _ _ (brought 1 index) (mute_of (ItemSet array index from) _ (record { names = h.names; calls = h.calls }) refl))
   op_names k (Length to array) =
-      let h = kept to in still_of f _ _ _ (brought 0 array) (mute_of (Length to array) _ (record { names = h.names; calls = h.calls }) refl)
+      let h = kept k to in still_of f _ _ _ (brought 0 array) (mute_of (Length to array) _ (record { names = h.names; calls = h.calls }) refl)
   op_names k (Pop to array) =
-      let h = kept to in still_of f _ _ _ (brought 0 array) (mute_of (Pop to array) _ (record { names = h.names; calls = h.calls }) refl)
+      let h = kept k to in still_of f _ _ _ (brought 0 array) (mute_of (Pop to array) _ (record { names = h.names; calls = h.calls }) refl)
   op_names k (Unary to op from) =
-      let h = kept to in let rd = its_register f place 0 to in
+      let h = kept k to in let rd = made_in f place k to in
       let o : Op = Unary to op from in
-      still_of f o _ _ (brought 0 from) (unary_has (λ xs. IsOf o (xs ++ (keep f place to ∷ []))) f rd op (3 * k + 1)
+      still_of f o _ _ (brought 0 from) (unary_has (λ xs. IsOf o (xs ++ (keep f place k to ∷ []))) f rd op (3 * k + 1)
       (λ x. mute_of o _ (record { names = h.names; calls = h.calls }) refl)
-      (λ by x cond. (let m = still_mute f (carries f rd by) (keep f place to ∷ []) (moves_still f rd by) h in mute_of o _ (record { names = m.names; calls = m.calls }) refl))
+      (λ by x cond. (let m = still_mute f (carries f rd by) (keep f place k to ∷ []) (moves_still f rd by) h in mute_of o _ (record { names = m.names; calls = m.calls }) refl))
       (its_register f place 0 from))
   op_names k (Binary to op left right) =
-      let h = kept to in let rd = its_register f place 0 to in let a = its_register f place 0 left in let b = its_register f place 1 right in
+      let h = kept k to in let rd = made_in f place k to in let a = its_register f place 0 left in let b = its_register f place 1 right in
       let o : Op = Binary to op left right in
-      still_of f o _ _ (brought 0 left) (still_of f o _ _ (brought 1 right) (binary_has (λ xs. IsOf o (xs ++ (keep f place to ∷ []))) f rd op (3 * k + 1)
+      still_of f o _ _ (brought 0 left) (still_of f o _ _ (brought 1 right) (binary_has (λ xs. IsOf o (xs ++ (keep f place k to ∷ []))) f rd op (3 * k + 1)
       (λ x. mute_of o _ (record { names = h.names; calls = h.calls }) refl)
-      (λ by x cond. (let m = still_mute f (carries f rd by) (keep f place to ∷ []) (moves_still f rd by) h in mute_of o _ (record { names = m.names; calls = m.calls }) refl))
+      (λ by x cond. (let m = still_mute f (carries f rd by) (keep f place k to ∷ []) (moves_still f rd by) h in mute_of o _ (record { names = m.names; calls = m.calls }) refl))
       a b
-      (λ x. (let m = still_mute f (carries f rd (beside 2 rd b)) (keep f place to ∷ []) (moves_still f rd (beside 2 rd b)) h in
+      (λ x. (let m = still_mute f (carries f rd (beside 2 rd b)) (keep f place k to ∷ []) (moves_still f rd (beside 2 rd b)) h in
       still_of f o _ _ (moves_still f (beside 2 rd b) a) (mute_of o _ (record { names = m.names; calls = m.calls }) refl)))
-      (λ x. (let m = still_mute f (carries f rd a) (Plain (x rd 2) ∷ keep f place to ∷ []) (moves_still f rd a) (record { names = h.names; calls = h.calls }) in
+      (λ x. (let m = still_mute f (carries f rd a) (Plain (x rd 2) ∷ keep f place k to ∷ []) (moves_still f rd a) (record { names = h.names; calls = h.calls }) in
       mute_of o _ (record { names = m.names; calls = m.calls }) refl))
-      (λ answer. (let m = still_mute f (carries f rd answer) (keep f place to ∷ []) (moves_still f rd answer) h in
+      (λ answer. (let m = still_mute f (carries f rd answer) (keep f place k to ∷ []) (moves_still f rd answer) h in
       still_of f o _ _ (moves_still f 0 a) (still_of f o _ _ (moves_still f 1 b) (record {
         names = m.names;
         calls = subst (λ (q : List What). AllByRecursion (IsCalledBy (o ∷ [])) (FunctionOf division ∷ q)) (sym m.calls) (inl refl, tt);
       }))))))
   op_names k (FieldGet to object field) =
-      let o : Op = FieldGet to object field in let rd = its_register f place 0 to in let r = its_register f place 0 object in let h = kept to in
+      let o : Op = FieldGet to object field in let rd = made_in f place k to in let r = its_register f place 0 object in let h = kept k to in
       still_of f o _ _ (brought 0 object)
-      (if_has (λ xs. IsOf o (tests_null r (3 * k + 1) ++ (xs ++ (keep f place to ∷ [])))) (nat_lt field 31) _ _
+      (if_has (λ xs. IsOf o (tests_null r (3 * k + 1) ++ (xs ++ (keep f place k to ∷ [])))) (nat_lt field 31) _ _
       (mute_of o _ (record { names = h.names; calls = h.calls }) refl) (mute_of o _ (record { names = h.names; calls = h.calls }) refl))
   op_names k (FieldSet object field from) =
       let o : Op = FieldSet object field from in let rs = its_register f place 1 from in let r = its_register f place 0 object in
       let h : IsMute (bring f place 1 from ∷ stores_field rs r field) = still_mute f _ _ (brought 1 from) (if_mute (nat_lt field 31) _ _ (record { names = refl; calls = refl }) (record { names = refl; calls = refl })) in
       still_of f o _ _ (brought 0 object) (mute_of o _ (record { names = h.names; calls = h.calls }) refl)
   op_names k (Call to function args) =
-      let a = passes_mute 0 args in let xs = passes f place 0 args in let ys : List Piece = CallTo function ∷ put f place 0 to ∷ [] in
-      let e : called (xs ++ ys) ≡ FunctionOf function ∷ [] = called_append xs ys ∙ ap (λ (q : List What). q ++ called ys) a.calls in
+      let a = passes_mute 0 args in let xs = passes f place 0 args in let ys : List Piece = CallTo function ∷ land f place k to ∷ [] in let h = landed k to in
+      let hc : called ys ≡ FunctionOf function ∷ [] = ap (λ (q : List What). FunctionOf function ∷ q) h.calls in
+      let e : called (xs ++ ys) ≡ FunctionOf function ∷ [] = called_append xs ys ∙ (ap (λ (q : List What). q ++ called ys) a.calls ∙ hc) in
       record {
-        names = named_append xs ys ∙ ap (λ (q : List What). q ++ named ys) a.names;
+        names = named_append xs ys ∙ (ap (λ (q : List What). q ++ named ys) a.names ∙ h.names);
         calls = subst (λ (q : List What). AllByRecursion (IsCalledBy (Call to function args ∷ [])) q) (sym e) (inr (0, omega arith, refl), tt);
       }
   op_names k (CallSlot to slot args) =
       mute_of (CallSlot to slot args) _
-      (mute_append (passes f place 0 args) (calls_slot slot (3 * k + 1) ++ (put f place 0 to ∷ [])) (passes_mute 0 args) (record { names = refl; calls = refl })) refl
+      (mute_append (passes f place 0 args) (calls_slot slot (3 * k + 1) ++ (land f place k to ∷ [])) (passes_mute 0 args) (let h = landed k to in record { names = h.names; calls = h.calls })) refl
   op_names k (Ask to service args) =
-      let h : IsMute (asks service ++ (put f place 0 to ∷ [])) = if_has (λ xs. IsMute (xs ++ (put f place 0 to ∷ []))) (answers service) _ _
-      (record { names = refl; calls = refl }) (record { names = refl; calls = refl }) in
-      mute_of (Ask to service args) _ (mute_append (loads f place 0 args) (asks service ++ (put f place 0 to ∷ [])) (loads_mute 0 args) h) refl
+      let g = landed k to in
+      let h : IsMute (asks (is_unread f k) service ++ (land f place k to ∷ [])) = if_has (λ xs. IsMute (xs ++ (land f place k to ∷ []))) (is_unread f k || answers service) _ _
+      (record { names = g.names; calls = g.calls }) (record { names = g.names; calls = g.calls }) in
+      mute_of (Ask to service args) _ (mute_append (loads f place 0 args) (asks (is_unread f k) service ++ (land f place k to ∷ [])) (loads_mute 0 args) h) refl
   op_names k (Return from) =
       if_has (λ xs. IsOf (Return from) (get f place 0 from ∷ xs ++ (Plain (PopMany kept_registers true) ∷ []))) (nat_lt 127 (own f)) _ _
       (record { names = refl; calls = tt }) (record { names = refl; calls = tt })

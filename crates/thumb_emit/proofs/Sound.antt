@@ -1,5 +1,5 @@
 -- The pieces of a function are sound, and their numbers are words.
-use Rattle.std.proofs.Common.{FitsSigned, ℕ, zero, suc, ◌+◌, ◌*◌, ◌^◌, ◌<◌, ◌≤◌, ℤ, true, List, [], ◌∷◌, ◌++◌, length, arith, rules}
+use Rattle.std.proofs.Common.{FitsSigned, ℕ, zero, suc, ◌+◌, ◌*◌, ◌^◌, ◌<◌, ◌≤◌, ℤ, Bool, true, false, List, [], ◌∷◌, ◌++◌, length, arith, rules}
 use Rattle.std.specs.Int.{cast_unsigned, w32}
 use Rattle.std.proofs.Math.Facts.{Fits-of_z}
 use Rattle.std.specs.List.{AllByRecursion}
@@ -16,12 +16,13 @@ use Rattle.register_assign.specs.declared.places.Place.TheVariants.{Reg, Slot, I
 use Rattle.register_assign.specs.Sound.{IsWithin}
 use Rattle.register_assign.specs.declared.places.Placed.{Placed}
 use Rattle.register_assign.specs.Sound.{place_of}
+use Rattle.register_assign.specs.Unread.{is_unread}
 use Rattle.flat_ir.specs.WellFormed.{temporaries}
 use Rattle.thumb_emit.specs.Frame.{own, words, register_of, copies, raises, lowers, kept_registers}
 use Rattle.thumb_emit.specs.Ready.{IsReady, HasNumber, HasNumbers}
-use Rattle.thumb_emit.specs.Emit.{get, put, its_register, bring, keep, passes, loads, op_pieces, tests_null, tests_index, finds_item, unary, binary, loads_field, stores_field, asks, makes_object, makes_array, pops, calls_slot, move_pieces, moves_pieces, entry_pieces, ops_pieces, function_pieces}
+use Rattle.thumb_emit.specs.Emit.{get, its_register, bring, made_in, keep, land, passes, loads, op_pieces, tests_null, tests_index, finds_item, unary, binary, loads_field, stores_field, asks, makes_object, makes_array, pops, calls_slot, move_pieces, moves_pieces, entry_pieces, ops_pieces, function_pieces}
 use Rattle.thumb_emit.proofs.Lists.{all_append}
-use Rattle.thumb_emit.proofs.Fine.{IsFine, AreFine, IsSmall, from_fine, to_fine, brings_fine, keeps_fine, register_low, raises_fine, lowers_fine, null_fine, index_fine, finds_fine, pops_fine, unary_fine, binary_fine, object_fine, array_fine, slot_fine, loads_fine, stores_fine, global_fine, asks_fine}
+use Rattle.thumb_emit.proofs.Fine.{IsFine, AreFine, IsSmall, from_fine, to_fine, brings_fine, keeps_fine, lands_fine, register_low, made_low, raises_fine, lowers_fine, null_fine, index_fine, finds_fine, pops_fine, unary_fine, binary_fine, object_fine, array_fine, slot_fine, loads_fine, stores_fine, global_fine, asks_fine}
 
 -- the word of a number of 32 bits
 number_fine : (value : ℤ) → FitsSigned w32 value → cast_unsigned w32 value < 2 ^ 32
@@ -41,9 +42,6 @@ module _ (f : Function) (place : ℕ → Place) (n : ℕ) (small : IsSmall f) (w
   get_fine : (rd t : ℕ) → rd < 8 → t < n → IsFine (get f place rd t)
   get_fine rd t l h = from_fine f rd (place t) small l (within t h)
 
-  put_fine : (rs t : ℕ) → rs < 8 → t < n → IsFine (put f place rs t)
-  put_fine rs t l h = to_fine f rs (place t) small l (within t h)
-
   bring_fine : (rd t : ℕ) → rd < 8 → t < n → IsFine (bring f place rd t)
   bring_fine rd t l h = brings_fine f rd (place t) small l (within t h)
 
@@ -51,8 +49,11 @@ module _ (f : Function) (place : ℕ → Place) (n : ℕ) (small : IsSmall f) (w
   reg_low rd t l h = register_low f rd (place t) l (within t h)
 
   -- a result is kept
-  kept_fine : (to : ℕ) → to < n → AreFine (keep f place to ∷ [])
-  kept_fine to h = (keeps_fine f 0 (place to) small (omega arith) (within to h), tt)
+  kept_fine : (k to : ℕ) → to < n → AreFine (keep f place k to ∷ [])
+  kept_fine k to h = (keeps_fine f (is_unread f k) (place to) small (within to h), tt)
+
+  out_low : (k to : ℕ) → to < n → made_in f place k to < 8
+  out_low k to h = made_low f (is_unread f k) (place to) (within to h)
 
   passes_fine : (k : ℕ) (ts : List ℕ) → k + length ts ≤ 8 → AllByRecursion (λ t. t < n) ts → AreFine (passes f place k ts)
   passes_fine k [] l a = tt
@@ -72,13 +73,14 @@ module _ (f : Function) (place : ℕ → Place) (n : ℕ) (small : IsSmall f) (w
   outgoing_small = small.outgoing
 
   -- an op with what follows its pieces' parts
-  ends_fine : (to : ℕ) → to < n → AreFine (put f place 0 to ∷ [])
-  ends_fine to h = (put_fine 0 to (omega arith) h, tt)
+  ends_fine : (k to : ℕ) → to < n → AreFine (land f place k to ∷ [])
+  ends_fine k to h = (lands_fine f (is_unread f k) (place to) small (within to h), tt)
 
-  copied_fine : (q p : Place) → IsWithin f q → IsWithin f p → AreFine (copies f q p)
-  copied_fine (Reg r) p w v = let a = w.1 in (from_fine f r p small (omega arith) v, ((tt, tt), tt))
-  copied_fine (Slot j) p w v = (brings_fine f 0 p small (omega arith) v, (to_fine f (register_of 0 p) (Slot j) small (register_low f 0 p (omega arith) v) w, tt))
-  copied_fine (Incoming j) p w v = (brings_fine f 0 p small (omega arith) v, (to_fine f (register_of 0 p) (Incoming j) small (register_low f 0 p (omega arith) v) w, tt))
+  copied_fine : (unread : Bool) (q p : Place) → IsWithin f q → IsWithin f p → AreFine (copies f unread q p)
+  copied_fine true q p w v = (from_fine f 0 p small (omega arith) v, ((tt, tt), tt))
+  copied_fine false (Reg r) p w v = let a = w.1 in (from_fine f r p small (omega arith) v, ((tt, tt), tt))
+  copied_fine false (Slot j) p w v = (brings_fine f 0 p small (omega arith) v, (to_fine f (register_of 0 p) (Slot j) small (register_low f 0 p (omega arith) v) w, tt))
+  copied_fine false (Incoming j) p w v = (brings_fine f 0 p small (omega arith) v, (to_fine f (register_of 0 p) (Incoming j) small (register_low f 0 p (omega arith) v) w, tt))
 
   -- the tests before an item, and what follows them
   reached_fine : (k array index : ℕ) (xs : List Piece) → array < 8 → index < 8 → AreFine xs
@@ -89,35 +91,35 @@ module _ (f : Function) (place : ℕ → Place) (n : ℕ) (small : IsSmall f) (w
       (joined (finds_item array index) xs (finds_fine array index l m) e))
 
   pub op_fine : (places k : ℕ) (op : Op) → IsOpWithin n places f.outgoing op → HasNumber op → AreFine (op_pieces f place k op)
-  op_fine places k (Const to value) w h = let a = w.names.0 in ((reg_low 0 to (omega arith) a, number_fine value h), kept_fine to a)
-  op_fine places k (Copy to from) w h = let a = w.names in copied_fine (place to) (place from) (within to a.0) (within from a.1.0)
+  op_fine places k (Const to value) w h = let a = w.names.0 in ((out_low k to a, number_fine value h), kept_fine k to a)
+  op_fine places k (Copy to from) w h = let a = w.names in copied_fine (is_unread f k) (place to) (place from) (within to a.0) (within from a.1.0)
   op_fine places k (Unary to op from) w h = let a = w.names in
-      let d = reg_low 0 to (omega arith) a.0 in let r = reg_low 0 from (omega arith) a.1.0 in (
+      let d = out_low k to a.0 in let r = reg_low 0 from (omega arith) a.1.0 in (
         bring_fine 0 from (omega arith) a.1.0,
-        joined (unary f (its_register f place 0 to) (its_register f place 0 from) op (3 * k + 1)) (keep f place to ∷ [])
-            (unary_fine f (its_register f place 0 to) (its_register f place 0 from) op (3 * k + 1) d r) (kept_fine to a.0),
+        joined (unary f (made_in f place k to) (its_register f place 0 from) op (3 * k + 1)) (keep f place k to ∷ [])
+            (unary_fine f (made_in f place k to) (its_register f place 0 from) op (3 * k + 1) d r) (kept_fine k to a.0),
       )
   op_fine places k (Binary to op left right) w h = let a = w.names in
-      let d = reg_low 0 to (omega arith) a.0 in let l = reg_low 0 left (omega arith) a.1.0 in let r = reg_low 1 right (omega arith) a.1.1.0 in (
+      let d = out_low k to a.0 in let l = reg_low 0 left (omega arith) a.1.0 in let r = reg_low 1 right (omega arith) a.1.1.0 in (
         bring_fine 0 left (omega arith) a.1.0,
         (
           bring_fine 1 right (omega arith) a.1.1.0,
-          joined (binary f (its_register f place 0 to) (its_register f place 0 left) (its_register f place 1 right) op (3 * k + 1)) (keep f place to ∷ [])
-              (binary_fine f (its_register f place 0 to) (its_register f place 0 left) (its_register f place 1 right) op (3 * k + 1) d l r) (kept_fine to a.0),
+          joined (binary f (made_in f place k to) (its_register f place 0 left) (its_register f place 1 right) op (3 * k + 1)) (keep f place k to ∷ [])
+              (binary_fine f (made_in f place k to) (its_register f place 0 left) (its_register f place 1 right) op (3 * k + 1) d l r) (kept_fine k to a.0),
         ),
       )
-  op_fine places k (GlobalGet to slot) w h = let a = w.names in let d : its_register f place 0 to < 8 = reg_low 0 to (omega arith) a.0 in
-      let s : IsFine (Plain (LdrImm (its_register f place 0 to) 1 0)) = search rules in
-      (global_fine slot w.ranges, (s, kept_fine to a.0))
+  op_fine places k (GlobalGet to slot) w h = let a = w.names in let d : made_in f place k to < 8 = out_low k to a.0 in
+      let s : IsFine (Plain (LdrImm (made_in f place k to) 1 0)) = search rules in
+      (global_fine slot w.ranges, (s, kept_fine k to a.0))
   op_fine places k (GlobalSet slot from) w h = let a = w.names in let d : its_register f place 0 from < 8 = reg_low 0 from (omega arith) a.0 in
       let s : IsFine (Plain (StrImm (its_register f place 0 from) 1 0)) = search rules in
       (bring_fine 0 from (omega arith) a.0, (global_fine slot w.ranges, (s, tt)))
   op_fine places k (FieldGet to object field) w h = let a = w.names in
-      let d = reg_low 0 to (omega arith) a.0 in let r = reg_low 0 object (omega arith) a.1.0 in (
+      let d = out_low k to a.0 in let r = reg_low 0 object (omega arith) a.1.0 in (
         bring_fine 0 object (omega arith) a.1.0,
-        joined (tests_null (its_register f place 0 object) (3 * k + 1)) (loads_field (its_register f place 0 to) (its_register f place 0 object) field ++ (keep f place to ∷ []))
+        joined (tests_null (its_register f place 0 object) (3 * k + 1)) (loads_field (made_in f place k to) (its_register f place 0 object) field ++ (keep f place k to ∷ []))
             (null_fine (its_register f place 0 object) (3 * k + 1) r)
-            (joined (loads_field (its_register f place 0 to) (its_register f place 0 object) field) (keep f place to ∷ []) (loads_fine (its_register f place 0 to) (its_register f place 0 object) field d r) (kept_fine to a.0)),
+            (joined (loads_field (made_in f place k to) (its_register f place 0 object) field) (keep f place k to ∷ []) (loads_fine (made_in f place k to) (its_register f place 0 object) field d r) (kept_fine k to a.0)),
       )
   op_fine places k (FieldSet object field from) w h = let a = w.names in
       let r = reg_low 0 object (omega arith) a.0 in let s = reg_low 1 from (omega arith) a.1.0 in (
@@ -127,13 +129,13 @@ module _ (f : Function) (place : ℕ → Place) (n : ℕ) (small : IsSmall f) (w
             (bring_fine 1 from (omega arith) a.1.0, stores_fine (its_register f place 1 from) (its_register f place 0 object) field s r),
       )
   op_fine places k (ItemGet to array index) w h = let a = w.names in
-      let d : its_register f place 0 to < 8 = reg_low 0 to (omega arith) a.0 in let r = reg_low 0 array (omega arith) a.1.0 in let i = reg_low 1 index (omega arith) a.1.1.0 in
-      let x : IsFine (Plain (LdrReg (its_register f place 0 to) 2 1)) = search rules in
-      let e : AreFine (Plain (LdrReg (its_register f place 0 to) 2 1) ∷ keep f place to ∷ []) = (x, kept_fine to a.0) in (
+      let d : made_in f place k to < 8 = out_low k to a.0 in let r = reg_low 0 array (omega arith) a.1.0 in let i = reg_low 1 index (omega arith) a.1.1.0 in
+      let x : IsFine (Plain (LdrReg (made_in f place k to) 2 1)) = search rules in
+      let e : AreFine (Plain (LdrReg (made_in f place k to) 2 1) ∷ keep f place k to ∷ []) = (x, kept_fine k to a.0) in (
         bring_fine 0 array (omega arith) a.1.0,
         (
           bring_fine 1 index (omega arith) a.1.1.0,
-          reached_fine k (its_register f place 0 array) (its_register f place 1 index) (Plain (LdrReg (its_register f place 0 to) 2 1) ∷ keep f place to ∷ []) r i e,
+          reached_fine k (its_register f place 0 array) (its_register f place 1 index) (Plain (LdrReg (made_in f place k to) 2 1) ∷ keep f place k to ∷ []) r i e,
         ),
       )
   op_fine places k (ItemSet array index from) w h = let a = w.names in
@@ -147,31 +149,31 @@ module _ (f : Function) (place : ℕ → Place) (n : ℕ) (small : IsSmall f) (w
         ),
       )
   op_fine places k (Length to array) w h = let a = w.names in
-      let d : its_register f place 0 to < 8 = reg_low 0 to (omega arith) a.0 in let r : its_register f place 0 array < 8 = reg_low 0 array (omega arith) a.1.0 in
-      let x : IsFine (Plain (LdrImm (its_register f place 0 to) (its_register f place 0 array) 1)) = search rules in (
+      let d : made_in f place k to < 8 = out_low k to a.0 in let r : its_register f place 0 array < 8 = reg_low 0 array (omega arith) a.1.0 in
+      let x : IsFine (Plain (LdrImm (made_in f place k to) (its_register f place 0 array) 1)) = search rules in (
         bring_fine 0 array (omega arith) a.1.0,
-        joined (tests_null (its_register f place 0 array) (3 * k + 1)) (Plain (LdrImm (its_register f place 0 to) (its_register f place 0 array) 1) ∷ keep f place to ∷ [])
-            (null_fine (its_register f place 0 array) (3 * k + 1) r) (x, kept_fine to a.0),
+        joined (tests_null (its_register f place 0 array) (3 * k + 1)) (Plain (LdrImm (made_in f place k to) (its_register f place 0 array) 1) ∷ keep f place k to ∷ [])
+            (null_fine (its_register f place 0 array) (3 * k + 1) r) (x, kept_fine k to a.0),
       )
   op_fine places k (Pop to array) w h = let a = w.names in
-      let d = reg_low 0 to (omega arith) a.0 in let r = reg_low 0 array (omega arith) a.1.0 in (
+      let d = out_low k to a.0 in let r = reg_low 0 array (omega arith) a.1.0 in (
         bring_fine 0 array (omega arith) a.1.0,
-        joined (tests_null (its_register f place 0 array) (3 * k + 1)) (pops (its_register f place 0 to) (its_register f place 0 array) (3 * k + 2) ++ (keep f place to ∷ []))
+        joined (tests_null (its_register f place 0 array) (3 * k + 1)) (pops (made_in f place k to) (its_register f place 0 array) (3 * k + 2) ++ (keep f place k to ∷ []))
             (null_fine (its_register f place 0 array) (3 * k + 1) r)
-            (joined (pops (its_register f place 0 to) (its_register f place 0 array) (3 * k + 2)) (keep f place to ∷ []) (pops_fine (its_register f place 0 to) (its_register f place 0 array) (3 * k + 2) d r) (kept_fine to a.0)),
+            (joined (pops (made_in f place k to) (its_register f place 0 array) (3 * k + 2)) (keep f place k to ∷ []) (pops_fine (made_in f place k to) (its_register f place 0 array) (3 * k + 2) d r) (kept_fine k to a.0)),
       )
-  op_fine places k (TextOf to text) w h = let a = w.names.0 in ((reg_low 0 to (omega arith) a, tt), kept_fine to a)
-  op_fine places k (MakeObject to class) w h = joined (makes_object class) (put f place 0 to ∷ []) (object_fine class) (ends_fine to w.names.0)
-  op_fine places k (MakeArray to room) w h = joined (makes_array room) (put f place 0 to ∷ []) (array_fine room) (ends_fine to w.names.0)
+  op_fine places k (TextOf to text) w h = let a = w.names.0 in ((out_low k to a, tt), kept_fine k to a)
+  op_fine places k (MakeObject to class) w h = joined (makes_object class) (land f place k to ∷ []) (object_fine class) (ends_fine k to w.names.0)
+  op_fine places k (MakeArray to room) w h = joined (makes_array room) (land f place k to ∷ []) (array_fine room) (ends_fine k to w.names.0)
   op_fine places k (Call to function args) w h = let b = w.ranges in let c = outgoing_small in let a = w.names in
-      joined (passes f place 0 args) (CallTo function ∷ put f place 0 to ∷ []) (passes_fine 0 args (omega arith) a.1) (search rules, ends_fine to a.0)
+      joined (passes f place 0 args) (CallTo function ∷ land f place k to ∷ []) (passes_fine 0 args (omega arith) a.1) (search rules, ends_fine k to a.0)
   op_fine places k (CallSlot to slot args) w h = let b = w.ranges.1 in let c = outgoing_small in let a = w.names in
-      joined (passes f place 0 args) (calls_slot slot (3 * k + 1) ++ (put f place 0 to ∷ [])) (passes_fine 0 args (omega arith) a.1)
-      (joined (calls_slot slot (3 * k + 1)) (put f place 0 to ∷ []) (slot_fine slot (3 * k + 1) w.ranges.0) (ends_fine to a.0))
-  op_fine places k (HandlerOf to function) w h = let a = w.names.0 in ((reg_low 0 to (omega arith) a, tt), kept_fine to a)
+      joined (passes f place 0 args) (calls_slot slot (3 * k + 1) ++ (land f place k to ∷ [])) (passes_fine 0 args (omega arith) a.1)
+      (joined (calls_slot slot (3 * k + 1)) (land f place k to ∷ []) (slot_fine slot (3 * k + 1) w.ranges.0) (ends_fine k to a.0))
+  op_fine places k (HandlerOf to function) w h = let a = w.names.0 in ((out_low k to a, tt), kept_fine k to a)
   op_fine places k (Ask to service args) w h = let b = w.ranges.1 in let a = w.names in
-      joined (loads f place 0 args) (asks service ++ (put f place 0 to ∷ [])) (loaded_fine 0 args (omega arith) a.1)
-      (joined (asks service) (put f place 0 to ∷ []) (asks_fine service w.ranges.0) (ends_fine to a.0))
+      joined (loads f place 0 args) (asks (is_unread f k) service ++ (land f place k to ∷ [])) (loaded_fine 0 args (omega arith) a.1)
+      (joined (asks (is_unread f k) service) (land f place k to ∷ []) (asks_fine (is_unread f k) service w.ranges.0) (ends_fine k to a.0))
   op_fine places k (Jump target) w h = search rules
   op_fine places k (Branch when target) w h =
       let r : its_register f place 0 when < 8 = reg_low 0 when (omega arith) w.names.0 in
@@ -186,7 +188,7 @@ module _ (f : Function) (place : ℕ → Place) (n : ℕ) (small : IsSmall f) (w
 
   -- whatever numbers are, pieces are sound
   op_sound : (places k : ℕ) (op : Op) → IsOpWithin n places f.outgoing op → AllByRecursion IsSoundPiece (op_pieces f place k op)
-  op_sound places k (Const to value) w = (reg_low 0 to (omega arith) w.names.0, sound_of (keep f place to ∷ []) (kept_fine to w.names.0))
+  op_sound places k (Const to value) w = (out_low k to w.names.0, sound_of (keep f place k to ∷ []) (kept_fine k to w.names.0))
   op_sound places k op w = sound_of (op_pieces f place k op) (op_fine places k op w tt)
 
   pub ops_sound : (places k : ℕ) (ops : List Op) → AllByRecursion (IsOpWithin n places f.outgoing) ops → AllByRecursion IsSoundPiece (ops_pieces f place k ops)

@@ -1,5 +1,5 @@
 -- Pieces that take one instruction or nothing: what brings an operand, keeps a result, or moves a word.
-use Rattle.std.proofs.Common.{◌≡◌, ℕ, ◌≤◌, ◌==◌, List, ◌∷◌, refl, arith}
+use Rattle.std.proofs.Common.{◌≡◌, ℕ, ◌≤◌, ◌==◌, Bool, true, false, List, ◌∷◌, refl, arith}
 use Rattle.thumb_code.specs.declared.instructions.Instr.{Instr}
 use Rattle.thumb_code.specs.declared.instructions.Instr.TheVariants.{MovHigh}
 use Rattle.thumb_layout.specs.declared.pieces.Piece.{Piece}
@@ -10,7 +10,7 @@ use Rattle.thumb_layout.specs.Openings.{called, named}
 use Rattle.flat_ir.specs.declared.ops.Function.{Function}
 use Rattle.register_assign.specs.declared.places.Place.{Place}
 use Rattle.register_assign.specs.declared.places.Place.TheVariants.{Reg, Slot, Incoming}
-use Rattle.thumb_emit.specs.Frame.{from_instr, to_instr, idle_piece, brings, keeps, carries}
+use Rattle.thumb_emit.specs.Frame.{from_instr, to_instr, idle_piece, brings, keeps, lands, carries}
 use Rattle.thumb_emit.proofs.Lists.{if_has}
 
 -- a piece is nothing, or one plain instruction
@@ -23,10 +23,15 @@ brings_still f scratch (Reg r) = Idle
 brings_still f scratch (Slot j) = Single (from_instr f scratch (Slot j))
 brings_still f scratch (Incoming j) = Single (from_instr f scratch (Incoming j))
 
-pub keeps_still : (f : Function) (scratch : ℕ) (p : Place) → IsStill f (keeps f scratch p)
-keeps_still f scratch (Reg r) = Idle
-keeps_still f scratch (Slot j) = Single (to_instr f scratch (Slot j))
-keeps_still f scratch (Incoming j) = Single (to_instr f scratch (Incoming j))
+pub keeps_still : (f : Function) (unread : Bool) (p : Place) → IsStill f (keeps f unread p)
+keeps_still f true p = Idle
+keeps_still f false (Reg r) = Idle
+keeps_still f false (Slot j) = Single (to_instr f 0 (Slot j))
+keeps_still f false (Incoming j) = Single (to_instr f 0 (Incoming j))
+
+pub lands_still : (f : Function) (unread : Bool) (p : Place) → IsStill f (lands f unread p)
+lands_still f true p = Idle
+lands_still f false p = Single (to_instr f 0 p)
 
 pub moves_still : (f : Function) (rd rs : ℕ) → IsStill f (carries f rd rs)
 moves_still f rd rs = if_has (IsStill f) (rd == rs) _ _ Idle (Single (MovHigh rd rs))

@@ -1,5 +1,5 @@
 -- What the pieces of an op and of an entry take at most.
-use Rattle.std.proofs.Common.{◌≡◌, ℕ, zero, suc, ◌+◌, ◌*◌, ◌<◌, ◌≤◌, true, nat_lt, List, [], ◌∷◌, ◌++◌, length, refl, ap, sym, ◌∙◌, add_assoc, zero-add, arith}
+use Rattle.std.proofs.Common.{◌≡◌, ℕ, zero, suc, ◌+◌, ◌*◌, ◌<◌, ◌≤◌, Bool, true, false, ◌||◌, nat_lt, List, [], ◌∷◌, ◌++◌, length, refl, ap, sym, ◌∙◌, add_assoc, zero-add, arith}
 use Rattle.thumb_code.specs.declared.instructions.Instr.TheVariants.{Pop as PopMany}
 use Rattle.thumb_layout.specs.declared.pieces.Piece.{Piece}
 use Rattle.thumb_layout.specs.declared.pieces.Piece.TheVariants.{Plain, CallTo}
@@ -11,12 +11,13 @@ use Rattle.flat_ir.specs.declared.ops.Function.{Function}
 use Rattle.register_assign.specs.declared.places.Place.{Place}
 use Rattle.register_assign.specs.declared.places.Placed.{Placed}
 use Rattle.register_assign.specs.Sound.{place_of}
+use Rattle.register_assign.specs.Unread.{is_unread}
 use Rattle.register_assign.specs.declared.places.Place.TheVariants.{Reg, Slot, Incoming}
 use Rattle.thumb_emit.specs.Frame.{own, copies, carries, lowers, kept_registers}
-use Rattle.thumb_emit.specs.Emit.{get, put, its_register, bring, keep, passes, loads, op_pieces, beside, tests_null, asks, answers, calls_slot, move_pieces, moves_pieces, entry_pieces, ops_pieces, function_pieces}
+use Rattle.thumb_emit.specs.Emit.{get, its_register, bring, made_in, keep, land, passes, loads, op_pieces, beside, tests_null, asks, answers, calls_slot, move_pieces, moves_pieces, entry_pieces, ops_pieces, function_pieces}
 use Rattle.thumb_emit.specs.Bounds.{total_cost, op_cost, op_bytes, ops_bytes, entry_cost, entry_bytes}
 use Rattle.thumb_emit.proofs.Lists.{if_has, cost_append, most_append}
-use Rattle.thumb_emit.proofs.Still.{brings_still, keeps_still, moves_still, still_takes, still_fills}
+use Rattle.thumb_emit.proofs.Still.{brings_still, keeps_still, lands_still, moves_still, still_takes, still_fills}
 use Rattle.thumb_emit.proofs.Operators.{unary_has, binary_has}
 
 module _ (f : Function) (place : ℕ → Place) where
@@ -24,16 +25,20 @@ module _ (f : Function) (place : ℕ → Place) where
   takes_bring : (scratch t : ℕ) → cost (bring f place scratch t) ≤ 2
   takes_bring scratch t = still_takes f _ (brings_still f scratch (place t))
 
-  takes_keep : (t : ℕ) → cost (keep f place t) ≤ 2
-  takes_keep t = still_takes f _ (keeps_still f 0 (place t))
+  takes_keep : (k t : ℕ) → cost (keep f place k t) ≤ 2
+  takes_keep k t = still_takes f _ (keeps_still f (is_unread f k) (place t))
+
+  takes_land : (k t : ℕ) → cost (land f place k t) ≤ 2
+  takes_land k t = still_takes f _ (lands_still f (is_unread f k) (place t))
 
   takes_step : (rd rs : ℕ) → cost (carries f rd rs) ≤ 2
   takes_step rd rs = still_takes f _ (moves_still f rd rs)
 
-  takes_copies : (q p : Place) → total_cost (copies f q p) ≤ 4
-  takes_copies (Reg r) p = omega arith
-  takes_copies (Slot j) p = let a = still_takes f _ (brings_still f 0 p) in omega arith
-  takes_copies (Incoming j) p = let a = still_takes f _ (brings_still f 0 p) in omega arith
+  takes_copies : (unread : Bool) (q p : Place) → total_cost (copies f unread q p) ≤ 4
+  takes_copies true q p = omega arith
+  takes_copies false (Reg r) p = omega arith
+  takes_copies false (Slot j) p = let a = still_takes f _ (brings_still f 0 p) in omega arith
+  takes_copies false (Incoming j) p = let a = still_takes f _ (brings_still f 0 p) in omega arith
 
   takes_passes : (k : ℕ) (ts : List ℕ) → total_cost (passes f place k ts) ≤ 4 * length ts
   takes_passes k [] = omega arith
@@ -45,42 +50,42 @@ module _ (f : Function) (place : ℕ → Place) where
 
   pub op_takes : (k : ℕ) (op : Op) → total_cost (op_pieces f place k op) ≤ op_cost op
   op_takes k (Unary to op from) =
-      let a = takes_bring 0 from in let b = takes_keep to in let rd = its_register f place 0 to in
-      unary_has (λ xs. total_cost (bring f place 0 from ∷ xs ++ (keep f place to ∷ [])) ≤ 15) f rd op (3 * k + 1) (λ x. omega arith)
+      let a = takes_bring 0 from in let b = takes_keep k to in let rd = made_in f place k to in
+      unary_has (λ xs. total_cost (bring f place 0 from ∷ xs ++ (keep f place k to ∷ [])) ≤ 15) f rd op (3 * k + 1) (λ x. omega arith)
       (λ by x cond. let m = takes_step rd by in omega arith) (its_register f place 0 from)
   op_takes k (Binary to op left right) =
-      let a = takes_bring 0 left in let c = takes_bring 1 right in let b = takes_keep to in
-      let rd = its_register f place 0 to in let l = its_register f place 0 left in let r = its_register f place 1 right in
-      binary_has (λ xs. total_cost (bring f place 0 left ∷ bring f place 1 right ∷ xs ++ (keep f place to ∷ [])) ≤ 17) f rd op (3 * k + 1)
+      let a = takes_bring 0 left in let c = takes_bring 1 right in let b = takes_keep k to in
+      let rd = made_in f place k to in let l = its_register f place 0 left in let r = its_register f place 1 right in
+      binary_has (λ xs. total_cost (bring f place 0 left ∷ bring f place 1 right ∷ xs ++ (keep f place k to ∷ [])) ≤ 17) f rd op (3 * k + 1)
       (λ x. omega arith) (λ by x cond. let m = takes_step rd by in omega arith) l r
       (λ x. let m = takes_step (beside 2 rd r) l in let n = takes_step rd (beside 2 rd r) in omega arith)
       (λ x. let m = takes_step rd l in omega arith)
       (λ answer. let m = takes_step 0 l in let n = takes_step 1 r in let q = takes_step rd answer in omega arith)
   op_takes k (FieldGet to object field) =
-      let a = takes_bring 0 object in let b = takes_keep to in
-      if_has (λ xs. total_cost (bring f place 0 object ∷ tests_null (its_register f place 0 object) (3 * k + 1) ++ (xs ++ (keep f place to ∷ []))) ≤ 17) (nat_lt field 31) _ _ (omega arith) (omega arith)
+      let a = takes_bring 0 object in let b = takes_keep k to in
+      if_has (λ xs. total_cost (bring f place 0 object ∷ tests_null (its_register f place 0 object) (3 * k + 1) ++ (xs ++ (keep f place k to ∷ []))) ≤ 17) (nat_lt field 31) _ _ (omega arith) (omega arith)
   op_takes k (FieldSet object field from) =
       let a = takes_bring 0 object in let b = takes_bring 1 from in
       if_has (λ xs. total_cost (bring f place 0 object ∷ tests_null (its_register f place 0 object) (3 * k + 1) ++ (bring f place 1 from ∷ xs)) ≤ 17) (nat_lt field 31) _ _ (omega arith) (omega arith)
-  op_takes k (Call to function args) = let a = cost_append (passes f place 0 args) (CallTo function ∷ put f place 0 to ∷ []) in let b = takes_passes 0 args in omega (arith, a, b)
-  op_takes k (CallSlot to slot args) = let a = cost_append (passes f place 0 args) (calls_slot slot (3 * k + 1) ++ (put f place 0 to ∷ [])) in let b = takes_passes 0 args in omega (arith, a, b)
+  op_takes k (Call to function args) = let a = cost_append (passes f place 0 args) (CallTo function ∷ land f place k to ∷ []) in let b = takes_passes 0 args in let d = takes_land k to in omega (arith, a, b, d)
+  op_takes k (CallSlot to slot args) = let a = cost_append (passes f place 0 args) (calls_slot slot (3 * k + 1) ++ (land f place k to ∷ [])) in let b = takes_passes 0 args in let d = takes_land k to in omega (arith, a, b, d)
   op_takes k (Ask to service args) =
-      let a = cost_append (loads f place 0 args) (asks service ++ (put f place 0 to ∷ [])) in let b = takes_loads 0 args in
-      let c : total_cost (asks service ++ (put f place 0 to ∷ [])) ≤ 6 = if_has (λ xs. total_cost (xs ++ (put f place 0 to ∷ [])) ≤ 6) (answers service) _ _ (omega arith) (omega arith) in
+      let a = cost_append (loads f place 0 args) (asks (is_unread f k) service ++ (land f place k to ∷ [])) in let b = takes_loads 0 args in let d = takes_land k to in
+      let c : total_cost (asks (is_unread f k) service ++ (land f place k to ∷ [])) ≤ 6 = if_has (λ xs. total_cost (xs ++ (land f place k to ∷ [])) ≤ 6) (is_unread f k || answers service) _ _ (omega arith) (omega arith) in
       omega (arith, a, b, c)
   op_takes k (Return from) = if_has (λ xs. total_cost (get f place 0 from ∷ xs ++ (Plain (PopMany kept_registers true) ∷ [])) ≤ 8) (nat_lt 127 (own f)) _ _ (omega arith) (omega arith)
-  op_takes k (Const to value) = let x0 = takes_keep to in omega arith
-  op_takes k (Copy to from) = takes_copies (place to) (place from)
-  op_takes k (GlobalGet to slot) = let x0 = takes_keep to in omega arith
+  op_takes k (Const to value) = let x0 = takes_keep k to in omega arith
+  op_takes k (Copy to from) = takes_copies (is_unread f k) (place to) (place from)
+  op_takes k (GlobalGet to slot) = let x0 = takes_keep k to in omega arith
   op_takes k (GlobalSet slot from) = let x0 = takes_bring 0 from in omega arith
-  op_takes k (ItemGet to array index) = let x0 = takes_bring 0 array in let x1 = takes_bring 1 index in let x2 = takes_keep to in omega arith
+  op_takes k (ItemGet to array index) = let x0 = takes_bring 0 array in let x1 = takes_bring 1 index in let x2 = takes_keep k to in omega arith
   op_takes k (ItemSet array index from) = let x0 = takes_bring 0 array in let x1 = takes_bring 1 index in let x2 = takes_bring 3 from in omega arith
-  op_takes k (Length to array) = let x0 = takes_bring 0 array in let x1 = takes_keep to in omega arith
-  op_takes k (Pop to array) = let x0 = takes_bring 0 array in let x1 = takes_keep to in omega arith
-  op_takes k (TextOf to text) = let x0 = takes_keep to in omega arith
-  op_takes k (MakeObject to class) = omega arith
-  op_takes k (MakeArray to room) = omega arith
-  op_takes k (HandlerOf to function) = let x0 = takes_keep to in omega arith
+  op_takes k (Length to array) = let x0 = takes_bring 0 array in let x1 = takes_keep k to in omega arith
+  op_takes k (Pop to array) = let x0 = takes_bring 0 array in let x1 = takes_keep k to in omega arith
+  op_takes k (TextOf to text) = let x0 = takes_keep k to in omega arith
+  op_takes k (MakeObject to class) = let x0 = takes_land k to in omega arith
+  op_takes k (MakeArray to room) = let x0 = takes_land k to in omega arith
+  op_takes k (HandlerOf to function) = let x0 = takes_keep k to in omega arith
   op_takes k (Jump target) = omega arith
   op_takes k (Branch when target) = let x0 = takes_bring 0 when in omega arith
 
@@ -103,16 +108,20 @@ module _ (f : Function) (place : ℕ → Place) where
   fills_bring : (scratch t : ℕ) → most (bring f place scratch t) ≤ 2
   fills_bring scratch t = still_fills f _ (brings_still f scratch (place t))
 
-  fills_keep : (t : ℕ) → most (keep f place t) ≤ 2
-  fills_keep t = still_fills f _ (keeps_still f 0 (place t))
+  fills_keep : (k t : ℕ) → most (keep f place k t) ≤ 2
+  fills_keep k t = still_fills f _ (keeps_still f (is_unread f k) (place t))
+
+  fills_land : (k t : ℕ) → most (land f place k t) ≤ 2
+  fills_land k t = still_fills f _ (lands_still f (is_unread f k) (place t))
 
   fills_step : (rd rs : ℕ) → most (carries f rd rs) ≤ 2
   fills_step rd rs = still_fills f _ (moves_still f rd rs)
 
-  fills_copies : (q p : Place) → total_most (copies f q p) ≤ 4
-  fills_copies (Reg r) p = omega arith
-  fills_copies (Slot j) p = let a = still_fills f _ (brings_still f 0 p) in omega arith
-  fills_copies (Incoming j) p = let a = still_fills f _ (brings_still f 0 p) in omega arith
+  fills_copies : (unread : Bool) (q p : Place) → total_most (copies f unread q p) ≤ 4
+  fills_copies true q p = omega arith
+  fills_copies false (Reg r) p = omega arith
+  fills_copies false (Slot j) p = let a = still_fills f _ (brings_still f 0 p) in omega arith
+  fills_copies false (Incoming j) p = let a = still_fills f _ (brings_still f 0 p) in omega arith
 
   fills_passes : (k : ℕ) (ts : List ℕ) → total_most (passes f place k ts) ≤ 4 * length ts
   fills_passes k [] = omega arith
@@ -124,42 +133,42 @@ module _ (f : Function) (place : ℕ → Place) where
 
   pub op_fills : (k : ℕ) (op : Op) → total_most (op_pieces f place k op) ≤ op_bytes op
   op_fills k (Unary to op from) =
-      let a = fills_bring 0 from in let b = fills_keep to in let rd = its_register f place 0 to in
-      unary_has (λ xs. total_most (bring f place 0 from ∷ xs ++ (keep f place to ∷ [])) ≤ 18) f rd op (3 * k + 1) (λ x. omega arith)
+      let a = fills_bring 0 from in let b = fills_keep k to in let rd = made_in f place k to in
+      unary_has (λ xs. total_most (bring f place 0 from ∷ xs ++ (keep f place k to ∷ [])) ≤ 18) f rd op (3 * k + 1) (λ x. omega arith)
       (λ by x cond. let m = fills_step rd by in omega arith) (its_register f place 0 from)
   op_fills k (Binary to op left right) =
-      let a = fills_bring 0 left in let c = fills_bring 1 right in let b = fills_keep to in
-      let rd = its_register f place 0 to in let l = its_register f place 0 left in let r = its_register f place 1 right in
-      binary_has (λ xs. total_most (bring f place 0 left ∷ bring f place 1 right ∷ xs ++ (keep f place to ∷ [])) ≤ 20) f rd op (3 * k + 1)
+      let a = fills_bring 0 left in let c = fills_bring 1 right in let b = fills_keep k to in
+      let rd = made_in f place k to in let l = its_register f place 0 left in let r = its_register f place 1 right in
+      binary_has (λ xs. total_most (bring f place 0 left ∷ bring f place 1 right ∷ xs ++ (keep f place k to ∷ [])) ≤ 20) f rd op (3 * k + 1)
       (λ x. omega arith) (λ by x cond. let m = fills_step rd by in omega arith) l r
       (λ x. let m = fills_step (beside 2 rd r) l in let n = fills_step rd (beside 2 rd r) in omega arith)
       (λ x. let m = fills_step rd l in omega arith)
       (λ answer. let m = fills_step 0 l in let n = fills_step 1 r in let q = fills_step rd answer in omega arith)
   op_fills k (FieldGet to object field) =
-      let a = fills_bring 0 object in let b = fills_keep to in
-      if_has (λ xs. total_most (bring f place 0 object ∷ tests_null (its_register f place 0 object) (3 * k + 1) ++ (xs ++ (keep f place to ∷ []))) ≤ 28) (nat_lt field 31) _ _ (omega arith) (omega arith)
+      let a = fills_bring 0 object in let b = fills_keep k to in
+      if_has (λ xs. total_most (bring f place 0 object ∷ tests_null (its_register f place 0 object) (3 * k + 1) ++ (xs ++ (keep f place k to ∷ []))) ≤ 28) (nat_lt field 31) _ _ (omega arith) (omega arith)
   op_fills k (FieldSet object field from) =
       let a = fills_bring 0 object in let b = fills_bring 1 from in
       if_has (λ xs. total_most (bring f place 0 object ∷ tests_null (its_register f place 0 object) (3 * k + 1) ++ (bring f place 1 from ∷ xs)) ≤ 28) (nat_lt field 31) _ _ (omega arith) (omega arith)
-  op_fills k (Call to function args) = let a = most_append (passes f place 0 args) (CallTo function ∷ put f place 0 to ∷ []) in let b = fills_passes 0 args in omega (arith, a, b)
-  op_fills k (CallSlot to slot args) = let a = most_append (passes f place 0 args) (calls_slot slot (3 * k + 1) ++ (put f place 0 to ∷ [])) in let b = fills_passes 0 args in omega (arith, a, b)
+  op_fills k (Call to function args) = let a = most_append (passes f place 0 args) (CallTo function ∷ land f place k to ∷ []) in let b = fills_passes 0 args in let d = fills_land k to in omega (arith, a, b, d)
+  op_fills k (CallSlot to slot args) = let a = most_append (passes f place 0 args) (calls_slot slot (3 * k + 1) ++ (land f place k to ∷ [])) in let b = fills_passes 0 args in let d = fills_land k to in omega (arith, a, b, d)
   op_fills k (Ask to service args) =
-      let a = most_append (loads f place 0 args) (asks service ++ (put f place 0 to ∷ [])) in let b = fills_loads 0 args in
-      let c : total_most (asks service ++ (put f place 0 to ∷ [])) ≤ 6 = if_has (λ xs. total_most (xs ++ (put f place 0 to ∷ [])) ≤ 6) (answers service) _ _ (omega arith) (omega arith) in
+      let a = most_append (loads f place 0 args) (asks (is_unread f k) service ++ (land f place k to ∷ [])) in let b = fills_loads 0 args in let d = fills_land k to in
+      let c : total_most (asks (is_unread f k) service ++ (land f place k to ∷ [])) ≤ 6 = if_has (λ xs. total_most (xs ++ (land f place k to ∷ [])) ≤ 6) (is_unread f k || answers service) _ _ (omega arith) (omega arith) in
       omega (arith, a, b, c)
   op_fills k (Return from) = if_has (λ xs. total_most (get f place 0 from ∷ xs ++ (Plain (PopMany kept_registers true) ∷ [])) ≤ 8) (nat_lt 127 (own f)) _ _ (omega arith) (omega arith)
-  op_fills k (Const to value) = let x0 = fills_keep to in omega arith
-  op_fills k (Copy to from) = fills_copies (place to) (place from)
-  op_fills k (GlobalGet to slot) = let x0 = fills_keep to in omega arith
+  op_fills k (Const to value) = let x0 = fills_keep k to in omega arith
+  op_fills k (Copy to from) = fills_copies (is_unread f k) (place to) (place from)
+  op_fills k (GlobalGet to slot) = let x0 = fills_keep k to in omega arith
   op_fills k (GlobalSet slot from) = let x0 = fills_bring 0 from in omega arith
-  op_fills k (ItemGet to array index) = let x0 = fills_bring 0 array in let x1 = fills_bring 1 index in let x2 = fills_keep to in omega arith
+  op_fills k (ItemGet to array index) = let x0 = fills_bring 0 array in let x1 = fills_bring 1 index in let x2 = fills_keep k to in omega arith
   op_fills k (ItemSet array index from) = let x0 = fills_bring 0 array in let x1 = fills_bring 1 index in let x2 = fills_bring 3 from in omega arith
-  op_fills k (Length to array) = let x0 = fills_bring 0 array in let x1 = fills_keep to in omega arith
-  op_fills k (Pop to array) = let x0 = fills_bring 0 array in let x1 = fills_keep to in omega arith
-  op_fills k (TextOf to text) = let x0 = fills_keep to in omega arith
-  op_fills k (MakeObject to class) = omega arith
-  op_fills k (MakeArray to room) = omega arith
-  op_fills k (HandlerOf to function) = let x0 = fills_keep to in omega arith
+  op_fills k (Length to array) = let x0 = fills_bring 0 array in let x1 = fills_keep k to in omega arith
+  op_fills k (Pop to array) = let x0 = fills_bring 0 array in let x1 = fills_keep k to in omega arith
+  op_fills k (TextOf to text) = let x0 = fills_keep k to in omega arith
+  op_fills k (MakeObject to class) = let x0 = fills_land k to in omega arith
+  op_fills k (MakeArray to room) = let x0 = fills_land k to in omega arith
+  op_fills k (HandlerOf to function) = let x0 = fills_keep k to in omega arith
   op_fills k (Jump target) = omega arith
   op_fills k (Branch when target) = let x0 = fills_bring 0 when in omega arith
 
@@ -198,21 +207,23 @@ counted_append (x ∷ xs) ys = ap (λ n. has_bytes x + n) (counted_append xs ys)
 pub entry_some : (f : Function) (place : ℕ → Place) → 0 < counted (entry_pieces f place)
 entry_some f place = omega arith
 
-copies_some : (f : Function) (q p : Place) → 0 < counted (copies f q p)
-copies_some f (Reg r) p = omega arith
-copies_some f (Slot j) p = omega arith
-copies_some f (Incoming j) p = omega arith
+copies_some : (f : Function) (unread : Bool) (q p : Place) → 0 < counted (copies f unread q p)
+copies_some f true q p = omega arith
+copies_some f false (Reg r) p = omega arith
+copies_some f false (Slot j) p = omega arith
+copies_some f false (Incoming j) p = omega arith
 
 pub op_some : (f : Function) (place : ℕ → Place) (k : ℕ) (op : Op) → 0 < counted (op_pieces f place k op)
-op_some f place k (Call to function args) = let a = counted_append (passes f place 0 args) (CallTo function ∷ put f place 0 to ∷ []) in omega (arith, a)
-op_some f place k (CallSlot to slot args) = let a = counted_append (passes f place 0 args) (calls_slot slot (3 * k + 1) ++ (put f place 0 to ∷ [])) in omega (arith, a)
+op_some f place k (Call to function args) = let a = counted_append (passes f place 0 args) (CallTo function ∷ land f place k to ∷ []) in omega (arith, a)
+op_some f place k (CallSlot to slot args) = let a = counted_append (passes f place 0 args) (calls_slot slot (3 * k + 1) ++ (land f place k to ∷ [])) in omega (arith, a)
 op_some f place k (Ask to service args) =
-    let a = counted_append (loads f place 0 args) (asks service ++ (put f place 0 to ∷ [])) in let b = counted_append (asks service) (put f place 0 to ∷ []) in omega (arith, a, b)
-op_some f place k (Copy to from) = copies_some f (place to) (place from)
+    let a = counted_append (loads f place 0 args) (asks (is_unread f k) service ++ (land f place k to ∷ [])) in let b = counted_append (asks (is_unread f k) service) (land f place k to ∷ []) in
+    let c : 0 < counted (asks (is_unread f k) service) = if_has (λ xs. 0 < counted xs) (is_unread f k || answers service) _ _ (omega arith) (omega arith) in omega (arith, a, b, c)
+op_some f place k (Copy to from) = copies_some f (is_unread f k) (place to) (place from)
 op_some f place k (Unary to op from) =
-    unary_has (λ xs. 0 < counted (bring f place 0 from ∷ xs ++ (keep f place to ∷ []))) f (its_register f place 0 to) op (3 * k + 1) (λ x. omega arith)
+    unary_has (λ xs. 0 < counted (bring f place 0 from ∷ xs ++ (keep f place k to ∷ []))) f (made_in f place k to) op (3 * k + 1) (λ x. omega arith)
     (λ by x cond. omega arith) (its_register f place 0 from)
 op_some f place k (Binary to op left right) =
-    binary_has (λ xs. 0 < counted (bring f place 0 left ∷ bring f place 1 right ∷ xs ++ (keep f place to ∷ []))) f (its_register f place 0 to) op (3 * k + 1)
+    binary_has (λ xs. 0 < counted (bring f place 0 left ∷ bring f place 1 right ∷ xs ++ (keep f place k to ∷ []))) f (made_in f place k to) op (3 * k + 1)
     (λ x. omega arith) (λ by x cond. omega arith) (its_register f place 0 left) (its_register f place 1 right) (λ x. omega arith) (λ x. omega arith) (λ answer. omega arith)
 op_some f place k op = omega arith

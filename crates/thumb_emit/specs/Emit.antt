@@ -1,5 +1,5 @@
 -- The pieces of each op, of a function's entry, and of a function. r0 to r3 are free between ops; temporaries stand in their places. An op reads a
--- temporary in its own register, or in a scratch register into which it comes first; so with its result.
+-- temporary in its own register, or in a scratch register into which it comes first; so with its result. A result that nobody reads stays in r0.
 use Rattle.std.specs.Prelude.{ℕ, zero, suc, ◌+◌, ◌*◌, min, List, [], ◌∷◌, ◌++◌, length, Bool, true, ◌==◌, ◌||◌, nat_lt, if◌then◌else◌}
 use Rattle.std.specs.Int.{cast_unsigned, w32}
 use Rattle.thumb_code.specs.declared.instructions.Instr.{Instr}
@@ -15,7 +15,8 @@ use Rattle.register_assign.specs.declared.places.Place.{Place}
 use Rattle.register_assign.specs.declared.places.Place.TheVariants.{Reg, Slot, Incoming}
 use Rattle.register_assign.specs.declared.places.Placed.{Placed}
 use Rattle.register_assign.specs.Sound.{place_of}
-use Rattle.thumb_emit.specs.Frame.{own, words, from_place, to_place, idle_piece, register_of, brings, keeps, copies, carries, raises, lowers, kept_registers}
+use Rattle.register_assign.specs.Unread.{is_unread}
+use Rattle.thumb_emit.specs.Frame.{own, words, from_place, to_place, idle_piece, register_of, brings, result_in, keeps, lands, copies, carries, raises, lowers, kept_registers}
 
 -- conditions of branches (ARM DDI 0419, table A6-1)
 abbrev pub equal : ℕ
@@ -141,12 +142,12 @@ stores_field rs object field =
 abbrev pub finds_global : ℕ → Piece
 finds_global slot = Number 1 (0x20000000 + 4 * slot)
 
--- the services that answer in r0; behind each other one r0 becomes 0
+-- the services that answer in r0; behind each other one r0 becomes 0, unless nobody reads that
 abbrev pub answers : ℕ → Bool
 answers service = service == 7 || service == 8 || service == 9 || service == 16 || service == 17
 
-abbrev pub asks : ℕ → List Piece
-asks service = if answers service then Plain (Svc service) ∷ [] else Plain (Svc service) ∷ Plain (MovImm 0 0) ∷ []
+abbrev pub asks : Bool → ℕ → List Piece
+asks unread service = if unread || answers service then Plain (Svc service) ∷ [] else Plain (Svc service) ∷ Plain (MovImm 0 0) ∷ []
 
 -- Words for an object of a class, whose first word in flash says how many; then the class's address goes into the first of them. RAM
 -- begins with zeros and no word is given out twice, so the fields are 0 already.
@@ -171,22 +172,26 @@ calls_slot slot label = Plain (LdrSp 0 0) ∷ tests_null 0 label ++ (Plain (LdrI
 
 -- a function, and the place of each temporary
 module _ (f : Function) (place : ℕ → Place) where
-  -- a temporary into a low register, and back
+  -- a temporary into a low register
   abbrev pub get : ℕ → ℕ → Piece
   get rd t = from_place f rd (place t)
 
-  abbrev pub put : ℕ → ℕ → Piece
-  put rs t = to_place f rs (place t)
-
-  -- the register of a temporary, the piece that brings it there, and the one that takes a result from there
+  -- the register of a temporary, and the piece that brings it there
   abbrev pub its_register : ℕ → ℕ → ℕ
   its_register scratch t = register_of scratch (place t)
 
   abbrev pub bring : ℕ → ℕ → Piece
   bring scratch t = brings f scratch (place t)
 
-  abbrev pub keep : ℕ → Piece
-  keep t = keeps f 0 (place t)
+  -- the register of op k's result, the piece that takes it from there, and the one that takes it from r0
+  abbrev pub made_in : ℕ → ℕ → ℕ
+  made_in k t = result_in (is_unread f k) (place t)
+
+  abbrev pub keep : ℕ → ℕ → Piece
+  keep k t = keeps f (is_unread f k) (place t)
+
+  abbrev pub land : ℕ → ℕ → Piece
+  land k t = lands f (is_unread f k) (place t)
 
   -- arguments into outgoing words, from word k on; and into registers, from rk on
   abbrev pub passes : ℕ → List ℕ → List Piece
@@ -199,34 +204,34 @@ module _ (f : Function) (place : ℕ → Place) where
 
   -- Op k. The labels 3 k + 1 and 3 k + 2 are its own.
   abbrev pub op_pieces : ℕ → Op → List Piece
-  op_pieces k (Const to value) = Number (its_register 0 to) (cast_unsigned w32 value) ∷ keep to ∷ []
-  op_pieces k (Copy to from) = copies f (place to) (place from)
-  op_pieces k (Unary to op from) = bring 0 from ∷ unary f (its_register 0 to) (its_register 0 from) op (3 * k + 1) ++ (keep to ∷ [])
+  op_pieces k (Const to value) = Number (made_in k to) (cast_unsigned w32 value) ∷ keep k to ∷ []
+  op_pieces k (Copy to from) = copies f (is_unread f k) (place to) (place from)
+  op_pieces k (Unary to op from) = bring 0 from ∷ unary f (made_in k to) (its_register 0 from) op (3 * k + 1) ++ (keep k to ∷ [])
   op_pieces k (Binary to op left right) =
-      bring 0 left ∷ bring 1 right ∷ binary f (its_register 0 to) (its_register 0 left) (its_register 1 right) op (3 * k + 1) ++ (keep to ∷ [])
-  op_pieces k (GlobalGet to slot) = finds_global slot ∷ Plain (LdrImm (its_register 0 to) 1 0) ∷ keep to ∷ []
+      bring 0 left ∷ bring 1 right ∷ binary f (made_in k to) (its_register 0 left) (its_register 1 right) op (3 * k + 1) ++ (keep k to ∷ [])
+  op_pieces k (GlobalGet to slot) = finds_global slot ∷ Plain (LdrImm (made_in k to) 1 0) ∷ keep k to ∷ []
   op_pieces k (GlobalSet slot from) = bring 0 from ∷ finds_global slot ∷ Plain (StrImm (its_register 0 from) 1 0) ∷ []
   op_pieces k (FieldGet to object field) =
-      bring 0 object ∷ tests_null (its_register 0 object) (3 * k + 1) ++ (loads_field (its_register 0 to) (its_register 0 object) field ++ (keep to ∷ []))
+      bring 0 object ∷ tests_null (its_register 0 object) (3 * k + 1) ++ (loads_field (made_in k to) (its_register 0 object) field ++ (keep k to ∷ []))
   op_pieces k (FieldSet object field from) =
       bring 0 object ∷ tests_null (its_register 0 object) (3 * k + 1) ++ (bring 1 from ∷ stores_field (its_register 1 from) (its_register 0 object) field)
   op_pieces k (ItemGet to array index) =
       bring 0 array ∷ bring 1 index ∷ tests_null (its_register 0 array) (3 * k + 1) ++ (tests_index (its_register 0 array) (its_register 1 index) (3 * k + 2)
-      ++ (finds_item (its_register 0 array) (its_register 1 index) ++ (Plain (LdrReg (its_register 0 to) 2 1) ∷ keep to ∷ [])))
+      ++ (finds_item (its_register 0 array) (its_register 1 index) ++ (Plain (LdrReg (made_in k to) 2 1) ∷ keep k to ∷ [])))
   op_pieces k (ItemSet array index from) =
       bring 0 array ∷ bring 1 index ∷ tests_null (its_register 0 array) (3 * k + 1) ++ (tests_index (its_register 0 array) (its_register 1 index) (3 * k + 2)
       ++ (finds_item (its_register 0 array) (its_register 1 index) ++ (bring 3 from ∷ Plain (StrReg (its_register 3 from) 2 1) ∷ [])))
   op_pieces k (Length to array) =
-      bring 0 array ∷ tests_null (its_register 0 array) (3 * k + 1) ++ (Plain (LdrImm (its_register 0 to) (its_register 0 array) 1) ∷ keep to ∷ [])
+      bring 0 array ∷ tests_null (its_register 0 array) (3 * k + 1) ++ (Plain (LdrImm (made_in k to) (its_register 0 array) 1) ∷ keep k to ∷ [])
   op_pieces k (Pop to array) =
-      bring 0 array ∷ tests_null (its_register 0 array) (3 * k + 1) ++ (pops (its_register 0 to) (its_register 0 array) (3 * k + 2) ++ (keep to ∷ []))
-  op_pieces k (TextOf to text) = Address (its_register 0 to) (Text text) ∷ keep to ∷ []
-  op_pieces k (MakeObject to class) = makes_object class ++ (put 0 to ∷ [])
-  op_pieces k (MakeArray to room) = makes_array room ++ (put 0 to ∷ [])
-  op_pieces k (Call to function args) = passes 0 args ++ (CallTo function ∷ put 0 to ∷ [])
-  op_pieces k (CallSlot to slot args) = passes 0 args ++ (calls_slot slot (3 * k + 1) ++ (put 0 to ∷ []))
-  op_pieces k (HandlerOf to function) = Address (its_register 0 to) (FunctionOf function) ∷ keep to ∷ []
-  op_pieces k (Ask to service args) = loads 0 args ++ (asks service ++ (put 0 to ∷ []))
+      bring 0 array ∷ tests_null (its_register 0 array) (3 * k + 1) ++ (pops (made_in k to) (its_register 0 array) (3 * k + 2) ++ (keep k to ∷ []))
+  op_pieces k (TextOf to text) = Address (made_in k to) (Text text) ∷ keep k to ∷ []
+  op_pieces k (MakeObject to class) = makes_object class ++ (land k to ∷ [])
+  op_pieces k (MakeArray to room) = makes_array room ++ (land k to ∷ [])
+  op_pieces k (Call to function args) = passes 0 args ++ (CallTo function ∷ land k to ∷ [])
+  op_pieces k (CallSlot to slot args) = passes 0 args ++ (calls_slot slot (3 * k + 1) ++ (land k to ∷ []))
+  op_pieces k (HandlerOf to function) = Address (made_in k to) (FunctionOf function) ∷ keep k to ∷ []
+  op_pieces k (Ask to service args) = loads 0 args ++ (asks (is_unread f k) service ++ (land k to ∷ []))
   op_pieces k (Jump target) = Go always (3 * target) ∷ []
   op_pieces k (Branch when target) = bring 0 when ∷ Plain (CmpImm (its_register 0 when) 0) ∷ Go unequal (3 * target) ∷ []
   op_pieces k (Return from) = get 0 from ∷ raises (own f) ++ (Plain (PopMany kept_registers true) ∷ [])

@@ -1,5 +1,5 @@
 -- A function's frame, and the registers in which its temporaries are read and written.
-use Rattle.std.specs.Prelude.{ℕ, ◌+◌, ◌-◌, ◌*◌, List, [], ◌∷◌, length, nat_lt, ◌==◌, if◌then◌else◌}
+use Rattle.std.specs.Prelude.{ℕ, Bool, true, false, ◌+◌, ◌-◌, ◌*◌, List, [], ◌∷◌, length, nat_lt, ◌==◌, if◌then◌else◌}
 use Rattle.thumb_code.specs.declared.instructions.Instr.{Instr}
 use Rattle.thumb_code.specs.declared.instructions.Instr.TheVariants.{MovHigh, LdrSp, StrSp, AddSpImm, SubSpImm}
 use Rattle.thumb_layout.specs.declared.pieces.Piece.{Piece}
@@ -43,22 +43,35 @@ register_of scratch (Reg r) = r
 register_of scratch (Slot j) = scratch
 register_of scratch (Incoming j) = scratch
 
--- a temporary comes into that register, and goes from there to its place, unless that is its place
+-- a temporary comes into that register, unless that is its place
 abbrev pub brings : Function → ℕ → Place → Piece
 brings f scratch (Reg r) = idle_piece f
 brings f scratch (Slot j) = from_place f scratch (Slot j)
 brings f scratch (Incoming j) = from_place f scratch (Incoming j)
 
-abbrev pub keeps : Function → ℕ → Place → Piece
-keeps f scratch (Reg r) = idle_piece f
-keeps f scratch (Slot j) = to_place f scratch (Slot j)
-keeps f scratch (Incoming j) = to_place f scratch (Incoming j)
+-- The register in which a result is made: its temporary's, where r0 is the scratch register. One that nobody reads is made in r0, and stays there.
+abbrev pub result_in : Bool → Place → ℕ
+result_in true p = 0
+result_in false p = register_of 0 p
+
+-- the result goes from there to its place, unless that is its place or nobody reads it
+abbrev pub keeps : Function → Bool → Place → Piece
+keeps f true p = idle_piece f
+keeps f false (Reg r) = idle_piece f
+keeps f false (Slot j) = to_place f 0 (Slot j)
+keeps f false (Incoming j) = to_place f 0 (Incoming j)
+
+-- a result that stands in r0 goes to its place, unless nobody reads it
+abbrev pub lands : Function → Bool → Place → Piece
+lands f true p = idle_piece f
+lands f false p = to_place f 0 p
 
 -- a copy from a place to another, the first of which is the target's: straight into its register, or straight from the source's
-abbrev pub copies : Function → Place → Place → List Piece
-copies f (Reg r) from = from_place f r from ∷ idle_piece f ∷ []
-copies f (Slot j) from = brings f 0 from ∷ to_place f (register_of 0 from) (Slot j) ∷ []
-copies f (Incoming j) from = brings f 0 from ∷ to_place f (register_of 0 from) (Incoming j) ∷ []
+abbrev pub copies : Function → Bool → Place → Place → List Piece
+copies f true to from = from_place f 0 from ∷ idle_piece f ∷ []
+copies f false (Reg r) from = from_place f r from ∷ idle_piece f ∷ []
+copies f false (Slot j) from = brings f 0 from ∷ to_place f (register_of 0 from) (Slot j) ∷ []
+copies f false (Incoming j) from = brings f 0 from ∷ to_place f (register_of 0 from) (Incoming j) ∷ []
 
 -- a word from one low register to another, unless it is there
 abbrev pub carries : Function → ℕ → ℕ → Piece

@@ -1,5 +1,5 @@
 -- What emission asks of a function and its places.
-use Rattle.std.specs.Prelude.{ℕ, ◌+◌, ◌*◌, ◌^◌, ◌<◌, length, List, ◌∷◌, ◌++◌, FitsSigned}
+use Rattle.std.specs.Prelude.{◌≡◌, ℕ, ◌+◌, ◌*◌, ◌^◌, ◌<◌, length, List, ◌∷◌, ◌++◌, FitsSigned}
 use Rattle.std.specs.Int.{w32}
 use Rattle.std.specs.List.{AllByRecursion}
 use Rattle.flat_ir.specs.declared.ops.Op.{Op}
@@ -8,21 +8,28 @@ use Rattle.flat_ir.specs.declared.ops.Function.{Function}
 use Rattle.flat_ir.specs.WellFormed.{IsWellFormedFunction, IsOpWithin, temporaries}
 use Rattle.register_assign.specs.declared.places.Placed.{Placed}
 use Rattle.register_assign.specs.Sound.{place_of, ArePlacesSound}
+use Rattle.register_assign.specs.Unread.{is_unread}
+use Rattle.thumb_emit.specs.declared.pieces.At.{At}
 use Rattle.thumb_code.specs.declared.instructions.Instr.TheVariants.{MovHigh, CmpReg}
 use Rattle.thumb_layout.specs.declared.pieces.Piece.{Piece}
 use Rattle.thumb_layout.specs.declared.pieces.Piece.TheVariants.{Plain, Number}
 use Rattle.thumb_emit.specs.Frame.{words}
-use Rattle.thumb_emit.specs.Emit.{get, put, its_register, bring, keep, op_pieces, ops_pieces, entry_pieces, unless, at_least_unsigned, tests_null, tests_index, finds_item}
+use Rattle.thumb_emit.specs.Emit.{get, its_register, bring, made_in, keep, land, op_pieces, ops_pieces, entry_pieces, unless, at_least_unsigned, tests_null, tests_index, finds_item}
 
 -- the function is well formed, and its places are sound
 pub record IsReady (p : Placed) : Type 0 where
   pub formed : IsWellFormedFunction p.function
   pub sound : ArePlacesSound p.function p.places
 
--- op k is one of the function's, and every label has 32 bits
-pub record IsReadyAt (p : Placed) (k : ℕ) (op : Op) : Type 0 where
+-- an op's number is told with whether nobody reads its result
+abbrev pub IsOpTold : Placed → At → Type 0
+IsOpTold p at = at.unread ≡ is_unread p.function at.k
+
+-- the op is one of the function's, and every label has 32 bits
+pub record IsReadyAt (p : Placed) (at : At) (op : Op) : Type 0 where
   pub ready : IsReady p
-  pub there : k < length p.function.ops
+  pub told : IsOpTold p at
+  pub there : at.k < length p.function.ops
   pub within : IsOpWithin (temporaries p.function) (length p.function.ops) p.function.outgoing op
   pub labels : 3 * length p.function.ops + 1 < 2 ^ 32
 
@@ -49,17 +56,20 @@ HasNumbers f = AllByRecursion HasNumber f.ops
 abbrev pub gets : Placed → ℕ → ℕ → Piece
 gets p = get p.function (place_of p.places)
 
-abbrev pub puts : Placed → ℕ → ℕ → Piece
-puts p = put p.function (place_of p.places)
-
 abbrev pub register : Placed → ℕ → ℕ → ℕ
 register p = its_register p.function (place_of p.places)
 
 abbrev pub brought : Placed → ℕ → ℕ → Piece
 brought p = bring p.function (place_of p.places)
 
-abbrev pub kept : Placed → ℕ → Piece
+abbrev pub result_register : Placed → ℕ → ℕ → ℕ
+result_register p = made_in p.function (place_of p.places)
+
+abbrev pub kept : Placed → ℕ → ℕ → Piece
 kept p = keep p.function (place_of p.places)
+
+abbrev pub landed : Placed → ℕ → ℕ → Piece
+landed p = land p.function (place_of p.places)
 
 abbrev pub pieces_of : Placed → ℕ → Op → List Piece
 pieces_of p = op_pieces p.function (place_of p.places)

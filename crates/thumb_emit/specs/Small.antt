@@ -6,7 +6,7 @@ use Rattle.flat_ir.specs.declared.ops.Function.{Function}
 use Rattle.register_assign.specs.declared.places.Place.{Place}
 use Rattle.register_assign.specs.declared.places.Place.TheVariants.{Reg, Slot, Incoming}
 
--- one less than the first parameter; whether that is less than the second; a call with both; a field
+-- one less than the first parameter; whether that is less than the second; a call with both; a field, whose value nobody reads
 abbrev pub small_ops : List Op
 small_ops = Unary 3 6 0 ∷ Binary 2 6 3 1 ∷ Call 4 9 (3 ∷ 2 ∷ []) ∷ FieldGet 3 4 2 ∷ Return 4 ∷ []
 

@@ -5,10 +5,10 @@ ghost use Rattle.flat_ir.specs.declared.ops.Op.TheVariants as o;
 ghost use Rattle.flat_ir.specs.WellFormed.{temporaries};
 ghost use Rattle.register_assign.specs.Sound.{place_of};
 ghost use Rattle.thumb_emit.specs.Emit.{passes, loads, answers, asks, calls_slot};
-ghost use Rattle.thumb_emit.specs.Ready.{IsReady, pieces_of};
+ghost use Rattle.thumb_emit.specs.Ready.{IsReady, IsOpTold, pieces_of};
 
-use crate::frame::{bring, get, keep, own, put, raise, register};
-use crate::pieces::{ALWAYS, NE, add, load, test_null};
+use crate::frame::{bring, get, keep, land, made_in, own, raise, register};
+use crate::pieces::{ALWAYS, At, NE, add, load, test_null};
 use register_assign::Placed;
 use sts_base::{NoMemory, Seq};
 use thumb_code::Instr;
@@ -51,19 +51,21 @@ fn load_arguments(out: &mut Seq<Piece>, placed: &Placed, args: &[u32]) -> Result
 pub(crate) fn call(
     out: &mut Seq<Piece>,
     placed: &Placed,
+    at: At,
     to: u32,
     function: u32,
     args: &Seq<u32>,
 ) -> Result<(), NoMemory>
     requires ready { IsReady placed.now }
+    requires told { IsOpTold placed.now at }
     requires to { to < temporaries placed.now.function }
     requires known { AllByRecursion (λ t. t < temporaries placed.now.function) args.now }
     requires few { length args.now ≤ placed.now.function.outgoing }
     requires labels { 3 * length placed.now.function.ops + 1 < 2 ^ 32 }
-    ensures { OnOk result (out.new ≡ out.old ++ pieces_of placed.now 0 (o.Call to function args.now)) }
+    ensures { OnOk result (out.new ≡ out.old ++ pieces_of placed.now at.k (o.Call to function args.now)) }
 {
     pass(out, placed, args.as_slice())?;
-    add(out, &[Piece::CallTo { function }, put(placed, 0, to)])
+    add(out, &[Piece::CallTo { function }, land(placed, at, to)])
 }
 
 /// Calls the method in a slot of the class of the object in the first outgoing word.
@@ -88,40 +90,43 @@ fn call_method(out: &mut Seq<Piece>, slot: u32, label: u32) -> Result<(), NoMemo
 pub(crate) fn call_slot(
     out: &mut Seq<Piece>,
     placed: &Placed,
-    k: u32,
+    at: At,
     to: u32,
     slot: u32,
     args: &Seq<u32>,
 ) -> Result<(), NoMemory>
     requires ready { IsReady placed.now }
+    requires told { IsOpTold placed.now at }
     requires to { to < temporaries placed.now.function }
     requires slot { slot < 30 }
     requires known { AllByRecursion (λ t. t < temporaries placed.now.function) args.now }
     requires few { length args.now ≤ placed.now.function.outgoing }
-    requires label { 3 * k + 1 < 2 ^ 32 }
+    requires label { 3 * at.k + 1 < 2 ^ 32 }
     requires labels { 3 * length placed.now.function.ops + 1 < 2 ^ 32 }
-    ensures { OnOk result (out.new ≡ out.old ++ pieces_of placed.now k (o.CallSlot to slot args.now)) }
+    ensures { OnOk result (out.new ≡ out.old ++ pieces_of placed.now at.k (o.CallSlot to slot args.now)) }
 {
     pass(out, placed, args.as_slice())?;
-    call_method(out, slot, 3 * k + 1)?;
-    out.push(put(placed, 0, to))
+    call_method(out, slot, 3 * at.k + 1)?;
+    out.push(land(placed, at, to))
 }
 
 /// A function as a value.
 pub(crate) fn handler(
     out: &mut Seq<Piece>,
     placed: &Placed,
+    at: At,
     to: u32,
     function: u32,
 ) -> Result<(), NoMemory>
     requires ready { IsReady placed.now }
+    requires told { IsOpTold placed.now at }
     requires to { to < temporaries placed.now.function }
     requires labels { 3 * length placed.now.function.ops + 1 < 2 ^ 32 }
-    ensures { OnOk result (out.new ≡ out.old ++ pieces_of placed.now 0 (o.HandlerOf to function)) }
+    ensures { OnOk result (out.new ≡ out.old ++ pieces_of placed.now at.k (o.HandlerOf to function)) }
 {
     let what = What::Function(function);
-    let rd = register(placed, 0, to);
-    add(out, &[Piece::Address { rd, what }, keep(placed, to)])
+    let rd = made_in(placed, at, to);
+    add(out, &[Piece::Address { rd, what }, keep(placed, at, to)])
 }
 
 /// The services that answer in r0.
@@ -135,27 +140,30 @@ fn answers(service: u8) -> bool
 pub(crate) fn ask(
     out: &mut Seq<Piece>,
     placed: &Placed,
+    at: At,
     to: u32,
     service: u8,
     args: &Seq<u32>,
 ) -> Result<(), NoMemory>
     requires ready { IsReady placed.now }
+    requires told { IsOpTold placed.now at }
     requires to { to < temporaries placed.now.function }
     requires known { AllByRecursion (λ t. t < temporaries placed.now.function) args.now }
     requires few { length args.now ≤ 4 }
-    ensures { OnOk result (out.new ≡ out.old ++ pieces_of placed.now 0 (o.Ask to service args.now)) }
+    requires labels { 3 * length placed.now.function.ops + 1 < 2 ^ 32 }
+    ensures { OnOk result (out.new ≡ out.old ++ pieces_of placed.now at.k (o.Ask to service args.now)) }
 {
     load_arguments(out, placed, args.as_slice())?;
-    put_service(out, service)?;
-    out.push(put(placed, 0, to))
+    put_service(out, at.unread, service)?;
+    out.push(land(placed, at, to))
 }
 
-/// A service; behind one that doesn't answer r0 becomes 0.
-fn put_service(out: &mut Seq<Piece>, service: u8) -> Result<(), NoMemory>
-    ensures { OnOk result (out.new ≡ out.old ++ asks service) }
+/// A service; behind one that doesn't answer r0 becomes 0, unless nobody reads that.
+fn put_service(out: &mut Seq<Piece>, unread: bool, service: u8) -> Result<(), NoMemory>
+    ensures { OnOk result (out.new ≡ out.old ++ asks unread service) }
 {
     let asked = Piece::Plain(Instr::Svc { imm: service });
-    if answers(service) {
+    if unread || answers(service) {
         return out.push(asked);
     }
     add(out, &[asked, Piece::Plain(Instr::MovImm { rd: 0, imm: 0 })])

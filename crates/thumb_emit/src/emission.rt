@@ -9,12 +9,13 @@ ghost use Rattle.thumb_emit.specs.Ready.{IsReadyAt, IsGoing, pieces_of};
 use crate::calls::{ask, branch, call, call_slot, give, handler, jump};
 use crate::entry::enter;
 use crate::numbers::{binary, constant, copy, unary};
+use crate::pieces::At;
 use crate::things::{
     get_field, get_global, get_item, length, make_array, make_object, pop, set_field, set_global,
     set_item, text,
 };
 use flat_ir::Op;
-use register_assign::Placed;
+use register_assign::{Placed, unread_results};
 use std::alloc::Global;
 use sts_base::{NoMemory, Seq};
 use thumb_layout::Piece;
@@ -23,16 +24,16 @@ use thumb_layout::Piece;
 const MOST_OPS: usize = 1_431_655_764;
 
 /// Op k, which calls, asks, makes a value of a function, or goes elsewhere.
-fn put_going(out: &mut Seq<Piece>, placed: &Placed, k: u32, op: &Op) -> Result<(), NoMemory>
-    requires ready { IsReadyAt placed.now k op.now }
+fn put_going(out: &mut Seq<Piece>, placed: &Placed, at: At, op: &Op) -> Result<(), NoMemory>
+    requires ready { IsReadyAt placed.now at op.now }
     requires going { IsGoing op.now }
-    ensures { OnOk result (out.new ≡ out.old ++ pieces_of placed.now k op.now) }
+    ensures { OnOk result (out.new ≡ out.old ++ pieces_of placed.now at.k op.now) }
 {
     match op {
-        Op::Call { to, function, args } => call(out, placed, *to, *function, args),
-        Op::CallSlot { to, slot, args } => call_slot(out, placed, k, *to, *slot, args),
-        Op::HandlerOf { to, function } => handler(out, placed, *to, *function),
-        Op::Ask { to, service, args } => ask(out, placed, *to, *service, args),
+        Op::Call { to, function, args } => call(out, placed, at, *to, *function, args),
+        Op::CallSlot { to, slot, args } => call_slot(out, placed, at, *to, *slot, args),
+        Op::HandlerOf { to, function } => handler(out, placed, at, *to, *function),
+        Op::Ask { to, service, args } => ask(out, placed, at, *to, *service, args),
         Op::Jump { target } => jump(out, placed, *target),
         Op::Branch { when, target } => branch(out, placed, *when, *target),
         Op::Return { from } => give(out, placed, *from),
@@ -41,36 +42,36 @@ fn put_going(out: &mut Seq<Piece>, placed: &Placed, k: u32, op: &Op) -> Result<(
 }
 
 /// Op k.
-fn put_op(out: &mut Seq<Piece>, placed: &Placed, k: u32, op: &Op) -> Result<(), NoMemory>
-    requires { IsReadyAt placed.now k op.now }
-    ensures { OnOk result (out.new ≡ out.old ++ pieces_of placed.now k op.now) }
+fn put_op(out: &mut Seq<Piece>, placed: &Placed, at: At, op: &Op) -> Result<(), NoMemory>
+    requires { IsReadyAt placed.now at op.now }
+    ensures { OnOk result (out.new ≡ out.old ++ pieces_of placed.now at.k op.now) }
 {
     match op {
-        Op::Const { to, value } => constant(out, placed, *to, *value),
-        Op::Copy { to, from } => copy(out, placed, *to, *from),
-        Op::Unary { to, op, from } => unary(out, placed, k, *to, *op, *from),
+        Op::Const { to, value } => constant(out, placed, at, *to, *value),
+        Op::Copy { to, from } => copy(out, placed, at, *to, *from),
+        Op::Unary { to, op, from } => unary(out, placed, at, *to, *op, *from),
         Op::Binary {
             to,
             op,
             left,
             right,
-        } => binary(out, placed, k, *to, *op, *left, *right),
-        Op::GlobalGet { to, slot } => get_global(out, placed, *to, *slot),
+        } => binary(out, placed, at, *to, *op, *left, *right),
+        Op::GlobalGet { to, slot } => get_global(out, placed, at, *to, *slot),
         Op::GlobalSet { slot, from } => set_global(out, placed, *slot, *from),
-        Op::FieldGet { to, object, field } => get_field(out, placed, k, *to, *object, *field),
+        Op::FieldGet { to, object, field } => get_field(out, placed, at, *to, *object, *field),
         Op::FieldSet {
             object,
             field,
             from,
-        } => set_field(out, placed, k, *object, *field, *from),
-        Op::ItemGet { to, array, index } => get_item(out, placed, k, *to, *array, *index),
-        Op::ItemSet { array, index, from } => set_item(out, placed, k, *array, *index, *from),
-        Op::Length { to, array } => length(out, placed, k, *to, *array),
-        Op::Pop { to, array } => pop(out, placed, k, *to, *array),
-        Op::TextOf { to, text: number } => text(out, placed, *to, *number),
-        Op::MakeObject { to, class } => make_object(out, placed, *to, *class),
-        Op::MakeArray { to, room } => make_array(out, placed, *to, *room),
-        _ => put_going(out, placed, k, op),
+        } => set_field(out, placed, at, *object, *field, *from),
+        Op::ItemGet { to, array, index } => get_item(out, placed, at, *to, *array, *index),
+        Op::ItemSet { array, index, from } => set_item(out, placed, at, *array, *index, *from),
+        Op::Length { to, array } => length(out, placed, at, *to, *array),
+        Op::Pop { to, array } => pop(out, placed, at, *to, *array),
+        Op::TextOf { to, text: number } => text(out, placed, at, *to, *number),
+        Op::MakeObject { to, class } => make_object(out, placed, at, *to, *class),
+        Op::MakeArray { to, room } => make_array(out, placed, at, *to, *room),
+        _ => put_going(out, placed, at, op),
     }
 }
 
@@ -88,12 +89,14 @@ pub fn emit(alloc: Global, placed: &Placed) -> Result<Seq<Piece>, NoMemory>
     if ops.len() > MOST_OPS {
         return Err(NoMemory);
     }
+    let unread = unread_results(alloc, &placed.function)?;
     let mut out = Seq::new(alloc);
     enter(&mut out, placed)?;
     for (at, op) in ops.iter().enumerate() {
         let k = at as u32;
         out.push(Piece::Label(3 * k))?;
-        put_op(&mut out, placed, k, op)?;
+        let unread = unread[at];
+        put_op(&mut out, placed, At { k, unread }, op)?;
     }
     Ok(out)
 }

@@ -2,10 +2,10 @@
 ghost use Rattle.std.specs.Prelude.{◌≡◌, ◌+◌, ◌*◌, ◌^◌, ◌<◌, ◌≤◌, ◌++◌, length, OnOk};
 ghost use Rattle.flat_ir.specs.WellFormed.{temporaries};
 ghost use Rattle.register_assign.specs.Sound.{IsWithin, place_of};
-ghost use Rattle.thumb_emit.specs.Frame.{own, words, from_place, to_place, idle_piece, register_of, brings, keeps, carries, raises, lowers};
-ghost use Rattle.thumb_emit.specs.Ready.{IsReady, gets, puts, register, brought, kept};
+ghost use Rattle.thumb_emit.specs.Frame.{own, words, from_place, to_place, idle_piece, register_of, brings, result_in, keeps, lands, carries, raises, lowers};
+ghost use Rattle.thumb_emit.specs.Ready.{IsReady, IsOpTold, gets, register, brought, result_register, kept, landed};
 
-use crate::pieces::add;
+use crate::pieces::{At, add};
 use register_assign::{Place, Placed};
 use sts_base::{NoMemory, Seq};
 use thumb_code::Instr;
@@ -87,15 +87,6 @@ pub(crate) fn get(placed: &Placed, rd: u8, t: u32) -> Piece
     from_place(placed, rd, place_of(placed, t))
 }
 
-/// A low register into a temporary.
-pub(crate) fn put(placed: &Placed, rs: u8, t: u32) -> Piece
-    requires ready { IsReady placed.now }
-    requires known { t < temporaries placed.now.function }
-    ensures { result ≡ puts placed.now rs t }
-{
-    to_place(placed, rs, place_of(placed, t))
-}
-
 /// A piece that takes nothing: a label to which nobody goes.
 pub(crate) fn idle_piece(placed: &Placed) -> Piece
     requires { 3 * length placed.now.function.ops + 1 < 2 ^ 32 }
@@ -129,17 +120,48 @@ pub(crate) fn bring(placed: &Placed, scratch: u8, t: u32) -> Piece
     }
 }
 
-/// A result goes from that register, for which r0 is the scratch register, to its place.
-pub(crate) fn keep(placed: &Placed, t: u32) -> Piece
+/// The register in which an op's result is made: its temporary's, where r0 is the scratch register, or r0, where nobody reads it.
+pub(crate) fn made_in(placed: &Placed, at: At, t: u32) -> u8
     requires ready { IsReady placed.now }
+    requires told { IsOpTold placed.now at }
+    requires known { t < temporaries placed.now.function }
+    ensures { result ≡ result_register placed.now at.k t }
+{
+    if at.unread {
+        return 0;
+    }
+    register(placed, 0, t)
+}
+
+/// A result goes from there to its place, unless nobody reads it.
+pub(crate) fn keep(placed: &Placed, at: At, t: u32) -> Piece
+    requires ready { IsReady placed.now }
+    requires told { IsOpTold placed.now at }
     requires known { t < temporaries placed.now.function }
     requires labels { 3 * length placed.now.function.ops + 1 < 2 ^ 32 }
-    ensures { result ≡ kept placed.now t }
+    ensures { result ≡ kept placed.now at.k t }
 {
+    if at.unread {
+        return idle_piece(placed);
+    }
     match place_of(placed, t) {
         Place::Reg(_) => idle_piece(placed),
         place => to_place(placed, 0, place),
     }
+}
+
+/// A result goes from r0 to its place, unless nobody reads it.
+pub(crate) fn land(placed: &Placed, at: At, t: u32) -> Piece
+    requires ready { IsReady placed.now }
+    requires told { IsOpTold placed.now at }
+    requires known { t < temporaries placed.now.function }
+    requires labels { 3 * length placed.now.function.ops + 1 < 2 ^ 32 }
+    ensures { result ≡ landed placed.now at.k t }
+{
+    if at.unread {
+        return idle_piece(placed);
+    }
+    to_place(placed, 0, place_of(placed, t))
 }
 
 /// A word from one low register to another, unless it is there.

@@ -5,10 +5,10 @@ ghost use Rattle.thumb_code.specs.declared.instructions.Instr.TheVariants as i;
 ghost use Rattle.flat_ir.specs.declared.ops.Op.TheVariants as o;
 ghost use Rattle.flat_ir.specs.WellFormed.{temporaries};
 ghost use Rattle.thumb_emit.specs.Emit.{decides, beside, compares, combines, shifts, divides, unary, binary};
-ghost use Rattle.thumb_emit.specs.Ready.{IsReady, pieces_of};
+ghost use Rattle.thumb_emit.specs.Ready.{IsReady, IsOpTold, pieces_of};
 
-use crate::frame::{bring, get, idle_piece, keep, moved, place_of, register, to_place};
-use crate::pieces::{EQ, GE, GT, LE, LT, NE, add};
+use crate::frame::{bring, get, idle_piece, keep, made_in, moved, place_of, register, to_place};
+use crate::pieces::{At, EQ, GE, GT, LE, LT, NE, add};
 use register_assign::{Place, Placed};
 use sts_base::{NoMemory, Seq};
 use sts_syntax::operators::{
@@ -28,32 +28,39 @@ const DIVISION: u32 = 4_294_967_295;
 pub(crate) fn constant(
     out: &mut Seq<Piece>,
     placed: &Placed,
+    at: At,
     to: u32,
     value: i32,
 ) -> Result<(), NoMemory>
     requires ready { IsReady placed.now }
+    requires told { IsOpTold placed.now at }
     requires to { to < temporaries placed.now.function }
     requires labels { 3 * length placed.now.function.ops + 1 < 2 ^ 32 }
-    ensures { OnOk result (out.new ≡ out.old ++ pieces_of placed.now 0 (o.Const to value)) }
+    ensures { OnOk result (out.new ≡ out.old ++ pieces_of placed.now at.k (o.Const to value)) }
 {
     let value = value.cast_unsigned();
-    let rd = register(placed, 0, to);
-    add(out, &[Piece::Number { rd, value }, keep(placed, to)])
+    let rd = made_in(placed, at, to);
+    add(out, &[Piece::Number { rd, value }, keep(placed, at, to)])
 }
 
 /// A further copy.
 pub(crate) fn copy(
     out: &mut Seq<Piece>,
     placed: &Placed,
+    at: At,
     to: u32,
     from: u32,
 ) -> Result<(), NoMemory>
     requires ready { IsReady placed.now }
+    requires told { IsOpTold placed.now at }
     requires to { to < temporaries placed.now.function }
     requires from { from < temporaries placed.now.function }
     requires labels { 3 * length placed.now.function.ops + 1 < 2 ^ 32 }
-    ensures { OnOk result (out.new ≡ out.old ++ pieces_of placed.now 0 (o.Copy to from)) }
+    ensures { OnOk result (out.new ≡ out.old ++ pieces_of placed.now at.k (o.Copy to from)) }
 {
+    if at.unread {
+        return add(out, &[get(placed, 0, from), idle_piece(placed)]);
+    }
     match place_of(placed, to) {
         Place::Reg(r) => add(out, &[get(placed, r, from), idle_piece(placed)]),
         place => {
@@ -265,49 +272,51 @@ fn put_operator(
 pub(crate) fn unary(
     out: &mut Seq<Piece>,
     placed: &Placed,
-    k: u32,
+    at: At,
     to: u32,
     op: u8,
     from: u32,
 ) -> Result<(), NoMemory>
     requires ready { IsReady placed.now }
+    requires told { IsOpTold placed.now at }
     requires to { to < temporaries placed.now.function }
     requires from { from < temporaries placed.now.function }
-    requires label { 3 * k + 1 < 2 ^ 32 }
+    requires label { 3 * at.k + 1 < 2 ^ 32 }
     requires labels { 3 * length placed.now.function.ops + 1 < 2 ^ 32 }
-    ensures { OnOk result (out.new ≡ out.old ++ pieces_of placed.now k (o.Unary to op from)) }
+    ensures { OnOk result (out.new ≡ out.old ++ pieces_of placed.now at.k (o.Unary to op from)) }
 {
     out.push(bring(placed, 0, from))?;
-    let rd = register(placed, 0, to);
-    put_prefix(out, placed, rd, register(placed, 0, from), op, 3 * k + 1)?;
-    out.push(keep(placed, to))
+    let rd = made_in(placed, at, to);
+    put_prefix(out, placed, rd, register(placed, 0, from), op, 3 * at.k + 1)?;
+    out.push(keep(placed, at, to))
 }
 
 /// An operator between two operands.
 pub(crate) fn binary(
     out: &mut Seq<Piece>,
     placed: &Placed,
-    k: u32,
+    at: At,
     to: u32,
     op: u8,
     left: u32,
     right: u32,
 ) -> Result<(), NoMemory>
     requires ready { IsReady placed.now }
+    requires told { IsOpTold placed.now at }
     requires to { to < temporaries placed.now.function }
     requires left { left < temporaries placed.now.function }
     requires right { right < temporaries placed.now.function }
-    requires label { 3 * k + 1 < 2 ^ 32 }
+    requires label { 3 * at.k + 1 < 2 ^ 32 }
     requires labels { 3 * length placed.now.function.ops + 1 < 2 ^ 32 }
-    ensures { OnOk result (out.new ≡ out.old ++ pieces_of placed.now k (o.Binary to op left right)) }
+    ensures { OnOk result (out.new ≡ out.old ++ pieces_of placed.now at.k (o.Binary to op left right)) }
 {
     out.push(bring(placed, 0, left))?;
     out.push(bring(placed, 1, right))?;
     let registers = Three {
-        rd: register(placed, 0, to),
+        rd: made_in(placed, at, to),
         left: register(placed, 0, left),
         right: register(placed, 1, right),
     };
-    put_operator(out, placed, registers, op, 3 * k + 1)?;
-    out.push(keep(placed, to))
+    put_operator(out, placed, registers, op, 3 * at.k + 1)?;
+    out.push(keep(placed, at, to))
 }

@@ -27,6 +27,13 @@ pub(crate) const LE: u8 = 13;
 
 pub(crate) const ALWAYS: u8 = 14;
 
+/// An op's number, and whether nobody reads its result.
+#[derive(Clone, Copy, Drop)]
+pub struct At {
+    pub k: u32,
+    pub unread: bool,
+}
+
 /// Puts pieces behind others.
 pub(crate) fn add(out: &mut Seq<Piece>, pieces: &[Piece]) -> Result<(), NoMemory>
     ensures { OnOk result (out.new ≡ out.old ++ pieces.now) }

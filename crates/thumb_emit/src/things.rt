@@ -5,10 +5,10 @@ ghost use Rattle.thumb_code.specs.declared.instructions.Instr.TheVariants as i;
 ghost use Rattle.flat_ir.specs.declared.ops.Op.TheVariants as o;
 ghost use Rattle.flat_ir.specs.WellFormed.{temporaries};
 ghost use Rattle.thumb_emit.specs.Emit.{tests_null, tests_index, finds_item, loads_field, stores_field, field_offset, finds_global, pops};
-ghost use Rattle.thumb_emit.specs.Ready.{IsReady, pieces_of, reaches_item};
+ghost use Rattle.thumb_emit.specs.Ready.{IsReady, IsOpTold, pieces_of, reaches_item};
 
-use crate::frame::{bring, keep, put, register};
-use crate::pieces::{NE, add, load, store, test_index, test_null, unless};
+use crate::frame::{bring, keep, land, made_in, register};
+use crate::pieces::{At, NE, add, load, store, test_index, test_null, unless};
 use register_assign::Placed;
 use sts_base::{NoMemory, Seq};
 use thumb_code::Instr;
@@ -44,17 +44,22 @@ fn find_global(slot: u32) -> Piece
 pub(crate) fn get_global(
     out: &mut Seq<Piece>,
     placed: &Placed,
+    at: At,
     to: u32,
     slot: u32,
 ) -> Result<(), NoMemory>
     requires ready { IsReady placed.now }
+    requires told { IsOpTold placed.now at }
     requires to { to < temporaries placed.now.function }
     requires slot { slot < 256 }
     requires labels { 3 * length placed.now.function.ops + 1 < 2 ^ 32 }
-    ensures { OnOk result (out.new ≡ out.old ++ pieces_of placed.now 0 (o.GlobalGet to slot)) }
+    ensures { OnOk result (out.new ≡ out.old ++ pieces_of placed.now at.k (o.GlobalGet to slot)) }
 {
-    let rd = register(placed, 0, to);
-    add(out, &[find_global(slot), load(rd, 1, 0), keep(placed, to)])
+    let rd = made_in(placed, at, to);
+    add(
+        out,
+        &[find_global(slot), load(rd, 1, 0), keep(placed, at, to)],
+    )
 }
 
 /// Writes a global.
@@ -116,30 +121,31 @@ fn store_field(out: &mut Seq<Piece>, rs: u8, object: u8, field: u32) -> Result<(
 pub(crate) fn get_field(
     out: &mut Seq<Piece>,
     placed: &Placed,
-    k: u32,
+    at: At,
     to: u32,
     object: u32,
     field: u32,
 ) -> Result<(), NoMemory>
     requires ready { IsReady placed.now }
+    requires told { IsOpTold placed.now at }
     requires to { to < temporaries placed.now.function }
     requires object { object < temporaries placed.now.function }
-    requires label { 3 * k + 1 < 2 ^ 32 }
+    requires label { 3 * at.k + 1 < 2 ^ 32 }
     requires labels { 3 * length placed.now.function.ops + 1 < 2 ^ 32 }
-    ensures { OnOk result (out.new ≡ out.old ++ pieces_of placed.now k (o.FieldGet to object field)) }
+    ensures { OnOk result (out.new ≡ out.old ++ pieces_of placed.now at.k (o.FieldGet to object field)) }
 {
     out.push(bring(placed, 0, object))?;
     let rn = register(placed, 0, object);
-    test_null(out, rn, 3 * k + 1)?;
-    load_field(out, register(placed, 0, to), rn, field)?;
-    out.push(keep(placed, to))
+    test_null(out, rn, 3 * at.k + 1)?;
+    load_field(out, made_in(placed, at, to), rn, field)?;
+    out.push(keep(placed, at, to))
 }
 
 /// Writes a field.
 pub(crate) fn set_field(
     out: &mut Seq<Piece>,
     placed: &Placed,
-    k: u32,
+    at: At,
     object: u32,
     field: u32,
     from: u32,
@@ -147,13 +153,13 @@ pub(crate) fn set_field(
     requires ready { IsReady placed.now }
     requires object { object < temporaries placed.now.function }
     requires from { from < temporaries placed.now.function }
-    requires label { 3 * k + 1 < 2 ^ 32 }
+    requires label { 3 * at.k + 1 < 2 ^ 32 }
     requires labels { 3 * length placed.now.function.ops + 1 < 2 ^ 32 }
-    ensures { OnOk result (out.new ≡ out.old ++ pieces_of placed.now k (o.FieldSet object field from)) }
+    ensures { OnOk result (out.new ≡ out.old ++ pieces_of placed.now at.k (o.FieldSet object field from)) }
 {
     out.push(bring(placed, 0, object))?;
     let rn = register(placed, 0, object);
-    test_null(out, rn, 3 * k + 1)?;
+    test_null(out, rn, 3 * at.k + 1)?;
     out.push(bring(placed, 1, from))?;
     store_field(out, register(placed, 1, from), rn, field)
 }
@@ -195,49 +201,56 @@ fn test_item(
 fn reach_item(
     out: &mut Seq<Piece>,
     placed: &Placed,
-    k: u32,
+    at: At,
     array: u32,
     index: u32,
 ) -> Result<(), NoMemory>
     requires ready { IsReady placed.now }
     requires array { array < temporaries placed.now.function }
     requires index { index < temporaries placed.now.function }
-    requires label { 3 * k + 2 < 2 ^ 32 }
+    requires label { 3 * at.k + 2 < 2 ^ 32 }
     requires labels { 3 * length placed.now.function.ops + 1 < 2 ^ 32 }
-    ensures { OnOk result (out.new ≡ out.old ++ reaches_item placed.now k array index) }
+    ensures { OnOk result (out.new ≡ out.old ++ reaches_item placed.now at.k array index) }
 {
     add(out, &[bring(placed, 0, array), bring(placed, 1, index)])?;
     let rn = register(placed, 0, array);
-    test_item(out, rn, register(placed, 1, index), 3 * k + 1, 3 * k + 2)
+    test_item(
+        out,
+        rn,
+        register(placed, 1, index),
+        3 * at.k + 1,
+        3 * at.k + 2,
+    )
 }
 
 /// Reads an item.
 pub(crate) fn get_item(
     out: &mut Seq<Piece>,
     placed: &Placed,
-    k: u32,
+    at: At,
     to: u32,
     array: u32,
     index: u32,
 ) -> Result<(), NoMemory>
     requires ready { IsReady placed.now }
+    requires told { IsOpTold placed.now at }
     requires to { to < temporaries placed.now.function }
     requires array { array < temporaries placed.now.function }
     requires index { index < temporaries placed.now.function }
-    requires label { 3 * k + 2 < 2 ^ 32 }
+    requires label { 3 * at.k + 2 < 2 ^ 32 }
     requires labels { 3 * length placed.now.function.ops + 1 < 2 ^ 32 }
-    ensures { OnOk result (out.new ≡ out.old ++ pieces_of placed.now k (o.ItemGet to array index)) }
+    ensures { OnOk result (out.new ≡ out.old ++ pieces_of placed.now at.k (o.ItemGet to array index)) }
 {
-    reach_item(out, placed, k, array, index)?;
-    let rd = register(placed, 0, to);
-    add(out, &[load_at(rd, 2, 1), keep(placed, to)])
+    reach_item(out, placed, at, array, index)?;
+    let rd = made_in(placed, at, to);
+    add(out, &[load_at(rd, 2, 1), keep(placed, at, to)])
 }
 
 /// Writes an item.
 pub(crate) fn set_item(
     out: &mut Seq<Piece>,
     placed: &Placed,
-    k: u32,
+    at: At,
     array: u32,
     index: u32,
     from: u32,
@@ -246,11 +259,11 @@ pub(crate) fn set_item(
     requires array { array < temporaries placed.now.function }
     requires index { index < temporaries placed.now.function }
     requires from { from < temporaries placed.now.function }
-    requires label { 3 * k + 2 < 2 ^ 32 }
+    requires label { 3 * at.k + 2 < 2 ^ 32 }
     requires labels { 3 * length placed.now.function.ops + 1 < 2 ^ 32 }
-    ensures { OnOk result (out.new ≡ out.old ++ pieces_of placed.now k (o.ItemSet array index from)) }
+    ensures { OnOk result (out.new ≡ out.old ++ pieces_of placed.now at.k (o.ItemSet array index from)) }
 {
-    reach_item(out, placed, k, array, index)?;
+    reach_item(out, placed, at, array, index)?;
     let rs = register(placed, 3, from);
     add(out, &[bring(placed, 3, from), store_at(rs, 2, 1)])
 }
@@ -259,22 +272,23 @@ pub(crate) fn set_item(
 pub(crate) fn length(
     out: &mut Seq<Piece>,
     placed: &Placed,
-    k: u32,
+    at: At,
     to: u32,
     array: u32,
 ) -> Result<(), NoMemory>
     requires ready { IsReady placed.now }
+    requires told { IsOpTold placed.now at }
     requires to { to < temporaries placed.now.function }
     requires array { array < temporaries placed.now.function }
-    requires label { 3 * k + 1 < 2 ^ 32 }
+    requires label { 3 * at.k + 1 < 2 ^ 32 }
     requires labels { 3 * length placed.now.function.ops + 1 < 2 ^ 32 }
-    ensures { OnOk result (out.new ≡ out.old ++ pieces_of placed.now k (o.Length to array)) }
+    ensures { OnOk result (out.new ≡ out.old ++ pieces_of placed.now at.k (o.Length to array)) }
 {
     out.push(bring(placed, 0, array))?;
     let rn = register(placed, 0, array);
-    test_null(out, rn, 3 * k + 1)?;
-    out.push(load(register(placed, 0, to), rn, 1))?;
-    out.push(keep(placed, to))
+    test_null(out, rn, 3 * at.k + 1)?;
+    out.push(load(made_in(placed, at, to), rn, 1))?;
+    out.push(keep(placed, at, to))
 }
 
 /// The last item of the array at a register into another, and the array's length one less.
@@ -305,51 +319,57 @@ fn take_last(out: &mut Seq<Piece>, rd: u8, array: u8, label: u32) -> Result<(), 
 pub(crate) fn pop(
     out: &mut Seq<Piece>,
     placed: &Placed,
-    k: u32,
+    at: At,
     to: u32,
     array: u32,
 ) -> Result<(), NoMemory>
     requires ready { IsReady placed.now }
+    requires told { IsOpTold placed.now at }
     requires to { to < temporaries placed.now.function }
     requires array { array < temporaries placed.now.function }
-    requires label { 3 * k + 2 < 2 ^ 32 }
+    requires label { 3 * at.k + 2 < 2 ^ 32 }
     requires labels { 3 * length placed.now.function.ops + 1 < 2 ^ 32 }
-    ensures { OnOk result (out.new ≡ out.old ++ pieces_of placed.now k (o.Pop to array)) }
+    ensures { OnOk result (out.new ≡ out.old ++ pieces_of placed.now at.k (o.Pop to array)) }
 {
     out.push(bring(placed, 0, array))?;
     let rn = register(placed, 0, array);
-    test_null(out, rn, 3 * k + 1)?;
-    take_last(out, register(placed, 0, to), rn, 3 * k + 2)?;
-    out.push(keep(placed, to))
+    test_null(out, rn, 3 * at.k + 1)?;
+    take_last(out, made_in(placed, at, to), rn, 3 * at.k + 2)?;
+    out.push(keep(placed, at, to))
 }
 
 /// A text.
 pub(crate) fn text(
     out: &mut Seq<Piece>,
     placed: &Placed,
+    at: At,
     to: u32,
     text: u32,
 ) -> Result<(), NoMemory>
     requires ready { IsReady placed.now }
+    requires told { IsOpTold placed.now at }
     requires to { to < temporaries placed.now.function }
     requires labels { 3 * length placed.now.function.ops + 1 < 2 ^ 32 }
-    ensures { OnOk result (out.new ≡ out.old ++ pieces_of placed.now 0 (o.TextOf to text)) }
+    ensures { OnOk result (out.new ≡ out.old ++ pieces_of placed.now at.k (o.TextOf to text)) }
 {
     let what = What::Text(text);
-    let rd = register(placed, 0, to);
-    add(out, &[Piece::Address { rd, what }, keep(placed, to)])
+    let rd = made_in(placed, at, to);
+    add(out, &[Piece::Address { rd, what }, keep(placed, at, to)])
 }
 
 /// A new object.
 pub(crate) fn make_object(
     out: &mut Seq<Piece>,
     placed: &Placed,
+    at: At,
     to: u32,
     class: u32,
 ) -> Result<(), NoMemory>
     requires ready { IsReady placed.now }
+    requires told { IsOpTold placed.now at }
     requires to { to < temporaries placed.now.function }
-    ensures { OnOk result (out.new ≡ out.old ++ pieces_of placed.now 0 (o.MakeObject to class)) }
+    requires labels { 3 * length placed.now.function.ops + 1 < 2 ^ 32 }
+    ensures { OnOk result (out.new ≡ out.old ++ pieces_of placed.now at.k (o.MakeObject to class)) }
 {
     let what = What::Class(class);
     add(
@@ -359,7 +379,7 @@ pub(crate) fn make_object(
             load(0, 1, 0),
             Piece::Plain(Instr::Svc { imm: 18 }),
             store(1, 0, 0),
-            put(placed, 0, to),
+            land(placed, at, to),
         ],
     )
 }
@@ -368,12 +388,15 @@ pub(crate) fn make_object(
 pub(crate) fn make_array(
     out: &mut Seq<Piece>,
     placed: &Placed,
+    at: At,
     to: u32,
     room: u32,
 ) -> Result<(), NoMemory>
     requires ready { IsReady placed.now }
+    requires told { IsOpTold placed.now at }
     requires to { to < temporaries placed.now.function }
-    ensures { OnOk result (out.new ≡ out.old ++ pieces_of placed.now 0 (o.MakeArray to room)) }
+    requires labels { 3 * length placed.now.function.ops + 1 < 2 ^ 32 }
+    ensures { OnOk result (out.new ≡ out.old ++ pieces_of placed.now at.k (o.MakeArray to room)) }
 {
     let words = room.saturating_add(4);
     add(
@@ -389,7 +412,7 @@ pub(crate) fn make_array(
             Piece::Plain(Instr::MovHigh { rd: 1, rm: 0 }),
             Piece::Plain(Instr::AddImm8 { rd: 1, imm: 16 }),
             store(1, 0, 3),
-            put(placed, 0, to),
+            land(placed, at, to),
         ],
     )
 }

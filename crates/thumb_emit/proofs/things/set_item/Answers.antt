@@ -9,7 +9,7 @@ use Rattle.thumb_emit.proofs.things.set_item.Goals as goal
 pub returns : goal.returns
 returns c =
     let p = c.args.placed.now in let old = c.args.out.now in
-    let r = reaches_item p c.args.k c.args.array c.args.index in
+    let r = reaches_item p c.args.at.k c.args.array c.args.index in
     on_ok c.add.result _ _
     (λ e. e ∙ (ap (λ (x : List Piece). x ++ c.bring.result ∷ c.store_at.result ∷ []) c.in_ok-reach_item.ensures
     ∙ (append_assoc old r (c.bring.result ∷ c.store_at.result ∷ [])

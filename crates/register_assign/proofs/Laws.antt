@@ -1,0 +1,2 @@
+-- The laws that other crates cite.
+pub use Rattle.register_assign.proofs.Unreading.{unread_not_live}
