@@ -125,14 +125,15 @@ class Read:
 
 
 def read(members, end, lose, most):
-    signal.signal(signal.SIGALRM, late)
-    signal.alarm(SECONDS)
+    # (seconds of a processor, whatever else runs)
+    signal.signal(signal.SIGVTALRM, late)
+    signal.setitimer(signal.ITIMER_VIRTUAL, SECONDS)
     try:
         return Read(members, end, lose, most)
     except (Late, RecursionError):
         return None
     finally:
-        signal.alarm(0)
+        signal.setitimer(signal.ITIMER_VIRTUAL, 0)
 
 
 def write(folder, name, content):
@@ -145,7 +146,7 @@ def faults(program, seed, folder, seen):
     chance = random.Random(f"budget {seed}")
 
     def call(*words):
-        ran = subprocess.run([program, *words], cwd=folder, stdout=subprocess.PIPE, stderr=subprocess.DEVNULL, timeout=120)
+        ran = subprocess.run([program, *words], cwd=folder, stdout=subprocess.PIPE, stderr=subprocess.DEVNULL, timeout=600)
         return ran.returncode, ran.stdout.decode()
 
     for at, (text, script) in enumerate(members):
