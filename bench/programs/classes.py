@@ -156,10 +156,12 @@ def faults(program, seed, folder, seen):
         write(folder, name, json.dumps({"end": end, "boards": [{"program": f"p{at}.ts", "script": f"s{at}.json"} for at in range(len(members))], "lose": lost}))
     status, out = call("class", "c.json", f"--budget={LONGEST}")
     seen[f"status {status}"] += 1
-    checked = [call("check", f"p{at}.ts") for at in range(len(members))]
-    refused = next((at for at, it in enumerate(checked) if it[0] != 0), None)
-    if refused is not None:
-        return [] if (status, out) == (checked[refused][0], f"{refused} {checked[refused][1]}") else [f"class: {status}, {out[-60:]!r}, and check says of board {refused} {checked[refused]}"]
+    if status == 10:
+        checked = [call("check", f"p{at}.ts") for at in range(len(members))]
+        refused = next((at for at, it in enumerate(checked) if it[0] != 0), None)
+        if refused is not None and out == f"{refused} {checked[refused][1]}":
+            return []
+        return [f"class: {status}, {out[-60:]!r}, and check says {checked}"]
     seen[f"{len(members)} boards"] += 1
     whole = read(members, end, lose, LONGEST)
     if whole is None:
