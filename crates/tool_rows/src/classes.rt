@@ -12,7 +12,8 @@ use sts_base::NoMemory;
 use tool_io::MemoryFolder;
 
 /// Board 0 sends, and board 1 writes what it hears.
-const TWO: &str = "{\"end\":1000,\"boards\":[{\"program\":\"sends\",\"script\":\"s\"},{\"program\":\"hears\",\"script\":\"s\"}],\"lose\":[]}";
+const TWO: &str =
+    "{\"end\":1000,\"boards\":[{\"program\":\"sends\",\"script\":\"s\"},{\"program\":\"hears\",\"script\":\"s\"}],\"lose\":[]}";
 
 const SENDS: &str = "radio.sendNumber(5)";
 
