@@ -88,7 +88,7 @@ class Rows:
     def pipe(self, rest):
         name, _, pieces = rest.partition(" ")
         os.mkfifo(f"{self.folder}/{name}")
-        self.pieces = threading.Thread(target=self.feed, args=(name, [text_of(it) for it in re.findall(r'"[^"]*"', pieces)]), daemon=True)
+        self.pieces = threading.Thread(target=self.feed, args=(name, [text_of(it) for it in re.findall(r'"(?:[^"\\]|\\.)*"', pieces)]), daemon=True)
 
     def run(self, words, due, where):
         words = [it.encode("latin-1").decode("unicode_escape").encode("latin-1") if "\\" in it else it for it in words]

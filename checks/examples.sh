@@ -43,5 +43,16 @@ for text in "$top"/examples/arrivals/*.ts; do
     "$program" run-at "$text" "$name.json" "$name.arrivals.json" 2> /dev/null | cmp - "$name.txt" || wrong=$((wrong + 1))
     python3 "$top/bench/programs/arriving.py" --fits "$text" "$name.json" "$name.arrivals.json" "$name.txt" > "$folder/said" || { cat "$folder/said"; wrong=$((wrong + 1)); }
 done
-echo "examples: $count programs, $wrong wrong"
-[ "$wrong" -eq 0 ] && [ "$count" -ge 10 ]
+# Those of examples/class/ are classes, which name their files from the top: `class` writes the transcript, which was worked out by hand, and so does the reading.
+classes=0
+program=$(realpath "$program")
+cd "$top"
+for class in examples/class/*.class.json; do
+    name=${class%.class.json}
+    classes=$((classes + 1))
+    python3 bench/programs/reading.py --class "$class" | cmp - "$name.txt" || wrong=$((wrong + 1))
+    "$program" class "$class" 2> "$folder/said" | cmp - "$name.txt" || wrong=$((wrong + 1))
+    [ ! -s "$folder/said" ] || { echo "examples: $class: standard error isn't silent"; wrong=$((wrong + 1)); }
+done
+echo "examples: $count programs and $classes classes, $wrong wrong"
+[ "$wrong" -eq 0 ] && [ "$count" -ge 10 ] && [ "$classes" -ge 3 ]

@@ -4,12 +4,14 @@
 output fails it ends with status 22: what was written begins the output, and standard error has the raw bytes of the whole lines at the serial port. Where standard error fails, which is the
 device at that port, the output stays, and no byte follows: each text is one write. Calls that are interrupted, or move one byte, change nothing.
 
+By `class` standard error stays silent, and its lines at the serial port have no device.
+
 `tool_rows` makes the top call over four devices in memory, each told a word before: where memory is refused it says that the call answered 30, that the sink took no more than that, and that the
 devices are as they were.
 
 usage: faults.py LIBRARY STS [TOOL_ROWS]      LIBRARY is faults.c, compiled
 """
-import itertools
+import concurrent.futures
 import os
 import subprocess
 import sys
@@ -46,10 +48,17 @@ FILES = {
     "hears.json": '{"end":1000,"events":[]}',
     "arrivals.json": '{"arrivals":[{"after":1,"do":"raise","source":50,"value":7}]}',
     "ends.hex": ":0E000000803F00200D0000000D00000000DF1A\n:00000001FF\n",
+    "sends.ts": "radio.sendNumber(5)",
+    "radio.ts": "control.onEvent(200, 0, function () { serial.writeNumber(control.eventValue()) })",
+    "two.json": '{"end":1000,"boards":[{"program":"sends.ts","script":"hears.json"},{"program":"radio.ts","script":"hears.json"}],"lose":[]}',
+    "counts.ts": "let n = 0\ncontrol.onEvent(200, 0, function () { n += control.eventValue() })\nradio.sendNumber(1)\nbasic.pause(2)\nserial.writeNumber(n)",
+    "eight.json": '{"end":1000,"boards":[' + ",".join(['{"program":"counts.ts","script":"hears.json"}'] * 8) + '],"lose":[{"at":0,"from":0,"to":7}]}',
 }
 TOGGLED = "0 display #..../...../...../...../.....\n20 display ...../...../...../...../.....\n40 display #..../...../...../...../.....\nend 50 script\n"
 HANDLED = "0 serial 313130\n5 serial 373231\nend 5 quiet\nstats spawned 1 blocked 1 words 25 seats 1\n"
 HEARD = "0 serial 37\nend 0 quiet\n"
+TWO = "0 0 radio 5\n1 1 serial 35\n0 end 1 quiet\n1 end 1 quiet\n"
+EIGHT = "".join([*(f"{board} 0 radio 1\n" for board in range(8)), *(f"{board} 2 serial {'37' if board < 7 else '36'}\n" for board in range(8)), *(f"{board} end 2 quiet\n" for board in range(8))])
 BIG = "big 1\n10 serial 333531\nend 10 quiet\nstats spawned 6 blocked 0 words 450 seats 6\n"
 GAME_FRAMES = "0:4194304 0:4194305 80:1 80:2097153 100:2097152 100:2097184 150:32 150:1048608 200:1048576 200:1049600 300:1048576 300:1081344 400:1048576 400:14815428"
 
@@ -66,6 +75,8 @@ def commands():
         ("run handlers.ts --stats", HANDLED, [""]),
         ("run-hex ends.hex", "end 0 quiet\n", [""]),
         ("run-at hears.ts hears.json arrivals.json", HEARD, [""]),
+        ("class two.json", TWO, [""]),
+        ("class eight.json", EIGHT, [""]),
         ("big 1 --stats", BIG, ["", "big 1\n"]),
         ("build game.ts", None, [""]),
         ("run-hex game.hex game.json", read("game.txt"), [""]),
@@ -84,35 +95,45 @@ def calls():
         ("handlers", f"0 |{HANDLED}|" + devices("", "0:49 0:49 0:48 5:55 5:50 5:49"), [f"30 ||{stay}"]),
         ("ends", f"0 |end 0 quiet\n|{stay}", [f"30 ||{stay}"]),
         ("arrivals", f"0 |{HEARD}|" + devices("", "0:55"), [f"30 ||{stay}"]),
+        ("two", f"0 |{TWO}|{stay}", [f"30 ||{stay}"]),
+        ("eight", f"0 |{EIGHT}|{stay}", [f"30 ||{stay}"]),
         ("big", f"0 |{BIG}|" + devices("", "10:51 10:53 10:49"), [f"30 ||{stay}", f"30 |big 1\n|{stay}"]),
         ("built", f"0 |{read('game.txt')}|" + devices(GAME_FRAMES), [f"30 ||{stay}", "built: 30, 0 bytes\n"]),
     ]
 
 
+MOST_AT_ONCE = 64
+
+
 class Faults:
     def __init__(self, library, folder):
-        self.library, self.folder, self.met = library, folder, os.path.join(folder, "met")
+        self.library, self.folder = library, folder
         self.runs = self.wrong = 0
 
     def run(self, program, words, fault):
         """Runs a program with that fault, and gives the status, both outputs and whether the fault was met."""
-        environment = {"LD_PRELOAD": self.library, "FAULT": fault, "FAULT_MET": self.met}
+        met = os.path.join(self.folder, f"met {fault}")
+        environment = {"LD_PRELOAD": self.library, "FAULT": fault, "FAULT_MET": met}
         ran = subprocess.run([program, *words.split()], cwd=self.folder, env=environment, stdin=subprocess.DEVNULL, capture_output=True, timeout=60)
-        met = os.path.exists(self.met)
-        if met:
-            os.remove(self.met)
-        return ran.returncode, ran.stdout.decode(), ran.stderr.decode(), met
+        was_met = os.path.exists(met)
+        if was_met:
+            os.remove(met)
+        return ran.returncode, ran.stdout.decode(), ran.stderr.decode(), was_met
 
     def each(self, program, words, call, way, is_right):
-        """Lets each such call fail in turn, and gives how many there are. `is_right` judges a run by the call's number, which is 0 where no call failed."""
-        for number in itertools.count(1):
-            status, out, err, met = self.run(program, words, f"{call} {number} {way}")
-            self.runs += 1
-            if not is_right(number if met else 0, status, out, err):
-                self.wrong += 1
-                print(f"faults: {os.path.basename(program)} {words}, {call} {number} {way}: status {status}, {out[-200:]!r}, {err[-200:]!r}")
-            if not met:
-                return number - 1
+        """Lets each such call fail in turn, some at once, and gives how many there are. `is_right` judges a run by the call's number, which is 0 where no call failed."""
+        first, at_once = 1, os.cpu_count()
+        with concurrent.futures.ThreadPoolExecutor(os.cpu_count()) as pool:
+            while True:
+                numbers = range(first, first + at_once)
+                first, at_once = numbers.stop, min(2 * at_once, MOST_AT_ONCE)
+                for number, (status, out, err, met) in zip(numbers, pool.map(lambda it: self.run(program, words, f"{call} {it} {way}"), numbers)):
+                    self.runs += 1
+                    if not is_right(number if met else 0, status, out, err):
+                        self.wrong += 1
+                        print(f"faults: {os.path.basename(program)} {words}, {call} {number} {way}: status {status}, {out[-200:]!r}, {err[-200:]!r}")
+                    if not met:
+                        return number - 1
 
     def memory(self, program, words, is_whole, is_refused):
         """Refuses each allocation in turn."""

@@ -1,7 +1,9 @@
 """Runs a program on a script by the rules of docs/LANGUAGE.md and docs/WORLD.md, written from the rules alone, with no code of this repository, and
-writes its transcript. It is an independent reading of the rules: programs that `sts` takes are compared with it.
+writes its transcript. It is an independent reading of the rules: programs that `sts` takes are compared with it. With --class it runs a class of boards, by
+these rules and those of docs/FORMATS.md for class files, on a class file that keeps to its form.
 
 usage: reading.py PROGRAM [SCRIPT] [--stats]
+       reading.py --class CLASS
 """
 import heapq
 import json
@@ -281,6 +283,7 @@ class World:
         self.clock, self.frame, self.used, self.out = 0, 0, 0, []
         self.ready, self.sleepers, self.waiters, self.queue, self.listeners = [], [], [], [], []
         self.down, self.seats, self.order = {}, 0, 0
+        self.is_stopped, self.sent, self.trail = False, [], []
         self.spawned, self.blocks, self.words, self.most = 0, 0, 0, 0
 
     # activities
@@ -304,6 +307,11 @@ class World:
 
     def say(self, line):
         self.out.append(f"{self.clock} {line}")
+        self.left_trail()
+
+    # where the run stands behind so many counted steps: its clock, and how many lines it wrote
+    def left_trail(self):
+        self.trail.append((self.steps, self.clock, len(self.out)))
 
     def show(self, frame):
         if frame != self.frame:
@@ -443,40 +451,124 @@ class World:
             return
         self.asked(activity, request)
 
-    def runs(self):
+    def begins(self):
         main = Activity(self.program.main, 0)
         self.seat(main)
         self.spawned += 1
         self.ready.append(main)
+        self.left_trail()
+
+    def settles(self):
+        """Goes on until nobody is ready and no event waits."""
+        while self.ready or self.queue:
+            while self.ready:
+                self.step()
+            if self.queue:
+                event = self.queue.pop(0)
+                begun = self.heard(event, 0)
+                self.ready = [*begun, *self.woken(event)]
+
+    def next_due(self):
+        """The next moment at which something comes, if there is one."""
+        return min([it[0] for it in self.sleepers[:1]] + [it["at"] for it in self.entries[:1]], default=None)
+
+    def comes_to(self, moment):
+        self.clock = moment
+        self.left_trail()
+        while self.sleepers and self.sleepers[0][0] <= moment:
+            self.ready.append(heapq.heappop(self.sleepers)[2])
+        while self.entries and self.entries[0]["at"] <= moment:
+            self.arrive(self.entries.pop(0))
+
+    def stops(self, panic):
+        self.is_stopped = True
+        self.out.append(f"panic {self.clock} {panic.args[0]}")
+
+    def runs(self):
         try:
+            self.begins()
             while True:
-                while self.ready:
-                    self.step()
-                if self.queue:
-                    event = self.queue.pop(0)
-                    begun = self.heard(event, 0)
-                    self.ready = [*begun, *self.woken(event)]
-                    continue
-                moments = [it[0] for it in self.sleepers[:1]] + [it["at"] for it in self.entries[:1]]
-                if not moments:
+                self.settles()
+                moment = self.next_due()
+                if moment is None:
                     self.say_end("quiet")
                     return
-                if min(moments) > self.end:
+                if moment > self.end:
                     self.clock = self.end
                     self.say_end("script")
                     return
-                self.clock = min(moments)
-                while self.sleepers and self.sleepers[0][0] <= self.clock:
-                    self.ready.append(heapq.heappop(self.sleepers)[2])
-                while self.entries and self.entries[0]["at"] <= self.clock:
-                    self.arrive(self.entries.pop(0))
+                self.comes_to(moment)
         except Cut:
             pass
         except Panic as panic:
-            self.out.append(f"panic {self.clock} {panic.args[0]}")
+            self.stops(panic)
 
     def say_end(self, how):
         self.out.append(f"end {self.clock} {how}")
+
+
+# --- boards that hear one another
+
+class CutClass(Exception):
+    """The run of this board has made more counted steps than it may."""
+
+
+class Boards:
+    """A class: worlds that go through the moments together. A line is kept as its moment, its board and its text."""
+
+    def __init__(self, members, end, lose, most=None):
+        self.worlds = [World(Program(text), end, script["events"], (), most) for text, script in members]
+        self.end, self.lost, self.lines = end, {(it["at"], it["from"], it["to"]) for it in lose}, []
+
+    def goes(self, number, moment):
+        """One board goes through a moment."""
+        world = self.worlds[number]
+        before = len(world.out)
+        try:
+            if moment == 0:
+                world.begins()
+                world.settles()
+            if world.next_due() == moment:
+                world.comes_to(moment)
+                world.settles()
+        except Panic as panic:
+            world.stops(panic)
+        except Cut as cut:
+            raise CutClass(number) from cut
+        finally:
+            self.lines += [(moment, number, line) for line in world.out[before:]]
+
+    def hear(self, moment):
+        """What boards sent at a moment is heard at the next one, behind the entries of the hearer's own."""
+        for j, hearer in enumerate(self.worlds):
+            heard = [number for i, sender in enumerate(self.worlds) if i != j and (moment, i, j) not in self.lost for number in sender.sent]
+            if moment < self.end:
+                behind = next((at for at, it in enumerate(hearer.entries) if it["at"] > moment + 1), len(hearer.entries))
+                hearer.entries[behind:behind] = [{"at": moment + 1, "do": "raise", "source": 200, "value": number} for number in heard]
+        for sender in self.worlds:
+            sender.sent = []
+
+    def next_moment(self):
+        return min((world.next_due() for world in self.worlds if not world.is_stopped and world.next_due() is not None), default=None)
+
+    def runs(self, last=None, last_board=None):
+        """Runs the class, or its moments up to the last one, and at that one the boards up to the last one."""
+        moment, upto = 0, self.end if last is None else last
+        while moment is not None and moment <= upto:
+            for number, world in enumerate(self.worlds):
+                if last is not None and moment == last and number > last_board:
+                    return
+                if moment == 0 or (not world.is_stopped and world.next_due() == moment):
+                    self.goes(number, moment)
+            self.hear(moment)
+            moment = self.next_moment()
+
+    def transcript(self):
+        """All lines, with those that close the class."""
+        going = [(number, world) for number, world in enumerate(self.worlds) if not world.is_stopped]
+        by_script = any(world.next_due() is not None for _, world in going)
+        closing = f"end {self.end} script" if by_script else f"end {max(world.clock for world in self.worlds)} quiet"
+        return [f"{number} {line}" for _, number, line in self.lines] + [f"{number} {closing}" for number, _ in going]
 
 
 # --- what an activity does: generators that yield what blocks
@@ -878,6 +970,7 @@ class Frame:
                 world.say(f"pin {args[0]} {1 if args[1] else 0}")
         elif name == "sendNumber":
             world.say(f"radio {args[0]}")
+            world.sent.append(args[0])
         elif name in ("$numberGlyph", "$textGlyph"):
             text = str(args[0]).encode() if name == "$numberGlyph" else self.there(args[0])
             return glyph(text[args[1]]) if 0 <= args[1] < len(text) else -1
@@ -902,8 +995,25 @@ def transcript(text, script=None, stats=False):
     return world.out
 
 
+def class_transcript(name):
+    """What the class of this file writes."""
+    sys.setrecursionlimit(100000)
+    with open(name, encoding="utf-8") as file:
+        told = json.load(file)
+    members = []
+    for it in told["boards"]:
+        with open(it["program"], encoding="utf-8", newline="") as program, open(it["script"], encoding="utf-8") as script:
+            members.append((program.read(), json.load(script)))
+    boards = Boards(members, told["end"], told["lose"])
+    boards.runs()
+    return boards.transcript()
+
+
 if __name__ == "__main__":
     files = [it for it in sys.argv[1:] if not it.startswith("--")]
+    if "--class" in sys.argv:
+        print("\n".join(class_transcript(files[0])))
+        sys.exit(0)
     with open(files[0], encoding="utf-8", newline="") as file:
         read = file.read()
     chosen = None

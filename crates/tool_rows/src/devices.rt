@@ -30,6 +30,17 @@ pub fn device(alloc: Global, room: usize, failing: u64) -> Result<MemoryDevice, 
     MemoryDevice::new(alloc, room, writes)
 }
 
+/// Whether each of the places from that one on holds a device that was told nothing.
+pub fn are_untold(plugs: &[Option<Box<dyn Device>>], first: usize) -> bool {
+    for place in plugs.iter().skip(first) {
+        match place {
+            Some(device) if device.logged(0).is_none() => {}
+            _ => return false,
+        }
+    }
+    true
+}
+
 /// Writes what a device tells of its first twenty words, each behind its moment.
 pub fn show_place<W: Write>(out: &mut W, place: &Option<Box<dyn Device>>) -> io::Result<()> {
     match place {

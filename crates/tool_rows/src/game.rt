@@ -1,7 +1,7 @@
 //! The game of examples/game.ts, on its script and with a press that arrives, with each put of its run failing in turn, and each write of its display.
 
 use crate::commands::{folder, sink, words_of};
-use crate::devices::device;
+use crate::devices::{are_untold, device};
 use crate::folders::wanting;
 use board_ports::Device;
 use run_tool::sts_main;
@@ -172,17 +172,6 @@ fn frames_logged(place: Option<&Option<Box<dyn Device>>>, frames: &[(u32, u32)])
     }
 }
 
-/// Whether each of the places behind the first holds a device that was told nothing.
-fn others_stay(plugs: &[Option<Box<dyn Device>>]) -> bool {
-    for place in plugs.iter().skip(1) {
-        match place {
-            Some(device) if device.logged(0).is_none() => {}
-            _ => return false,
-        }
-    }
-    true
-}
-
 /// Runs the game over four devices, with that put and that write of the display failing.
 fn play(alloc: Global, course: &Course, put: u64, write: u64) -> io::Result<Came> {
     let mut folder = folder(alloc, 0, GAME).map_err(wanting)?;
@@ -203,7 +192,7 @@ fn play(alloc: Global, course: &Course, put: u64, write: u64) -> io::Result<Came
         whole_lines: taken.iter().filter(|byte| **byte == b'\n').count(),
         is_prefix: course.transcript.as_bytes().starts_with(taken),
         words: frames_logged(plugs.first(), course.frames),
-        others_stay: others_stay(plugs.as_slice()),
+        others_stay: are_untold(plugs.as_slice(), 1),
     })
 }
 

@@ -4,6 +4,7 @@
 #![tactic(auto)]
 
 mod bigs;
+mod classes;
 mod code;
 mod commands;
 mod copying;
@@ -31,6 +32,7 @@ fn main(rt: HostRuntime) -> io::Result<()> {
     commands::show(alloc, out)?;
     devices::show(alloc, out)?;
     game::show(alloc, out)?;
+    classes::show(alloc, out)?;
     bigs::show(alloc, out)?;
     for line in BufReader::new(alloc, rt.stdin())?.lines(alloc) {
         code::show(alloc, out, line?.as_str())?;

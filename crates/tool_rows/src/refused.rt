@@ -1,5 +1,6 @@
 //! One row over devices in memory, for a caller that refuses an allocation of it: `tool_rows NAME` runs the row of that name.
 
+use crate::classes::class_files;
 use crate::commands::{HEARS, RAISE, call, folder, sink, words_of};
 use crate::devices::{device, show_place};
 use crate::folders::wanting;
@@ -112,10 +113,22 @@ fn show_built<W: Write>(alloc: Global, out: &mut W) -> io::Result<()> {
     show_call(alloc, out, &["run-hex", "h", "s"], &mut given)
 }
 
+/// Runs a class.
+fn show_class<W: Write>(alloc: Global, out: &mut W, words: &[&str]) -> io::Result<()> {
+    let mut given = class_files(alloc, 0).map_err(wanting)?;
+    show_call(alloc, out, words, &mut given)
+}
+
 /// Runs the row of that name, where there is one.
 pub fn show<W: Write>(alloc: Global, out: &mut W, name: &str) -> io::Result<()> {
     if name == "built" {
         return show_built(alloc, out);
+    }
+    if name == "two" {
+        return show_class(alloc, out, &["class", "f"]);
+    }
+    if name == "eight" {
+        return show_class(alloc, out, &["class", "eight"]);
     }
     for (row, words, f, s) in &ROWS {
         if *row == name {

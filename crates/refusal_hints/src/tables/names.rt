@@ -204,8 +204,8 @@ static NAMES_3: [Row; 13] = [
     },
     Row {
         at: &[Is("radio"), Is("."), Is("onReceivedNumber")],
-        sentence: "A board only sends: `radio` has no `onReceivedNumber`.",
-        example: "radio.sendNumber(5)",
+        sentence: "`radio` has no `onReceivedNumber`: what others send is an event of source 200, told by `control.eventValue`.",
+        example: "control.onEvent(200, 0, function () { serial.writeNumber(control.eventValue()) })",
         ..ANYWHERE
     },
     Row {

@@ -1,0 +1,3 @@
+control.onEvent(200, 0, function () {
+    led.toggle(2, 2)
+})

@@ -1,0 +1,3 @@
+input.onButtonPressed(Button.A, function () {
+    radio.sendNumber(1)
+})
