@@ -34,7 +34,10 @@ def rows():
         text = "".join(line for line in file if not line.startswith("#"))
     for row in text.strip("\n").split("\n\n"):
         part = dict(re.match(r"(\w+): ?(.*)", line, re.S).groups() for line in row.strip("\n").split("\n"))
-        status, wrote = view(part["words"].split(), bytes_of(part["reads"]))
+        with tempfile.NamedTemporaryFile(suffix=".ts") as refused:
+            refused.write(bytes_of(part.get("program", "")))
+            refused.flush()
+            status, wrote = view(part["words"].split() + ["--program", refused.name] * ("program" in part), bytes_of(part["reads"]))
         expect(f"{row}", (int(part.get("status", 0)), bytes_of(part["writes"])), (status, wrote))
         count += 1
     return count
