@@ -4,6 +4,7 @@ import json
 import os
 import subprocess
 import tempfile
+import time
 
 import page
 
@@ -11,7 +12,7 @@ KEYS = {"Tab": 9, "Enter": 13, " ": 32, "End": 35, "Home": 36, "ArrowLeft": 37, 
 
 
 class Browser:
-    """Chromium with one page."""
+    """Chromium with one page, which was open and drawn after so many seconds."""
 
     def __init__(self, file, width, height, scheme="light"):
         self.home = tempfile.TemporaryDirectory(ignore_cleanup_errors=True)
@@ -28,9 +29,11 @@ class Browser:
             self.call(f"{domain}.enable")
         self.call("Emulation.setDeviceMetricsOverride", width=width, height=height, deviceScaleFactor=1, mobile=False)
         self.call("Emulation.setEmulatedMedia", features=[{"name": "prefers-color-scheme", "value": scheme}])
+        begun = time.time()
         self.call("Page.navigate", url=f"file://{file}")
         while not self.value("document.readyState == 'complete' && location.protocol == 'file:'"):
             pass
+        self.seconds = time.time() - begun
 
     def __enter__(self):
         return self

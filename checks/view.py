@@ -71,10 +71,24 @@ def sentences():
     text = open(f"{TOP}/docs/FORMATS.md", encoding="utf-8").read()
     for row in re.findall(r"^\| (\d) \| \w+ \| ([^|]*) \|", text[text.index("## Class files"):text.index("## Arrivals")], re.M):
         wanted[f"class refused {row[0]}"] = "the class file: " + row[1].strip().replace("form above", "form of docs/FORMATS.md")
+    for row in re.findall(r"^\| (\d) \| \w+ \| ([^|]*) \|", text[text.index("## Arrivals"):text.index("## Schemas")], re.M):
+        wanted[f"arrivals refused {row[0]}"] = "the arrivals: " + row[1].strip().replace("form above", "form of docs/FORMATS.md")
     for row in reversed(table("FORMATS.md", "### Why a text is refused")):
         wanted[f"image refused {row[0]}"] = f"the HEX file breaks a rule: {row[2]}"
     for line, sentence in wanted.items():
         expect(f"what is said of {line}", f"{line}\t{sentence}\n", view([], f"{line}\n".encode())[1].decode())
+    return len(wanted) + closings()
+
+
+def closings():
+    """What is said of a closing line, and where nothing is run: each part of the sentence stands in the row of docs/TEACHERS.md that begins with the line."""
+    rows = {row[0]: " ".join(row[1:]) for row in table("TEACHERS.md", "## The closing line") + table("TEACHERS.md", "## When nothing is run")}
+    rows |= {f"`panic T {row[0]}`": row[1] for row in table("TEACHERS.md", "## Panic codes")}
+    wanted = {"end 5 quiet": "`end T quiet`", "end 5 script": "`end T script`", "budget 5": "`budget T`", "fault 5 1 0000000c": "`fault T K A`", "panic 5 7": "`panic T another`", "usage": "`usage`"}
+    wanted |= dict.fromkeys(["missing", "too long", "folder failed"], "`missing`; `too long`; `folder failed`")
+    for line, row in wanted.items():
+        said = view([], f"{line}\n".encode())[1].decode().partition("\t")[2].rstrip("\n")
+        expect(f"what is said of {line}, by its parts", (True, []), (bool(said), [part for part in re.split(": |; ", said) if part.lower() not in rows[row].lower()]))
     return len(wanted)
 
 
@@ -125,7 +139,16 @@ def pages():
                         expect("the serial text", html.escape(script.decode(), quote=False), "".join(re.findall(r"<span[^>]*>(&lt;script.*?)</span>", text, re.S)))
                     print(f"the page of {name}, {os.path.getsize(file)} bytes: {took:.1f} s from Chromium's start to its end")
                 moments += 1
+            if name == "many":
+                seconds = min(opens(file) for _ in range(3))
+                expect("a page of 10,000 pictures opens within two seconds", True, seconds <= 2)
+                print(f"the page of {name} was open after {seconds:.2f} s")
     return moments
+
+
+def opens(file):
+    with browser.Browser(file, 1000, 700) as it:
+        return it.seconds
 
 
 def class_page():

@@ -1,5 +1,5 @@
 -- Characters that are written one by one.
-use Rattle.std.proofs.Common.{◌≡◌, ℕ, List, [], ◌∷◌, ◌++◌, length, ap, ◌∙◌, sym, refl, append_assoc, append-nil, IsUtf8, chars, encode_utf8}
+use Rattle.std.proofs.Common.{◌≡◌, ℕ, List, ◌++◌, length, ◌∙◌, sym, append_assoc, append-nil, IsUtf8, chars, encode_utf8}
 use Rattle.std.proofs.StrCases.{chars_of_empty}
 use Rattle.std.proofs.lemmas.Str.{chars_past_char}
 use Rattle.pointed_line.specs.Columns.{written_from, behind_it}

@@ -1,6 +1,6 @@
-use Rattle.std.proofs.Common.{◌++◌, ◌≡◌, string_bytes, replicate, arith, ap, ◌∙◌}
+use Rattle.std.proofs.Common.{◌++◌, ◌≡◌, string_bytes, replicate, ap, ◌∙◌}
 use Rattle.std.proofs.lemmas.Str.{IsUtf8-past_char}
-use Rattle.pointed_line.specs.Columns.{written_from, blank_at}
+use Rattle.pointed_line.specs.Columns.{blank_at}
 use Rattle.pointed_line.proofs.Written.{written-step, written-end}
 use Rattle.pointed_line.proofs.line.push_blank.Goals as goal
 

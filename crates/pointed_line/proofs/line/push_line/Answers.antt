@@ -1,6 +1,6 @@
-use Rattle.std.proofs.Common.{◌++◌, ◌≡◌, string_bytes, arith, ap, ◌∙◌}
+use Rattle.std.proofs.Common.{string_bytes}
 use Rattle.std.proofs.lemmas.Str.{IsUtf8-past_char}
-use Rattle.pointed_line.specs.Columns.{written_from, as_shown}
+use Rattle.pointed_line.specs.Columns.{as_shown}
 use Rattle.pointed_line.proofs.Written.{written-step, written-end}
 use Rattle.pointed_line.proofs.line.push_line.Goals as goal
 
