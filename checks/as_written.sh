@@ -13,8 +13,6 @@ mkdir "$folder/bin"
 cp "$program" "$folder/bin/sts"
 cp "${2:-$("$top/bin/program" view)}" "$folder/bin/view"
 cp "$top/bin/show" "$folder/bin/show"
-printf "#!/bin/sh\necho '%s'\n" "$("$top/bin/compile" hint_rows)" >"$folder/bin/compile"
-chmod +x "$folder/bin/compile"
 cp -r "$top/examples" "$folder/examples"
 python3 - "$top" "$folder" <<'PYTHON'
 import glob

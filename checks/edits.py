@@ -9,6 +9,7 @@ function is proved, or where it stands in no function, it is tried alone, and is
 """
 import collections
 import concurrent.futures
+import glob
 import os
 import re
 import shutil
@@ -80,8 +81,8 @@ def function_of(folder, pairs):
 def cycles(folder):
     """Gives the cycle of calls that each function of one stands in, by the function's name."""
     found = {}
-    for file in os.listdir(f"{folder}/src"):
-        with open(f"{folder}/src/{file}", encoding="utf-8") as it:
+    for file in glob.glob(f"{folder}/src/**/*.rt", recursive=True):
+        with open(file, encoding="utf-8") as it:
             marked = re.findall(r"^ *#\[cycle\((\w+)\)\]\n(?: *(?:#\[|///).*\n)* *(?:pub(?:\(crate\))? )?fn (\w+)", it.read(), re.M)
         found.update({name: cycle for cycle, name in marked})
     return found

@@ -1,6 +1,6 @@
 #!/usr/bin/env python3
 """Gives a built view random and mutated transcripts, and reads the lines back from what it writes, as a text and as a page, by a reading of its own after docs/FORMATS.md ("Views"). What isn't
-read back, or ends by another status than 0, is a surprise: it is printed, and its file is kept.
+read back, or ends by another status than 0, is a surprise: it is printed, and its file is kept. Half of the texts are asked for with a program, of random bytes too, whose refusal is explained.
 
 usage: views.py VIEW SEED COUNT        COUNT inputs of some lines each; a thousand are given to the program at once, one behind the other
 """
@@ -16,7 +16,7 @@ import time
 TOP = os.path.dirname(os.path.dirname(os.path.dirname(os.path.abspath(__file__))))
 KEPT = os.path.join(tempfile.gettempdir(), "view-fuzz")
 SEEDS = [line for path in sorted(glob.glob(f"{TOP}/examples/*.txt")) for line in open(path, "rb").read().split(b"\n")]
-SEEDS += [b"0 end 20 quiet", b"7 1073741824 display #####/...../#.#.#/...../#####", b"1 5 serial 22205c0a", b"refused 6 1 12", b"script refused 3", b"image refused 7", b"usage", b"missing", b"panic 0 105",
+SEEDS += [b"0 end 20 quiet", b"7 1073741824 display #####/...../#.#.#/...../#####", b"1 5 serial 22205c0a", b"refused 6 1 12", b"refused 8 2 3", b"1 refused 11 1 99", b"refused 4294967295 0 4294967295", b"script refused 3", b"image refused 7", b"usage", b"missing", b"panic 0 105",
           b"fault 0 1 0000000c", b"budget 7", b"0 pin 20 1", b"0 radio -7", b":00000001FF", b"</pre><script>alert(1)</script>", b"stats spawned 1 blocked 1 words 18 seats 1", b"12345678901 display #####/...../#.#.#/...../#####"]
 SIGNS = [b" ", b"\t", b'"', b"\\", b"\\x20", b"<", b"&", b"\n", b"\r", b"\x00", b"\xff", "█".encode(), "·".encode(), b" ms", b"#", b".", b"/", b"0", b"9", b"f", b"display ", b" serial "]
 PAGE = re.compile(rb'<pre id="transcript"[^>]*>\n([^<]*)</pre>')
@@ -56,6 +56,9 @@ def pictures(rows):
 def lines_of(view):
     rows, at = lines_in(view), 0
     while at < len(rows):
+        if rows[at].startswith(b"  | "):
+            at += 1
+            continue
         if rows[at].startswith(b" "):
             yield from pictures(rows[at:at + 6])
             at += 6
@@ -75,7 +78,11 @@ def main():
         chance = random.Random(f"{seed} {first}")
         text = b"".join(made(chance) for _ in range(min(1000, count - first)))
         width = chance.choice((1, 13, 26, 80, 100000))
-        shown, page = (subprocess.run([program, *words], input=text, stdout=subprocess.PIPE, timeout=60, check=False) for words in (["--width", str(width)], ["--html"]))
+        with tempfile.NamedTemporaryFile(suffix=".ts") as refused:
+            refused.write(made(chance))
+            refused.flush()
+            orders = (["--width", str(width), *chance.choice(([], ["--program", refused.name]))], ["--html"])
+            shown, page = (subprocess.run([program, *words], input=text, stdout=subprocess.PIPE, timeout=60, check=False) for words in orders)
         found = PAGE.search(page.stdout)
         if (shown.returncode, page.returncode) != (0, 0) or list(lines_of(shown.stdout)) != lines_in(text) or not found or unshown(found[1]) != text:
             surprises += 1

@@ -11,4 +11,5 @@ mod row;
 mod words;
 
 pub use explaining::{Explanation, explain_by};
+pub use places::place_at;
 pub use row::{ANYWHERE, Inside, Row, Test};

@@ -2,7 +2,7 @@
 #![tactic(auto)]
 
 use anyhow::{Context, Result};
-use refusal_hints::{Explanation, explain};
+use refusal_hints::{Explanation, hints_of};
 use std::alloc::Global;
 
 /// A word as a number, and 0 where it is none.
@@ -20,7 +20,7 @@ fn answer(alloc: Global, row: &str) -> Result<Explanation> {
     let line = number(words.next());
     let column = number(words.next());
     let text = hex::decode(alloc, words.next().unwrap_or(""))?;
-    Ok(explain(&text, line, column, code))
+    Ok(hints_of(code).explain(&text, line, column))
 }
 
 fn main(rt: HostRuntime) -> Result<()> {

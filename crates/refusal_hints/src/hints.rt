@@ -32,8 +32,3 @@ pub fn hints_of(code: u32) -> Hints {
         own: own_of(code),
     }
 }
-
-/// What the refusal of a text by a code at a line and a column, both from 1, means.
-pub fn explain(text: &[u8], line: u32, column: u32, code: u32) -> Explanation {
-    hints_of(code).explain(text, line, column)
-}

@@ -8,5 +8,5 @@ mod own;
 mod tables;
 
 pub use around_place::Explanation;
-pub use hints::{Hints, explain, hints_of};
+pub use hints::{Hints, hints_of};
 pub use tables::Rows;

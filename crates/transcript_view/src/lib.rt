@@ -1,6 +1,7 @@
 //! A transcript of `sts` for people: as a text with pictures and sentences, and as a page.
 #![tactic(auto)]
 
+mod below;
 mod notes;
 mod page;
 mod parts;

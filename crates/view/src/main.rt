@@ -2,16 +2,18 @@
 #![tactic(auto)]
 
 mod page;
+mod refusal;
 mod words;
 
 use page::{PAGE_HEAD, PAGE_TAIL};
+use refusal::first_refusal;
 use std::alloc::Global;
 use std::env;
 use std::io::{ErrorKind, Read};
 use std::process::ExitCode;
 use tool_io::{DiskFolder, FetchFault, Folder, Found, PutFailed, Sink, StdSink, read_up_to};
 use transcript_view::{ViewFault, view_page, view_text};
-use view_forms::NOTES;
+use view_forms::{Below, NOTES};
 use words::{Asked, read_words};
 
 /// The statuses are those of `sts`.
@@ -62,12 +64,56 @@ fn file_of<D: Folder>(alloc: Global, folder: &mut D, name: &str) -> Result<Vec<u
     }
 }
 
+/// The text of the program whose refusal is to be explained, or none; or the status where it can't be had.
+fn program_of<D: Folder>(
+    alloc: Global,
+    folder: &mut D,
+    name: Option<&str>,
+) -> Result<Option<Vec<u8>>, u8> {
+    match name {
+        None => Ok(None),
+        Some(name) => match file_of(alloc, folder, name) {
+            Ok(text) => Ok(Some(text)),
+            Err(status) => Err(status),
+        },
+    }
+}
+
+/// Writes the text that explains the first refusal by a program's text.
+fn write_explained<K: Sink>(
+    alloc: Global,
+    width: usize,
+    input: &[u8],
+    program: &[u8],
+    out: &mut K,
+) -> Result<(), ViewFault> {
+    let Some(refusal) = first_refusal(input) else {
+        return view_text(alloc, &NOTES, &[], input, width, out);
+    };
+    match refusal.explained(alloc, program) {
+        Err(_) => Err(ViewFault::NoMemory),
+        Ok(text) => {
+            let below = [Below {
+                line: refusal.told,
+                text: text.as_bytes(),
+            }];
+            view_text(alloc, &NOTES, &below, input, width, out)
+        }
+    }
+}
+
 /// Writes the view that was asked for, and gives the status.
-fn write_view<K: Sink>(alloc: Global, asked: &Asked<'_>, input: &[u8], out: &mut K) -> u8 {
-    let written = if asked.html {
-        view_page(alloc, PAGE_HEAD, PAGE_TAIL, input, out)
-    } else {
-        view_text(alloc, &NOTES, input, asked.width, out)
+fn write_view<K: Sink>(
+    alloc: Global,
+    asked: &Asked<'_>,
+    input: &[u8],
+    program: Option<&[u8]>,
+    out: &mut K,
+) -> u8 {
+    let written = match program {
+        Some(text) => write_explained(alloc, asked.width, input, text, out),
+        None if asked.html => view_page(alloc, PAGE_HEAD, PAGE_TAIL, input, out),
+        None => view_text(alloc, &NOTES, &[], input, asked.width, out),
     };
     match written {
         Ok(()) => 0,
@@ -101,16 +147,15 @@ fn main(rt: HostRuntime) -> ExitCode {
         Ok(None) => return ExitCode::from(tell(USAGE, &mut out)),
         Err(_) => return ExitCode::from(NO_MEMORY),
     };
+    let stdin = rt.stdin();
+    let mut folder = DiskFolder::new(rt);
     let input = match asked.file {
-        Some(name) => {
-            let mut folder = DiskFolder::new(rt);
-            file_of(alloc, &mut folder, name)
-        }
-        None => all_of(alloc, rt.stdin()),
+        Some(name) => file_of(alloc, &mut folder, name),
+        None => all_of(alloc, stdin),
     };
-    let status = match input {
-        Ok(bytes) => write_view(alloc, &asked, &bytes, &mut out),
-        Err(status) => tell(status, &mut out),
+    let status = match (input, program_of(alloc, &mut folder, asked.program)) {
+        (Ok(bytes), Ok(program)) => write_view(alloc, &asked, &bytes, program.as_deref(), &mut out),
+        (Err(status), _) | (_, Err(status)) => tell(status, &mut out),
     };
     ExitCode::from(status)
 }

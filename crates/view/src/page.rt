@@ -6,7 +6,7 @@ pub const PAGE_HEAD: &str = r##"<!doctype html>
 <html lang="en">
 <head>
 <meta charset="utf-8">
-<meta http-equiv="Content-Security-Policy" content="default-src 'none'; style-src 'sha256-brF02csxEAN74qSPYwilTANr+osBUo1P075Q5O0TtfU='; script-src 'sha256-lLFfd8fvQ4UMwopBfyrgUZNwAoH4KNIOvP5pqkuvzNM='; base-uri 'none'; form-action 'none'">
+<meta http-equiv="Content-Security-Policy" content="default-src 'none'; style-src 'sha256-BiqBcCUYxJegHLoVbljxRI7tlkzRq2wNN2B5l4NNBo4='; script-src 'sha256-lLFfd8fvQ4UMwopBfyrgUZNwAoH4KNIOvP5pqkuvzNM='; base-uri 'none'; form-action 'none'">
 <meta name="viewport" content="width=device-width, initial-scale=1">
 <meta name="referrer" content="no-referrer">
 <title>A run of the board</title>
@@ -35,7 +35,7 @@ select { font: inherit; min-height: 2.5rem; }
 .frame svg { display: block; width: 46px; height: 46px; margin: 0 auto 3px; background: var(--board); border-radius: 4px; }
 .frame path { fill: var(--lit); }
 pre { margin: .25rem 0; padding: .5rem; border: 1px solid var(--edge); border-radius: .4rem; overflow: auto; max-height: 14rem; white-space: pre-wrap; overflow-wrap: anywhere; font: .9rem/1.4 ui-monospace, monospace; }
-.later { color: var(--soft); opacity: .55; }
+.later { color: var(--soft); }
 .pin { display: flex; gap: .5rem; align-items: center; }
 .pin svg { flex: 1; height: 2rem; min-width: 0; }
 .pin polyline { fill: none; stroke: var(--ink); stroke-width: 2; vector-effect: non-scaling-stroke; }

@@ -9,10 +9,12 @@ const COLUMNS: usize = 80;
 
 const MOST_COLUMNS: usize = 100_000;
 
-/// What is asked for: the file that is read, if it isn't standard input; how wide the text is; whether it is a page.
+/// What is asked for: the file that is read, if it isn't standard input; the file of the program whose refusal is explained, if one is; how wide the
+/// text is; whether it is a page.
 #[derive(Clone, Copy, Drop)]
 pub struct Asked<'a> {
     pub file: Option<&'a str>,
+    pub program: Option<&'a str>,
     pub width: usize,
     pub html: bool,
 }
@@ -22,13 +24,16 @@ fn command<'a>(alloc: Global) -> Result<Command<'a>, AllocError> {
     let width = Arg::new(alloc, "width")
         .long("width")
         .action(ArgAction::Set);
+    let program = Arg::new(alloc, "program")
+        .long("program")
+        .action(ArgAction::Set);
     let html = Arg::new(alloc, "html")
         .long("html")
         .action(ArgAction::SetTrue);
     let line = Command::new(alloc, "view")
         .no_binary_name(true)
         .disable_help_flag(true);
-    line.arg(file)?.arg(width)?.arg(html)
+    line.arg(file)?.arg(width)?.arg(program)?.arg(html)
 }
 
 /// The columns that a word asks for, from 1 on.
@@ -42,12 +47,18 @@ fn columns_of(word: Option<&str>) -> Option<usize> {
     }
 }
 
+/// What is asked for. A page explains nothing, so it goes with no program.
 fn asked_by<'a>(matches: &ArgMatches<'a>) -> Option<Asked<'a>> {
-    Some(Asked {
+    let asked = Asked {
         file: matches.get_str("file"),
+        program: matches.get_str("program"),
         width: columns_of(matches.get_str("width"))?,
         html: matches.get_flag("html"),
-    })
+    };
+    if asked.html && asked.program.is_some() {
+        return None;
+    }
+    Some(asked)
 }
 
 fn matches_of<'a>(alloc: Global, words: &'a [String]) -> Result<ArgMatches<'a>, Error> {

@@ -1,5 +1,5 @@
 -- All rows of a view as a text, read back.
-use Rattle.std.proofs.Common.{◌≡◌, ℕ, ◌+◌, ◌-◌, ◌<◌, ◌==◌, nat_lt, true, false, not, ◌&&◌, ◌||◌, List, [], ◌∷◌, ◌++◌, length, get_or, take, drop, replicate, ap, ◌∙◌, sym, refl, subst, arith, inl, inr, ◌⊎◌}
+use Rattle.std.proofs.Common.{◌≡◌, ℕ, ◌+◌, ◌-◌, ◌<◌, ◌==◌, nat_lt, true, false, not, ◌&&◌, ◌||◌, List, [], ◌∷◌, ◌++◌, length, map, get_or, take, drop, replicate, Option, Some, None, ap, ◌∙◌, sym, refl, subst, arith, inl, inr, ◌⊎◌}
 use Rattle.std.specs.Prelude.{codes}
 use Rattle.std.specs.List.{flat_map, list_all}
 use Rattle.std.specs.Char.{is_ascii_digit}
@@ -11,7 +11,9 @@ use Rattle.view_forms.specs.Shown.{is_shown_plain, shown_byte, shown_bytes, hex_
 use Rattle.view_forms.specs.Parts.{lines_in, lead_size, line_lead, told_of, begins_by, ends_by}
 use Rattle.view_forms.specs.Notes.{is_sentence, fits_note, note_said, is_number_sign}
 use Rattle.view_forms.specs.Pictures.{shows_picture, shows_text, text_row, text_of_serial, is_hex_text, picture_rows, squares, squares_row, squares_cell, at_right, picture_row, picture_of}
-use Rattle.view_forms.specs.Rows.{literal, line_row, rows_from, text_of_rows}
+use Rattle.view_forms.specs.declared.below.Below.{Below}
+use Rattle.view_forms.specs.Below.{explanation_of, marked}
+use Rattle.view_forms.specs.Rows.{literal, told_rows, line_rows, rows_from, text_of_rows}
 use Rattle.view_forms.specs.Reading.{is_byte, unshown, before_byte, behind_byte, has_byte, lines_of_row, rows_read, lines_read}
 use Rattle.view_forms.proofs.Digits.{hex-back, hex-bytes}
 use Rattle.view_forms.proofs.Lacking.{lacks, all-append, all-flat_map, all-take, all-replicate, before-none, before-at, behind-at, has-none, has-at, rows-come_back, lines-lack, lines-all}
@@ -141,15 +143,28 @@ text-back line rows h =
     (append_assoc (line_lead line) (codes " serial ") (drop 7 (told_of line))
     ∙ sym (lead-told line a.0 ∙ ap (λ t. line_lead line ++ 32 ∷ t) (begins-is (codes "serial ") (told_of line) b.0))))
 
-pub row-read_back : (notes : List Note) (line : List ℕ) (rows : List (List ℕ)) → list_all is_byte line ≡ true → lines_of_row (line_row notes line) rows ≡ line ∷ []
-row-read_back notes line rows h =
-    let P : List ℕ → Type 0 = λ row. lines_of_row row rows ≡ line ∷ [] in
+-- rows of an explanation
+unmarked : (texts rows : List (List ℕ)) → rows_read (map marked texts ++ rows) ≡ rows_read rows
+unmarked [] rows = refl
+unmarked (text ∷ texts) rows = unmarked texts rows
+
+told-back : (notes : List Note) (line : List ℕ) (text : Option (List ℕ)) (rows : List (List ℕ)) → list_all is_byte line ≡ true → rows_read (told_rows notes line text ++ rows) ≡ line ∷ rows_read rows
+told-back notes line None rows h =
+    ap (λ t. t ++ rows_read rows)
+    (told-by (literal line) (note_said notes (told_of line)) line (said-is notes (told_of line)) (literal-first line)
+    (literal-lacks 9 line refl (omega arith) refl) (literal-lacks 34 line refl (omega arith) refl) (literal-back line h) rows)
+told-back notes line (Some text) rows h =
+    ap (λ t. t ++ rows_read (map marked (lines_in text) ++ rows))
+    (read-one (literal line) (literal line) line (map marked (lines_in text) ++ rows) (literal-first line) (before-none 9 (literal line) (literal-lacks 9 line refl (omega arith) refl))
+    (has-none 34 (literal line) (literal-lacks 34 line refl (omega arith) refl)) (literal-back line h))
+    ∙ ap (λ t. line ∷ t) (unmarked (lines_in text) rows)
+
+pub rows-read_back : (notes : List Note) (below : List Below) (line : List ℕ) (rows : List (List ℕ)) → list_all is_byte line ≡ true → rows_read (line_rows notes below line ++ rows) ≡ line ∷ rows_read rows
+rows-read_back notes below line rows h =
+    let P : List (List ℕ) → Type 0 = λ t. rows_read (t ++ rows) ≡ line ∷ rows_read rows in
     elim (cases_Bool (shows_text line)) [
-      | inl e ↦ subst P (sym (cond-true (shows_text line) (text_row line) (literal line ++ note_said notes (told_of line)) e)) (text-back line rows e)
-      | inr e ↦
-          subst P (sym (cond-false (shows_text line) (text_row line) (literal line ++ note_said notes (told_of line)) e))
-          (told-by (literal line) (note_said notes (told_of line)) line (said-is notes (told_of line)) (literal-first line)
-          (literal-lacks 9 line refl (omega arith) refl) (literal-lacks 34 line refl (omega arith) refl) (literal-back line h) rows)
+      | inl e ↦ subst P (sym (cond-true (shows_text line) (text_row line ∷ []) (told_rows notes line (explanation_of below line)) e)) (ap (λ t. t ++ rows_read rows) (text-back line rows e))
+      | inr e ↦ subst P (sym (cond-false (shows_text line) (text_row line ∷ []) (told_rows notes line (explanation_of below line)) e)) (told-back notes line (explanation_of below line) rows h)
     ]
 
 -- no row has a line feed
@@ -194,73 +209,86 @@ said-lacks said is =
       | inr some ↦ subst P (sym some.1) some.2
     ]
 
-row-lacks : (notes : List Note) (line : List ℕ) → lacks 10 line ≡ true → lacks 10 (line_row notes line) ≡ true
-row-lacks notes line h =
-    let P : List ℕ → Type 0 = λ row. lacks 10 row ≡ true in
+marked-lack : (texts : List (List ℕ)) → list_all (lacks 10) texts ≡ true → list_all (lacks 10) (map marked texts) ≡ true
+marked-lack [] h = refl
+marked-lack (text ∷ texts) h =
+    let q = and_parts (lacks 10 text) (list_all (lacks 10) texts) h in
+    and_from (lacks 10 (marked text)) (list_all (lacks 10) (map marked texts)) (all-append (λ b. not (b == 10)) (codes "  | ") text refl q.0) (marked-lack texts q.1)
+
+told-lack : (notes : List Note) (line : List ℕ) (text : Option (List ℕ)) → lacks 10 line ≡ true → list_all (lacks 10) (told_rows notes line text) ≡ true
+told-lack notes line None h =
+    and_from (lacks 10 (literal line ++ note_said notes (told_of line))) true
+    (all-append (λ b. not (b == 10)) (literal line) (note_said notes (told_of line)) (literal-lacks 10 line refl (omega arith) refl) (said-lacks (note_said notes (told_of line)) (said-is notes (told_of line)))) refl
+told-lack notes line (Some text) h =
+    and_from (lacks 10 (literal line)) (list_all (lacks 10) (map marked (lines_in text))) (literal-lacks 10 line refl (omega arith) refl) (marked-lack (lines_in text) (lines-lack text))
+
+line_rows-lack : (notes : List Note) (below : List Below) (line : List ℕ) → lacks 10 line ≡ true → list_all (lacks 10) (line_rows notes below line) ≡ true
+line_rows-lack notes below line h =
+    let P : List (List ℕ) → Type 0 = λ rows. list_all (lacks 10) rows ≡ true in
     elim (cases_Bool (shows_text line)) [
       | inl e ↦
-          subst P (sym (cond-true (shows_text line) (text_row line) (literal line ++ note_said notes (told_of line)) e))
+          subst P (sym (cond-true (shows_text line) (text_row line ∷ []) (told_rows notes line (explanation_of below line)) e))
+          (and_from (lacks 10 (text_row line)) true
           (all-append (λ b. not (b == 10)) (line_lead line) (codes " serial \"" ++ (shown_bytes (text_of_serial line) ++ codes "\"")) (all-take (λ b. not (b == 10)) (lead_size line) line h)
           (all-append (λ b. not (b == 10)) (codes " serial \"") (shown_bytes (text_of_serial line) ++ codes "\"") refl
-          (all-append (λ b. not (b == 10)) (shown_bytes (text_of_serial line)) (codes "\"") (shown-lacks 10 (text_of_serial line) refl (omega arith)) refl)))
+          (all-append (λ b. not (b == 10)) (shown_bytes (text_of_serial line)) (codes "\"") (shown-lacks 10 (text_of_serial line) refl (omega arith)) refl))) refl)
       | inr e ↦
-          subst P (sym (cond-false (shows_text line) (text_row line) (literal line ++ note_said notes (told_of line)) e))
-          (all-append (λ b. not (b == 10)) (literal line) (note_said notes (told_of line)) (literal-lacks 10 line refl (omega arith) refl) (said-lacks (note_said notes (told_of line)) (said-is notes (told_of line))))
+          subst P (sym (cond-false (shows_text line) (text_row line ∷ []) (told_rows notes line (explanation_of below line)) e)) (told-lack notes line (explanation_of below line) h)
     ]
 
 -- the steps of a view
-one-waits : (notes : List Note) (most : ℕ) (waiting : List (List ℕ)) (line : List ℕ) (lines : List (List ℕ)) → shows_picture line ≡ true → nat_lt (length waiting + 1) most ≡ true
-    → rows_from notes most waiting (line ∷ lines) ≡ rows_from notes most (waiting ++ line ∷ []) lines
-one-waits notes most waiting line lines h k = rw (h, k) refl
+one-waits : (notes : List Note) (below : List Below) (most : ℕ) (waiting : List (List ℕ)) (line : List ℕ) (lines : List (List ℕ)) → shows_picture line ≡ true → nat_lt (length waiting + 1) most ≡ true
+    → rows_from notes below most waiting (line ∷ lines) ≡ rows_from notes below most (waiting ++ line ∷ []) lines
+one-waits notes below most waiting line lines h k = rw (h, k) refl
 
-all-stand : (notes : List Note) (most : ℕ) (waiting : List (List ℕ)) (line : List ℕ) (lines : List (List ℕ)) → shows_picture line ≡ true → nat_lt (length waiting + 1) most ≡ false
-    → rows_from notes most waiting (line ∷ lines) ≡ picture_rows (waiting ++ line ∷ []) ++ rows_from notes most [] lines
-all-stand notes most waiting line lines h k = rw (h, k) refl
+all-stand : (notes : List Note) (below : List Below) (most : ℕ) (waiting : List (List ℕ)) (line : List ℕ) (lines : List (List ℕ)) → shows_picture line ≡ true → nat_lt (length waiting + 1) most ≡ false
+    → rows_from notes below most waiting (line ∷ lines) ≡ picture_rows (waiting ++ line ∷ []) ++ rows_from notes below most [] lines
+all-stand notes below most waiting line lines h k = rw (h, k) refl
 
-a-row : (notes : List Note) (most : ℕ) (waiting : List (List ℕ)) (line : List ℕ) (lines : List (List ℕ)) → shows_picture line ≡ false
-    → rows_from notes most waiting (line ∷ lines) ≡ picture_rows waiting ++ (line_row notes line ∷ rows_from notes most [] lines)
-a-row notes most waiting line lines h = rw h refl
+a-row : (notes : List Note) (below : List Below) (most : ℕ) (waiting : List (List ℕ)) (line : List ℕ) (lines : List (List ℕ)) → shows_picture line ≡ false
+    → rows_from notes below most waiting (line ∷ lines) ≡ picture_rows waiting ++ (line_rows notes below line ++ rows_from notes below most [] lines)
+a-row notes below most waiting line lines h = rw h refl
 
-pub rows-lack : (notes : List Note) (most : ℕ) (waiting lines : List (List ℕ)) → list_all (lacks 10) waiting ≡ true → list_all (lacks 10) lines ≡ true → list_all (lacks 10) (rows_from notes most waiting lines) ≡ true
-rows-lack notes most waiting [] h k = picture_rows-lack waiting h
-rows-lack notes most waiting (l ∷ ls) h k =
+pub rows-lack : (notes : List Note) (below : List Below) (most : ℕ) (waiting lines : List (List ℕ)) → list_all (lacks 10) waiting ≡ true → list_all (lacks 10) lines ≡ true → list_all (lacks 10) (rows_from notes below most waiting lines) ≡ true
+rows-lack notes below most waiting [] h k = picture_rows-lack waiting h
+rows-lack notes below most waiting (l ∷ ls) h k =
     let P : List (List ℕ) → Type 0 = λ rows. list_all (lacks 10) rows ≡ true in
     let q = and_parts (lacks 10 l) (list_all (lacks 10) ls) k in
     let more = all-append (lacks 10) waiting (l ∷ []) h (and_from (lacks 10 l) true q.0 refl) in
     elim (cases_Bool (shows_picture l)) [
       | inl e ↦
           elim (cases_Bool (nat_lt (length waiting + 1) most)) [
-            | inl w ↦ subst P (sym (one-waits notes most waiting l ls e w)) (rows-lack notes most (waiting ++ l ∷ []) ls more q.1)
-            | inr w ↦ subst P (sym (all-stand notes most waiting l ls e w)) (all-append (lacks 10) (picture_rows (waiting ++ l ∷ [])) (rows_from notes most [] ls) (picture_rows-lack (waiting ++ l ∷ []) more) (rows-lack notes most [] ls refl q.1))
+            | inl w ↦ subst P (sym (one-waits notes below most waiting l ls e w)) (rows-lack notes below most (waiting ++ l ∷ []) ls more q.1)
+            | inr w ↦ subst P (sym (all-stand notes below most waiting l ls e w)) (all-append (lacks 10) (picture_rows (waiting ++ l ∷ [])) (rows_from notes below most [] ls) (picture_rows-lack (waiting ++ l ∷ []) more) (rows-lack notes below most [] ls refl q.1))
           ]
       | inr e ↦
-          subst P (sym (a-row notes most waiting l ls e))
-          (all-append (lacks 10) (picture_rows waiting) (line_row notes l ∷ rows_from notes most [] ls) (picture_rows-lack waiting h)
-          (and_from (lacks 10 (line_row notes l)) (list_all (lacks 10) (rows_from notes most [] ls)) (row-lacks notes l q.0) (rows-lack notes most [] ls refl q.1)))
+          subst P (sym (a-row notes below most waiting l ls e))
+          (all-append (lacks 10) (picture_rows waiting) (line_rows notes below l ++ rows_from notes below most [] ls) (picture_rows-lack waiting h)
+          (all-append (lacks 10) (line_rows notes below l) (rows_from notes below most [] ls) (line_rows-lack notes below l q.0) (rows-lack notes below most [] ls refl q.1)))
     ]
 
-pub rows-back : (notes : List Note) (most : ℕ) (waiting lines : List (List ℕ)) → list_all shows_picture waiting ≡ true → list_all (list_all is_byte) lines ≡ true
-    → rows_read (rows_from notes most waiting lines) ≡ waiting ++ lines
-rows-back notes most waiting [] h k = ap rows_read (sym (append-nil (picture_rows waiting))) ∙ pictures-read_back waiting [] h
-rows-back notes most waiting (l ∷ ls) h k =
+pub rows-back : (notes : List Note) (below : List Below) (most : ℕ) (waiting lines : List (List ℕ)) → list_all shows_picture waiting ≡ true → list_all (list_all is_byte) lines ≡ true
+    → rows_read (rows_from notes below most waiting lines) ≡ waiting ++ lines
+rows-back notes below most waiting [] h k = ap rows_read (sym (append-nil (picture_rows waiting))) ∙ pictures-read_back waiting [] h
+rows-back notes below most waiting (l ∷ ls) h k =
     let q = and_parts (list_all is_byte l) (list_all (list_all is_byte) ls) k in
     elim (cases_Bool (shows_picture l)) [
       | inl e ↦
           let more : list_all shows_picture (waiting ++ l ∷ []) ≡ true = all-append shows_picture waiting (l ∷ []) h (and_from (shows_picture l) true e refl) in
           elim (cases_Bool (nat_lt (length waiting + 1) most)) [
             | inl w ↦
-                ap rows_read (one-waits notes most waiting l ls e w) ∙ rows-back notes most (waiting ++ l ∷ []) ls more q.1 ∙ append_assoc waiting (l ∷ []) ls
+                ap rows_read (one-waits notes below most waiting l ls e w) ∙ rows-back notes below most (waiting ++ l ∷ []) ls more q.1 ∙ append_assoc waiting (l ∷ []) ls
             | inr w ↦
-                ap rows_read (all-stand notes most waiting l ls e w) ∙ pictures-read_back (waiting ++ l ∷ []) (rows_from notes most [] ls) more
-                ∙ ap (λ t. (waiting ++ l ∷ []) ++ t) (rows-back notes most [] ls refl q.1) ∙ append_assoc waiting (l ∷ []) ls
+                ap rows_read (all-stand notes below most waiting l ls e w) ∙ pictures-read_back (waiting ++ l ∷ []) (rows_from notes below most [] ls) more
+                ∙ ap (λ t. (waiting ++ l ∷ []) ++ t) (rows-back notes below most [] ls refl q.1) ∙ append_assoc waiting (l ∷ []) ls
           ]
       | inr e ↦
-          ap rows_read (a-row notes most waiting l ls e) ∙ pictures-read_back waiting (line_row notes l ∷ rows_from notes most [] ls) h
-          ∙ ap (λ t. waiting ++ (t ++ rows_read (rows_from notes most [] ls))) (row-read_back notes l (rows_from notes most [] ls) q.0)
-          ∙ ap (λ t. waiting ++ l ∷ t) (rows-back notes most [] ls refl q.1)
+          ap rows_read (a-row notes below most waiting l ls e) ∙ pictures-read_back waiting (line_rows notes below l ++ rows_from notes below most [] ls) h
+          ∙ ap (λ t. waiting ++ t) (rows-read_back notes below l (rows_from notes below most [] ls) q.0)
+          ∙ ap (λ t. waiting ++ l ∷ t) (rows-back notes below most [] ls refl q.1)
     ]
 
-pub view-back : (notes : List Note) (most : ℕ) (input : List ℕ) → list_all is_byte input ≡ true → lines_read (text_of_rows (rows_from notes most [] (lines_in input))) ≡ lines_in input
-view-back notes most input h =
-    ap rows_read (rows-come_back (rows_from notes most [] (lines_in input)) (rows-lack notes most [] (lines_in input) refl (lines-lack input)))
-    ∙ rows-back notes most [] (lines_in input) refl (lines-all is_byte input h)
+pub view-back : (notes : List Note) (below : List Below) (most : ℕ) (input : List ℕ) → list_all is_byte input ≡ true → lines_read (text_of_rows (rows_from notes below most [] (lines_in input))) ≡ lines_in input
+view-back notes below most input h =
+    ap rows_read (rows-come_back (rows_from notes below most [] (lines_in input)) (rows-lack notes below most [] (lines_in input) refl (lines-lack input)))
+    ∙ rows-back notes below most [] (lines_in input) refl (lines-all is_byte input h)

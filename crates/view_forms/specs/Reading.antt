@@ -1,4 +1,4 @@
--- How the lines of a transcript are read from its view as a text. The view's rows are its lines; a row that begins with a space is of pictures side by side.
+-- How the lines of a transcript are read from its view as a text. The view's rows are its lines; a row that begins with a space is of pictures side by side, or of an explanation.
 use Rattle.std.specs.Prelude.{ℕ, zero, suc, ◌+◌, ◌*◌, ◌/◌, ◌==◌, nat_lt, Bool, if◌then◌else◌, List, [], ◌∷◌, ◌++◌, length, get_or, take, drop, flat_map, codes}
 use Rattle.std.specs.List.{list_any}
 use Rattle.std.specs.Char.{is_ascii_digit}
@@ -66,7 +66,7 @@ abbrev pub pictures_under : List ℕ → List (List ℕ) → List (List ℕ)
 pictures_under over rows =
     pictures_read (length (light_row 0 rows) / 5) over (light_row 0 rows) (light_row 1 rows) (light_row 2 rows) (light_row 3 rows) (light_row 4 rows)
 
--- the lines of a row before others: of a heading, which has a digit behind its spaces, those of the pictures under it; of squares none, since the heading has told
+-- the lines of a row before others: of a heading, which has a digit behind its spaces, those of the pictures under it; of squares none, since the heading has told, and of an explanation none
 abbrev pub lines_of_row : List ℕ → List (List ℕ) → List (List ℕ)
 lines_of_row row rows =
     if get_or row 0 0 == 32

@@ -1,6 +1,7 @@
 // Laws of views.
 ghost use Rattle.std.specs.Prelude.{◌≡◌, ℕ, ◌∷◌, List, true, not};
 ghost use Rattle.std.specs.List.{list_all};
+ghost use Rattle.view_forms.specs.declared.below.Below.{Below};
 ghost use Rattle.view_forms.specs.declared.notes.Note.{Note};
 ghost use Rattle.view_forms.specs.Parts.{lines_in};
 ghost use Rattle.view_forms.specs.Rows.{text_view};
@@ -8,9 +9,9 @@ ghost use Rattle.view_forms.specs.Reading.{is_byte, lines_read};
 ghost use Rattle.view_forms.specs.Page.{is_markup, page_text, page_view, transcript_read};
 
 /// From a view as a text all lines of the transcript are read back, each once and in their order, whatever bytes it is made of, however wide the
-/// view is, and whatever is said of lines.
+/// view is, whatever is said of lines, and whatever stands below them.
 pub fn lines_come_back()
-    ensures { (notes : List Note) (width : ℕ) (input : List ℕ) → list_all is_byte input ≡ true → lines_read (text_view notes width input) ≡ lines_in input }
+    ensures { (notes : List Note) (below : List Below) (width : ℕ) (input : List ℕ) → list_all is_byte input ≡ true → lines_read (text_view notes below width input) ≡ lines_in input }
 {}
 
 /// From a page the transcript is read back, byte for byte.

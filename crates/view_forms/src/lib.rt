@@ -2,8 +2,10 @@
 //! runs.
 #![tactic(auto)]
 
+mod below;
 mod laws;
 mod notes;
 
+pub use below::Below;
 pub use laws::{lines_come_back, pages_tell_all, transcripts_are_no_markup};
 pub use notes::{NOTES, Note};

@@ -8,7 +8,7 @@ pub struct Note {
 }
 
 /// What is said of lines: of several rows that fit, the first holds. The sentences are those of docs/TEACHERS.md, docs/LANGUAGE.md and docs/FORMATS.md.
-pub const NOTES: [Note; 50] = [
+pub const NOTES: [Note; 54] = [
     Note {
         begins: "end ",
         ends: " quiet",
@@ -57,12 +57,12 @@ pub const NOTES: [Note; 50] = [
     Note {
         begins: "panic ",
         ends: "",
-        says: "the program's own `control.panic`",
+        says: "the program's own `control.panic(n)`, n modulo 256",
     },
     Note {
         begins: "budget ",
         ends: "",
-        says: "the program wasn't done: put a `basic.pause` into a loop that never waits, or give `--budget` more",
+        says: "the program wasn't done: a loop that never waits, as `while (true) { }`. Put a `basic.pause` into it, or give `--budget` more",
     },
     Note {
         begins: "fault ",
@@ -185,6 +185,26 @@ pub const NOTES: [Note; 50] = [
         says: "the script: there are more than 4096 entries",
     },
     Note {
+        begins: "arrivals refused 1",
+        ends: "",
+        says: "the arrivals: the bytes are no UTF-8, or no JSON",
+    },
+    Note {
+        begins: "arrivals refused 2",
+        ends: "",
+        says: "the arrivals: the JSON hasn't the form of docs/FORMATS.md, but for order and number",
+    },
+    Note {
+        begins: "arrivals refused 3",
+        ends: "",
+        says: "the arrivals: some `after` is below the one before",
+    },
+    Note {
+        begins: "arrivals refused 4",
+        ends: "",
+        says: "the arrivals: there are more than 4096 arrivals",
+    },
+    Note {
         begins: "class refused 1",
         ends: "",
         says: "the class file: the bytes are no UTF-8, or no JSON",
@@ -252,11 +272,11 @@ pub const NOTES: [Note; 50] = [
     Note {
         begins: "too long",
         ends: "",
-        says: "the file has more than 1,048,576 bytes",
+        says: "it has more than 1,048,576 bytes",
     },
     Note {
         begins: "folder failed",
         ends: "",
-        says: "the file couldn't be read",
+        says: "it couldn't be read",
     },
 ];

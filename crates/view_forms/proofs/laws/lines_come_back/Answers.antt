@@ -3,4 +3,4 @@ use Rattle.view_forms.proofs.Rows.{view-back}
 use Rattle.view_forms.proofs.laws.lines_come_back.Goals as goal
 
 pub returns : goal.returns
-returns c notes width input h = view-back notes (max (width / 13) 1) input h
+returns c notes below width input h = view-back notes below (max (width / 13) 1) input h
