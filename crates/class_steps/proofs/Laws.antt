@@ -1,5 +1,5 @@
 -- The laws that proofs of other crates cite.
-pub use Rattle.class_steps.proofs.Looking.{at_rest, waits_longer, hears, seen_early}
+pub use Rattle.class_steps.proofs.Looking.{at_rest, same_later, waits_longer, hears, seen_early}
 pub use Rattle.class_steps.proofs.Ending.{ends_whole}
 pub use Rattle.class_steps.proofs.Alike.{lines_alike, moment_alike, before_alike}
 pub use Rattle.class_steps.proofs.Looking.{next_given}

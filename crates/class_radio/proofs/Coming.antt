@@ -37,9 +37,9 @@ use Rattle.board_run.specs.Gone.{MayGo}
 use Rattle.board_run.specs.Proceeding.{IsBusy}
 use Rattle.board_run.specs.View.{state_of, end_of}
 use Rattle.board_run.proofs.Laws.{mounted_busy, nobody_ready, due_rising}
-use Rattle.class_player.specs.declared.player.Player.{Player}
-use Rattle.class_player.specs.Playing.{Setup, member_of, run_given, standing_of, IsNumbered, outlook, IsInWait, HasPlayed, IsFresh, HasCome}
-use Rattle.class_player.specs.Stepping.{MayGoOn, world_behind}
+use Rattle.class_radio.specs.declared.player.Player.{Player}
+use Rattle.class_radio.specs.Playing.{Setup, member_of, run_given, standing_of, IsNumbered, outlook, IsInWait, HasPlayed, IsFresh, HasCome}
+use Rattle.class_radio.specs.Stepping.{MayGoOn, world_behind}
 
 none_mapped : {X Y : Type 0} (f : X → Y) (o : Option X) → None ≡ option_map f o → o ≡ None
 none_mapped f None h = refl

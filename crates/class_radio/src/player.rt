@@ -5,8 +5,8 @@ ghost use Rattle.board_world.specs.Board.{Entry};
 ghost use Rattle.board_world.specs.Observations.{Observation};
 ghost use Rattle.event_script.specs.Sound.{IsSound};
 ghost use Rattle.event_script.specs.declared.script.Script.{Script as EventScript};
-ghost use Rattle.class_player.specs.Playing.{Setup, IsNumbered, IsFresh, hearing, said};
-ghost use Rattle.class_player.specs.Stepping.{MayGoOn, PlayedOn, IsTaken, noting, step_told};
+ghost use Rattle.class_radio.specs.Playing.{Setup, IsNumbered, IsFresh, hearing, said};
+ghost use Rattle.class_radio.specs.Stepping.{MayGoOn, PlayedOn, IsTaken, noting, step_told};
 
 use board_ports::SureDevice;
 use board_run::{Board, End, Gone};
@@ -148,6 +148,7 @@ impl Player {
         requires may { (number budget : ℕ) × (setup : Setup) × (script : List Entry) × (used : List ℕ) × (seen : List Observation) × MayGoOn number budget setup script moment used seen self.old }
         ensures stepped { (number budget : ℕ) (setup : Setup) (script : List Entry) (used : List ℕ) (seen : List Observation) → MayGoOn number budget setup script moment used seen self.old
             → PlayedOn number budget setup script moment seen self.new (K.taken out.old) (K.taken out.new) (K.faults out.old) (K.faults out.new) result }
+        ensures lead { self.new.lead ≡ self.old.lead }
         ensures later { K.faults out.old ≤ K.faults out.new }
     {
         let gone = self.board.go_led(moment, self.left, &self.lead, out);

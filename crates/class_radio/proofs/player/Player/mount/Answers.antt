@@ -1,6 +1,6 @@
 use Rattle.std.proofs.Common.{refl}
-use Rattle.class_player.proofs.Coming.{fresh_numbered}
-use Rattle.class_player.proofs.player.Player.mount.Goals as goal
+use Rattle.class_radio.proofs.Coming.{fresh_numbered}
+use Rattle.class_radio.proofs.player.Player.mount.Goals as goal
 
 pub returns-in-Ok-clause-numbered : goal.returns-in-Ok-clause-numbered
 returns-in-Ok-clause-numbered c =

@@ -22,9 +22,9 @@ use Rattle.board_run.specs.Advancing.{IsWhole}
 use Rattle.board_run.specs.Going.{queued_all, next_moment, IsResting, Shows}
 use Rattle.board_run.specs.Ran.{IsMounted}
 use Rattle.board_run.specs.View.{state_of, plain_of}
-use Rattle.class_player.specs.declared.player.Player.{Player}
-use Rattle.class_player.specs.declared.player.Standing.{Standing}
-use Rattle.class_player.specs.declared.player.Standing.TheVariants.{Plays, Panicked, Faulted}
+use Rattle.class_radio.specs.declared.player.Player.{Player}
+use Rattle.class_radio.specs.declared.player.Standing.{Standing}
+use Rattle.class_radio.specs.declared.player.Standing.TheVariants.{Plays, Panicked, Faulted}
 
 -- what a board is given: an image and a script
 pub record Setup : Type 0 where

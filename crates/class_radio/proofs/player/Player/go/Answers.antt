@@ -1,11 +1,11 @@
-use Rattle.std.proofs.Common.{None, subst, sym}
+use Rattle.std.proofs.Common.{◌∙◌, None, ap, subst, sym}
 use Rattle.board_ports.specs.declared.sure.SureDevice.{SureDevice}
-use Rattle.class_player.specs.declared.player.Player.{Player}
-use Rattle.class_player.specs.declared.player.Step.{Step}
-use Rattle.class_player.specs.Stepping.{PlayedOn, step_told}
-use Rattle.class_player.proofs.Coming.{whole, may_go, left_most}
-use Rattle.class_player.proofs.Going.{stepped_by, taken_by}
-use Rattle.class_player.proofs.player.Player.go.Goals as goal
+use Rattle.class_radio.specs.declared.player.Player.{Player}
+use Rattle.class_radio.specs.declared.player.Step.{Step}
+use Rattle.class_radio.specs.Stepping.{PlayedOn, step_told}
+use Rattle.class_radio.proofs.Coming.{whole, may_go, left_most}
+use Rattle.class_radio.proofs.Going.{noting_lead, stepped_by, taken_by}
+use Rattle.class_radio.proofs.player.Player.go.Goals as goal
 
 pub go_led-gone-requires-clause-whole : goal.go_led-gone-requires-clause-whole
 go_led-gone-requires-clause-whole g c = (let m = c.requires.may in whole m.0 m.1 m.2 m.3 c.args.moment m.4 m.5 c.args.self.now m.6)
@@ -27,3 +27,6 @@ returns-clause-stepped g c number budget setup script used seen may =
     (g.K.Sink.faults c.args.out.now) (g.K.Sink.faults c.go_led-gone.new.out) c.go_led-gone.result c.go_led-gone.ensures.went in
     subst (λ (s : Step). PlayedOn number budget setup script c.args.moment seen c.note.new.self (g.K.Sink.taken c.args.out.now) (g.K.Sink.taken c.go_led-gone.new.out) (g.K.Sink.faults c.args.out.now) (g.K.Sink.faults c.go_led-gone.new.out) s) (sym c.note.ensures.answer)
     (subst (λ (q : Player). PlayedOn number budget setup script c.args.moment seen q (g.K.Sink.taken c.args.out.now) (g.K.Sink.taken c.go_led-gone.new.out) (g.K.Sink.faults c.args.out.now) (g.K.Sink.faults c.go_led-gone.new.out) (step_told c.go_led-gone.result)) (sym c.note.ensures.noting) by))
+
+pub returns-clause-lead : goal.returns-clause-lead
+returns-clause-lead g c = ap (λ (q : Player). q.lead) c.note.ensures.noting ∙ noting_lead c.go_led-gone.result _

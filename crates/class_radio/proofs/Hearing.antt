@@ -16,10 +16,10 @@ use Rattle.board_run.specs.declared.end.Stop.{Stop}
 use Rattle.board_run.specs.declared.end.Stop.TheVariants.{Quiet, Script, Panic, Fault}
 use Rattle.board_run.specs.Going.{queued_all, next_moment}
 use Rattle.board_run.specs.View.{end_of}
-use Rattle.class_player.specs.declared.player.Player.{Player}
-use Rattle.class_player.specs.declared.player.Standing.{Standing}
-use Rattle.class_player.specs.declared.player.Standing.TheVariants.{Plays, Panicked, Faulted}
-use Rattle.class_player.specs.Playing.{Setup, member_of, run_given, standing_of, outlook, HasPlayed, heard_event, hearing_as, hearing, hearing_all}
+use Rattle.class_radio.specs.declared.player.Player.{Player}
+use Rattle.class_radio.specs.declared.player.Standing.{Standing}
+use Rattle.class_radio.specs.declared.player.Standing.TheVariants.{Plays, Panicked, Faulted}
+use Rattle.class_radio.specs.Playing.{Setup, member_of, run_given, standing_of, outlook, HasPlayed, heard_event, hearing_as, hearing, hearing_all}
 
 raised_two : (t : ℕ) (xs ys : List Event) (own : List Entry) → with_heard (raised_at t ys) (with_heard (raised_at t xs) own) ≡ with_heard (raised_at t (xs ++ ys)) own
 raised_two t [] ys own = refl

@@ -38,11 +38,11 @@ use Rattle.board_run.specs.declared.end.Stop.TheVariants.{Panic as StopPanic, Fa
 use Rattle.board_run.specs.declared.end.End.TheVariants.{Quiet, Script, Panic, Budget, Fault, SinkFault}
 use Rattle.board_run.specs.declared.moments.Gone.{Gone}
 use Rattle.board_run.specs.declared.moments.Gone.TheVariants.{Idle, Ended}
-use Rattle.class_player.specs.declared.player.Player.{Player}
-use Rattle.class_player.specs.Playing.{Setup, member_of, run_given, standing_of, IsNumbered, outlook, said}
-use Rattle.class_player.specs.Stepping.{MayGoOn, world_behind, WentThrough, WasCut, WasBroken, PlayedOn, IsTaken, noting, step_told}
-use Rattle.class_player.proofs.Seen.{seen_now, led_at, says_first}
-use Rattle.class_player.proofs.Coming.{Course, ways, busy_idle}
+use Rattle.class_radio.specs.declared.player.Player.{Player}
+use Rattle.class_radio.specs.Playing.{Setup, member_of, run_given, standing_of, IsNumbered, outlook, said}
+use Rattle.class_radio.specs.Stepping.{MayGoOn, world_behind, WentThrough, WasCut, WasBroken, PlayedOn, IsTaken, noting, step_told}
+use Rattle.class_radio.proofs.Seen.{seen_now, led_at, says_first}
+use Rattle.class_radio.proofs.Coming.{Course, ways, busy_idle}
 
 into_part : (a c : Option (List ℕ)) (whole next : List ℕ) → TookInto a c whole next → TookPart a c (whole ++ next)
 into_part a c whole next k = record {
@@ -216,6 +216,7 @@ module _ (number budget : ℕ) (setup : Setup) (script : List Entry) (t : ℕ) (
           is = plain;
         };
       };
+      clock = g.clock;
       earlier = earlier_seen;
       says = says_now;
       written = subst (λ text. Took taken taken' text)
@@ -265,6 +266,7 @@ module _ (number budget : ℕ) (setup : Setup) (script : List Entry) (t : ℕ) (
         });
         waits = λ q. absurd (cc);
       };
+      clock = g.clock;
       earlier = earlier_seen;
       says = says_now;
       written = subst (λ text. Took taken taken' text)
@@ -436,3 +438,12 @@ pub taken_by : (lead : ByteList) (t left : ℕ) (log : SureDevice → Option (Li
     → Went log faults lead t left old board taken taken' fs fs' gone → IsTaken left gone
 taken_by lead t left log faults old board taken taken' fs fs' (Idle n) h = h.0
 taken_by lead t left log faults old board taken taken' fs fs' (Ended end) h = tt
+
+pub noting_lead : (gone : Gone) (p : Player) → (noting gone p).lead ≡ p.lead
+noting_lead (Idle used) p = refl
+noting_lead (Ended (Panic code)) p = refl
+noting_lead (Ended (Fault fault address)) p = refl
+noting_lead (Ended Budget) p = refl
+noting_lead (Ended SinkFault) p = refl
+noting_lead (Ended Quiet) p = refl
+noting_lead (Ended Script) p = refl

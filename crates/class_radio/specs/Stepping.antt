@@ -16,11 +16,11 @@ use Rattle.board_run.specs.declared.end.End.TheVariants.{Quiet, Script, Panic, B
 use Rattle.board_run.specs.declared.moments.Gone.{Gone}
 use Rattle.board_run.specs.declared.moments.Gone.TheVariants.{Idle, Ended}
 use Rattle.board_run.specs.Going.{next_moment}
-use Rattle.class_player.specs.declared.player.Standing.TheVariants.{Panicked, Faulted}
-use Rattle.class_player.specs.declared.player.Player.{Player}
-use Rattle.class_player.specs.declared.player.Step.{Step}
-use Rattle.class_player.specs.declared.player.Step.TheVariants.{Through, Budget, SinkFault}
-use Rattle.class_player.specs.Playing.{Setup, run_given, IsNumbered, outlook, HasPlayed, HasCome, said}
+use Rattle.class_radio.specs.declared.player.Standing.TheVariants.{Panicked, Faulted}
+use Rattle.class_radio.specs.declared.player.Player.{Player}
+use Rattle.class_radio.specs.declared.player.Step.{Step}
+use Rattle.class_radio.specs.declared.player.Step.TheVariants.{Through, Budget, SinkFault}
+use Rattle.class_radio.specs.Playing.{Setup, run_given, IsNumbered, outlook, HasPlayed, HasCome, said}
 
 -- It may go through a moment: it has come to it, and something comes to it then.
 pub record MayGoOn (number budget : ℕ) (setup : Setup) (script : List Entry) (t : ℕ) (used : List ℕ) (seen : List Observation) (p : Player) : Type 0 where
@@ -41,6 +41,7 @@ pub record WentThrough (number budget : ℕ) (setup : Setup) (script : List Entr
   pub sees : List Observation
   pub numbered : IsNumbered number budget new
   pub played_on : HasPlayed setup script (t + 1) used sees new
+  pub clock : new.board.engine.clock ≡ t
   pub earlier : before t sees ≡ seen
   pub says : said t new ≡ take 32 (sent_at t sees)
   pub written : Took taken taken' (lines_at t number (outlook sees new).board)

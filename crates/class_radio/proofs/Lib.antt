@@ -1,0 +1,13 @@
+mod Boards
+mod Coming
+mod Going
+mod Hearing
+mod Making
+mod Moments
+mod Onward
+mod Queues
+mod Resting
+mod Seams
+mod Seen
+mod Telling
+mod Turning

@@ -1,0 +1,7 @@
+pub mod Hearing
+pub mod Losses
+pub mod Outcome
+pub mod Playing
+pub mod Stepped
+pub mod Stepping
+pub mod Stopping
