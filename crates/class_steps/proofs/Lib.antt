@@ -3,4 +3,6 @@ mod Alike
 mod Ending
 mod Sound
 mod Cutting
+mod Longer
+mod Begins
 pub mod Laws
