@@ -10,3 +10,5 @@ pub use Rattle.class_steps.specs.Texts.{Reached}
 pub use Rattle.class_steps.proofs.Cutting.{reached, reached_first, runs_to, is_cut, text_is}
 -- boards in the midst of a moment begin a text of their class
 pub use Rattle.class_steps.proofs.Begins.{begins_text, reached_all, seens_of}
+-- where the clock comes to a moment next
+pub use Rattle.class_steps.proofs.Clock.{clock_from}

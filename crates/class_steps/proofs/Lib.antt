@@ -5,4 +5,5 @@ mod Sound
 mod Cutting
 mod Longer
 mod Begins
+mod Clock
 pub mod Laws
