@@ -22,7 +22,7 @@ use Rattle.class_world.specs.Classes.{world_before}
 use Rattle.class_world.specs.Keeping.{moment_run}
 use Rattle.class_world.proofs.Laws.{kept_enough, goes_through, settled_later, seen_from, on_run, begins_timely}
 use Rattle.class_steps.specs.Outlook.{IsSeenAs, next_with}
-use Rattle.class_steps.proofs.Laws.{next_given, seen_early}
+use Rattle.class_steps.proofs.Laws.{next_given, seen_early, clock_from}
 use Rattle.bank_model.specs.Fibers.{Fiber, Shared}
 use Rattle.bank_model.specs.BoardMachine.{fibers, bank_start}
 use Rattle.fiber_queues.proofs.Laws.{least-keyed}
@@ -140,6 +140,7 @@ pub record Course (setup : Setup) (script : List Entry) (t : ℕ) (used : List �
   pub leads : (rest : List ℕ) (k : ℕ) → moment_run (fibers setup.image) t k p.board.kept (at rest) ≡ world_behind setup script t (k + p.board.instructions) (used ++ rest)
   pub early : before t seen ≡ seen
   pub since : (rest : List ℕ) (k : ℕ) → before t (world_behind setup script t (k + p.board.instructions) (used ++ rest)).board.seen ≡ seen
+  pub late : (rest : List ℕ) (k : ℕ) → t ≤ (world_behind setup script t (k + p.board.instructions) (used ++ rest)).board.clock
   pub settled : (m : ℕ) → p.board.instructions ≡ suc m → (rest : List ℕ) → IsSettled (world_behind setup script t m (used ++ rest))
   pub begins : p.board.instructions ≡ 0 → (rest : List ℕ) → IsBusy (at rest)
   pub until_is : p.board.engine.script.end ≡ setup.script.end
@@ -178,6 +179,7 @@ module _ (number budget : ℕ) (setup : Setup) (script : List Entry) (t : ℕ) (
             ∙ ap (λ n. world_behind setup (world_entries setup.script.entries) t n rest) (let c : p.board.instructions ≡ 0 = f.counted in let z : k + p.board.instructions ≡ k = omega (arith, c) in z));
         early = ap (before t) nothing ∙ sym nothing;
         since = λ rest k. (let xs = (world_behind setup script t (k + p.board.instructions) (used ++ rest)).board.seen in ap (λ u. before u xs) zero_t ∙ none_before xs ∙ sym nothing);
+        late = λ rest k. omega (arith, zero_t);
         settled = λ m q. absurd (let c = f.counted in cc);
         begins = λ q rest. mounted_busy setup.image setup.script p.board.engine f.mounted setup.image (at rest) (f.mounted.begins rest);
         until_is = sym (ap (λ (b : WorldBoard). b.until) (f.mounted.begins []).board);
@@ -251,18 +253,30 @@ module _ (number budget : ℕ) (setup : Setup) (script : List Entry) (t : ℕ) (
         ∙ ap (λ v. run_before (fibers setup.image) (t + 1) k (idled_before (fibers setup.image) (t + 1) v)) (sym (w.is rest))
         ∙ sym (goes_so k)
 
+    -- it waits for the moment
+    is_due_now : IsTimely X × (over X.board ≡ false) × (clock_move (least X.sleepers) (next_entry X.board.script) X.board.until ≡ Jump t)
+    is_due_now =
+        (let s = looks rest in
+        let waits = s.waits (ap (option_map end_of) w.resting.goes) in
+        let m = member_of setup (used ++ rest) in
+        (
+          (on_run (fibers setup.image) t p.board.instructions (bank_start setup.image setup.script.end script (used ++ rest)) (begins_timely (fibers setup.image) m.main m.shared setup.script.end script may.rising)).timely,
+          ap is_some s.like.end ∙ ap (λ o. is_some (option_map end_of o)) w.resting.goes,
+          ap (up_to X.board.until) (waits.comes ∙ may.due) ∙ ap (λ u. up_to u (Some t)) s.until_is ∙ jumps t setup.script.end (Some t) refl may.within,
+        ))
+
     since_so : (k : ℕ) → before t (world_behind setup script t (k + p.board.instructions) (used ++ rest)).board.seen ≡ seen
     since_so k =
         (let s = looks rest in
         let waits = s.waits (ap (option_map end_of) w.resting.goes) in
-        let m = member_of setup (used ++ rest) in
-        let timely : IsTimely X = (on_run (fibers setup.image) t p.board.instructions (bank_start setup.image setup.script.end script (used ++ rest)) (begins_timely (fibers setup.image) m.main m.shared setup.script.end script may.rising)).timely in
-        let going : over X.board ≡ false = ap is_some s.like.end ∙ ap (λ o. is_some (option_map end_of o)) w.resting.goes in
-        let says : clock_move (least X.sleepers) (next_entry X.board.script) X.board.until ≡ Jump t =
-        ap (up_to X.board.until) (waits.comes ∙ may.due) ∙ ap (λ u. up_to u (Some t)) s.until_is ∙ jumps t setup.script.end (Some t) refl may.within in
         ap (λ v. before t v.board.seen) (goes_so k)
-        ∙ seen_from (fibers setup.image) t k X timely waits.nobody going waits.none says
+        ∙ seen_from (fibers setup.image) t k X is_due_now.0 waits.nobody is_due_now.1 waits.none is_due_now.2
         ∙ ap (before t) s.like.seen ∙ seen_early setup.script.end t (run_given setup script p.board.instructions (used ++ rest)) (outlook seen p) s)
+
+    late_so : (k : ℕ) → t ≤ (world_behind setup script t (k + p.board.instructions) (used ++ rest)).board.clock
+    late_so k =
+        (let waits = (looks rest).waits (ap (option_map end_of) w.resting.goes) in
+        subst (λ v. t ≤ v.board.clock) (sym (goes_so k)) (clock_from (fibers setup.image) t k X is_due_now.0 waits.nobody is_due_now.1 waits.none is_due_now.2))
 
     settled_so : (m : ℕ) → p.board.instructions ≡ suc m → IsSettled (world_behind setup script t m (used ++ rest))
     settled_so m q =
@@ -280,6 +294,7 @@ module _ (number budget : ℕ) (setup : Setup) (script : List Entry) (t : ℕ) (
         leads = λ rest k. leads_so w looks rest k;
         early = seen_early setup.script.end t (run_given setup script p.board.instructions (used ++ [])) (outlook seen p) (looks []);
         since = λ rest k. since_so w looks rest k;
+        late = λ rest k. late_so w looks rest k;
         settled = λ m q rest. settled_so w looks rest m q;
         begins = λ q rest. absurd (let s : p.board.instructions ≡ suc (looks rest).before = (looks rest).steps in omega (arith, s, q));
         until_is = w.until_is;

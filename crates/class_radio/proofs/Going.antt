@@ -287,6 +287,7 @@ module _ (number budget : ℕ) (setup : Setup) (script : List Entry) (t : ℕ) (
           steps = l.before_it;
           within = (let s = l.steps in omega (arith, a, n, s, low));
           settled = l.settled;
+          clock = λ rest. ap (λ m. (world_behind setup script t m ((used ++ L.used) ++ rest)).board.clock) (sym l.steps) ∙ on_clock rest ∙ g.clock;
           earlier = λ rest. ap (λ m. before t (world_behind setup script t m ((used ++ L.used) ++ rest)).board.seen) (sym l.steps) ∙ ap (before t) (saw rest) ∙ earlier_seen;
           written = λ rest.
               subst (λ m. TookPart taken last_taken (lines_at t number (world_behind setup script t m ((used ++ L.used) ++ rest)).board)) l.steps
@@ -345,6 +346,16 @@ module _ (number budget : ℕ) (setup : Setup) (script : List Entry) (t : ℕ) (
 
   earlier_so : (rest : List ℕ) → before t (B g.used rest).board.seen ≡ seen
   earlier_so rest = ap (λ us. before t (world_behind setup script t (g.used + p.board.instructions) us).board.seen) (append_assoc used Sn.used rest) ∙ Co.since (Sn.used ++ rest) g.used
+
+  clock_so : (rest : List ℕ) → (B g.used rest).board.clock ≡ t
+  clock_so rest =
+      (let m = member_of setup ((used ++ Sn.used) ++ rest) in
+      let n = g.used + p.board.instructions in
+      let next : suc t ≡ t + 1 = omega arith in
+      let e = early_run (fibers setup.image) (suc t) n (bank_start setup.image setup.script.end script ((used ++ Sn.used) ++ rest)) (begins_early (fibers setup.image) m.main m.shared setup.script.end t script) in
+      let soon : (world_behind setup script t (g.used + p.board.instructions) ((used ++ Sn.used) ++ rest)).board.clock < t + 1 = subst (λ u. (world_before setup.script.end u (run_given setup script n ((used ++ Sn.used) ++ rest))).board.clock < u) next e.clock in
+      let late : t ≤ (world_behind setup script t (g.used + p.board.instructions) ((used ++ Sn.used) ++ rest)).board.clock = subst (λ us. t ≤ (world_behind setup script t (g.used + p.board.instructions) us).board.clock) (sym (append_assoc used Sn.used rest)) (Co.late (Sn.used ++ rest) g.used) in
+      omega (arith, soon, late))
 
   early_so : before (t + 1) (seen ++ (seen_of g.done ++ g.last ∷ [])) ≡ seen ++ (seen_of g.done ++ g.last ∷ [])
   early_so =
@@ -407,6 +418,7 @@ module _ (number budget : ℕ) (setup : Setup) (script : List Entry) (t : ℕ) (
         steps = l.before_it;
         within = (let s = l.is in let w = g.within in omega (arith, a, s, w));
         settled = l.settled;
+        clock = λ rest. ap (λ m. (world_behind setup script t m ((used ++ Sn.used) ++ rest)).board.clock) (sym l.is) ∙ clock_so rest;
         earlier = λ rest. ap (λ m. before t (world_behind setup script t m ((used ++ Sn.used) ++ rest)).board.seen) (sym l.is) ∙ earlier_so rest;
         written = λ rest.
             subst (λ m. TookPart taken taken' (lines_at t number (world_behind setup script t m ((used ++ Sn.used) ++ rest)).board)) l.is

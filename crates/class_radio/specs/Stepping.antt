@@ -62,6 +62,7 @@ pub record WasBroken (number budget : ℕ) (setup : Setup) (script : List Entry)
   pub steps : ℕ
   pub within : suc steps ≤ budget
   pub settled : (rest : List ℕ) → IsSettled (world_behind setup script t steps (used ++ rest))
+  pub clock : (rest : List ℕ) → (world_behind setup script t (suc steps) (used ++ rest)).board.clock ≡ t
   pub earlier : (rest : List ℕ) → before t (world_behind setup script t (suc steps) (used ++ rest)).board.seen ≡ seen
   pub written : (rest : List ℕ) → TookPart taken taken' (lines_at t number (world_behind setup script t (suc steps) (used ++ rest)).board)
 
