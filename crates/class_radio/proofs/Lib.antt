@@ -1,13 +1,16 @@
 mod Boards
 mod Coming
+mod Ended
 mod Going
-mod Hearing
+mod Hears
 mod Making
 mod Moments
 mod Onward
 mod Queues
 mod Resting
+mod Runs
 mod Seams
 mod Seen
 mod Telling
 mod Turning
+mod Whole

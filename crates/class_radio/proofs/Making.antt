@@ -9,7 +9,8 @@ use Rattle.event_script.specs.Sound.{IsSound}
 use Rattle.event_script.specs.World.{world_entries}
 use Rattle.class_radio.specs.declared.player.Player.{Player}
 use Rattle.class_radio.specs.Playing.{Setup, IsNumbered, IsFresh}
-use Rattle.class_radio.specs.Stepped.{Past, setups_of, begun, EachBoard, Comes}
+use Rattle.class_radio.specs.Outcome.{setups_of}
+use Rattle.class_radio.specs.Stepped.{Past, begun, EachBoard, Comes}
 use Rattle.class_radio.proofs.Boards.{each_long, each_more}
 
 begun_append : (ss : List Setup) (s : Setup) → begun (ss ++ s ∷ []) ≡ begun ss ++ begun (s ∷ [])

@@ -17,7 +17,7 @@ use Rattle.class_radio.specs.declared.player.Player.{Player}
 use Rattle.class_radio.specs.declared.player.Standing.{Standing}
 use Rattle.class_radio.specs.declared.player.Standing.TheVariants.{Plays, Panicked, Faulted}
 use Rattle.class_radio.specs.Playing.{Setup, IsNumbered, outlook, HasPlayed, HasCome, hearing_as, hearing, hearing_all, said}
-use Rattle.class_radio.proofs.Hearing.{hears_on}
+use Rattle.class_radio.proofs.Hears.{hears_on}
 use Rattle.class_radio.specs.Losses.{lost_by}
 use Rattle.class_radio.specs.Stepped.{ClassPlan, IsSoundPlan, Past, setups_in, seens, outlooks, shown, HaveHeard, Comes, Passed, EachBoard, AreIn}
 use Rattle.class_radio.specs.Hearing.{told, all_hearing}

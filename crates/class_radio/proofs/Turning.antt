@@ -27,7 +27,7 @@ use Rattle.class_radio.specs.declared.run.ClassEnd.{ClassEnd}
 use Rattle.class_radio.specs.declared.run.ClassEnd.TheVariants.{Done, Budget, SinkFault}
 use Rattle.class_radio.specs.Losses.{lost_by}
 use Rattle.class_radio.specs.Stepped.{ClassPlan, IsSoundPlan, Past, setups_in, seens, outlooks, shown, HaveHeard, Comes, Passed, EachBoard, AreIn}
-use Rattle.class_radio.specs.Stopping.{MayTurn, GoesOn, IsSpent, FailedLast, EndsIn, Turned, IsEnded, AreAt, AllTurned}
+use Rattle.class_radio.specs.Stopping.{MayTurn, GoesOn, IsSpent, FailedLast, EndsIn, HasGoneOn, Turned, IsEnded, AreAt, AllTurned}
 use Rattle.class_radio.proofs.Seams.{Behind, behind}
 use Rattle.class_radio.proofs.Boards.{each_long, each_more, Headed, headed, none_left, plan_at, heard_at_board, heard_same, heard_scripts, map_append, setups_split, shown_append, shown_long, moment_more, wrote_at}
 use Rattle.class_radio.proofs.Resting.{seen_so_far, clock_early, nothing_at, due_late, plays_longer}
@@ -54,7 +54,7 @@ module _ (budget t number : ℕ) (h : Past) (p : Player) (may : MayTurn budget t
       by_stop true false e = refl
       by_stop false d e = refl
 
-  goes_none : (s b : ℕ) → s < t → p.due ≡ Some t → stopped_at s b (outlook h.seen p).board ≡ []
+  pub goes_none : (s b : ℕ) → s < t → p.due ≡ Some t → stopped_at s b (outlook h.seen p).board ≡ []
   goes_none s b l due = by_end p.board.engine.end refl
     where
       ended_none : (stop : Stop) → p.board.engine.end ≡ Some stop → HasCome h.setup h.script t h.used h.seen p → ⊥
@@ -175,8 +175,8 @@ module _ (plan : ClassPlan) (sound : IsSoundPlan plan) (began : Option (List ℕ
         (plan_at plan (λ (s : Setup). IsRisingFrom 0 (world_entries s.script.entries)) sound.rising turn.gone turn.here turn.still turn.are.setups);
   }
 
-  pub ended : (taken' : Option (List ℕ)) (fs faults fs' : ℕ) (end : ClassEnd) → fs ≤ faults → EndsIn plan.budget t n turn.here taken taken' faults fs' end → IsEnded plan began taken' fs fs' end
-  ended taken' fs faults fs' end later ends = record {
+  pub ended : (taken' : Option (List ℕ)) (fs faults fs' : ℕ) (end : ClassEnd) → fs ≤ faults → HasGoneOn t turn.here p × EndsIn plan.budget t n turn.here taken taken' faults fs' end → IsEnded plan began taken' fs fs' end
+  ended taken' fs faults fs' end later turned = record {
     t = t;
     within = within;
     gone = turn.gone;
@@ -189,7 +189,8 @@ module _ (plan : ClassPlan) (sound : IsSoundPlan plan) (began : Option (List ℕ
     faults = faults;
     later = later;
     are = turn.are;
-    ends = subst (λ (k : ℕ). EndsIn plan.budget t k turn.here taken taken' faults fs' end) (sym turn.number) ends;
+    on = turned.0;
+    ends = subst (λ (k : ℕ). EndsIn plan.budget t k turn.here taken taken' faults fs' end) (sym turn.number) turned.1;
   }
 
   module _ (q : Player) (taken' : Option (List ℕ)) (g : GoesOn plan.budget t n turn.here p q taken taken') where

@@ -1,17 +1,28 @@
 -- How the run of a class of images ends.
-use Rattle.std.specs.Prelude.{◌≡◌, ℕ, suc, ◌+◌, ◌≤◌, ◌⊎◌, Bool, true, false, if◌then◌else◌, List, [], ◌∷◌, ◌++◌, length, map, Option, Some, None}
+use Rattle.std.specs.Prelude.{◌≡◌, ℕ, ◌+◌, ◌≤◌, Bool, true, false, if◌then◌else◌, List, [], ◌∷◌, ◌++◌, length, map, Option, Some, None}
+use Rattle.std.specs.List.{AllByRecursion}
+use Rattle.std.specs.declared.vec.Vec.{Vec}
+use Rattle.std.specs.declared.alloc.Global.{Global}
 use Rattle.sts_base.specs.Faults.{Rose}
 use Rattle.board_world.specs.Observations.{ByteList, End, Quietly, By_script, Panicked, Faulted}
 use Rattle.board_world.specs.Board.{Board}
 use Rattle.bank_model.specs.Fibers.{Fiber, Shared}
 use Rattle.tool_io.specs.Putting.{Took, TookPart}
-use Rattle.class_world.specs.Classes.{Member, Class, Played, world_of, now, IsWhole, IsCut}
+use Rattle.class_world.specs.Classes.{Member, Class, Played, world_of, IsWhole, IsCut}
+use Rattle.event_script.specs.declared.script.Script.{Script}
 use Rattle.class_world.specs.Lines.{whole_text, cut_text}
+use Rattle.class_steps.specs.Texts.{IsTextOf}
 use Rattle.class_file.specs.declared.class.Loss.{Loss}
 use Rattle.class_radio.specs.Playing.{Setup, member_of}
 use Rattle.class_radio.specs.Losses.{lost_by}
 use Rattle.class_radio.specs.declared.run.ClassEnd.{ClassEnd}
 use Rattle.class_radio.specs.declared.run.ClassEnd.TheVariants.{Done, Budget, SinkFault}
+
+-- what each board of a class is given
+abbrev pub setups_of : List (Vec ℕ Global) → List Script → List Setup
+setups_of [] scripts = []
+setups_of (image ∷ images) [] = []
+setups_of (image ∷ images) (script ∷ scripts) = record { image = image.items; script = script } ∷ setups_of images scripts
 
 -- the members of a class, each with free words of its own
 abbrev pub members_of : List Setup → List (List ℕ) → List (Member Fiber Shared)
@@ -45,11 +56,12 @@ how_many_end test [] = 0
 how_many_end test (w ∷ ws) = (if test w.end then 1 else 0) + how_many_end test ws
 
 module _ (parts : List Setup) (losses : List Loss) (until budget : ℕ) where
-  -- Each board's run ended, and the whole text was written.
+  -- Each board's run ended within the budget, and the whole text was written.
   pub record IsDone (panics faults : ℕ) (taken taken' : Option (List ℕ)) : Type 0 where
     pub frees : List (List ℕ)
     pub runs : List (Played Fiber Shared)
     pub whole : IsWhole (class_of_parts parts losses until frees) runs
+    pub within : AllByRecursion (λ (p : Played Fiber Shared). p.steps ≤ budget) runs
     pub panicked : panics ≡ how_many_end is_panic (boards_of until runs)
     pub faulted : faults ≡ how_many_end is_fault (boards_of until runs)
     pub written : Took taken taken' (whole_text until (boards_of until runs))
@@ -65,13 +77,11 @@ module _ (parts : List Setup) (losses : List Loss) (until budget : ℕ) where
     pub steps : here.steps ≡ budget
     pub written : Took taken taken' (cut_text number (world_of until here).board (boards_of until below) (boards_of until (below ++ here ∷ above)))
 
-  -- The sink failed in one of these texts, where each board may make as many steps as the budget.
+  -- The sink failed in a text that the class has where each board may make so many steps.
   pub record IsStopped (taken taken' : Option (List ℕ)) : Type 0 where
     pub frees : List (List ℕ)
     pub text : ByteList
-    pub is : ((runs : List (Played Fiber Shared)) × IsWhole (class_of_parts parts losses until frees) runs × (text ≡ whole_text until (boards_of until runs)))
-        ⊎ ((below : List (Played Fiber Shared)) × (here : Played Fiber Shared) × (above : List (Played Fiber Shared)) × IsCut (class_of_parts parts losses until frees) below here above × (here.steps ≡ budget)
-            × (text ≡ cut_text (length below) (world_of until here).board (boards_of until below) (boards_of until (below ++ here ∷ above))))
+    pub is : IsTextOf (class_of_parts parts losses until frees) budget text
     pub written : TookPart taken taken' text
 
   -- What a call that ran the class answered.

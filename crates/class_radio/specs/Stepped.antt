@@ -1,12 +1,9 @@
 -- A class of boards that is stepped moment by moment over a sink.
 use Rattle.std.specs.Prelude.{◌≡◌, ◌≤◌, ℕ, suc, Bool, List, [], ◌∷◌, ◌++◌, length, map, take, Option}
 use Rattle.std.specs.List.{AllByRecursion}
-use Rattle.std.specs.declared.vec.Vec.{Vec}
-use Rattle.std.specs.declared.alloc.Global.{Global}
 use Rattle.board_world.specs.Observations.{Observation}
 use Rattle.board_world.specs.Board.{Board, Entry}
 use Rattle.board_world.specs.Before.{IsRisingFrom}
-use Rattle.event_script.specs.declared.script.Script.{Script}
 use Rattle.event_script.specs.World.{world_entries}
 use Rattle.tool_io.specs.Putting.{Took}
 use Rattle.class_world.specs.Hearing.{sent_at, heard_of, with_heard}
@@ -16,12 +13,6 @@ use Rattle.class_file.specs.declared.class.Loss.{Loss}
 use Rattle.class_radio.specs.declared.player.Player.{Player}
 use Rattle.class_radio.specs.Playing.{Setup, IsNumbered, outlook, HasPlayed, HasCome, said}
 use Rattle.class_radio.specs.Losses.{lost_by}
-
--- what each board of a class is given
-abbrev pub setups_of : List (Vec ℕ Global) → List Script → List Setup
-setups_of [] scripts = []
-setups_of (image ∷ images) [] = []
-setups_of (image ∷ images) (script ∷ scripts) = record { image = image.items; script = script } ∷ setups_of images scripts
 
 -- what a class is given: each board's image and script, what is lost between them, the end of all their scripts, and each board's budget
 pub record ClassPlan : Type 0 where

@@ -1,12 +1,12 @@
 -- How a board goes through a moment of its class, and how that may end the class's run.
-use Rattle.std.specs.Prelude.{◌≡◌, ◌≤◌, ◌⊎◌, ℕ, suc, List, [], ◌∷◌, ◌++◌, length, Option, None, Result, Ok, Err}
+use Rattle.std.specs.Prelude.{◌≡◌, ◌≤◌, ◌<◌, ◌⊎◌, ℕ, suc, List, [], ◌∷◌, ◌++◌, length, Option, None, Result, Ok, Err}
 use Rattle.sts_base.specs.Faults.{Rose}
 use Rattle.board_world.specs.Observations.{Observation}
 use Rattle.board_world.specs.Transcript.{closing_line}
 use Rattle.board_world.specs.Before.{IsRisingFrom}
 use Rattle.tool_io.specs.Putting.{Took, TookPart}
 use Rattle.class_world.specs.Hearing.{before}
-use Rattle.class_world.specs.Lines.{numbered, lines_at, WroteSame}
+use Rattle.class_world.specs.Lines.{numbered, stopped_at, lines_at, WroteSame}
 use Rattle.class_radio.specs.declared.player.Player.{Player}
 use Rattle.class_radio.specs.Playing.{outlook}
 use Rattle.class_radio.specs.Stepping.{WasCut, WasBroken}
@@ -48,10 +48,14 @@ EndsIn budget t number h taken taken' fs fs' (Done panics faults) = ⊥
 EndsIn budget t number h taken taken' fs fs' (Budget b) = (b ≡ number) × IsSpent budget t number h taken taken'
 EndsIn budget t number h taken taken' fs fs' SinkFault = (WasBroken number budget h.setup h.script t h.seen taken taken' ⊎ FailedLast budget t number h taken taken') × Rose fs fs'
 
+-- it hadn't written its end before the moment
+abbrev pub HasGoneOn : (t : ℕ) → Past → Player → Type 0
+HasGoneOn t h p = (s b : ℕ) → s < t → stopped_at s b (outlook h.seen p).board ≡ []
+
 -- what a board's turn at a moment answers
 abbrev pub Turned : (budget t number : ℕ) → Past → Player → Player → Option (List ℕ) → Option (List ℕ) → ℕ → ℕ → Result (Unit {0}) ClassEnd → Type 0
 Turned budget t number h p q taken taken' fs fs' (Ok u) = GoesOn budget t number h p q taken taken'
-Turned budget t number h p q taken taken' fs fs' (Err end) = EndsIn budget t number h taken taken' fs fs' end
+Turned budget t number h p q taken taken' fs fs' (Err end) = HasGoneOn t h p × EndsIn budget t number h taken taken' fs fs' end
 
 -- The run of a class was ended in a moment by the board behind those that had gone through it.
 pub record IsEnded (plan : ClassPlan) (began taken : Option (List ℕ)) (fs fs' : ℕ) (end : ClassEnd) : Type 0 where
@@ -67,6 +71,7 @@ pub record IsEnded (plan : ClassPlan) (began taken : Option (List ℕ)) (fs fs' 
   pub faults : ℕ
   pub later : fs ≤ faults
   pub are : AreIn plan began t gone (here ∷ still) first (player ∷ rest) between
+  pub on : HasGoneOn t here player
   pub ends : EndsIn plan.budget t (length gone) here between taken faults fs' end
 
 -- All boards of a class have come to a moment, none after its end.

@@ -2,7 +2,8 @@
 ghost use Rattle.std.specs.Prelude.{◌≡◌, ◌≤◌, All, IfOk, vec_len};
 ghost use Rattle.thumb_code.specs.Map.{flash_end};
 ghost use Rattle.event_script.specs.Sound.{IsSound};
-ghost use Rattle.class_radio.specs.Stepped.{setups_of, begun, EachBoard, Comes};
+ghost use Rattle.class_radio.specs.Outcome.{setups_of};
+ghost use Rattle.class_radio.specs.Stepped.{begun, EachBoard, Comes};
 
 use crate::player::Player;
 use event_script::Script;

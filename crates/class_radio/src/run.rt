@@ -3,8 +3,7 @@ ghost use Rattle.std.specs.Prelude.{◌≡◌, ◌≤◌, All, IfOk, IfErr, vec_
 ghost use Rattle.thumb_code.specs.Map.{flash_end};
 ghost use Rattle.event_script.specs.Sound.{IsSound};
 ghost use Rattle.event_script.specs.declared.script.Script.{Script as EventScript};
-ghost use Rattle.class_radio.specs.Stepped.{setups_of};
-ghost use Rattle.class_radio.specs.Outcome.{RanClass};
+ghost use Rattle.class_radio.specs.Outcome.{setups_of, RanClass};
 
 use crate::closing::{how_many, put_ends};
 use crate::losses::Losses;
