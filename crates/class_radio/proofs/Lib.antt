@@ -3,6 +3,7 @@ mod Coming
 mod Ended
 mod Going
 mod Hears
+mod Indexing
 mod Making
 mod Moments
 mod Onward
@@ -11,6 +12,7 @@ mod Resting
 mod Runs
 mod Seams
 mod Seen
+mod Stepped
 mod Telling
 mod Turning
 mod Whole

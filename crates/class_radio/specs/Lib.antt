@@ -1,4 +1,5 @@
 pub mod Hearing
+pub mod Index
 pub mod Losses
 pub mod Outcome
 pub mod Playing
