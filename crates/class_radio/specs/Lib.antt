@@ -1,4 +1,6 @@
+pub mod Closing
 pub mod Hearing
+pub mod Index
 pub mod Losses
 pub mod Outcome
 pub mod Playing

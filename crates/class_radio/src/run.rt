@@ -64,7 +64,7 @@ pub fn run_class<K: Sink>(
     ensures nothing { IfErr result (K.taken out.new ≡ K.taken out.old) }
     ensures later { K.faults out.old ≤ K.faults out.new }
 {
-    let losses = Losses::new(alloc, lose.as_slice())?;
+    let losses = Losses::new(alloc, lose)?;
     let mut players = mount_all(alloc, images, scripts, budget)?;
     match step_all(&mut players, &losses, end, out) {
         Err(ended) => Ok(ended),
