@@ -1,9 +1,11 @@
 mod Boards
 mod Coming
+mod Counting
 mod Ended
 mod Going
 mod Hears
 mod Indexing
+mod Lining
 mod Making
 mod Moments
 mod Onward

@@ -1,3 +1,4 @@
+pub mod Closing
 pub mod Hearing
 pub mod Index
 pub mod Losses
