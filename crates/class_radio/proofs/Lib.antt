@@ -11,6 +11,7 @@ mod Moments
 mod Onward
 mod Queues
 mod Resting
+mod Running
 mod Runs
 mod Seams
 mod Seen

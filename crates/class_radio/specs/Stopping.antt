@@ -6,13 +6,16 @@ use Rattle.board_world.specs.Transcript.{closing_line}
 use Rattle.board_world.specs.Before.{IsRisingFrom}
 use Rattle.tool_io.specs.Putting.{Took, TookPart}
 use Rattle.class_world.specs.Hearing.{before}
-use Rattle.class_world.specs.Lines.{numbered, stopped_at, lines_at, WroteSame}
+use Rattle.class_steps.specs.Outlook.{looks, last_line}
+use Rattle.class_world.specs.Lines.{closing_lines, numbered, stopped_at, lines_at, WroteSame}
 use Rattle.class_radio.specs.declared.player.Player.{Player}
 use Rattle.class_radio.specs.Playing.{outlook}
 use Rattle.class_radio.specs.Stepping.{WasCut, WasBroken}
 use Rattle.class_radio.specs.declared.run.ClassEnd.{ClassEnd}
 use Rattle.class_radio.specs.declared.run.ClassEnd.TheVariants.{Done, Budget, SinkFault}
-use Rattle.class_radio.specs.Stepped.{ClassPlan, IsSoundPlan, Past, Comes, Passed, AreIn}
+use Rattle.class_radio.specs.declared.player.Standing.TheVariants.{Panicked, Faulted}
+use Rattle.class_radio.specs.Closing.{how_many_stand}
+use Rattle.class_radio.specs.Stepped.{ClassPlan, IsSoundPlan, Past, outlooks, Comes, Passed, AreIn}
 
 -- A board may have its turn at a moment.
 pub record MayTurn (budget t number : ℕ) (h : Past) (p : Player) : Type 0 where
@@ -89,3 +92,10 @@ AllTurned plan began t players taken fs fs' (Err end) = IsEnded plan began taken
 abbrev pub AllStepped : (plan : ClassPlan) → Option (List ℕ) → List Player → Option (List ℕ) → ℕ → ℕ → Result (Unit {0}) ClassEnd → Type 0
 AllStepped plan began players taken fs fs' (Ok u) = (pasts : List Past) × AreIn plan began (suc plan.until) [] pasts [] players taken
 AllStepped plan began players taken fs fs' (Err end) = IsEnded plan began taken fs fs' end
+
+-- what became of the closing lines of players that have seen this: all were taken, with how many of them stopped, or the sink failed in them
+abbrev pub Closes : (seen : List (List Observation)) → (end : ℕ) → List Player → Option (List ℕ) → Option (List ℕ) → ℕ → ℕ → ClassEnd → Type 0
+Closes seen end players taken taken' fs fs' (Done panics faults) =
+    Took taken taken' (closing_lines (last_line end (outlooks seen players)) 0 (looks (outlooks seen players))) × (panics ≡ how_many_stand Panicked players) × (faults ≡ how_many_stand Faulted players)
+Closes seen end players taken taken' fs fs' (Budget b) = ⊥
+Closes seen end players taken taken' fs fs' SinkFault = TookPart taken taken' (closing_lines (last_line end (outlooks seen players)) 0 (looks (outlooks seen players))) × Rose fs fs'

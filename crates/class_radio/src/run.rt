@@ -1,9 +1,12 @@
 //! The run of a class of boards over a sink.
-ghost use Rattle.std.specs.Prelude.{◌≡◌, ◌≤◌, All, IfOk, OnErr, vec_len};
+ghost use Rattle.std.specs.Prelude.{◌≡◌, ◌≤◌, ◌<◌, List, All, IfOk, OnErr, length, vec_len};
 ghost use Rattle.thumb_code.specs.Map.{flash_end};
 ghost use Rattle.event_script.specs.Sound.{IsSound};
 ghost use Rattle.event_script.specs.declared.script.Script.{Script as EventScript};
+ghost use Rattle.board_world.specs.Observations.{Observation};
 ghost use Rattle.class_radio.specs.Outcome.{setups_of, RanClass};
+ghost use Rattle.class_radio.specs.Closing.{AreLed};
+ghost use Rattle.class_radio.specs.Stopping.{Closes};
 
 use crate::closing::{how_many, put_ends};
 use crate::losses::Losses;
@@ -28,7 +31,12 @@ pub enum ClassEnd {
 }
 
 /// Puts the closing lines of boards that have come behind the class's end.
-fn close_all<K: Sink>(players: &[Player], end: u32, out: &mut K) -> ClassEnd {
+fn close_all<K: Sink>(players: &[Player], end: u32, out: &mut K) -> ClassEnd
+    requires few { length players.now < 4294967296 }
+    requires led { AreLed 0 players.now }
+    ensures closes { (seen : List (List Observation)) → Closes seen end players.now (K.taken out.old) (K.taken out.new) (K.faults out.old) (K.faults out.new) result }
+    ensures later { K.faults out.old ≤ K.faults out.new }
+{
     match put_ends(players, end, out) {
         Err(PutFailed) => ClassEnd::SinkFault,
         Ok(()) => ClassEnd::Done {

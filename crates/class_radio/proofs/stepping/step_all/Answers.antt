@@ -1,7 +1,7 @@
 use Rattle.std.proofs.Common.{◌≡◌, ◌≤◌, ◌<◌, ◌∙◌, ℕ, map, ap, sym, subst, Vec, Global, List, arith, rules}
 use Rattle.class_radio.specs.declared.player.Player.{Player}
 use Rattle.class_radio.specs.Hearing.{IsNextOf}
-use Rattle.class_radio.proofs.Stepped.{begins_at, onto_at, ends_at, then_next, then_less, ended_later}
+use Rattle.class_radio.proofs.Stepped.{moments_left, begins_at, onto_at, ends_at, then_next, then_less, ended_later}
 use Rattle.class_radio.proofs.stepping.step_all.Goals as goal
 use Rattle.class_radio.proofs.stepping.step_all.Goals.{then-moment-end, else-moment-end}
 
@@ -30,7 +30,7 @@ loop-next-smaller g c =
         | else-moment-end w ↦ ap (λ (v : Vec Player Global). v.items) w.players-is
     ])
     c.next_moment-next.result next in
-    ?)
+    subst (λ n. moments_left c.args.end c.next_moment-next.result < moments_left c.args.end n) (sym c.in-Some.is) less)
 
 pub loop-next-preserved : goal.loop-next-preserved
 loop-next-preserved g c = record {
