@@ -1,12 +1,14 @@
 -- The run of a class from its images on.
-use Rattle.std.proofs.Common.{◌≡◌, ◌≤◌, ◌<◌, ℕ, suc, zero, ◌+◌, Bool, true, false, if◌then◌else◌, ◌==◌, List, [], ◌∷◌, ◌++◌, length, map, Option, Ok, Err, Result, refl, ap, sym, ◌∙◌, subst, arith, All}
+use Rattle.std.proofs.Common.{◌≡◌, ◌≤◌, ◌<◌, ℕ, suc, zero, ◌+◌, Bool, true, false, if◌then◌else◌, ◌==◌, List, [], ◌∷◌, ◌++◌, length, map, Option, Some, None, refl, ap, sym, ◌∙◌, subst, arith, All}
+use Rattle.std.specs.Prelude.{IfSome}
 use Rattle.std.specs.List.{AllByRecursion}
 use Rattle.std.specs.declared.vec.Vec.{Vec}
 use Rattle.std.specs.declared.alloc.Global.{Global}
 use Rattle.std.proofs.lemmas.List.Elements.{All-head, All-tail}
 use Rattle.sts_base.specs.Faults.{Rose}
 use Rattle.board_world.specs.Observations.{Observation}
-use Rattle.board_world.specs.Board.{Entry}
+use Rattle.board_world.specs.Board.{Entry, next_entry}
+use Rattle.board_world.proofs.Laws.{rises_in_order}
 use Rattle.board_world.specs.Before.{IsRisingFrom}
 use Rattle.event_script.specs.declared.script.Script.{Script}
 use Rattle.event_script.specs.Sound.{IsSound}
@@ -42,6 +44,13 @@ setups_end : (until : ℕ) (images : List (Vec ℕ Global)) (scripts : List Scri
 setups_end until [] scripts h = tt
 setups_end until (x ∷ xs) [] h = tt
 setups_end until (x ∷ xs) (y ∷ ys) h = (All-head (λ (s : Script). s.end ≡ until) y ys h, setups_end until xs ys (All-tail (λ (s : Script). s.end ≡ until) y ys h))
+
+first_any : (o : Option ℕ) → IfSome o (λ m. 0 ≤ m)
+first_any None = tt
+first_any (Some m) = omega arith
+
+sound_rises : (s : Script) → IsSound s → IsRisingFrom 0 (world_entries s.entries)
+sound_rises s h = rises_in_order 0 (world_entries s.entries) (first_any (next_entry (world_entries s.entries))) h.order
 
 setups_rise : (images : List (Vec ℕ Global)) (scripts : List Script) → All IsSound scripts → AllByRecursion (λ (s : Setup). IsRisingFrom 0 (world_entries s.script.entries)) (setups_of images scripts)
 setups_rise [] scripts h = tt
