@@ -264,7 +264,7 @@ module _ (plan : ClassPlan) (sound : IsSoundPlan plan) (began : Option (List ℕ
           cut = cut;
           at = number_is;
           steps = made;
-          written = subst (Took began taken) (regroup _ _ _ _ ∙ sym text) (took-then _ _ (took-then _ _ took seen) closed);
+          written = subst (Took began taken) (regroup (lines_before t (shown gone first ++ V.board ∷ shown still rest)) (moment_lines t 0 (shown gone first)) (seen_at t (length gone) V.board.seen) (numbered (length gone) (closing_line t None)) ∙ sym text) (took-then _ _ (took-then _ _ took seen) closed);
         }
 
         pub spent_part : (mid taken : Option (List ℕ)) → steps ≡ plan.budget → Took between mid (seen_at t (length gone) V.board.seen) → TookPart mid taken (numbered (length gone) (closing_line t None))
@@ -280,7 +280,7 @@ module _ (plan : ClassPlan) (sound : IsSoundPlan plan) (began : Option (List ℕ
             steps = made;
             is = ap (λ (n : ℕ). cut_text n (world_of plan.until one).board (boards_of plan.until below) (boards_of plan.until (below ++ one ∷ above))) (sym number_is);
           });
-          written = subst (TookPart began taken) (regroup _ _ _ _ ∙ sym text) (part-then _ _ (took-then _ _ took seen) closed);
+          written = subst (TookPart began taken) (regroup (lines_before t (shown gone first ++ V.board ∷ shown still rest)) (moment_lines t 0 (shown gone first)) (seen_at t (length gone) V.board.seen) (numbered (length gone) (closing_line t None)) ∙ sym text) (part-then _ _ (took-then _ _ took seen) closed);
         }
 
   -- the world behind the moment, as the class has it

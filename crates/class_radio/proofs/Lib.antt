@@ -14,6 +14,7 @@ mod Resting
 mod Runs
 mod Seams
 mod Seen
+mod Stepped
 mod Telling
 mod Turning
 mod Whole

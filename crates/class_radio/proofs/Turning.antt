@@ -273,3 +273,32 @@ all_gone plan began t n players taken m last =
     empty : (ps : List Player) → length ps ≡ 0 → ps ≡ []
     empty [] e = refl
     empty (x ∷ xs) e = absurd (omega (arith, e))
+
+-- a board that went has its lead
+module _ (budget t number : ℕ) (h : Past) (p : Player) (may : MayTurn budget t number h p) where
+  pub has_gone_on : p.due ≡ Some t → HasGoneOn t h p
+  has_gone_on due s b l = goes_none budget t number h p may s b l due
+
+  pub spent_so : (taken mid taken' : Option (List ℕ)) (fs fs' : ℕ) → p.due ≡ Some t → WasCut number budget h.setup h.script t h.seen taken mid → Took mid taken' (numbered number (closing_line t None))
+      → HasGoneOn t h p × EndsIn budget t number h taken taken' fs fs' (Budget number)
+  spent_so taken mid taken' fs fs' due cut closed = (has_gone_on due, (refl, record { between = mid; cut = cut; closed = closed }))
+
+  pub failed_last : (taken mid taken' : Option (List ℕ)) (fs ms fs' : ℕ) → p.due ≡ Some t → WasCut number budget h.setup h.script t h.seen taken mid → TookPart mid taken' (numbered number (closing_line t None))
+      → fs ≤ ms → Rose ms fs' → HasGoneOn t h p × EndsIn budget t number h taken taken' fs fs' SinkFault
+  failed_last taken mid taken' fs ms fs' due cut part later rose = (has_gone_on due, (inr (record { between = mid; cut = cut; part = part }), rose-before fs ms fs' later rose))
+
+  pub broke : (taken taken' : Option (List ℕ)) (fs fs' : ℕ) → p.due ≡ Some t → WasBroken number budget h.setup h.script t h.seen taken taken' × Rose fs fs' → HasGoneOn t h p × EndsIn budget t number h taken taken' fs fs' SinkFault
+  broke taken taken' fs fs' due h' = (has_gone_on due, (inl h'.0, h'.1))
+
+-- there are few boards
+pub few_boards : (plan : ClassPlan) → IsSoundPlan plan → (began : Option (List ℕ)) (t : ℕ) (pasts : List Past) (players : List Player) (taken : Option (List ℕ)) → AreIn plan began t [] pasts [] players taken → length players ≤ 8
+few_boards plan sound began t pasts players taken are =
+    (let one : length pasts ≡ length players = each_long (Comes plan.budget t) 0 pasts players are.come in
+    let two : length (setups_in pasts) ≡ length pasts = map_long pasts in
+    let three : length (setups_in pasts) ≡ length plan.setups = ap length are.setups in
+    let four : length plan.setups ≤ 8 = sound.few in
+    omega (arith, one, two, three, four))
+  where
+    map_long : (hs : List Past) → length (setups_in hs) ≡ length hs
+    map_long [] = refl
+    map_long (h ∷ hs) = ap suc (map_long hs)

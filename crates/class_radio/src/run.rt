@@ -1,5 +1,5 @@
 //! The run of a class of boards over a sink.
-ghost use Rattle.std.specs.Prelude.{◌≡◌, ◌≤◌, All, IfOk, IfErr, vec_len};
+ghost use Rattle.std.specs.Prelude.{◌≡◌, ◌≤◌, All, IfOk, OnErr, vec_len};
 ghost use Rattle.thumb_code.specs.Map.{flash_end};
 ghost use Rattle.event_script.specs.Sound.{IsSound};
 ghost use Rattle.event_script.specs.declared.script.Script.{Script as EventScript};
@@ -61,7 +61,7 @@ pub fn run_class<K: Sink>(
     requires least { 1 ≤ budget }
     requires most { budget ≤ 2147483648 }
     ensures ran { IfOk result (RanClass (setups_of images.items scripts.items) lose end budget (K.taken out.old) (K.taken out.new) (K.faults out.old) (K.faults out.new)) }
-    ensures nothing { IfErr result (K.taken out.new ≡ K.taken out.old) }
+    ensures nothing { OnErr result (K.taken out.new ≡ K.taken out.old) }
     ensures later { K.faults out.old ≤ K.faults out.new }
 {
     let losses = Losses::new(alloc, lose)?;
