@@ -10,6 +10,7 @@ mod Making
 mod Moments
 mod Onward
 mod Queues
+mod Ran
 mod Resting
 mod Runs
 mod Seams

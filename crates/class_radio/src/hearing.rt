@@ -16,6 +16,7 @@ fn hear_one(players: &mut Vec<Player>, from: usize, to: usize, moment: u32)
     requires other { from ≢ to }
     ensures heard { (d : PlayerState) → players.new.items ≡ set players.old.items to
         (hearing_all (moment + 1) (said moment (slice_index_or players.old.items from d)) (slice_index_or players.old.items to d)) }
+    ensures same { vec_len players.new ≡ vec_len players.old }
 {
     for at in 0..players[from].sent_at(moment).len() {
         let number = players[from].sent_at(moment)[at];
@@ -29,6 +30,7 @@ fn hear_others(players: &mut Vec<Player>, losses: &Losses, to: usize, moment: u3
     requires to { to < vec_len players.old }
     ensures heard { (d : PlayerState) → players.new.items ≡ set players.old.items to
         (hearing_all (moment + 1) (told (lost_by losses.now) moment to 0 (map (said moment) players.old.items)) (slice_index_or players.old.items to d)) }
+    ensures same { vec_len players.new ≡ vec_len players.old }
 {
     for from in 0..players.len() {
         if from != to && !losses.lost(moment, from, to) {

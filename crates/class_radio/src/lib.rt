@@ -7,9 +7,7 @@ mod losses;
 mod mounting;
 mod player;
 mod run;
-mod scratch;
 mod stepping;
 mod turns;
 
 pub use run::{ClassEnd, run_class};
-pub use scratch::check_lemmas;

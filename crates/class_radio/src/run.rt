@@ -1,9 +1,11 @@
 //! The run of a class of boards over a sink.
-ghost use Rattle.std.specs.Prelude.{◌≡◌, ◌≤◌, All, IfOk, OnErr, vec_len};
+ghost use Rattle.std.specs.Prelude.{◌≡◌, ◌<◌, ◌≤◌, [], ℕ, suc, All, IfOk, List, OnErr, Option, length, vec_len};
 ghost use Rattle.thumb_code.specs.Map.{flash_end};
 ghost use Rattle.event_script.specs.Sound.{IsSound};
 ghost use Rattle.event_script.specs.declared.script.Script.{Script as EventScript};
+ghost use Rattle.class_radio.specs.Closing.{AreLed};
 ghost use Rattle.class_radio.specs.Outcome.{setups_of, RanClass};
+ghost use Rattle.class_radio.specs.Stepped.{ClassPlan, IsSoundPlan, Past, AreIn};
 
 use crate::closing::{how_many, put_ends};
 use crate::losses::Losses;
@@ -14,7 +16,7 @@ use crate::player::{Player, Standing};
 use event_script::Script;
 use std::alloc::Global;
 use sts_base::{NoMemory, Seq};
-use tool_io::{PutFailed, Sink};
+use tool_io::Sink;
 
 /// How a class's run over a sink ended.
 #[derive(Clone, Copy, Debug, PartialEq, Eq, Drop)]
@@ -27,14 +29,21 @@ pub enum ClassEnd {
     SinkFault,
 }
 
-/// Puts the closing lines of boards that have come behind the class's end.
-fn close_all<K: Sink>(players: &[Player], end: u32, out: &mut K) -> ClassEnd {
+/// Puts the closing lines of boards that have come behind the class's end, and tells how many stopped.
+fn close_all<K: Sink>(players: &[Player], end: u32, out: &mut K) -> ClassEnd
+    requires few { length players.now < 4294967296 }
+    requires led { AreLed 0 players.now }
+    ensures closed { (plan : ClassPlan) (began : Option (List ℕ)) (pasts : List Past) → IsSoundPlan plan → plan.until ≡ end → AreIn plan began (suc plan.until) [] pasts [] players.now (K.taken out.old)
+        → RanClass plan.setups plan.losses plan.until plan.budget began (K.taken out.new) (K.faults out.old) (K.faults out.new) result }
+    ensures later { K.faults out.old ≤ K.faults out.new }
+{
     match put_ends(players, end, out) {
-        Err(PutFailed) => ClassEnd::SinkFault,
-        Ok(()) => ClassEnd::Done {
-            panics: how_many(players, Standing::Panicked),
-            faults: how_many(players, Standing::Faulted),
-        },
+        Err(_) => ClassEnd::SinkFault,
+        Ok(()) => {
+            let panics = how_many(players, Standing::Panicked);
+            let faults = how_many(players, Standing::Faulted);
+            ClassEnd::Done { panics, faults }
+        }
     }
 }
 

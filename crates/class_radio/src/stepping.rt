@@ -56,7 +56,7 @@ pub fn step_all<K: Sink>(
     while let Some(moment) = next {
         match go_all(players, moment, out) {
             Ok(()) => {}
-            Err(end) => return Err(end),
+            Err(ended) => return Err(ended),
         }
         if moment < end {
             hear_all(players, losses, moment);
