@@ -1,5 +1,5 @@
 -- The next moment at which something comes to some board, and boards that wait for it.
-use Rattle.std.proofs.Common.{◌≡◌, ◌≤◌, ◌<◌, ◌⊎◌, inl, inr, ℕ, suc, zero, ◌+◌, ◌-◌, Bool, true, false, if◌then◌else◌, nat_lt, nat_le, List, [], ◌∷◌, ◌++◌, length, map, Option, Some, None, refl, ap, sym, ◌∙◌, subst, arith, append-nil}
+use Rattle.std.proofs.Common.{◌≡◌, ◌≤◌, ◌<◌, ◌⊎◌, inl, inr, ℕ, suc, zero, ◌+◌, ◌-◌, Bool, true, false, if◌then◌else◌, nat_lt, nat_le, List, [], ◌∷◌, ◌++◌, length, map, take, get_or, Option, Some, None, refl, ap, sym, ◌∙◌, subst, arith, append-nil}
 use Rattle.std.specs.Prelude.{IfSome}
 use Rattle.std.proofs.lemmas.Bool.Decides.{nat_tests}
 use Rattle.std.specs.List.{AllByRecursion}
@@ -16,6 +16,7 @@ use Rattle.class_radio.specs.Playing.{outlook, HasPlayed, HasCome}
 use Rattle.class_radio.specs.Losses.{lost_by}
 use Rattle.class_radio.specs.Stepped.{ClassPlan, Past, seens, shown, HaveHeard, Comes, EachBoard, AreIn}
 use Rattle.class_radio.specs.Hearing.{ComesToOne, IsNextOf, soonest}
+use Rattle.class_radio.proofs.Telling.{take_more}
 use Rattle.class_radio.proofs.Resting.{seen_so_far, wrote_so_far, plays_longer, due_late}
 
 all_push : {X : Type 0} (P : X → Type 0) (xs : List X) (x : X) → AllByRecursion P xs → P x → AllByRecursion P (xs ++ x ∷ [])
@@ -77,6 +78,11 @@ next_more end ps (Some a) p h = by_due p.due refl
         by_first false q =
             (let l : a ≤ b = grind (arith, nat_tests) in
             (h.0, all_push (λ (r : Player). IfSome r.due (λ m. a ≤ m)) ps p h.1 (subst (λ (o : Option ℕ). IfSome o (λ m. a ≤ m)) (sym e) l), one_before a ps p h.2))
+
+pub next_turn : (end : ℕ) (ps : List Player) (i : ℕ) (next new : Option ℕ) (p : Player) → i < length ps → p ≡ get_or ps i p → new ≡ soonest end next p.due → IsNextOf end (take i ps) next → IsNextOf end (take (i + 1) ps) new
+next_turn end ps i next new p within read is h =
+    (let more : take (i + 1) ps ≡ take i ps ++ p ∷ [] = take_more ps i p within ∙ ap (λ (q : Player). take i ps ++ q ∷ []) (sym read) in
+    subst (λ (qs : List Player). IsNextOf end qs new) (sym more) (subst (IsNextOf end (take i ps ++ p ∷ [])) (sym is) (next_more end (take i ps) next p h)))
 
 -- boards that have come to a moment behind the first wait for what comes next
 module _ (plan : ClassPlan) (began : Option (List ℕ)) (t : ℕ) (pasts : List Past) (players : List Player) (taken : Option (List ℕ)) (are : AreIn plan began (suc t) [] pasts [] players taken) where

@@ -3,12 +3,14 @@ use Rattle.std.proofs.Common.{◌≡◌, ◌≤◌, ◌<◌, ℕ, suc, zero, ◌
 use Rattle.std.proofs.lemmas.Bool.Decides.{nat_tests}
 use Rattle.std.specs.Prelude.{IfSome, map}
 use Rattle.std.specs.List.{AllByRecursion}
+use Rattle.class_file.specs.declared.class.Loss.{Loss}
 use Rattle.class_radio.specs.declared.player.Player.{Player}
 use Rattle.class_radio.specs.Playing.{said}
 use Rattle.class_radio.specs.Losses.{lost_by}
 use Rattle.class_radio.specs.Hearing.{all_hearing, IsNextOf}
 use Rattle.class_radio.specs.Stepped.{ClassPlan, IsSoundPlan, Past, seens, AreIn}
-use Rattle.class_radio.specs.Stopping.{AreAt}
+use Rattle.class_radio.specs.declared.run.ClassEnd.{ClassEnd}
+use Rattle.class_radio.specs.Stopping.{IsEnded, AreAt}
 use Rattle.class_radio.proofs.Onward.{heard_on_by, hear_on, hear_no_more}
 use Rattle.class_radio.proofs.Moments.{next_late, wait_longer}
 
@@ -58,3 +60,49 @@ onward_from plan sound began t pasts players new taken are heard kept = by_test 
         subst (λ (ps : List Player). AreIn plan began (suc t) [] (heard_on_by (lost_by plan.losses) t plan.until (seens pasts) 0 pasts) [] ps taken) (sym (heard (grind (arith, nat_tests)))) (hear_on plan sound began t pasts players taken are q))
     by_test false q = (heard_on_by (lost_by plan.losses) t plan.until (seens pasts) 0 pasts,
         subst (λ (ps : List Player). AreIn plan began (suc t) [] (heard_on_by (lost_by plan.losses) t plan.until (seens pasts) 0 pasts) [] ps taken) (sym (kept (grind (arith, nat_tests)))) (hear_no_more plan sound began t pasts players taken are q))
+
+-- boards that have come to a moment may have their turns at it
+pub onto_at : (plan : ClassPlan) (began : Option (List ℕ)) (next : Option ℕ) (t : ℕ) (players : List Player) (taken : Option (List ℕ)) → Onto plan began next players taken → next ≡ Some t → (pasts : List Past) × AreAt plan began t pasts players taken
+onto_at plan began next t players taken o e =
+    (let here : (t ≤ plan.until) × AreIn plan began t [] o.pasts [] players taken = subst (λ (n : Option ℕ). AreOnto plan began n o.pasts players taken) e o.are in
+    (o.pasts, record { plan_is = o.plan_is; within = here.0; are = here.1 }))
+
+pub begins_at : (plan : ClassPlan) (began : Option (List ℕ)) (pasts : List Past) (players : List Player) (taken : Option (List ℕ)) → AreAt plan began 0 pasts players taken → Onto plan began (Some 0) players taken
+begins_at plan began pasts players taken at = record { pasts = pasts; plan_is = at.plan_is; are = (at.within, at.are) }
+
+pub ends_at : (plan : ClassPlan) (began : Option (List ℕ)) (next : Option ℕ) (players : List Player) (taken : Option (List ℕ)) → Onto plan began next players taken → next ≡ None → (pasts : List Past) × AreIn plan began (suc plan.until) [] pasts [] players taken
+ends_at plan began next players taken o e = (o.pasts, subst (λ (n : Option ℕ). AreOnto plan began n o.pasts players taken) e o.are)
+
+-- a whole moment: all had their turn, they heard what was sent, and wait for the next one
+module _ (plan : ClassPlan) (sound : IsSoundPlan plan) (began : Option (List ℕ)) (losses : List Loss) (end t : ℕ) (same_losses : plan.losses ≡ losses) (same_end : plan.until ≡ end) (within : t ≤ plan.until) (players new : List Player) (taken : Option (List ℕ))
+    (gone : (pasts : List Past) × AreIn plan began t pasts [] players [] taken) (heard : t < end → new ≡ all_hearing (lost_by losses) t (map (said t) players) 0 players) (kept : end ≤ t → new ≡ players) where
+  moment_on : (later : List Past) × AreIn plan began (suc t) [] later [] new taken
+  moment_on = onward_from plan sound began t gone.0 players new taken gone.1
+      (λ l. heard (omega (arith, l, same_end)) ∙ ap (λ (ls : List Loss). all_hearing (lost_by ls) t (map (said t) players) 0 players) (sym same_losses))
+      (λ l. kept (omega (arith, l, same_end)))
+
+  pub then_next : (next : Option ℕ) → IsNextOf end new next → Onto plan began next new taken
+  then_next next is = come_next plan sound began t moment_on.0 new taken next within moment_on.1 (subst (λ (u : ℕ). IsNextOf u new next) (sym same_end) is)
+
+  pub then_less : (next : Option ℕ) → IsNextOf end new next → moments_left end next < moments_left end (Some t)
+  then_less next is = subst (λ (u : ℕ). moments_left u next < moments_left u (Some t)) same_end
+      (next_behind plan began t moment_on.0 new taken next within moment_on.1 (subst (λ (u : ℕ). IsNextOf u new next) (sym same_end) is))
+
+-- a run that was ended in a later call was ended in this one
+pub ended_later : (plan : ClassPlan) (began taken : Option (List ℕ)) (first fs fs' : ℕ) (end : ClassEnd) → first ≤ fs → IsEnded plan began taken fs fs' end → IsEnded plan began taken first fs' end
+ended_later plan began taken first fs fs' end l h = record {
+  t = h.t;
+  within = h.within;
+  gone = h.gone;
+  here = h.here;
+  still = h.still;
+  first = h.first;
+  player = h.player;
+  rest = h.rest;
+  between = h.between;
+  faults = h.faults;
+  later = (let k = h.later in omega (arith, l, k));
+  are = h.are;
+  on = h.on;
+  ends = h.ends;
+}

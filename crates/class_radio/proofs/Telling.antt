@@ -1,8 +1,8 @@
 -- What the loops over boards and numbers do to a list of players.
-use Rattle.std.proofs.Common.{◌≡◌, ◌≢◌, ◌≤◌, ◌<◌, ℕ, suc, zero, ◌+◌, ℤ, Bool, true, false, ◌||◌, if◌then◌else◌, nat_lt, ◌==◌, List, [], ◌∷◌, ◌++◌, length, map, take, drop, get_or, refl, ap, sym, ◌∙◌, subst, arith, append-nil, append_assoc, length-append}
+use Rattle.std.proofs.Common.{◌≡◌, ◌≢◌, ◌≤◌, ◌<◌, ℕ, suc, zero, ◌+◌, ℤ, pos, Bool, true, false, ◌||◌, if◌then◌else◌, nat_lt, ◌==◌, List, [], ◌∷◌, ◌++◌, length, map, take, drop, get_or, refl, ap, sym, ◌∙◌, subst, arith, append-nil, append_assoc, length-append}
 use Rattle.std.proofs.Math.ListN.{set}
 use Rattle.std.proofs.lemmas.Bool.Decides.{nat_tests}
-use Rattle.std.proofs.lemmas.List.{get_or-set_same, get_or-set_other, set-get_or, length-set}
+use Rattle.std.proofs.lemmas.List.{get_or-set_same, get_or-set_other, get_or_default, set-get_or, length-set}
 use Rattle.class_radio.specs.declared.player.Player.{Player}
 use Rattle.class_radio.specs.declared.player.Standing.{Standing}
 use Rattle.class_radio.specs.declared.player.Standing.TheVariants.{Plays, Panicked, Faulted}
@@ -50,7 +50,7 @@ one_more t from to old now k numbers n d within some is read =
     take_one {X} (y ∷ ys) (suc i) x l e = (let one : suc i + 1 ≡ suc (i + 1) = omega arith in ap (λ (k : ℕ). take k (y ∷ ys)) one ∙ ap (λ (l' : List X). y ∷ l') (take_one ys i x (omega (arith, l)) e))
 
 -- one more board is heard
-take_more : {X : Type 0} (xs : List X) (i : ℕ) (d : X) → i < length xs → take (i + 1) xs ≡ take i xs ++ get_or xs i d ∷ []
+pub take_more : {X : Type 0} (xs : List X) (i : ℕ) (d : X) → i < length xs → take (i + 1) xs ≡ take i xs ++ get_or xs i d ∷ []
 take_more {X} [] i d l = absurd (omega (arith, l))
 take_more {X} (y ∷ ys) zero d l = (let one : zero + 1 ≡ suc zero = omega arith in ap (λ (k : ℕ). take k (y ∷ ys)) one)
 take_more {X} (y ∷ ys) (suc i) d l = (let one : suc i + 1 ≡ suc (i + 1) = omega arith in ap (λ (k : ℕ). take k (y ∷ ys)) one ∙ ap (λ (l' : List X). y ∷ l') (take_more ys i d (omega (arith, l))))
@@ -61,7 +61,7 @@ take_long {X} [] (suc i) l = absurd (omega (arith, l))
 take_long {X} (x ∷ xs) zero l = refl
 take_long {X} (x ∷ xs) (suc i) l = ap suc (take_long xs i (omega (arith, l)))
 
-take_whole : {X : Type 0} (xs : List X) (n : ℕ) → n ≡ length xs → take n xs ≡ xs
+pub take_whole : {X : Type 0} (xs : List X) (n : ℕ) → n ≡ length xs → take n xs ≡ xs
 take_whole {X} [] zero e = refl
 take_whole {X} [] (suc n) e = absurd (omega (arith, e))
 take_whole {X} (x ∷ xs) zero e = absurd (omega (arith, e))
@@ -132,6 +132,16 @@ module _ (lost : ℕ → ℕ → ℕ → Bool) (t j : ℕ) where
       is ∙ ap (λ (ns : List ℤ). set old j (hearing_all (t + 1) ns (get_or old j d)))
       (sym (told_more old from d from_in ∙ ap (λ (c : Bool). told lost t j 0 (take from (map (said t) old)) ++ (if c then [] else said t (get_or old from d))) not_heard ∙ append-nil (told lost t j 0 (take from (map (said t) old)))))
 
+  pub hears_not_lost : (old now : List Player) (from : ℕ) (d : Player) → from < length old → lost t from j ≡ true → now ≡ set old j (Heard old from d) → now ≡ set old j (Heard old (from + 1) d)
+  hears_not_lost old now from d from_in is_lost is = hears_not old now from d from_in (ap (λ (c : Bool). (from == j) || c) is_lost ∙ by_own (from == j)) is
+    where
+      by_own : (c : Bool) → c || true ≡ true
+      by_own true = refl
+      by_own false = refl
+
+  pub hears_not_own : (old now : List Player) (from : ℕ) (d : Player) → from < length old → from ≡ j → now ≡ set old j (Heard old from d) → now ≡ set old j (Heard old (from + 1) d)
+  hears_not_own old now from d from_in own is = hears_not old now from d from_in (let same : (from == j) ≡ true = grind (arith, nat_tests) in ap (λ (c : Bool). c || lost t from j) same) is
+
   pub hears_all : (old now : List Player) (from : ℕ) (d : Player) → from ≡ length old → now ≡ set old j (Heard old from d) → now ≡ set old j (hearing_all (t + 1) (told lost t j 0 (map (said t) old)) (get_or old j d))
   hears_all old now from d last is = is ∙ ap (λ (S : List (List ℤ)). set old j (hearing_all (t + 1) (told lost t j 0 S) (get_or old j d))) (take_whole (map (said t) old) from (last ∙ sym (map_long (said t) old)))
 
@@ -189,3 +199,18 @@ first_more lost t n (z ∷ zs) now new l is heard =
     ∙ ap (λ (k : ℕ). set (first_hearing lost t S n 0 (z ∷ zs)) n (hearing_all (suc t) (told lost t k 0 (map (said t) (z ∷ zs))) (get_or (first_hearing lost t S n 0 (z ∷ zs)) n z))) here
     ∙ first_step lost t S 0 n (z ∷ zs) z l
     ∙ ap (λ (k : ℕ). first_hearing lost t (map (said t) (z ∷ zs)) k 0 (z ∷ zs)) later)
+
+-- a turn of the loop over the numbers that one board hears of another one
+pub one_heard : (t from to k : ℕ) (old now : List Player) (first sender hearer new d : Player) (sent : List ℤ) → from < length old → to < length old → (from ≡ to → ⊥) → length now ≡ length old
+    → now ≡ set old to (hearing_all (t + 1) (take k (said t (get_or old from d))) (get_or old to d)) → first ≡ get_or old from first → k < length (said t first) → sender ≡ get_or now from sender → sent ≡ said t sender
+    → hearer ≡ get_or now to hearer → new ≡ hearing (t + 1) (get_or sent k (pos 0)) hearer → set now to new ≡ set old to (hearing_all (t + 1) (take (k + 1) (said t (get_or old from d))) (get_or old to d))
+one_heard t from to k old now first sender hearer new d sent from_in to_in other long is first_is some sender_is sent_is hearer_is new_is =
+    (let numbers : List ℤ = said t (get_or old from d) in
+    let same_first : first ≡ get_or old from d = first_is ∙ get_or_default old from first d from_in in
+    let same_sender : sender ≡ get_or old from d =
+        sender_is ∙ get_or_default now from sender d (omega (arith, from_in, long)) ∙ ap (λ (ps : List Player). get_or ps from d) is ∙ get_or-set_other old to from (hearing_all (t + 1) (take k (said t (get_or old from d))) (get_or old to d)) d other in
+    let same_hearer : hearer ≡ get_or now to d = hearer_is ∙ get_or_default now to hearer d (omega (arith, to_in, long)) in
+    let inside : k < length (said t (get_or old from d)) = subst (λ (p : Player). k < length (said t p)) same_first some in
+    let sent_same : sent ≡ said t (get_or old from d) = sent_is ∙ ap (said t) same_sender in
+    ap (set now to) (new_is ∙ ap (λ (ns : List ℤ). hearing (t + 1) (get_or ns k (pos 0)) hearer) sent_same ∙ ap (hearing (t + 1) (get_or (said t (get_or old from d)) k (pos 0))) same_hearer)
+    ∙ one_more (t + 1) from to old now k (said t (get_or old from d)) (get_or (said t (get_or old from d)) k (pos 0)) d to_in inside is (get_or_default (said t (get_or old from d)) k (pos 0) (get_or (said t (get_or old from d)) k (pos 0)) inside))

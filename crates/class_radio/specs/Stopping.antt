@@ -6,13 +6,16 @@ use Rattle.board_world.specs.Transcript.{closing_line}
 use Rattle.board_world.specs.Before.{IsRisingFrom}
 use Rattle.tool_io.specs.Putting.{Took, TookPart}
 use Rattle.class_world.specs.Hearing.{before}
-use Rattle.class_world.specs.Lines.{numbered, stopped_at, lines_at, WroteSame}
+use Rattle.class_steps.specs.Outlook.{looks, last_line}
+use Rattle.class_world.specs.Lines.{closing_lines, numbered, stopped_at, lines_at, WroteSame}
 use Rattle.class_radio.specs.declared.player.Player.{Player}
 use Rattle.class_radio.specs.Playing.{outlook}
 use Rattle.class_radio.specs.Stepping.{WasCut, WasBroken}
 use Rattle.class_radio.specs.declared.run.ClassEnd.{ClassEnd}
 use Rattle.class_radio.specs.declared.run.ClassEnd.TheVariants.{Done, Budget, SinkFault}
-use Rattle.class_radio.specs.Stepped.{ClassPlan, IsSoundPlan, Past, Comes, Passed, AreIn}
+use Rattle.class_radio.specs.declared.player.Standing.TheVariants.{Panicked, Faulted}
+use Rattle.class_radio.specs.Closing.{how_many_stand}
+use Rattle.class_radio.specs.Stepped.{ClassPlan, IsSoundPlan, Past, outlooks, Comes, Passed, AreIn}
 
 -- A board may have its turn at a moment.
 pub record MayTurn (budget t number : ℕ) (h : Past) (p : Player) : Type 0 where
