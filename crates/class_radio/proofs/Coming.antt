@@ -258,8 +258,7 @@ module _ (number budget : ℕ) (setup : Setup) (script : List Entry) (t : ℕ) (
     is_due_now =
         (let s = looks rest in
         let waits = s.waits (ap (option_map end_of) w.resting.goes) in
-        let m = member_of setup (used ++ rest) in
-        (
+        let m = member_of setup (used ++ rest) in (
           (on_run (fibers setup.image) t p.board.instructions (bank_start setup.image setup.script.end script (used ++ rest)) (begins_timely (fibers setup.image) m.main m.shared setup.script.end script may.rising)).timely,
           ap is_some s.like.end ∙ ap (λ o. is_some (option_map end_of o)) w.resting.goes,
           ap (up_to X.board.until) (waits.comes ∙ may.due) ∙ ap (λ u. up_to u (Some t)) s.until_is ∙ jumps t setup.script.end (Some t) refl may.within,

@@ -217,8 +217,8 @@ module _ (plan : ClassPlan) (sound : IsSoundPlan plan) (began : Option (List ℕ
           let lines : ByteList = lines_before t (shown gone first ++ V.board ∷ shown still rest) in
           let all : TookPart began taken ((lines ++ moment_lines t 0 (shown gone first)) ++ lines_at t (length gone) V.board) = part-then _ _ took part in
           let same : ((lines ++ moment_lines t 0 (shown gone first)) ++ lines_at t (length gone) V.board) ++ begin.0 ≡ text =
-              ap (λ (r : ByteList). r ++ begin.0) (append_assoc lines (moment_lines t 0 (shown gone first)) (lines_at t (length gone) V.board)
-              ∙ ap (λ (n : ℕ). lines ++ (moment_lines t 0 (shown gone first) ++ lines_at t n V.board)) (sym number_is)) ∙ begin.1 in
+          ap (λ (r : ByteList). r ++ begin.0) (append_assoc lines (moment_lines t 0 (shown gone first)) (lines_at t (length gone) V.board)
+          ∙ ap (λ (n : ℕ). lines ++ (moment_lines t 0 (shown gone first) ++ lines_at t n V.board)) (sym number_is)) ∙ begin.1 in
           record { frees = frees; text = text; is = law.1; written = subst (TookPart began taken) same (part-more _ begin.0 all) })
 
       -- its budget ended

@@ -129,13 +129,15 @@ module _ (plan : ClassPlan) (sound : IsSoundPlan plan) (began : Option (List ℕ
         let all : List ℤ = told lost t j 0 (map (sent_at t) (seens pasts)) in
         let says : map (said t) players ≡ map (take 32) (map (sent_at t) (seens pasts)) = says_of 0 pasts players are.passed in
         let heard : HasPlayed h.setup (with_heard (raised_at (suc t) (heard_events all)) h.script) (suc t) h.used h.seen (hearing_all (suc t) numbers p) =
-            hears_on h.setup h.script (suc t) h.used h.seen p numbers all r.0 (told_queued lost t j 0 ss) (told_next lost t j (suc t) 0 ss) e.0.played e.0.numbered.stands in
-        let behind : heard_events all ≡ heard_behind lost t plan.until j 0 (seens pasts) = sym (heard_is_told lost t j plan.until soon 0 (seens pasts)) in
-        (record {
-          numbered = numbered_still j plan.budget (suc t) (told lost t j 0 (map (said t) players)) p e.0.numbered;
-          come = inl (subst (λ (S' : List (List ℤ)). HasPlayed h.setup (with_heard (raised_at (suc t) (heard_behind lost t plan.until j 0 (seens pasts))) h.script) (suc t) h.used h.seen (hearing_all (suc t) (told lost t j 0 S') p)) (sym says)
-              (subst (λ (es : List Event). HasPlayed h.setup (with_heard (raised_at (suc t) es) h.script) (suc t) h.used h.seen (hearing_all (suc t) numbers p)) behind heard));
-        }, each_on (suc j) hs ps e.1 r.1))
+        hears_on h.setup h.script (suc t) h.used h.seen p numbers all r.0 (told_queued lost t j 0 ss) (told_next lost t j (suc t) 0 ss) e.0.played e.0.numbered.stands in
+        let behind : heard_events all ≡ heard_behind lost t plan.until j 0 (seens pasts) = sym (heard_is_told lost t j plan.until soon 0 (seens pasts)) in (
+          record {
+            numbered = numbered_still j plan.budget (suc t) (told lost t j 0 (map (said t) players)) p e.0.numbered;
+            come = inl (subst (λ (S' : List (List ℤ)). HasPlayed h.setup (with_heard (raised_at (suc t) (heard_behind lost t plan.until j 0 (seens pasts))) h.script) (suc t) h.used h.seen (hearing_all (suc t) (told lost t j 0 S') p)) (sym says)
+                (subst (λ (es : List Event). HasPlayed h.setup (with_heard (raised_at (suc t) es) h.script) (suc t) h.used h.seen (hearing_all (suc t) numbers p)) behind heard));
+          },
+          each_on (suc j) hs ps e.1 r.1,
+        ))
 
     shown_on : (j : ℕ) (hs : List Past) (ps : List Player) → shown (heard_on_by lost t plan.until (seens pasts) j hs) (all_hearing lost t (map (said t) players) j ps) ≡ shown hs ps
     shown_on j [] [] = refl

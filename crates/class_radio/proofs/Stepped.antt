@@ -56,10 +56,14 @@ pub onward_from : (plan : ClassPlan) (sound : IsSoundPlan plan) (began : Option 
 onward_from plan sound began t pasts players new taken are heard kept = by_test (nat_lt t plan.until) refl
   where
     by_test : (c : Bool) → nat_lt t plan.until ≡ c → (later : List Past) × AreIn plan began (suc t) [] later [] new taken
-    by_test true q = (heard_on_by (lost_by plan.losses) t plan.until (seens pasts) 0 pasts,
-        subst (λ (ps : List Player). AreIn plan began (suc t) [] (heard_on_by (lost_by plan.losses) t plan.until (seens pasts) 0 pasts) [] ps taken) (sym (heard (grind (arith, nat_tests)))) (hear_on plan sound began t pasts players taken are q))
-    by_test false q = (heard_on_by (lost_by plan.losses) t plan.until (seens pasts) 0 pasts,
-        subst (λ (ps : List Player). AreIn plan began (suc t) [] (heard_on_by (lost_by plan.losses) t plan.until (seens pasts) 0 pasts) [] ps taken) (sym (kept (grind (arith, nat_tests)))) (hear_no_more plan sound began t pasts players taken are q))
+    by_test true q = (
+      heard_on_by (lost_by plan.losses) t plan.until (seens pasts) 0 pasts,
+      subst (λ (ps : List Player). AreIn plan began (suc t) [] (heard_on_by (lost_by plan.losses) t plan.until (seens pasts) 0 pasts) [] ps taken) (sym (heard (grind (arith, nat_tests)))) (hear_on plan sound began t pasts players taken are q),
+    )
+    by_test false q = (
+      heard_on_by (lost_by plan.losses) t plan.until (seens pasts) 0 pasts,
+      subst (λ (ps : List Player). AreIn plan began (suc t) [] (heard_on_by (lost_by plan.losses) t plan.until (seens pasts) 0 pasts) [] ps taken) (sym (kept (grind (arith, nat_tests)))) (hear_no_more plan sound began t pasts players taken are q),
+    )
 
 -- boards that have come to a moment may have their turns at it
 pub onto_at : (plan : ClassPlan) (began : Option (List ℕ)) (next : Option ℕ) (t : ℕ) (players : List Player) (taken : Option (List ℕ)) → Onto plan began next players taken → next ≡ Some t → (pasts : List Past) × AreAt plan began t pasts players taken

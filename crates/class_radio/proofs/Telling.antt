@@ -118,7 +118,7 @@ module _ (lost : ℕ → ℕ → ℕ → Bool) (t j : ℕ) where
       let there : get_or now from d ≡ get_or old from d = ap (λ (ps : List Player). get_or ps from d) is ∙ get_or-set_other old j from q d other in
       let own : (from == j) ≡ false = grind (arith, nat_tests) in
       let test : (if (from == j) || lost t from j then [] else said t (get_or old from d)) ≡ said t (get_or old from d) =
-          ap (λ (c : Bool). if c || lost t from j then [] else said t (get_or old from d)) own ∙ ap (λ (c : Bool). if c then [] else said t (get_or old from d)) kept in
+      ap (λ (c : Bool). if c || lost t from j then [] else said t (get_or old from d)) own ∙ ap (λ (c : Bool). if c then [] else said t (get_or old from d)) kept in
       heard
       ∙ ap (λ (p : Player). set now j (hearing_all (t + 1) (said t p) (get_or now j d))) there
       ∙ ap (λ (p : Player). set now j (hearing_all (t + 1) (said t (get_or old from d)) p)) here
@@ -208,7 +208,7 @@ one_heard t from to k old now first sender hearer new d sent from_in to_in other
     (let numbers : List ℤ = said t (get_or old from d) in
     let same_first : first ≡ get_or old from d = first_is ∙ get_or_default old from first d from_in in
     let same_sender : sender ≡ get_or old from d =
-        sender_is ∙ get_or_default now from sender d (omega (arith, from_in, long)) ∙ ap (λ (ps : List Player). get_or ps from d) is ∙ get_or-set_other old to from (hearing_all (t + 1) (take k (said t (get_or old from d))) (get_or old to d)) d other in
+    sender_is ∙ get_or_default now from sender d (omega (arith, from_in, long)) ∙ ap (λ (ps : List Player). get_or ps from d) is ∙ get_or-set_other old to from (hearing_all (t + 1) (take k (said t (get_or old from d))) (get_or old to d)) d other in
     let same_hearer : hearer ≡ get_or now to d = hearer_is ∙ get_or_default now to hearer d (omega (arith, to_in, long)) in
     let inside : k < length (said t (get_or old from d)) = subst (λ (p : Player). k < length (said t p)) same_first some in
     let sent_same : sent ≡ said t (get_or old from d) = sent_is ∙ ap (said t) same_sender in

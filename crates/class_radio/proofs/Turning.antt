@@ -266,9 +266,11 @@ all_gone plan began t n players taken m last =
     let c = m.count in
     let none : m.rest ≡ [] = empty m.rest (omega (arith, l, k, c, last)) in
     let are : AreIn plan began t m.gone m.still m.first [] taken = subst (λ (ps : List Player). AreIn plan began t m.gone m.still m.first ps taken) none m.are in
-    let is : m.still ≡ [] = none_left (Comes plan.budget t) (length m.gone) m.still are.come in
-    (m.gone, subst (λ (ps : List Player). AreIn plan began t m.gone [] ps [] taken) (sym (m.split ∙ ap (λ (ps : List Player). m.first ++ ps) none ∙ append-nil m.first))
-    (subst (λ (hs : List Past). AreIn plan began t m.gone hs m.first [] taken) is are)))
+    let is : m.still ≡ [] = none_left (Comes plan.budget t) (length m.gone) m.still are.come in (
+      m.gone,
+      subst (λ (ps : List Player). AreIn plan began t m.gone [] ps [] taken) (sym (m.split ∙ ap (λ (ps : List Player). m.first ++ ps) none ∙ append-nil m.first))
+          (subst (λ (hs : List Past). AreIn plan began t m.gone hs m.first [] taken) is are),
+    ))
   where
     empty : (ps : List Player) → length ps ≡ 0 → ps ≡ []
     empty [] e = refl

@@ -123,7 +123,11 @@ fn is_so(first: Standing, second: Standing) -> bool
 fn one_of(player: &Player, standing: Standing) -> u32
     ensures { result ≡ (if is_same player.now.standing standing then 1 else 0) }
 {
-    if is_so(player.standing(), standing) { 1 } else { 0 }
+    if is_so(player.standing(), standing) {
+        1
+    } else {
+        0
+    }
 }
 
 /// How many boards stand so.

@@ -6,9 +6,9 @@ ghost use Rattle.class_radio.specs.Hearing.{IsNextOf, soonest};
 
 use crate::hearing::hear_all;
 use crate::losses::Losses;
+use crate::player::Player;
 use crate::run::ClassEnd;
 use crate::turns::go_all;
-use crate::player::Player;
 use tool_io::Sink;
 
 /// The sooner one of two moments, where the second counts only up to the end.
@@ -17,13 +17,7 @@ fn sooner(first: Option<u32>, second: Option<u32>, end: u32) -> Option<u32>
 {
     match (first, second) {
         (Some(a), Some(b)) => Some(if b < a { b } else { a }),
-        (None, Some(b)) => {
-            if b <= end {
-                Some(b)
-            } else {
-                None
-            }
-        }
+        (None, Some(b)) => { if b <= end { Some(b) } else { None } }
         (Some(a), None) => Some(a),
         (None, None) => None,
     }

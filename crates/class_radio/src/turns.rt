@@ -4,8 +4,8 @@ ghost use Rattle.class_radio.specs.Stepped.{ClassPlan, Past};
 ghost use Rattle.class_radio.specs.Stopping.{MayTurn, Turned, AreAt, AllTurned};
 
 use crate::closing::put_budget;
-use crate::run::ClassEnd;
 use crate::player::{Player, Step};
+use crate::run::ClassEnd;
 use tool_io::{PutFailed, Sink};
 
 /// A board to which something comes at a moment goes through it.
@@ -58,11 +58,7 @@ fn go_one<K: Sink>(
 }
 
 /// All boards to which something comes at a moment go through it, in their order. An end is told by the first whose budget ended, or at which the sink failed.
-pub fn go_all<K: Sink>(
-    players: &mut Vec<Player>,
-    moment: u32,
-    out: &mut K,
-) -> Result<(), ClassEnd>
+pub fn go_all<K: Sink>(players: &mut Vec<Player>, moment: u32, out: &mut K) -> Result<(), ClassEnd>
     requires may { (plan : ClassPlan) × (began : Option (List ℕ)) × (pasts : List Past) × AreAt plan began moment pasts players.old.items (K.taken out.old) }
     ensures turned { (plan : ClassPlan) (began : Option (List ℕ)) (pasts : List Past) → AreAt plan began moment pasts players.old.items (K.taken out.old)
         → AllTurned plan began moment players.new.items (K.taken out.new) (K.faults out.old) (K.faults out.new) result }

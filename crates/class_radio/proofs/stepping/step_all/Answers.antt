@@ -22,12 +22,12 @@ loop-next-smaller g c =
     let next = subst (λ ps. IsNextOf c.args.end ps c.next_moment-next.result) c.as_slice.ensures.value c.next_moment-next.ensures.next in
     let less = then_less m.0 here.1.plan_is (g.K.Sink.taken c.args.out.now) c.args.losses.now c.args.end c.in-Some.moment m.2 m.3 here.1.within c.go_all.new.players.items c.if-moment-end.players.items (g.K.Sink.taken c.go_all.new.out) gone
     (λ l. elim c.if-moment-end.branch [
-        then-moment-end w ↦ ap (λ (v : Vec Player Global). v.items) w.players-is ∙ w.hear_all.ensures.heard
-        | else-moment-end w ↦ absurd (omega (arith, l))
+      | then-moment-end w ↦ ap (λ (v : Vec Player Global). v.items) w.players-is ∙ w.hear_all.ensures.heard
+      | else-moment-end w ↦ absurd (omega (arith, l))
     ])
     (λ l. elim c.if-moment-end.branch [
-        then-moment-end w ↦ absurd (omega (arith, l))
-        | else-moment-end w ↦ ap (λ (v : Vec Player Global). v.items) w.players-is
+      | then-moment-end w ↦ absurd (omega (arith, l))
+      | else-moment-end w ↦ ap (λ (v : Vec Player Global). v.items) w.players-is
     ])
     c.next_moment-next.result next in
     subst (λ n. moments_left c.args.end c.next_moment-next.result < moments_left c.args.end n) (sym c.in-Some.is) less)
@@ -41,12 +41,12 @@ loop-next-preserved g c = record {
       let next = subst (λ ps. IsNextOf c.args.end ps c.next_moment-next.result) c.as_slice.ensures.value c.next_moment-next.ensures.next in
       then_next plan here.1.plan_is (g.K.Sink.taken c.args.out.now) c.args.losses.now c.args.end c.in-Some.moment losses until here.1.within c.go_all.new.players.items c.if-moment-end.players.items (g.K.Sink.taken c.go_all.new.out) gone
       (λ l. elim c.if-moment-end.branch [
-          then-moment-end w ↦ ap (λ (v : Vec Player Global). v.items) w.players-is ∙ w.hear_all.ensures.heard
-          | else-moment-end w ↦ absurd (omega (arith, l))
+        | then-moment-end w ↦ ap (λ (v : Vec Player Global). v.items) w.players-is ∙ w.hear_all.ensures.heard
+        | else-moment-end w ↦ absurd (omega (arith, l))
       ])
       (λ l. elim c.if-moment-end.branch [
-          then-moment-end w ↦ absurd (omega (arith, l))
-          | else-moment-end w ↦ ap (λ (v : Vec Player Global). v.items) w.players-is
+        | then-moment-end w ↦ absurd (omega (arith, l))
+        | else-moment-end w ↦ ap (λ (v : Vec Player Global). v.items) w.players-is
       ])
       c.next_moment-next.result next);
   later = omega (arith, c.loop-next.invariant.later, c.go_all.ensures.later);
