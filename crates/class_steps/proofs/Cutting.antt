@@ -1,5 +1,5 @@
 -- Boards in the midst of a moment, where the budget of one has ended.
-use Rattle.std.proofs.Common.{◌≡◌, ℕ, zero, suc, ◌+◌, ◌≤◌, ◌<◌, ◌⊎◌, inl, inr, Bool, true, false, not, ◌&&◌, if◌then◌else◌, nat_lt, ◌==◌, List, [], ◌∷◌, ◌++◌, length, map, Option, Some, None, is_some, refl, ap, sym, ◌∙◌, subst, arith, append_assoc}
+use Rattle.std.proofs.Common.{◌≡◌, ℕ, suc, ◌≤◌, ◌<◌, inl, inr, Bool, true, false, not, ◌&&◌, if◌then◌else◌, nat_lt, ◌==◌, List, [], ◌∷◌, ◌++◌, length, map, Option, Some, None, is_some, refl, ap, sym, ◌∙◌, subst, arith}
 use Rattle.std.proofs.lemmas.Bool.Decides.{nat_tests}
 use Rattle.std.specs.Prelude.{IsSome}
 use Rattle.std.specs.List.{AllByRecursion}
@@ -7,26 +7,21 @@ use Rattle.board_world.specs.Observations.{ByteList, Observation, End}
 use Rattle.board_world.specs.Transcript.{closing_line}
 use Rattle.board_world.specs.Board.{Board, Entry, over}
 use Rattle.board_world.specs.Activities.{World}
-use Rattle.board_world.specs.World.{run}
-use Rattle.board_world.specs.Simulation.{IsSettled, Paired}
-use Rattle.board_world.specs.Before.{IsRisingFrom, is_by_clock, run_before}
+use Rattle.board_world.specs.Simulation.{Paired}
+use Rattle.board_world.specs.Before.{IsRisingFrom, is_by_clock}
 use Rattle.board_world.proofs.Laws.{run_settled, run_same}
 use Rattle.class_world.specs.Hearing.{moment_of, before, heard_of, with_heard}
-use Rattle.class_world.specs.Classes.{Member, Class, Played, starting, world_of, world_before, seen_by, seen_before, Passes, Hear, AreInOrder, IsRunTo, IsCut}
-use Rattle.class_world.specs.Lines.{numbered, seen_at, is_stopped, stopped_at, lines_at, moment_lines, lines_before, cut_text, WroteSame}
-use Rattle.class_world.proofs.Laws.{begins_timely, one_passes, rising_heard, heard_of_before, lines_same}
-use Rattle.class_steps.specs.Outlook.{Outlook, HasSameLook, IsSeenAs}
+use Rattle.class_world.specs.Classes.{Class, Played, starting, world_of, world_before, seen_by, Passes, Hear, IsRunTo, IsCut}
+use Rattle.class_world.specs.Lines.{numbered, seen_at, is_stopped, stopped_at, moment_lines, lines_before, cut_text, WroteSame}
+use Rattle.class_world.proofs.Laws.{begins_timely, one_passes, heard_of_before, lines_same}
+use Rattle.class_steps.specs.Outlook.{Outlook, IsSeenAs}
+use Rattle.class_steps.specs.Texts.{Reached}
 use Rattle.class_steps.proofs.Looking.{at_rest, is_over, by_end, seen_early}
 use Rattle.class_steps.proofs.Alike.{stopped_at_alike}
 
 none_before : (os : List Observation) → before 0 os ≡ []
 none_before [] = refl
 none_before (o ∷ os) = (let late : nat_lt (moment_of o) 0 ≡ false = grind (arith, nat_tests) in rw late (none_before os))
-
--- a board's run has come to a moment, and wrote before it what is known
-pub record Reached {A S : Type 0} (until t : ℕ) (p : Played A S) (b : Board) : Type 0 where
-  pub passes : Passes t (world_of until p)
-  pub wrote : WroteSame t (world_of until p).board b
 
 module _ {A S : Type 0} (C : Class A S) (p : Played A S) (rising : IsRisingFrom 0 p.script) where
   abbrev now : World A S
@@ -86,7 +81,7 @@ reached_first until p b = record {
 }
 
 -- a moment that was reached was reached before
-reached_sooner : {A S : Type 0} (until t u : ℕ) → t ≤ u → (p : Played A S) (b : Board) → Reached until u p b → Reached until t p b
+pub reached_sooner : {A S : Type 0} (until t u : ℕ) → t ≤ u → (p : Played A S) (b : Board) → Reached until u p b → Reached until t p b
 reached_sooner until t u l p b h = record { passes = by_pass h.passes; wrote = record { seen = sooner_seen; stopped = λ s i m. h.wrote.stopped s i (omega (arith, l, m)) } }
   where
     by_pass : Passes u (world_of until p) → Passes t (world_of until p)
@@ -141,7 +136,7 @@ module _ {A S : Type 0} (C : Class A S) (t : ℕ) where
   cancel (x ∷ xs) a b h = cancel xs a b (cc)
 
   -- the lines of a moment that all have passed
-  moment_of_all : (ws vs : List Board) → Paired (WroteSame (suc t)) ws vs → moment_lines t 0 ws ≡ moment_lines t 0 vs
+  pub moment_of_all : (ws vs : List Board) → Paired (WroteSame (suc t)) ws vs → moment_lines t 0 ws ≡ moment_lines t 0 vs
   moment_of_all ws vs h =
       (let all : lines_before t ws ++ moment_lines t 0 ws ≡ lines_before t vs ++ moment_lines t 0 vs = lines_same (suc t) (suc t) (omega arith) ws vs h in
       let old : lines_before t ws ≡ lines_before t vs = lines_same (suc t) t (omega arith) ws vs h in

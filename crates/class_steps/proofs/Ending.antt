@@ -1,33 +1,33 @@
 -- Boards that wait for what comes past the class's end, if for anything, have ended.
-use Rattle.std.proofs.Common.{◌≡◌, ℕ, zero, suc, ◌+◌, ◌≤◌, ◌<◌, inl, inr, Bool, true, false, not, ◌&&◌, ◌||◌, if◌then◌else◌, nat_lt, ◌==◌, List, [], ◌∷◌, ◌++◌, map, max, Option, Some, None, is_some, refl, ap, sym, ◌∙◌, subst, arith}
+use Rattle.std.proofs.Common.{◌≡◌, ℕ, zero, suc, ◌≤◌, Bool, true, false, ◌||◌, if◌then◌else◌, nat_lt, List, [], ◌∷◌, ◌++◌, map, max, Option, Some, None, is_some, refl, ap, sym, ◌∙◌, subst, arith}
 use Rattle.std.proofs.lemmas.Bool.Decides.{nat_tests}
 use Rattle.std.specs.Prelude.{IfSome, IsSome}
 use Rattle.std.specs.List.{AllByRecursion}
 use Rattle.board_world.specs.declared.clock.Idle.{Idle}
 use Rattle.board_world.specs.declared.clock.Idle.TheVariants.{Jump, Quiet, Script}
-use Rattle.board_world.specs.Observations.{ByteList, Observation, End, Quietly, By_script, Panicked, Faulted}
+use Rattle.board_world.specs.Observations.{ByteList, End, Quietly, By_script, Panicked, Faulted}
 use Rattle.board_world.specs.Transcript.{closing_line}
 use Rattle.board_world.specs.Rules.{clock_move, up_to}
 use Rattle.board_world.specs.Board.{Board, next_entry, over, ended_by}
 use Rattle.board_world.specs.Waiting.{least}
 use Rattle.board_world.specs.Activities.{World}
 use Rattle.board_world.specs.World.{clock_moves, run}
-use Rattle.board_world.specs.Simulation.{IsSettled, Paired}
+use Rattle.board_world.specs.Simulation.{Paired}
 use Rattle.board_world.specs.Before.{is_by_clock, run_before}
 use Rattle.board_world.proofs.Laws.{run_settled}
-use Rattle.class_world.specs.Classes.{Member, Class, Played, starting, world_of, world_before, seen_before, AreInOrder, Hear, IsAtRest, IsSteppedTo, IsWhole}
-use Rattle.class_world.specs.Lines.{numbered, seen_at, is_stopped, stopped_at, lines_at, moment_lines, lines_before, is_by_script, some_by_script, latest, class_end, closing_lines, whole_text}
+use Rattle.class_world.specs.Classes.{Class, Played, starting, world_of, world_before, seen_before, AreInOrder, Hear, IsAtRest, IsSteppedTo, IsWhole}
+use Rattle.class_world.specs.Lines.{numbered, is_stopped, lines_at, moment_lines, lines_before, is_by_script, some_by_script, latest, class_end, closing_lines, whole_text}
 use Rattle.class_world.proofs.Laws.{ends_by_clock, stepped_runs, all_ended}
-use Rattle.class_steps.specs.Outlook.{Outlook, HasSameLook, IsWaiting, IsSeenAs, looks, some_next, last_line, text_of_looks}
+use Rattle.class_steps.specs.Outlook.{Outlook, HasSameLook, IsSeenAs, looks, some_next, last_line, text_of_looks}
 use Rattle.class_steps.proofs.Looking.{at_rest, is_over, by_end}
 use Rattle.class_steps.proofs.Alike.{whole_alike}
 
 -- a board's end, where nothing comes up to the end
-abbrev ended_when : ℕ → Option ℕ → Board → Board
+abbrev pub ended_when : ℕ → Option ℕ → Board → Board
 ended_when until None b = ended_by b Quietly
 ended_when until (Some m) b = ended_by (record b { clock = until }) By_script
 
-abbrev closed : ℕ → Outlook → Board
+abbrev pub closed : ℕ → Outlook → Board
 closed until o = if is_some o.board.end then o.board else ended_when until o.next o.board
 
 module _ {A S : Type 0} (until : ℕ) (p : Played A S) (o : Outlook) (h : IsSeenAs until (suc until) p o) where
@@ -59,7 +59,7 @@ module _ {A S : Type 0} (until : ℕ) (p : Played A S) (o : Outlook) (h : IsSeen
       (let past : nat_lt until m ≡ true = (let l : suc until ≤ m = late in grind (arith, nat_tests)) in
       subst (λ w. HasSameLook w.board (ended_when until (Some m) o.board)) (sym (ends Script e (says ∙ ap (λ c. if c then Script else Jump m) past) refl)) (record { seen = h.like.seen; clock = h.until_is; end = refl }))
 
-  closes : HasSameLook (world_of until p).board (closed until o)
+  pub closes : HasSameLook (world_of until p).board (closed until o)
   closes = by_end until (suc until) p o h
       (λ e. subst (λ c. HasSameLook (world_of until p).board (if c then o.board else ended_when until o.next o.board)) (sym (ap is_some e))
       (let w = h.waits e in by_next e o.next (ap (λ n. up_to before_end.board.until n) w.comes ∙ ap (λ u. up_to u o.next) h.until_is) w.late))

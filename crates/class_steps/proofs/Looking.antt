@@ -1,12 +1,12 @@
 -- A board between two moments: it waits longer, and hears what is raised at the next one.
-use Rattle.std.proofs.Common.{◌≡◌, ℕ, zero, suc, ◌+◌, ◌≤◌, ◌<◌, ◌⊎◌, inl, inr, Bool, true, false, not, ◌&&◌, if◌then◌else◌, nat_le, nat_lt, List, [], ◌∷◌, ◌++◌, length, Option, Some, None, is_some, refl, ap, sym, ◌∙◌, subst, arith}
+use Rattle.std.proofs.Common.{◌≡◌, ℕ, zero, suc, ◌≤◌, ◌<◌, inl, inr, Bool, true, false, if◌then◌else◌, nat_le, nat_lt, List, [], ◌∷◌, Option, Some, None, is_some, refl, ap, sym, ◌∙◌, subst, arith}
 use Rattle.std.proofs.lemmas.Bool.Decides.{nat_tests}
 use Rattle.std.specs.Prelude.{IfSome, IsSome}
 use Rattle.board_world.specs.declared.events.Event.{Event}
 use Rattle.board_world.specs.declared.clock.Idle.TheVariants.{Jump, Script}
-use Rattle.board_world.specs.Observations.{Observation, End}
+use Rattle.board_world.specs.Observations.{End}
 use Rattle.board_world.specs.Rules.{earlier, up_to}
-use Rattle.board_world.specs.Board.{Board, Entry, Raise, next_entry, over}
+use Rattle.board_world.specs.Board.{Entry, Raise, next_entry, over}
 use Rattle.board_world.specs.Waiting.{least}
 use Rattle.board_world.specs.Activities.{World}
 use Rattle.board_world.specs.Simulation.{IsSettled}
@@ -15,7 +15,7 @@ use Rattle.board_world.proofs.Laws.{run_alike}
 use Rattle.class_world.specs.Hearing.{before, placed, with_heard, raised_at}
 use Rattle.class_world.specs.Classes.{Played, starting, world_before, IsAtRest}
 use Rattle.class_world.specs.Keeping.{with_kept}
-use Rattle.class_world.proofs.Laws.{waits_on, settled_later, given_so_far, IsEarly, early_run, begins_early}
+use Rattle.class_world.proofs.Laws.{waits_on, settled_later, given_so_far, early_run, begins_early}
 use Rattle.class_steps.specs.Outlook.{Outlook, HasSameLook, IsWaiting, IsSeenAs, next_with}
 
 -- what comes no sooner than a moment doesn't come before it

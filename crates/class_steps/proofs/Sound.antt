@@ -1,5 +1,5 @@
 -- A run that is stopped before a moment isn't ended by the clock.
-use Rattle.std.proofs.Common.{◌≡◌, ℕ, zero, suc, ◌+◌, ℤ, pos, negsuc, Bool, true, false, not, ◌&&◌, if◌then◌else◌, nat_le, nat_lt, ◌==◌, List, [], ◌∷◌, ◌++◌, length, Option, Some, None, refl, ap, sym, ◌∙◌}
+use Rattle.std.proofs.Common.{◌≡◌, ℕ, zero, suc, ◌+◌, ℤ, pos, negsuc, Bool, true, false, not, ◌&&◌, if◌then◌else◌, nat_le, nat_lt, ◌==◌, List, [], ◌∷◌, length, Option, Some, None, refl, ap, ◌∙◌}
 use Rattle.board_world.specs.declared.events.Event.{Event}
 use Rattle.board_world.specs.declared.clock.Idle.{Idle}
 use Rattle.board_world.specs.declared.clock.Idle.TheVariants.{Jump, Quiet, Script}
@@ -11,7 +11,7 @@ use Rattle.board_world.specs.Kinds.{Kind, Question, Raises, Plots, Displays, Wri
 use Rattle.board_world.specs.Waiting.{least, none, how_many, held_by}
 use Rattle.board_world.specs.Activities.{Activity, World, handlers}
 use Rattle.board_world.specs.World.{lacks_seat, clock_moves, ends_with, ends, moved, idle_bound, blocks, acted}
-use Rattle.board_world.specs.Before.{is_by_clock, is_jump_before, moves_before, idle_before, idled_before, stepped_before, tick_before, run_before}
+use Rattle.board_world.specs.Before.{is_by_clock, is_jump_before, moves_before, idle_before, stepped_before, tick_before, run_before}
 use Rattle.board_world.proofs.Laws.{if_keeps, by_clock_over}
 use Rattle.class_world.proofs.Laws.{end_all}
 

@@ -1,1 +1,2 @@
 pub mod Outlook
+pub mod Texts

@@ -1,17 +1,15 @@
 -- A board of a class between two moments.
-use Rattle.std.specs.Prelude.{◌≡◌, ℕ, suc, ◌≤◌, ◌<◌, ◌⊎◌, Bool, false, ◌||◌, if◌then◌else◌, is_some, List, [], ◌∷◌, ◌++◌, map, Option, Some, None, IfSome, IsSome}
-use Rattle.std.specs.List.{AllByRecursion}
+use Rattle.std.specs.Prelude.{◌≡◌, ℕ, suc, ◌≤◌, ◌<◌, Bool, false, ◌||◌, if◌then◌else◌, is_some, List, [], ◌∷◌, ◌++◌, map, Option, Some, None, IfSome, IsSome}
 use Rattle.board_world.specs.declared.events.Event.{Event}
-use Rattle.board_world.specs.Observations.{ByteList, Observation, End, Quietly, By_script}
+use Rattle.board_world.specs.Observations.{ByteList, Quietly, By_script}
 use Rattle.board_world.specs.Transcript.{closing_line}
 use Rattle.board_world.specs.Rules.{earlier}
-use Rattle.board_world.specs.Board.{Board, Entry, next_entry, ended_by}
+use Rattle.board_world.specs.Board.{Board, next_entry}
 use Rattle.board_world.specs.Waiting.{least}
 use Rattle.board_world.specs.Activities.{World}
-use Rattle.board_world.specs.Simulation.{IsSettled, Paired}
-use Rattle.board_world.specs.Before.{IsRisingFrom, is_by_clock, run_before}
-use Rattle.class_world.specs.Hearing.{heard_of, with_heard}
-use Rattle.class_world.specs.Classes.{Member, Class, Played, starting, world_before}
+use Rattle.board_world.specs.Simulation.{IsSettled}
+use Rattle.board_world.specs.Before.{is_by_clock, run_before}
+use Rattle.class_world.specs.Classes.{Played, starting, world_before}
 use Rattle.class_world.specs.Lines.{lines_before, closing_lines, latest}
 
 -- what it has written, its clock and its end, and when something comes to it next

@@ -3,4 +3,4 @@
 
 mod stepping;
 
-pub use stepping::boards_that_wait_have_ended;
+pub use stepping::{boards_in_a_moment_begin_a_text, boards_that_wait_have_ended};

@@ -1,5 +1,0 @@
-mod Seen
-mod Coming
-mod Going
-mod Hearing
-pub mod Laws

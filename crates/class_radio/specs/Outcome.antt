@@ -1,0 +1,91 @@
+-- How the run of a class of images ends.
+use Rattle.std.specs.Prelude.{◌≡◌, ℕ, ◌+◌, ◌≤◌, Bool, true, false, if◌then◌else◌, List, [], ◌∷◌, ◌++◌, length, map, Option, Some, None}
+use Rattle.std.specs.List.{AllByRecursion}
+use Rattle.std.specs.declared.vec.Vec.{Vec}
+use Rattle.std.specs.declared.alloc.Global.{Global}
+use Rattle.sts_base.specs.Faults.{Rose}
+use Rattle.board_world.specs.Observations.{ByteList, End, Quietly, By_script, Panicked, Faulted}
+use Rattle.board_world.specs.Board.{Board}
+use Rattle.bank_model.specs.Fibers.{Fiber, Shared}
+use Rattle.tool_io.specs.Putting.{Took, TookPart}
+use Rattle.class_world.specs.Classes.{Member, Class, Played, world_of, IsWhole, IsCut}
+use Rattle.event_script.specs.declared.script.Script.{Script}
+use Rattle.class_world.specs.Lines.{whole_text, cut_text}
+use Rattle.class_steps.specs.Texts.{IsTextOf}
+use Rattle.class_file.specs.declared.class.Loss.{Loss}
+use Rattle.class_radio.specs.Playing.{Setup, member_of}
+use Rattle.class_radio.specs.Losses.{lost_by}
+use Rattle.class_radio.specs.declared.run.ClassEnd.{ClassEnd}
+use Rattle.class_radio.specs.declared.run.ClassEnd.TheVariants.{Done, Budget, SinkFault}
+
+-- what each board of a class is given
+abbrev pub setups_of : List (Vec ℕ Global) → List Script → List Setup
+setups_of [] scripts = []
+setups_of (image ∷ images) [] = []
+setups_of (image ∷ images) (script ∷ scripts) = record { image = image.items; script = script } ∷ setups_of images scripts
+
+-- the members of a class, each with free words of its own
+abbrev pub members_of : List Setup → List (List ℕ) → List (Member Fiber Shared)
+members_of [] frees = []
+members_of (p ∷ ps) [] = member_of p [] ∷ members_of ps []
+members_of (p ∷ ps) (free ∷ frees) = member_of p free ∷ members_of ps frees
+
+abbrev pub class_of_parts : List Setup → List Loss → ℕ → List (List ℕ) → Class Fiber Shared
+class_of_parts parts losses until frees = record { members = members_of parts frees; until = until; lost = lost_by losses }
+
+abbrev pub boards_of : ℕ → List (Played Fiber Shared) → List Board
+boards_of until ps = map (λ (p : Played Fiber Shared). (world_of until p).board) ps
+
+-- how many boards ended by a panic, and by a fault
+abbrev pub is_panic : Option End → Bool
+is_panic None = false
+is_panic (Some Quietly) = false
+is_panic (Some By_script) = false
+is_panic (Some (Panicked code)) = true
+is_panic (Some (Faulted kind address)) = false
+
+abbrev pub is_fault : Option End → Bool
+is_fault None = false
+is_fault (Some Quietly) = false
+is_fault (Some By_script) = false
+is_fault (Some (Panicked code)) = false
+is_fault (Some (Faulted kind address)) = true
+
+abbrev pub how_many_end : (Option End → Bool) → List Board → ℕ
+how_many_end test [] = 0
+how_many_end test (w ∷ ws) = (if test w.end then 1 else 0) + how_many_end test ws
+
+module _ (parts : List Setup) (losses : List Loss) (until budget : ℕ) where
+  -- Each board's run ended within the budget, and the whole text was written.
+  pub record IsDone (panics faults : ℕ) (taken taken' : Option (List ℕ)) : Type 0 where
+    pub frees : List (List ℕ)
+    pub runs : List (Played Fiber Shared)
+    pub whole : IsWhole (class_of_parts parts losses until frees) runs
+    pub within : AllByRecursion (λ (p : Played Fiber Shared). p.steps ≤ budget) runs
+    pub panicked : panics ≡ how_many_end is_panic (boards_of until runs)
+    pub faulted : faults ≡ how_many_end is_fault (boards_of until runs)
+    pub written : Took taken taken' (whole_text until (boards_of until runs))
+
+  -- The budget of the board with this number ended: it has made as many steps, and the lines up to there were written.
+  pub record HasSpent (number : ℕ) (taken taken' : Option (List ℕ)) : Type 0 where
+    pub frees : List (List ℕ)
+    pub below : List (Played Fiber Shared)
+    pub here : Played Fiber Shared
+    pub above : List (Played Fiber Shared)
+    pub cut : IsCut (class_of_parts parts losses until frees) below here above
+    pub at : length below ≡ number
+    pub steps : here.steps ≡ budget
+    pub written : Took taken taken' (cut_text number (world_of until here).board (boards_of until below) (boards_of until (below ++ here ∷ above)))
+
+  -- The sink failed in a text that the class has where each board may make so many steps.
+  pub record IsStopped (taken taken' : Option (List ℕ)) : Type 0 where
+    pub frees : List (List ℕ)
+    pub text : ByteList
+    pub is : IsTextOf (class_of_parts parts losses until frees) budget text
+    pub written : TookPart taken taken' text
+
+  -- What a call that ran the class answered.
+  abbrev pub RanClass : Option (List ℕ) → Option (List ℕ) → ℕ → ℕ → ClassEnd → Type 0
+  RanClass taken taken' fs fs' (Done panics faults) = IsDone panics faults taken taken'
+  RanClass taken taken' fs fs' (Budget number) = HasSpent number taken taken'
+  RanClass taken taken' fs fs' SinkFault = IsStopped taken taken' × Rose fs fs'
