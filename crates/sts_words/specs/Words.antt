@@ -131,9 +131,7 @@ run_by said =
     else option_map (λ named. run_program named.0 named.1 (unwrap_or said.budget default_budget) said.stats said.image) (with_script said.names)
 
 abbrev pub run_hex_by : Said → Option Asked
-run_hex_by said =
-    if said.stats || said.image then None
-    else option_map (λ named. run_image named.0 named.1 (unwrap_or said.budget default_budget)) (with_script said.names)
+run_hex_by said = if said.stats || said.image then None else option_map (λ named. run_image named.0 named.1 (unwrap_or said.budget default_budget)) (with_script said.names)
 
 -- three names: a program's, a script's and that of arrivals
 abbrev pub with_arrivals : List (List ℕ) → Option (List ℕ × List ℕ × List ℕ)
@@ -141,15 +139,10 @@ with_arrivals (name ∷ script ∷ arrivals ∷ []) = Some (name, script, arriva
 with_arrivals other = None
 
 abbrev pub run_at_by : Said → Option Asked
-run_at_by said =
-    if said.stats || said.image then None
-    else option_map (λ named. run_at named.0 named.1 named.2 (unwrap_or said.budget default_budget)) (with_arrivals said.names)
+run_at_by said = if said.stats || said.image then None else option_map (λ named. run_at named.0 named.1 named.2 (unwrap_or said.budget default_budget)) (with_arrivals said.names)
 
--- one name, that of a class's file
 abbrev pub class_by : Said → Option Asked
-class_by said =
-    if said.stats || said.image then None
-    else option_map (λ name. run_class name (unwrap_or said.budget default_budget)) (one_name said.names)
+class_by said = if said.stats || said.image then None else option_map (λ name. run_class name (unwrap_or said.budget default_budget)) (one_name said.names)
 
 abbrev pub big_by : Said → Option Asked
 big_by said =
