@@ -21,6 +21,7 @@ COMMANDS = {
     "run": (1, 2, {"budget", "stats", "image"}),
     "run-hex": (1, 2, {"budget"}),
     "run-at": (3, 3, {"budget"}),
+    "class": (1, 1, {"budget"}),
     "big": (1, 1, {"budget", "stats"}),
 }
 WORDS = ["--budget", "--budget=", "--budget=7", "--budget=0", "--budget=2147483648", "--budget=2147483649", "--budget=99999999999", "--budget=+1",
@@ -59,6 +60,8 @@ def due(words):
         return "\t".join(["run-hex", names[0], names[1], str(budget)])
     if command == "run-at":
         return "\t".join(["run-at", *names[:3], str(budget)])
+    if command == "class":
+        return "\t".join(["class", names[0], str(budget)])
     if not re.fullmatch("[0-9]{1,10}", names[0]) or not 1 <= int(names[0]) <= 200:
         return "-"
     return "\t".join(["big", str(int(names[0])), str(budget), flags[0]])

@@ -87,6 +87,10 @@ known-run-at : Known (codes "run-at")
 unfolding clap_on_literals
 known-run-at = record { met = refl; passes = refl; found = refl }
 
+known-class : Known (codes "class")
+unfolding clap_on_literals
+known-class = record { met = refl; passes = refl; found = refl }
+
 known-big : Known (codes "big")
 unfolding clap_on_literals
 known-big = record { met = refl; passes = refl; found = refl }
@@ -182,7 +186,8 @@ known command said asked is =
     (one-or command (codes "run") _ _ _ asked refl known-run
     (one-or command (codes "run-hex") _ _ _ asked refl known-run-hex
     (one-or command (codes "run-at") _ _ _ asked refl known-run-at
-    (one-or command (codes "big") _ _ _ asked refl known-big (not-asked command asked)))))) is
+    (one-or command (codes "class") _ _ _ asked refl known-class
+    (one-or command (codes "big") _ _ _ asked refl known-big (not-asked command asked))))))) is
 
 -- What is taken by hand `clap` takes too, and its matches say what is said.
 pub record TakenBoth (words : List Text) (asked : Asked) : Type 0 where

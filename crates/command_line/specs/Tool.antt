@@ -39,7 +39,7 @@ bare_app = on_top without_help (new_app (codes "sts"))
 -- the command line
 abbrev pub tool_app : App
 tool_app =
-    with_subcommand (with_subcommand (with_subcommand (with_subcommand (with_subcommand (with_subcommand bare_app
+    with_subcommand (with_subcommand (with_subcommand (with_subcommand (with_subcommand (with_subcommand (with_subcommand bare_app
     (command_app (codes "check")).top) (command_app (codes "build")).top) (command_app (codes "run")).top) (command_app (codes "run-hex")).top)
-    (command_app (codes "run-at")).top)
+    (command_app (codes "run-at")).top) (command_app (codes "class")).top)
     (command_app (codes "big")).top

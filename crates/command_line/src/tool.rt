@@ -127,5 +127,6 @@ pub fn tool<'a>(alloc: Global) -> Result<Command<'a>, AllocError>
     let line = with_command(alloc, line, "run")?;
     let line = with_command(alloc, line, "run-hex")?;
     let line = with_command(alloc, line, "run-at")?;
+    let line = with_command(alloc, line, "class")?;
     with_command(alloc, line, "big")
 }

@@ -4,7 +4,7 @@ use Rattle.std.specs.Prelude.{Option, Some, None}
 use Rattle.hex_image.specs.Spells.{Spells}
 use Rattle.hex_image.proofs.Laws.{one_reading-of}
 use Rattle.sts_whole.specs.Laws.{OneAnswer}
-use Rattle.sts_words.specs.Orders.{Asked, check_program, build_program, run_program, run_image, run_at, run_big}
+use Rattle.sts_words.specs.Orders.{Asked, check_program, build_program, run_program, run_image, run_at, run_class, run_big}
 use Rattle.run_tool.specs.Answers.{Answer, status_of, status_number}
 use Rattle.run_tool.specs.Scripts.{OverScript, default_script}
 use Rattle.run_tool.specs.Big.{big_text}
@@ -18,6 +18,9 @@ use Rattle.run_tool.specs.Completeness.{HoldsScript, HoldsFiles, IsImageStatus, 
 use Rattle.run_tool.proofs.Headlines.{file-told, script-told, program-told, program-fits}
 use Rattle.run_tool.proofs.ProgramStatuses.{program-number, run-number as program-end}
 use Rattle.run_tool.proofs.ToldAt.{due}
+use Rattle.run_tool.proofs.ToldClass.{class-due}
+use Rattle.run_tool.proofs.ClassStatuses.{class-number}
+use Rattle.run_tool.specs.Class.{class_of_sources}
 use Rattle.run_tool.proofs.Statuses.{run-number}
 
 abbrev number_of : Answer → ℕ
@@ -50,6 +53,7 @@ module _ (one : OneAnswer) (told : List ℕ → Option (Option (List ℕ))) wher
       (let t = h.0 in image-status script budget t.0 t.2.0 number answer t.2.1 h.1 (file-told (RunsHex told ⊥ script budget) (told name) ⊥ t.0 answer t.1 t.2.2 never m) n)
   status (run_at name script arrivals budget) number answer h m n =
       (let r = due one told name script arrivals budget h.0 h.1 h.2 h.3 h.4 answer m in program-end _ number r.meets.faultless (n ∙ ap number_of r.is))
+  status (run_class name budget) number answer h m n = class-number (class_of_sources h.0 h.1) budget answer number (class-due one told name budget h.0 h.1 h.2 answer m) n
   status (run_big size budget stats) number answer h m n =
       program-number h.1 h.0.texts default_script budget stats false answer number
       (program-told one (λ P texts. OverScript told ⊥ None (λ read. RunsProgram P texts read budget stats false)) (big_text size) h.0 h.1 answer h.2 m) n

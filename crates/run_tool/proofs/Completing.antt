@@ -13,7 +13,7 @@ use Rattle.run_tool.specs.declared.ending.Ending.{Ending}
 use Rattle.run_tool.specs.declared.ending.Ending.TheVariants.{Gave, Cut, NoMemory}
 use Rattle.run_tool.specs.declared.fetched.Fetched.{Fetched}
 use Rattle.run_tool.specs.declared.fetched.Fetched.TheVariants.{Text, Absent, Long, Failed}
-use Rattle.sts_words.specs.Orders.{Asked, check_program, build_program, run_program, run_image, run_at, run_big}
+use Rattle.sts_words.specs.Orders.{Asked, check_program, build_program, run_program, run_image, run_at, run_class, run_big}
 use Rattle.run_tool.specs.Fetches.{MayFetch}
 use Rattle.run_tool.specs.Answers.{Answer, says, status_of, status_number, Ends, ending_number}
 use Rattle.run_tool.specs.Files.{AnswersFetched}
@@ -34,6 +34,8 @@ use Rattle.irq_arrival.specs.SourceRuns.{source_at}
 use Rattle.run_tool.specs.Arrivals.{AnswersArrivals, OverArrivals}
 use Rattle.run_tool.specs.RunAt.{RunsProgramAt, RunsOnScript, RunsOutside, RunsTextAt}
 use Rattle.run_tool.proofs.RunsAt.{text-runs-onwards}
+use Rattle.run_tool.proofs.ClassTexts.{class-text-onwards}
+use Rattle.run_tool.proofs.ClassStatuses.{in-class}
 
 -- what may be answered may be answered too where the folder may have failed more
 text-onwards : (told : List ℕ → Option (Option (List ℕ))) (rose rose' : Type 0) (asked : Asked) (text : List ℕ) (answer : Answer) → (rose → rose') → AnswersText told rose asked text answer → AnswersText told rose' asked text answer
@@ -42,6 +44,7 @@ text-onwards told rose rose' (build_program name) text answer f h = h
 text-onwards told rose rose' (run_program name script budget stats image) text answer f h = program-onwards told told rose rose' script budget stats image text answer (λ file. refl) f h
 text-onwards told rose rose' (run_image name script budget) text answer f h = hex-onwards told told rose rose' script budget text answer (λ file. refl) f h
 text-onwards told rose rose' (run_at name script arrivals budget) text answer f h = text-runs-onwards told told rose rose' script arrivals budget (λ file. refl) f text answer h
+text-onwards told rose rose' (run_class name budget) text answer f h = class-text-onwards told told rose rose' budget (λ file. refl) f text answer h
 text-onwards told rose rose' (run_big size budget stats) text answer f h = h
 
 fetched-onwards : (told : List ℕ → Option (Option (List ℕ))) (rose rose' : Type 0) (asked : Asked) (fetched : Fetched) (answer : Answer) → (rose → rose')
@@ -84,6 +87,7 @@ of_refused other = false
 
 abbrev of_script : Status → Bool
 of_script status.ScriptRefused = true
+of_script status.ClassRefused = true
 of_script status.ArrivalsRefused = true
 of_script other = false
 
@@ -105,6 +109,7 @@ not-said t answer given output i f e = two-ways (t (status_of answer)) (is-of t 
 abbrev of_run : Status → Bool
 of_run status.Refused = false
 of_run status.ScriptRefused = false
+of_run status.ClassRefused = false
 of_run status.ArrivalsRefused = false
 of_run status.ImageRefused = false
 of_run status.FolderFailed = false
@@ -162,6 +167,7 @@ refused-run other e = refl
 
 script-run : Misses of_script of_run
 script-run status.ScriptRefused e = absurd (two-ways false refl e)
+script-run status.ClassRefused e = absurd (two-ways false refl e)
 script-run status.ArrivalsRefused e = absurd (two-ways false refl e)
 script-run other e = refl
 
@@ -257,6 +263,7 @@ image-status told rose (build_program name) text answer i h = absurd (no-build o
 image-status told rose (run_program name script budget stats image) text answer i h = absurd (no-program-run of_image told rose script budget stats image text answer image-program refl refl refl refl refl i h)
 image-status told rose (run_image name script budget) text answer i h = (name, script, budget, refl)
 image-status told rose (run_at name script arrivals budget) text answer i h = absurd (no-run-at of_image told rose script arrivals budget text answer image-program refl refl refl refl refl refl i h)
+image-status told rose (run_class name budget) text answer i h = absurd (two-ways false refl (in-class of_image refl refl refl refl refl refl refl refl told rose answer i budget text h).1)
 image-status told rose (run_big size budget stats) text answer i h = absurd (no-program-run of_image told rose None budget stats false (big_text size) answer image-program refl refl refl refl refl i h)
 
 -- a program is refused only where the words ask for one
@@ -266,6 +273,7 @@ refused-status told rose (build_program name) text answer i h = tt
 refused-status told rose (run_program name script budget stats image) text answer i h = tt
 refused-status told rose (run_image name script budget) text answer i h = no-image-run of_refused told rose script budget text answer refused-run refl refl refl refl refl i h
 refused-status told rose (run_at name script arrivals budget) text answer i h = tt
+refused-status told rose (run_class name budget) text answer i h = tt
 refused-status told rose (run_big size budget stats) text answer i h = tt
 
 -- a script is refused only where it is named
@@ -293,7 +301,8 @@ script-status told rose (check_program name) text answer i h = absurd (no-check 
 script-status told rose (build_program name) text answer i h = absurd (no-build of_script text answer refl refl i h)
 script-status told rose (run_program name script budget stats image) text answer i h = program-script told rose name script budget stats image text answer i h
 script-status told rose (run_image name script budget) text answer i h = hex-script told rose name script budget text answer i h
-script-status told rose (run_at name script arrivals budget) text answer i h = inr (inr (name, script, arrivals, budget, refl))
+script-status told rose (run_at name script arrivals budget) text answer i h = inr (inr (inl (name, script, arrivals, budget, refl)))
+script-status told rose (run_class name budget) text answer i h = inr (inr (inr (name, budget, refl)))
 script-status told rose (run_big size budget stats) text answer i h = absurd (big-script told rose budget stats (big_text size) answer i h)
 
 -- Of an answer to words, which is no answer to a file that isn't there or is too long, or to a folder that failed, something holds that holds of answers to texts.
@@ -374,6 +383,7 @@ failed-text told rose (build_program name) text answer i h = absurd (no-build of
 failed-text told rose (run_program name script budget stats image) text answer i h = failed-run told rose script budget stats image text answer i h
 failed-text told rose (run_image name script budget) text answer i h = failed-hex told rose script budget text answer i h
 failed-text told rose (run_at name script arrivals budget) text answer i h = failed-run-at told rose script arrivals budget text answer i h
+failed-text told rose (run_class name budget) text answer i h = (in-class of_folder refl refl refl refl refl refl refl refl told rose answer i budget text h).0
 failed-text told rose (run_big size budget stats) text answer i h = failed-run told rose None budget stats false (big_text size) answer i h
 
 failed-named : (told : List ℕ → Option (Option (List ℕ))) (rose : Type 0) (asked : Asked) (file : Option (List ℕ)) (answer : Answer) → of_folder (status_of answer) ≡ true
@@ -385,16 +395,17 @@ failed-answer : (told : List ℕ → Option (Option (List ℕ))) (rose : Type 0)
 failed-answer told rose None answer i r = absurd (not-said of_folder answer status.Usage _ i refl r)
 failed-answer told rose (Some asked) answer i r = failed-named told rose asked (file_of asked) answer i r
 
--- the numbers 10, 12, 13 and 20 stand for one status each, and 11 for two
+-- the numbers 10, 12, 13 and 20 stand for one status each, and 11 for three
 refused-10 : (ending : Ending) → 10 ≡ ending_number ending → ending ≡ Gave status.Refused
 refused-10 (Gave status.Refused) e = refl
 refused-10 (Gave other) e = absurd (omega (arith, e))
 refused-10 Cut e = absurd (omega (arith, e))
 refused-10 NoMemory e = absurd (omega (arith, e))
 
-script-11 : (ending : Ending) → 11 ≡ ending_number ending → (ending ≡ Gave status.ScriptRefused) ⊎ (ending ≡ Gave status.ArrivalsRefused)
+script-11 : (ending : Ending) → 11 ≡ ending_number ending → (ending ≡ Gave status.ScriptRefused) ⊎ ((ending ≡ Gave status.ClassRefused) ⊎ (ending ≡ Gave status.ArrivalsRefused))
 script-11 (Gave status.ScriptRefused) e = inl refl
-script-11 (Gave status.ArrivalsRefused) e = inr refl
+script-11 (Gave status.ClassRefused) e = inr (inl refl)
+script-11 (Gave status.ArrivalsRefused) e = inr (inr refl)
 script-11 (Gave other) e = absurd (omega (arith, e))
 script-11 Cut e = absurd (omega (arith, e))
 script-11 NoMemory e = absurd (omega (arith, e))
@@ -425,7 +436,8 @@ module _ {B : Type 0} (log : B → Option (List (ℕ × ℕ))) (failed : B → �
   pub script-refused : number ≡ 11 → NamesScript asked
   script-refused is = elim (script-11 ending (sym is ∙ n)) [
     | inl e ↦ (let k = given-answer log failed places places' lead (MayAnswer told rose asked) a b status.ScriptRefused ending e s in script-answer told rose asked k.0 (ap of_script k.2) k.1)
-    | inr e ↦ (let k = given-answer log failed places places' lead (MayAnswer told rose asked) a b status.ArrivalsRefused ending e s in script-answer told rose asked k.0 (ap of_script k.2) k.1)
+    | inr (inl e) ↦ (let k = given-answer log failed places places' lead (MayAnswer told rose asked) a b status.ClassRefused ending e s in script-answer told rose asked k.0 (ap of_script k.2) k.1)
+    | inr (inr e) ↦ (let k = given-answer log failed places places' lead (MayAnswer told rose asked) a b status.ArrivalsRefused ending e s in script-answer told rose asked k.0 (ap of_script k.2) k.1)
   ]
 
   pub image-refused : number ≡ 12 → AsksForImage asked

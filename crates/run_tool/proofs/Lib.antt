@@ -11,3 +11,8 @@ mod Complete
 mod Readings
 mod RunsAt
 mod ToldAt
+mod ClassAnswers
+mod ClassRuns
+mod ClassTexts
+mod ClassStatuses
+mod ToldClass

@@ -40,7 +40,7 @@ use Rattle.run_tool.proofs.Completing.{onwards}
 use Rattle.run_tool.proofs.ProgramStatuses.{run-number}
 
 -- what is fetched of a file that is told is its bytes
-of-told : (told : List ℕ → Option (Option (List ℕ))) (name bytes : List ℕ) (answers : List ℕ → Answer → Type 0) (answer : Answer) → IsTold told name bytes → AnswersFile answers (told name) ⊥ answer → answers bytes answer
+pub of-told : (told : List ℕ → Option (Option (List ℕ))) (name bytes : List ℕ) (answers : List ℕ → Answer → Type 0) (answer : Answer) → IsTold told name bytes → AnswersFile answers (told name) ⊥ answer → answers bytes answer
 of-told told name bytes answers answer t h = by_fetched h.0 h.1 h.2
   where
     by_fetched : (fetched : Fetched) → MayFetch (told name) ⊥ fetched → AnswersFetched answers fetched answer → answers bytes answer
@@ -56,20 +56,20 @@ of-told told name bytes answers answer t h = by_fetched h.0 h.1 h.2
     by_fetched Failed m x = absurd m
 
 -- a text has one tree at most
-one-tree : (text : List ℕ) (a b : Data) → IsTree text a → IsTree text b → a ≡ b
+pub one-tree : (text : List ℕ) (a b : Data) → IsTree text a → IsTree text b → a ≡ b
 one-tree text a b s t = (let e : Some a ≡ Some b = sym s.reads ∙ t.reads in cc)
 
 -- and one verdict
-one-script : (text : List ℕ) (a b : Result Script ScriptCode) → script.Tells text a → script.Tells text b → a ≡ b
+pub one-script : (text : List ℕ) (a b : Result Script ScriptCode) → script.Tells text a → script.Tells text b → a ≡ b
 one-script text a b s t = sym s.judges ∙ (ap (λ d. script.judged_form (script_of d)) (one-tree text s.tree t.tree s.is t.is) ∙ t.judges)
 
 one-list : (text : List ℕ) (a b : Result (List Arrival) ArrivalCode) → arrival.Tells text a → arrival.Tells text b → a ≡ b
 one-list text a b s t = sym s.judges ∙ (ap (λ d. arrival.judged_form (arrivals_of d)) (one-tree text s.tree t.tree s.is t.is) ∙ t.judges)
 
-not-both : {T C : Type 0} (read : T) (code : C) → Ok read ≡ Err code → ⊥
+pub not-both : {T C : Type 0} (read : T) (code : C) → Ok read ≡ Err code → ⊥
 not-both read code e = cc
 
-script-stands : (text : List ℕ) (read : Script) (code : ScriptCode) → script.Tells text (Ok read) → RefusesScript text code → ⊥
+pub script-stands : (text : List ℕ) (read : Script) (code : ScriptCode) → script.Tells text (Ok read) → RefusesScript text code → ⊥
 script-stands text read script_code.NotJson s r = r s.tree s.is
 script-stands text read script_code.NotScript s r = not-both read script_code.NotScript (one-script text _ _ s r)
 script-stands text read script_code.OutOfOrder s r = not-both read script_code.OutOfOrder (one-script text _ _ s r)
@@ -82,7 +82,7 @@ list-stands text come arrival_code.NotArrivals s r = not-both come arrival_code.
 list-stands text come arrival_code.OutOfOrder s r = not-both come arrival_code.OutOfOrder (one-list text _ _ s r)
 list-stands text come arrival_code.TooMany s r = not-both come arrival_code.TooMany (one-list text _ _ s r)
 
-same-read : {T C : Type 0} (x y : T) (r : Result T C) → r ≡ Ok x → r ≡ Ok y → x ≡ y
+pub same-read : {T C : Type 0} (x y : T) (r : Result T C) → r ≡ Ok x → r ≡ Ok y → x ≡ y
 same-read x y r e h = cc
 
 module _ (one : OneAnswer) (told : List ℕ → Option (Option (List ℕ))) (name script_name arrivals_name : List ℕ) (budget : ℕ) (tables : Tables) (P : TypedProgram) (read : Script) (come : List Arrival)

@@ -7,7 +7,7 @@ use Rattle.board_outside.specs.Moves.{Move, seen_of}
 use Rattle.board_outside.specs.Ports.{DevicesAfter}
 use Rattle.board_outside.specs.Cuts.{Stopped}
 use Rattle.run_tool.specs.declared.ending.Status.{Status}
-use Rattle.run_tool.specs.declared.ending.Status.TheVariants.{Done, Usage, Panicked, OutOfBudget, Refused, ScriptRefused, ArrivalsRefused, ImageRefused, Faulted, FolderFailed, Missing, TooLong}
+use Rattle.run_tool.specs.declared.ending.Status.TheVariants.{Done, Usage, Panicked, OutOfBudget, Refused, ScriptRefused, ClassRefused, ArrivalsRefused, ImageRefused, Faulted, FolderFailed, Missing, TooLong}
 use Rattle.run_tool.specs.declared.ending.Ending.{Ending}
 use Rattle.run_tool.specs.declared.ending.Ending.TheVariants.{Gave, Cut, NoMemory}
 
@@ -33,6 +33,7 @@ status_number Panicked = 3
 status_number OutOfBudget = 4
 status_number Refused = 10
 status_number ScriptRefused = 11
+status_number ClassRefused = 11
 status_number ArrivalsRefused = 11
 status_number ImageRefused = 12
 status_number Faulted = 13

@@ -12,8 +12,13 @@ pub mod Runs
 pub mod Arrivals
 pub mod RunAt
 pub mod RunHex
+pub mod ClassFiles
+pub mod ClassBoards
+pub mod ClassReady
+pub mod Class
 pub mod Orders
 pub mod Headline
 pub mod Completeness
 pub mod Laws
 pub mod HeadlineAt
+pub mod HeadlineClass

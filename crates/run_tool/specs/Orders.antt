@@ -2,7 +2,7 @@
 use Rattle.std.specs.Prelude.{◌≡◌, ◌⊎◌, ℕ, Bool, false, List, [], codes, Option, Some, None}
 use Rattle.sts_base.specs.Faults.{Rose}
 use Rattle.run_tool.specs.declared.ending.Status.TheVariants.{Usage}
-use Rattle.sts_words.specs.Orders.{Asked, check_program, build_program, run_program, run_image, run_at, run_big}
+use Rattle.sts_words.specs.Orders.{Asked, check_program, build_program, run_program, run_image, run_at, run_class, run_big}
 use Rattle.sts_words.specs.Words.{order_of}
 use Rattle.run_tool.specs.Answers.{Answer, says, status_of, status_number}
 use Rattle.run_tool.specs.Files.{AnswersFile}
@@ -12,6 +12,7 @@ use Rattle.run_tool.specs.Check.{ChecksText}
 use Rattle.run_tool.specs.Build.{BuildsText}
 use Rattle.run_tool.specs.RunHex.{RunsHex}
 use Rattle.run_tool.specs.RunAt.{RunsTextAt}
+use Rattle.run_tool.specs.Class.{RunsClassText}
 
 -- the file that an order names first, if it names one
 abbrev pub file_of : Asked → Option (List ℕ)
@@ -20,9 +21,10 @@ file_of (build_program name) = Some name
 file_of (run_program name script budget stats image) = Some name
 file_of (run_image name script budget) = Some name
 file_of (run_at name script arrivals budget) = Some name
+file_of (run_class name budget) = Some name
 file_of (run_big size budget stats) = None
 
--- The answers to an order over a file of this text, or over none; a script and arrivals may be named behind it, in a folder that tells this of its files, where
+-- The answers to an order over a file of this text, or over none; further files may be named behind it or in it, in a folder that tells this of its files, where
 -- `rose` says that its count of faults rose.
 abbrev pub AnswersText : (List ℕ → Option (Option (List ℕ))) → Type 0 → Asked → List ℕ → Answer → Type 0
 AnswersText told rose (check_program name) text answer = ChecksText text answer
@@ -30,6 +32,7 @@ AnswersText told rose (build_program name) text answer = BuildsText text answer
 AnswersText told rose (run_program name script budget stats image) text answer = RunsText told rose script budget stats image text answer
 AnswersText told rose (run_image name script budget) text answer = RunsHex told rose script budget text answer
 AnswersText told rose (run_at name script arrivals budget) text answer = RunsTextAt told rose script arrivals budget text answer
+AnswersText told rose (run_class name budget) text answer = RunsClassText told rose budget text answer
 AnswersText told rose (run_big size budget stats) text answer = RunsText told rose None budget stats false (big_text size) answer
 
 -- the line that is written before anything is built
@@ -40,6 +43,7 @@ lead_of (Some (build_program name)) = []
 lead_of (Some (run_program name script budget stats image)) = []
 lead_of (Some (run_image name script budget)) = []
 lead_of (Some (run_at name script arrivals budget)) = []
+lead_of (Some (run_class name budget)) = []
 lead_of (Some (run_big size budget stats)) = big_line size
 
 -- the answers of a command to the file of this name, or to none
@@ -69,13 +73,14 @@ IsStatusOf may number = (answer : Answer) × may answer × (number ≡ status_nu
 abbrev pub Completes : (List ℕ → Option (Option (List ℕ))) → Option Asked → (folder_rose sink_rose : Type 0) → ℕ → Type 0
 Completes told asked folder_rose sink_rose number = ¬ folder_rose → ¬ sink_rose → IsStatusOf (MayAnswer told ⊥ asked) number ⊎ (number ≡ 30)
 
--- the words ask to check, build or run a program, or the one of `big`
+-- the words ask to check, build or run a program, or the one of `big`, or those of a class
 abbrev pub IsOfProgram : Asked → Type 0
 IsOfProgram (check_program name) = Unit {0}
 IsOfProgram (build_program name) = Unit {0}
 IsOfProgram (run_program name script budget stats image) = Unit {0}
 IsOfProgram (run_image name script budget) = ⊥
 IsOfProgram (run_at name script arrivals budget) = Unit {0}
+IsOfProgram (run_class name budget) = Unit {0}
 IsOfProgram (run_big size budget stats) = Unit {0}
 
 abbrev pub AsksForProgram : Option Asked → Type 0
@@ -86,9 +91,10 @@ AsksForProgram (Some asked) = IsOfProgram asked
 abbrev pub AsksForImage : Option Asked → Type 0
 AsksForImage asked = (name : List ℕ) × (script : Option (List ℕ)) × (budget : ℕ) × (asked ≡ Some (run_image name script budget))
 
--- the words name a script behind a program or an image, which arrivals may follow
+-- the words name a script behind a program or an image, which arrivals may follow; or a class, whose file names scripts
 abbrev pub NamesScript : Option Asked → Type 0
 NamesScript asked =
     ((name : List ℕ) × (script : List ℕ) × (budget : ℕ) × (stats : Bool) × (image : Bool) × (asked ≡ Some (run_program name (Some script) budget stats image)))
     ⊎ (((name : List ℕ) × (script : List ℕ) × (budget : ℕ) × (asked ≡ Some (run_image name (Some script) budget)))
-    ⊎ ((name : List ℕ) × (script : List ℕ) × (arrivals : List ℕ) × (budget : ℕ) × (asked ≡ Some (run_at name script arrivals budget))))
+    ⊎ (((name : List ℕ) × (script : List ℕ) × (arrivals : List ℕ) × (budget : ℕ) × (asked ≡ Some (run_at name script arrivals budget)))
+    ⊎ ((name : List ℕ) × (budget : ℕ) × (asked ≡ Some (run_class name budget)))))

@@ -9,10 +9,12 @@ ghost use Rattle.run_tool.specs.Headline.{Headline};
 ghost use Rattle.run_tool.specs.Completeness.{IsComplete};
 ghost use Rattle.sts_words.specs.Orders.{IsInRange, order_view};
 ghost use Rattle.run_tool.specs.HeadlineAt.{HeadlineAt};
+ghost use Rattle.run_tool.specs.HeadlineClass.{HeadlineClass};
 
 use crate::big::big;
 use crate::build::build;
 use crate::check::check;
+use crate::class::class;
 use crate::ending::{Ending, Status};
 use crate::run::{Manner, run};
 use crate::run_at::{Outside, run_at};
@@ -74,6 +76,7 @@ fn perform_order<F: Folder, K: Sink, D: Device>(
             };
             run_at(alloc, program, outside, folder, out, places)
         }
+        Order::Class { name, budget } => class(alloc, name, budget, folder, out),
         Order::Big {
             size,
             budget,
@@ -118,23 +121,27 @@ fn perform<F: Folder, K: Sink, D: Device>(
 ///   instructions executed, and then the image that ran as HEX;
 /// - `run-hex H S` reads the image that the HEX file H spells, and runs it so;
 /// - `run-at P S A` builds the program P and runs its image so on the script S, while what the file A tells arrives between its instructions;
+/// - `class C` reads the class that the file C stands for, builds the program of each of its boards and reads its script, in their order, and runs them together: each hears what the others send by radio. Each line
+///   stands behind its board's number, and the board's own lines of refusals too;
 /// - `big N`, with N from 1 to 200, writes the line `big N`, makes the program of that size, and runs it as `run` does, without a script's name.
 ///
-/// With the last four, `--budget M` or `--budget=M` runs the image for at most M instructions, one to ten decimal digits with a value from 1 to 2147483648; without it the
-/// budget is 50000000. The program or the image is read, and a program built, before the script is fetched, and that is read before arrivals are.
+/// With the last five, `--budget M` or `--budget=M` runs the image, or each board's, for at most M instructions, one to ten decimal digits with a value from 1 to 2147483648; without it the
+/// budget is 50000000. The program or the image is read, and a program built, before the script is fetched, and that is read before arrivals are. Of a class's boards each is read so before the next one's program is
+/// fetched.
 ///
 /// Answers the status:
 ///
-/// - 0 where the command was done and the whole output was taken; of a run, where it ended quiet or by the script;
+/// - 0 where the command was done and the whole output was taken; of a run, where it ended quiet or by the script; of a class, where each of its runs did;
 /// - 2, `usage`, exactly where the words aren't taken; nothing is asked of the folder then;
 /// - 3, the transcript that `panic T C` closes; by `run-hex` exactly where the run panics within the budget, by `run`, `run-at` and `big` only where the source's run panics so,
-///   and surely where it does within M / 512 counted steps;
+///   and surely where it does within M / 512 counted steps; by `class` exactly where the whole text was written and some board panicked;
 /// - 4, the transcript that `budget T` closes; by `run-hex` exactly where the run hasn't ended after the budget, by `run`, `run-at` and `big` only where the source's run doesn't
-///   end within M / 512 counted steps;
+///   end within M / 512 counted steps; by `class` the text that `B budget T` closes, only where the run of board B's source doesn't;
 /// - 10, `refused C L K`, by `check`, `build`, `run`, `run-at` and `big` alone, exactly where the program isn't accepted, with the code of its first failure, and the line and the
-///   column of that;
+///   column of that; and `B refused C L K`, by `class` alone, where that of board B isn't;
 /// - 11, `script refused C`, only where the words name a script, and its file stands for none, with the code of the rule that it breaks first; and `arrivals refused C`, by
-///   `run-at` alone, where the file A stands for none;
+///   `run-at` alone, where the file A stands for none; by `class` alone `B script refused C` of board B's script, and `class refused C`, where the file C stands for no class, or by code 4 where a board's script has
+///   another end than the class;
 /// - 12, `image refused C`, by `run-hex` exactly where the file spells no image, with the code of the rule that it breaks first;
 /// - 13, the transcript that `fault T K A` closes, by `run-hex` exactly where the run faults within the budget, and by no other
 ///   command;
@@ -145,10 +152,10 @@ fn perform<F: Folder, K: Sink, D: Device>(
 /// - 23, `too long`, where the file has more than 1,048,576 bytes;
 /// - 30 for want of memory, before anything was written, or behind the line `big N` alone.
 ///
-/// Where each file that the words name is told and is what the command wants, and no count of faults rises, `check` and `build` end with 0, `run` and `big` with 0, 3 or 4, and `run-hex` with 0, 3, 4
+/// Where each file that the words name is told and is what the command wants, and no count of faults rises, `check` and `build` end with 0, `run`, `run-at`, `class` and `big` with 0, 3 or 4, and `run-hex` with 0, 3, 4
 /// or 13; or with 30.
 ///
-/// The devices are as the run left them, and stay as they are with every other answer.
+/// The devices are as the run left them, and stay as they are with every other answer, and with `class`.
 pub fn sts_main<F: Folder, K: Sink>(
     alloc: Global,
     words: &[String],
@@ -166,6 +173,8 @@ pub fn sts_main<F: Folder, K: Sink>(
     ensures complete { IsComplete (F.holds folder.old) (order_of (map string_bytes words.now))
         (Rose (F.faults folder.old) (F.faults folder.new)) (Rose (K.faults out.old) (K.faults out.new)) result }
     ensures headline_at { HeadlineAt ⟦<Box<dyn Device> as Device>⟧.log ⟦<Box<dyn Device> as Device>⟧.faults (F.holds folder.old) (order_of (map string_bytes words.now))
+        (Rose (F.faults folder.old) (F.faults folder.new)) (Rose (K.faults out.old) (K.faults out.new)) (K.taken out.old) (K.taken out.new) plugs.old.items plugs.new.items result }
+    ensures headline_class { HeadlineClass (F.holds folder.old) (order_of (map string_bytes words.now))
         (Rose (F.faults folder.old) (F.faults folder.new)) (Rose (K.faults out.old) (K.faults out.new)) (K.taken out.old) (K.taken out.new) plugs.old.items plugs.new.items result }
     ensures refused { result ≡ 10 → AsksForProgram (order_of (map string_bytes words.now)) }
     ensures script_refused { result ≡ 11 → NamesScript (order_of (map string_bytes words.now)) }

@@ -16,6 +16,8 @@ pub enum Status {
     Refused,
     /// The file stands for no script.
     ScriptRefused,
+    /// The file stands for no class, or a board's script has another end than it.
+    ClassRefused,
     /// The file stands for no arrivals.
     ArrivalsRefused,
     /// The file spells no image.
@@ -53,7 +55,8 @@ impl Ending {
             Ending::Gave(Status::Panicked) => 3,
             Ending::Gave(Status::OutOfBudget) => 4,
             Ending::Gave(Status::Refused) => 10,
-            Ending::Gave(Status::ScriptRefused | Status::ArrivalsRefused) => 11,
+            Ending::Gave(Status::ScriptRefused | Status::ClassRefused | Status::ArrivalsRefused) =>
+                11,
             Ending::Gave(Status::ImageRefused) => 12,
             Ending::Gave(Status::Faulted) => 13,
             Ending::Gave(Status::FolderFailed) => 20,

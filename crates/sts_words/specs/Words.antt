@@ -3,7 +3,7 @@ use Rattle.std.specs.Prelude.{ℕ, ◌+◌, ◌==◌, ◌&&◌, ◌||◌, nat_le
 use Rattle.std.specs.Option.{option_map}
 use Rattle.std.specs.Str.{bytes_eq}
 use Rattle.sts_words.specs.Numbers.{number_within}
-use Rattle.sts_words.specs.Orders.{Asked, check_program, build_program, run_program, run_image, run_at, run_big, most_budget, default_budget, most_size}
+use Rattle.sts_words.specs.Orders.{Asked, check_program, build_program, run_program, run_image, run_at, run_class, run_big, most_budget, default_budget, most_size}
 
 -- A part of the words behind a command: a name, `--budget M` or `--budget=M`, `--stats`, or `--image`.
 pub data Part : Type 0 where
@@ -131,9 +131,7 @@ run_by said =
     else option_map (λ named. run_program named.0 named.1 (unwrap_or said.budget default_budget) said.stats said.image) (with_script said.names)
 
 abbrev pub run_hex_by : Said → Option Asked
-run_hex_by said =
-    if said.stats || said.image then None
-    else option_map (λ named. run_image named.0 named.1 (unwrap_or said.budget default_budget)) (with_script said.names)
+run_hex_by said = if said.stats || said.image then None else option_map (λ named. run_image named.0 named.1 (unwrap_or said.budget default_budget)) (with_script said.names)
 
 -- three names: a program's, a script's and that of arrivals
 abbrev pub with_arrivals : List (List ℕ) → Option (List ℕ × List ℕ × List ℕ)
@@ -141,9 +139,10 @@ with_arrivals (name ∷ script ∷ arrivals ∷ []) = Some (name, script, arriva
 with_arrivals other = None
 
 abbrev pub run_at_by : Said → Option Asked
-run_at_by said =
-    if said.stats || said.image then None
-    else option_map (λ named. run_at named.0 named.1 named.2 (unwrap_or said.budget default_budget)) (with_arrivals said.names)
+run_at_by said = if said.stats || said.image then None else option_map (λ named. run_at named.0 named.1 named.2 (unwrap_or said.budget default_budget)) (with_arrivals said.names)
+
+abbrev pub class_by : Said → Option Asked
+class_by said = if said.stats || said.image then None else option_map (λ name. run_class name (unwrap_or said.budget default_budget)) (one_name said.names)
 
 abbrev pub big_by : Said → Option Asked
 big_by said =
@@ -158,6 +157,7 @@ asked_by command said =
     else if bytes_eq command (codes "run") then run_by said
     else if bytes_eq command (codes "run-hex") then run_hex_by said
     else if bytes_eq command (codes "run-at") then run_at_by said
+    else if bytes_eq command (codes "class") then class_by said
     else if bytes_eq command (codes "big") then big_by said
     else None
 

@@ -29,6 +29,11 @@ pub enum Order<'a> {
         arrivals: &'a str,
         budget: u32,
     },
+    /// Run the class that the file of that name stands for, each of its boards within a budget.
+    Class {
+        name: &'a str,
+        budget: u32,
+    },
     /// Build the generated program of that size, 1 to 200, and run it within a budget; with statistics.
     Big {
         size: u32,

@@ -141,6 +141,21 @@ fn run_at_by<'a>(given: Given<'a>) -> Option<Order<'a>>
     }
 }
 
+/// What `class` asks for.
+fn class_by<'a>(given: Given<'a>) -> Option<Order<'a>>
+    requires { HasBudget given.budget }
+    ensures order { option_map order_view result ≡ spec.class_by (said_view given.entry) }
+    ensures range { IfSome result IsInRange }
+{
+    match given.names {
+        Names::One(name) if !given.stats && !given.image => Some(Order::Class {
+            name,
+            budget: budget_of(given),
+        }),
+        _ => None,
+    }
+}
+
 /// What `big` asks for.
 fn big_by<'a>(given: Given<'a>) -> Option<Order<'a>>
     requires { HasBudget given.budget }
@@ -174,6 +189,8 @@ pub fn asked_by<'a>(command: &str, given: Given<'a>) -> Option<Order<'a>>
         run_hex_by(given)
     } else if command == "run-at" {
         run_at_by(given)
+    } else if command == "class" {
+        class_by(given)
     } else if command == "big" {
         big_by(given)
     } else {

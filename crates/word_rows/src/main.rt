@@ -59,6 +59,7 @@ fn show_order<W: Write>(out: &mut W, order: Order<'_>) -> io::Result<()> {
             arrivals,
             budget,
         } => write!(out, "run-at\t{program}\t{script}\t{arrivals}\t{budget}"),
+        Order::Class { name, budget } => write!(out, "class\t{name}\t{budget}"),
         Order::Big {
             size,
             budget,

@@ -33,6 +33,12 @@ returns-in-RunAt-clause-answer g c =
     subst (λ (o : Order). Concludes g.K.Sink.taken g.K.Sink.faults c.args.out.now c.run_at.new.out g.D.Device.log g.D.Device.faults c.args.places.now.items c.run_at.new.places.items (lead_of (Some (order_view o)))
     (AnswersOrder g.F.Folder.holds g.F.Folder.faults c.args.folder.now c.run_at.new.folder (order_view o)) c.run_at.result) (sym c.in-RunAt.is) c.run_at.ensures.answer
 
+pub returns-in-Class-clause-answer : goal.returns-in-Class-clause-answer
+returns-in-Class-clause-answer g c =
+    subst (λ (o : Order). Concludes g.K.Sink.taken g.K.Sink.faults c.args.out.now c.class.new.out g.D.Device.log g.D.Device.faults c.args.places.now.items c.args.places.now.items (lead_of (Some (order_view o)))
+    (AnswersOrder g.F.Folder.holds g.F.Folder.faults c.args.folder.now c.class.new.folder (order_view o)) c.class.result) (sym c.in-Class.is)
+    (says-concludes g.D.Device.log g.D.Device.faults c.args.places.now.items c.args.places.now.items refl _ c.class.result c.class.ensures.answer)
+
 pub returns-in-Big-clause-answer : goal.returns-in-Big-clause-answer
 returns-in-Big-clause-answer g c =
     subst (λ (o : Order). Concludes g.K.Sink.taken g.K.Sink.faults c.args.out.now c.big.new.out g.D.Device.log g.D.Device.faults c.args.places.now.items c.big.new.places.items (lead_of (Some (order_view o)))

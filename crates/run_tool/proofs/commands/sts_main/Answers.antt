@@ -2,6 +2,7 @@ use Rattle.run_tool.proofs.Completing.{completes, refused, script-refused, image
 use Rattle.run_tool.proofs.Headlines.{headline}
 use Rattle.run_tool.proofs.Complete.{complete}
 use Rattle.run_tool.proofs.ToldAt.{headline-at}
+use Rattle.run_tool.proofs.ToldClass.{headline-class}
 use Rattle.run_tool.proofs.commands.sts_main.Goals as goal
 
 pub returns-clause-headline : goal.returns-clause-headline
@@ -18,6 +19,10 @@ returns-clause-complete g c =
 
 pub returns-clause-headline_at : goal.returns-clause-headline_at
 returns-clause-headline_at g c = headline-at c.one_answer.ensures _ _ _ _ (g.F.Folder.holds c.args.folder.now) _ _ _ _ _ c.perform.result c.number.result c.number.ensures c.perform.ensures.answer.ends c.perform.ensures.answer.cut
+
+pub returns-clause-headline_class : goal.returns-clause-headline_class
+returns-clause-headline_class g c =
+    headline-class c.one_answer.ensures _ _ _ _ (g.F.Folder.holds c.args.folder.now) _ _ _ _ _ c.perform.result c.number.result c.number.ensures c.perform.ensures.answer.ends c.perform.ensures.answer.cut
 
 pub returns-clause-refused : goal.returns-clause-refused
 returns-clause-refused g c = refused _ _ _ _ _ (g.F.Folder.holds c.args.folder.now) _ _ _ _ c.perform.result c.number.result c.number.ensures c.perform.ensures.answer.ends

@@ -1,0 +1,3 @@
+mod Runs
+mod Above
+pub mod Laws

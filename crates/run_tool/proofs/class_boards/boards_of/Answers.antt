@@ -1,0 +1,62 @@
+use Rattle.std.proofs.Common.{◌≡◌, ◌∙◌, sym, refl, ap, subst, arith, [], take, length, List}
+use Rattle.std.proofs.Math.Seq.{take-length}
+use Rattle.sts_base.specs.Faults.{Rose}
+use Rattle.tool_io.specs.Putting.{Took}
+use Rattle.tool_io.proofs.Laws.{took-nothing, rose-before, rose-after}
+use Rattle.class_file.specs.declared.class.Names.{Names}
+use Rattle.class_file.specs.Within.{AreTexts}
+use Rattle.run_tool.specs.ClassBoards.{OverBoard, OverBoards, none_to_board, none_to_all}
+use Rattle.run_tool.specs.ClassReady.{AreReady}
+use Rattle.run_tool.proofs.Endings.{gives-more, gives-after}
+use Rattle.run_tool.proofs.ClassRuns.{none-ready, next-ready, next-answered}
+use Rattle.run_tool.proofs.class_boards.boards_of.Goals as goal
+
+pub add-requires : goal.add-requires
+add-requires g c = subst AreTexts (sym c.index-names-at.is) (c.requires.texts c.loop-at.at c.index-names-at.result c.loop-at-test.true)
+
+pub loop-at-init : goal.loop-at-init
+loop-at-init g c =
+    let failed = g.F.Folder.faults c.args.folder.now in (
+      none-ready (g.F.Folder.holds c.args.folder.now) (Rose failed failed) c.args.end c.none-boards.result c.none-boards.ensures.images c.none-boards.ensures.scripts,
+      refl,
+      λ file. refl,
+      omega arith,
+      omega arith,
+    )
+
+pub loop-at-preserved : goal.loop-at-preserved
+loop-at-preserved g c =
+    let i = c.loop-at.invariant in
+    let told = g.F.Folder.holds c.args.folder.now in
+    let mid = g.F.Folder.holds c.loop-at.folder in
+    let failed = g.F.Folder.faults c.args.folder.now in
+    let failed_mid = g.F.Folder.faults c.loop-at.folder in
+    let failed_new = g.F.Folder.faults c.add.new.folder in (
+      next-ready told mid (Rose failed failed_mid) (Rose failed_mid failed_new) (Rose failed failed_new) c.args.end i.2 (λ r. rose-after failed failed_mid failed_new r c.add.ensures.folder_later)
+          (λ r. rose-before failed failed_mid failed_new i.3 r) c.args.names.now c.loop-at.at c.index-names-at.result c.loop-at.boards i.0 c.loop-at-test.true c.index-names-at.is c.add.new.self c.in-Ok.ensures.added,
+      c.in-Ok.ensures.unwritten ∙ i.1,
+      λ file. c.add.ensures.stays file ∙ i.2 file,
+      omega (arith, i.3, c.add.ensures.folder_later),
+      omega (arith, i.4, c.add.ensures.later),
+    )
+
+pub returns-in-Err-clause-none : goal.returns-in-Err-clause-none
+returns-in-Err-clause-none g c =
+    let i = c.loop-at.invariant in
+    let told = g.F.Folder.holds c.args.folder.now in
+    let mid = g.F.Folder.holds c.loop-at.folder in
+    let failed = g.F.Folder.faults c.args.folder.now in
+    let failed_mid = g.F.Folder.faults c.loop-at.folder in
+    let failed_new = g.F.Folder.faults c.add.new.folder in
+    let may = OverBoards told (Rose failed failed_new) c.args.end 0 c.args.names.now none_to_all in
+    gives-after may c.in-Err.ending (subst (λ x. Took x (g.K.Sink.taken c.loop-at.out) []) i.1 (took-nothing (g.K.Sink.taken c.loop-at.out))) i.4
+    (gives-more (OverBoard mid (Rose failed_mid failed_new) c.args.end c.loop-at.at c.index-names-at.result none_to_board) may c.in-Err.ending
+    (λ answer h. next-answered told mid (Rose failed failed_mid) (Rose failed_mid failed_new) (Rose failed failed_new) c.args.end i.2 (λ r. rose-after failed failed_mid failed_new r c.add.ensures.folder_later)
+    (λ r. rose-before failed failed_mid failed_new i.3 r) c.args.names.now c.loop-at.at c.index-names-at.result c.loop-at.boards i.0 c.loop-at-test.true c.index-names-at.is answer h) c.in-Err.ensures.none)
+
+pub returns-clause-ready : goal.returns-clause-ready
+returns-clause-ready g c =
+    let failed = g.F.Folder.faults c.args.folder.now in
+    let far : c.loop-at.at ≡ length c.args.names.now = omega (arith, c.loop-at-test.false, c.loop-at.auto.at-end) in
+    let all : take c.loop-at.at c.args.names.now ≡ c.args.names.now = ap (λ n. take n c.args.names.now) far ∙ take-length c.args.names.now in
+    subst (λ (names : List Names). AreReady (g.F.Folder.holds c.args.folder.now) (Rose failed (g.F.Folder.faults c.loop-at.folder)) c.args.end names c.loop-at.boards) all c.loop-at.invariant.0

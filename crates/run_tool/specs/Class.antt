@@ -1,0 +1,71 @@
+-- The run of a class as an answer.
+use Rattle.std.specs.Prelude.{◌≡◌, ◌⊎◌, ◌==◌, ℕ, List, map, Option, if◌then◌else◌}
+use Rattle.board_world.specs.Observations.{ByteList}
+use Rattle.board_world.specs.Board.{Board}
+use Rattle.sts_meaning.specs.Frames.{Activity}
+use Rattle.sts_meaning.specs.Heaps.{Heap}
+use Rattle.sts_meaning.specs.Steps.{source, empty}
+use Rattle.sts_implements.specs.Images.{instructions_of_a_step}
+use Rattle.event_script.specs.World.{world_entries}
+use Rattle.class_file.specs.declared.class.ClassFile.{ClassFile}
+use Rattle.class_world.specs.Classes as world
+use Rattle.class_steps.specs.Texts.{boards_now, HasWholeText}
+use Rattle.class_meaning.specs.Meaning.{HasTextCutWithin}
+use Rattle.class_radio.specs.Losses.{lost_by}
+use Rattle.class_radio.specs.Outcome.{is_panic, how_many_end}
+use Rattle.class_radio.specs.declared.run.ClassEnd.{ClassEnd}
+use Rattle.class_radio.specs.declared.run.ClassEnd.TheVariants as end
+use Rattle.run_tool.specs.declared.ending.Ending.{Ending}
+use Rattle.run_tool.specs.declared.ending.Ending.TheVariants.{Gave, Cut}
+use Rattle.run_tool.specs.declared.ending.Status.{Status}
+use Rattle.run_tool.specs.declared.ending.Status.TheVariants.{Done, Panicked, OutOfBudget}
+use Rattle.run_tool.specs.Answers.{Answer, says}
+use Rattle.run_tool.specs.ClassFiles.{AnswersClassFile}
+use Rattle.run_tool.specs.ClassBoards.{BoardSource, OverBoards}
+
+-- a board of a class, of which the program's source is run
+abbrev pub source_member : BoardSource → world.Member Activity Heap
+source_member board =
+    (let texts = board.tables.texts in
+    record { kind = source board.program texts; main = board.program.main; shared = empty board.program texts; script = world_entries board.script.entries })
+
+-- the class of these boards, with the end and the losses of its file
+abbrev pub class_of_sources : ClassFile → List BoardSource → world.Class Activity Heap
+class_of_sources file boards = record { members = map source_member boards; until = file.end; lost = lost_by file.lose }
+
+-- the status of a class whose runs have all ended, so many of them by a panic; and of which these are the boards
+abbrev pub status_by : ℕ → Status
+status_by panics = if panics == 0 then Done else Panicked
+
+abbrev pub class_status : List Board → Status
+class_status boards = status_by (how_many_end is_panic boards)
+
+-- how a call ends whose class's run ended so
+abbrev pub ending_of_class : ClassEnd → Ending
+ending_of_class (end.Done panics faults) = Gave (status_by panics)
+ending_of_class (end.Budget number) = Gave OutOfBudget
+ending_of_class end.SinkFault = Cut
+
+-- The answer is a class's whole text: each board's run has ended, within so many counted steps.
+pub record RunsWhole (C : world.Class Activity Heap) (budget : ℕ) (answer : Answer) : Type 0 where
+  pub text : ByteList
+  pub has : HasWholeText C budget text
+  pub is : answer ≡ says (class_status (boards_now C.until has.runs)) text
+
+-- The answer is a class's text that is cut in a board's run, which hasn't ended: it has made no more counted steps than the budget, and one at least for each 512 of it.
+pub record RunsCut (C : world.Class Activity Heap) (budget : ℕ) (answer : Answer) : Type 0 where
+  pub text : ByteList
+  pub has : HasTextCutWithin C instructions_of_a_step budget text
+  pub is : answer ≡ says OutOfBudget text
+
+-- the run of a class, within a budget of instructions for each board
+abbrev pub RunsClass : world.Class Activity Heap → ℕ → Answer → Type 0
+RunsClass C budget answer = RunsWhole C budget answer ⊎ RunsCut C budget answer
+
+-- The answers over a class, over a folder that tells this of its files, where `rose` says that its count of faults rose.
+abbrev pub RunsFile : (List ℕ → Option (Option (List ℕ))) → Type 0 → ℕ → ClassFile → Answer → Type 0
+RunsFile told rose budget file = OverBoards told rose file.end 0 file.boards (λ boards. RunsClass (class_of_sources file boards) budget)
+
+-- the answers of `class` to a text
+abbrev pub RunsClassText : (List ℕ → Option (Option (List ℕ))) → Type 0 → ℕ → List ℕ → Answer → Type 0
+RunsClassText told rose budget = AnswersClassFile (RunsFile told rose budget)

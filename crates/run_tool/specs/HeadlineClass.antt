@@ -1,0 +1,56 @@
+-- What `class C` comes to where nothing fails, told by the meaning of the boards' programs alone: their sources are stepped together through time, and each hears what the others send.
+use Rattle.std.specs.Prelude.{◌≡◌, ◌⊎◌, ◌==◌, ℕ, List, [], Option, Some, Ok, if◌then◌else◌}
+use Rattle.tool_io.specs.Putting.{Took}
+use Rattle.board_world.specs.Observations.{ByteList}
+use Rattle.board_world.specs.Simulation.{Paired}
+use Rattle.sts_meaning.specs.Frames.{Activity}
+use Rattle.sts_meaning.specs.Heaps.{Heap}
+use Rattle.event_script.specs.Verdict as script
+use Rattle.class_file.specs.Verdict as class
+use Rattle.class_file.specs.declared.class.Names.{Names}
+use Rattle.class_file.specs.declared.class.ClassFile.{ClassFile}
+use Rattle.class_world.specs.Classes.{Class}
+use Rattle.class_steps.specs.Texts.{boards_now, HasWholeText}
+use Rattle.class_meaning.specs.Meaning.{HasTextCutWithin}
+use Rattle.class_radio.specs.Outcome.{is_panic, how_many_end}
+use Rattle.sts_whole.specs.Accepting.{Accepts}
+use Rattle.sts_words.specs.Orders.{Asked, run_class}
+use Rattle.run_tool.specs.HeadlineAt.{IsTold}
+use Rattle.run_tool.specs.ClassBoards.{BoardSource}
+use Rattle.run_tool.specs.Class.{class_of_sources}
+
+-- The files of a board are told: a text that is accepted as its program, and its script, which ends with the class.
+pub record IsToldBoard (told : List ℕ → Option (Option (List ℕ))) (until : ℕ) (names : Names) (board : BoardSource) : Type 0 where
+  pub text : List ℕ
+  pub text_told : IsTold told names.program text
+  pub accepted : Accepts text board.tables board.program
+  pub script_text : List ℕ
+  pub script_told : IsTold told names.script script_text
+  pub script_is : script.Tells script_text (Ok board.script)
+  pub ends : board.script.end ≡ until
+
+-- The file of this name is told and stands for a class, and so are the files of its boards.
+pub record IsToldClass (told : List ℕ → Option (Option (List ℕ))) (name : List ℕ) (file : ClassFile) (boards : List BoardSource) : Type 0 where
+  pub text : List ℕ
+  pub text_told : IsTold told name text
+  pub is : class.Tells text (Ok file)
+  pub are : Paired (IsToldBoard told file.end) file.boards boards
+
+-- First. Each board's source has ended, within so many counted steps of its own, and what was written is the whole text of their class. The status is 3 where some board panicked, else 0.
+pub record WritesWhole (C : Class Activity Heap) (budget : ℕ) (text : ByteList) (number : ℕ) : Type 0 where
+  pub has : HasWholeText C budget text
+  pub status : number ≡ (if how_many_end is_panic (boards_now C.until has.runs) == 0 then 0 else 3)
+
+-- Second. A board's source hasn't ended after some counted steps, no more than the budget, and one at least for each 512 of it. What was written is what all boards did before the moment to which these steps come,
+-- what those of lower numbers did at it, what this one did at it in these steps, and the line of its budget. The status is 4.
+pub record WritesCut (C : Class Activity Heap) (budget : ℕ) (text : ByteList) (number : ℕ) : Type 0 where
+  pub has : HasTextCutWithin C 512 budget text
+  pub status : number ≡ 4
+
+-- The claim, of a call with these words, over a folder that tells this of its files, for a class that is told: where no count of faults rose, of the folder or the sink, no device changed; and there was no memory,
+-- and nothing was written; or one of the two was.
+abbrev pub HeadlineClass : {B : Type 0} → (told : List ℕ → Option (Option (List ℕ))) → Option Asked → (folder_rose sink_rose : Type 0) → (taken taken' : Option (List ℕ)) → (places places' : List (Option B)) → (number : ℕ) → Type 0
+HeadlineClass told asked folder_rose sink_rose taken taken' places places' number =
+    (name : List ℕ) (budget : ℕ) (file : ClassFile) (boards : List BoardSource) → asked ≡ Some (run_class name budget) → IsToldClass told name file boards → ¬ folder_rose → ¬ sink_rose
+    → (places' ≡ places) × (((number ≡ 30) × Took taken taken' [])
+    ⊎ ((text : ByteList) × Took taken taken' text × (WritesWhole (class_of_sources file boards) budget text number ⊎ WritesCut (class_of_sources file boards) budget text number)))

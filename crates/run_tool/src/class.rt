@@ -1,0 +1,126 @@
+// The command `class`.
+ghost use Rattle.std.specs.Prelude.{◌≡◌, ◌≤◌, ◌<◌, ℕ, List, All, length, IfOk, OnErr};
+ghost use Rattle.std.specs.declared.option.Option.{Option};
+ghost use Rattle.sts_base.specs.Faults.{Rose};
+ghost use Rattle.board_world.specs.Simulation.{Paired};
+ghost use Rattle.class_file.specs.Within.{AreTexts, IsWithinForm};
+ghost use Rattle.class_radio.specs.Outcome.{setups_of};
+ghost use Rattle.sts_words.specs.Orders.{IsBudget};
+ghost use Rattle.run_tool.specs.Answers.{GivesOneOf};
+ghost use Rattle.run_tool.specs.Files.{OverFile};
+ghost use Rattle.run_tool.specs.ClassBoards.{BoardSource};
+ghost use Rattle.run_tool.specs.ClassReady.{CanRun, IsBuiltAs};
+ghost use Rattle.run_tool.specs.Class.{RunsClass, RunsFile, RunsClassText, class_of_sources, ending_of_class};
+
+use crate::class_boards::{Boards, boards_of};
+use crate::classes::class_in;
+use crate::ending::{Ending, Status};
+use crate::fetched::text_of;
+use class_file::ClassFile;
+use class_radio::{ClassEnd, run_class};
+use std::alloc::Global;
+use sts_base::NoMemory;
+use tool_io::{Folder, Sink};
+
+/// How a call ends whose class's run ended so.
+fn ending_of_class(end: ClassEnd) -> Ending
+    ensures { result ≡ ending_of_class end }
+{
+    match end {
+        ClassEnd::Done { panics, .. } => {
+            if panics == 0 {
+                Ending::Gave(Status::Done)
+            } else {
+                Ending::Gave(Status::Panicked)
+            }
+        }
+        ClassEnd::Budget(_) => Ending::Gave(Status::OutOfBudget),
+        ClassEnd::SinkFault => Ending::Cut,
+    }
+}
+
+/// Runs the boards of a class, which are made ready, each within the budget.
+fn run_boards<K: Sink>(
+    alloc: Global,
+    class: ClassFile,
+    boards: Boards,
+    budget: u32,
+    out: &mut K,
+) -> Ending
+    requires some { 1 ≤ length boards.images.items }
+    requires few { length boards.images.items ≤ 8 }
+    requires ready { CanRun class.end boards }
+    requires budget { IsBudget budget }
+    ensures { (sources : List BoardSource) → Paired IsBuiltAs sources (setups_of boards.images.items boards.scripts.items)
+        → GivesOneOf K.taken K.faults out.old out.new (RunsClass (class_of_sources class sources) budget) result }
+{
+    match run_class(
+        alloc,
+        boards.images,
+        boards.scripts,
+        class.lose,
+        class.end,
+        budget,
+        out,
+    ) {
+        Ok(end) => ending_of_class(end),
+        Err(NoMemory) => Ending::NoMemory,
+    }
+}
+
+/// IsBuiltAs the boards of a class ready, and runs them.
+fn run_file<F: Folder, K: Sink>(
+    alloc: Global,
+    class: ClassFile,
+    budget: u32,
+    folder: &mut F,
+    out: &mut K,
+) -> Ending
+    requires within { IsWithinForm class }
+    requires texts { All AreTexts class.boards }
+    requires budget { IsBudget budget }
+    ensures answer { GivesOneOf K.taken K.faults out.old out.new (RunsFile (F.holds folder.old) (Rose (F.faults folder.old) (F.faults folder.new)) budget class) result }
+    ensures folder_later { F.faults folder.old ≤ F.faults folder.new }
+{
+    match boards_of(alloc, class.end, class.boards.as_slice(), folder, out) {
+        Ok(boards) => run_boards(alloc, class, boards, budget, out),
+        Err(ending) => ending,
+    }
+}
+
+/// Reads a class from its text, and runs it.
+fn run_text<F: Folder, K: Sink>(
+    alloc: Global,
+    text: &[u8],
+    budget: u32,
+    folder: &mut F,
+    out: &mut K,
+) -> Ending
+    requires budget { IsBudget budget }
+    ensures answer { GivesOneOf K.taken K.faults out.old out.new (RunsClassText (F.holds folder.old) (Rose (F.faults folder.old) (F.faults folder.new)) budget text.now) result }
+    ensures folder_later { F.faults folder.old ≤ F.faults folder.new }
+{
+    match class_in(alloc, text, out) {
+        Ok(class) => run_file(alloc, class, budget, folder, out),
+        Err(ending) => ending,
+    }
+}
+
+/// The command `class`.
+pub fn class<F: Folder, K: Sink>(
+    alloc: Global,
+    name: &str,
+    budget: u32,
+    folder: &mut F,
+    out: &mut K,
+) -> Ending
+    requires budget { IsBudget budget }
+    ensures answer { GivesOneOf K.taken K.faults out.old out.new (OverFile F.holds F.faults folder.old folder.new name.now
+        (RunsClassText (F.holds folder.old) (Rose (F.faults folder.old) (F.faults folder.new)) budget)) result }
+    ensures folder_later { F.faults folder.old ≤ F.faults folder.new }
+{
+    match text_of(alloc, name, folder, out) {
+        Ok(text) => run_text(alloc, &text, budget, folder, out),
+        Err(ending) => ending,
+    }
+}

@@ -1,0 +1,309 @@
+// The boards of a class: the program and the script of each, one after the other.
+ghost use Rattle.std.specs.Prelude.{◌≡◌, ◌≢◌, ◌≤◌, ◌<◌, ◌++◌, ◌∷◌, [], ℕ, List, Ok, IfOk, IfErr, OnOk, All, length};
+ghost use Rattle.std.specs.Str.{IsUtf8};
+ghost use Rattle.sts_base.specs.Faults.{Rose};
+ghost use Rattle.sts_whole.specs.Accepting as accepting;
+ghost use Rattle.sts_whole.specs.Built.{Builds};
+ghost use Rattle.tool_io.specs.Putting.{PutsTo};
+ghost use Rattle.event_script.specs.Codes.{number_of};
+ghost use Rattle.event_script.specs.Sound.{IsSound};
+ghost use Rattle.event_script.specs.Verdict.{Tells};
+ghost use Rattle.class_file.specs.Within.{AreTexts};
+ghost use Rattle.class_file.specs.declared.class.ClassCode.TheVariants as class_code;
+ghost use Rattle.run_tool.specs.declared.ending.Status.TheVariants as status;
+ghost use Rattle.run_tool.specs.Answers.{GivesOneOf, Led, says};
+ghost use Rattle.run_tool.specs.Files.{AnswersFile, none_to_read};
+ghost use Rattle.run_tool.specs.Refusals.{Refuses};
+ghost use Rattle.run_tool.specs.Scripts.{none_to_scripts, script_refused_line};
+ghost use Rattle.run_tool.specs.ClassFiles.{refuses_class};
+ghost use Rattle.run_tool.specs.ClassBoards.{OverBoardProgram, OverBoardScript, OverBoard, OverBoards, AnswersBoardScript, board_lead, none_to_boards, none_to_board, none_to_all};
+ghost use Rattle.run_tool.specs.ClassReady.{IsImageOf, IsBoardScript, HasScript, HasAdded, AreReady};
+
+use crate::classes::say_class_refused;
+use crate::ending::{Ending, Status};
+use crate::fetched::text_of;
+use crate::said::then_put_refused;
+use class_file::{ClassCode, Names};
+use event_script::{Script, ScriptCode, ScriptRefused, read_script};
+use std::alloc::Global;
+use sts_base::{Code, Refused, place};
+use sts_whole::{build, refusals_stand_in_their_texts};
+use tool_io::{Folder, PutFailed, Sink, then_put, then_put_decimal};
+
+/// Boards that are made ready: their images, and their scripts.
+#[derive(Drop)]
+pub struct Boards {
+    pub images: Vec<Vec<u8>>,
+    pub scripts: Vec<Script>,
+}
+
+/// A name as text.
+fn name_text(name: &[u8]) -> &str
+    requires { IsUtf8 name.now }
+    ensures { result.now ≡ name.now }
+{
+    str::from_utf8(name).unwrap()
+}
+
+/// Puts what stands before a line of a board: its number and a space.
+fn put_number<K: Sink>(out: &mut K, number: u32) -> Result<(), PutFailed>
+    ensures { PutsTo K.taken K.faults out.old out.new (board_lead number) result }
+{
+    let put = then_put_decimal(Ok(()), out, number);
+    then_put(put, out, b" ")
+}
+
+/// Gives the answer that a board's program is refused by a code at a place.
+fn refuse_program<K: Sink>(out: &mut K, number: u32, text: &[u8], code: Code, at: u32) -> Ending
+    requires within { at ≤ length text.now }
+    requires fits { at < 4294967295 }
+    ensures { GivesOneOf K.taken K.faults out.old out.new (Led (board_lead number) (Refuses text.now code at)) result }
+{
+    let (line, column) = place(text, at);
+    let led = put_number(out, number);
+    match then_put_refused(led, out, code, line, column) {
+        Ok(()) => Ending::Gave(Status::Refused),
+        Err(PutFailed) => Ending::Cut,
+    }
+}
+
+/// The same for this reason; without memory nothing is given.
+fn say_program_refused<K: Sink>(out: &mut K, number: u32, text: &[u8], why: Refused) -> Ending
+    requires { accepting.Refuses text.now why }
+    ensures { GivesOneOf K.taken K.faults out.old out.new (OverBoardProgram number none_to_boards text.now) result }
+{
+    refusals_stand_in_their_texts();
+    match why {
+        Refused::Program { code, at } => refuse_program(out, number, text, code, at),
+        Refused::NoMemory => Ending::NoMemory,
+    }
+}
+
+/// The image that is built of the text of a board's program, with nothing written. Where the text is refused, the answer that says so was given.
+fn image_in<K: Sink>(
+    alloc: Global,
+    number: u32,
+    text: &[u8],
+    out: &mut K,
+) -> Result<Vec<u8>, Ending>
+    ensures built { IfOk result (λ image. Builds text.now image.items) }
+    ensures unwritten { OnOk result (K.taken out.new ≡ K.taken out.old) }
+    ensures none { IfErr result (GivesOneOf K.taken K.faults out.old out.new (OverBoardProgram number none_to_boards text.now)) }
+    ensures later { K.faults out.old ≤ K.faults out.new }
+{
+    match build(alloc, text) {
+        Ok(image) => Ok(image),
+        Err(why) => Err(say_program_refused(out, number, text, why)),
+    }
+}
+
+/// The same of the file of that name.
+fn image_of<F: Folder, K: Sink>(
+    alloc: Global,
+    number: u32,
+    name: &str,
+    folder: &mut F,
+    out: &mut K,
+) -> Result<Vec<u8>, Ending>
+    ensures image { IfOk result (λ image. IsImageOf (F.holds folder.old) (Rose (F.faults folder.old) (F.faults folder.new)) name.now image.items) }
+    ensures unwritten { OnOk result (K.taken out.new ≡ K.taken out.old) }
+    ensures none { IfErr result (GivesOneOf K.taken K.faults out.old out.new
+        (AnswersFile (OverBoardProgram number none_to_boards) (F.holds folder.old name.now) (Rose (F.faults folder.old) (F.faults folder.new)))) }
+    ensures stays { (file : List ℕ) → F.holds folder.new file ≡ F.holds folder.old file }
+    ensures folder_later { F.faults folder.old ≤ F.faults folder.new }
+    ensures later { K.faults out.old ≤ K.faults out.new }
+{
+    match text_of(alloc, name, folder, out) {
+        Ok(text) => image_in(alloc, number, &text, out),
+        Err(ending) => Err(ending),
+    }
+}
+
+/// Puts the line of a refusal of a board's script, behind its number: the code's number.
+fn put_script_refused<K: Sink>(out: &mut K, number: u32, code: ScriptCode) -> Result<(), PutFailed>
+    ensures { PutsTo K.taken K.faults out.old out.new (board_lead number ++ script_refused_line (number_of code)) result }
+{
+    let put = put_number(out, number);
+    let put = then_put(put, out, b"script refused ");
+    let put = then_put_decimal(put, out, u32::from(code.number()));
+    then_put(put, out, b"\n")
+}
+
+/// Gives the answer that the text of a board's script stands for none.
+fn say_script_refused<K: Sink>(out: &mut K, number: u32, code: ScriptCode) -> Ending
+    ensures { GivesOneOf K.taken K.faults out.old out.new (λ answer. answer ≡ says status.ScriptRefused (board_lead number ++ script_refused_line (number_of code))) result }
+{
+    match put_script_refused(out, number, code) {
+        Ok(()) => Ending::Gave(Status::ScriptRefused),
+        Err(PutFailed) => Ending::Cut,
+    }
+}
+
+/// A script that ends with its class, with nothing written. Where it has another end, the answer that says so was given.
+fn with_end<K: Sink>(script: Script, end: u32, out: &mut K) -> Result<Script, Ending>
+    ensures same { IfOk result (λ it. it ≡ script) }
+    ensures ends { OnOk result (script.end ≡ end) }
+    ensures unwritten { OnOk result (K.taken out.new ≡ K.taken out.old) }
+    ensures differs { IfErr result (λ ending. script.end ≢ end) }
+    ensures none { IfErr result (GivesOneOf K.taken K.faults out.old out.new (λ answer. answer ≡ refuses_class class_code.EndDiffers)) }
+    ensures later { K.faults out.old ≤ K.faults out.new }
+{
+    if script.end == end {
+        Ok(script)
+    } else {
+        Err(say_class_refused(out, ClassCode::EndDiffers))
+    }
+}
+
+/// The script that the text of a board's script stands for, if it ends with the class, with nothing written. Where there is none, the answer that says so was given.
+fn script_in<K: Sink>(
+    alloc: Global,
+    number: u32,
+    end: u32,
+    text: &[u8],
+    out: &mut K,
+) -> Result<Script, Ending>
+    ensures script { IfOk result (λ script. Tells text.now (Ok script)) }
+    ensures sound { IfOk result IsSound }
+    ensures ends { IfOk result (λ script. script.end ≡ end) }
+    ensures unwritten { OnOk result (K.taken out.new ≡ K.taken out.old) }
+    ensures none { IfErr result (GivesOneOf K.taken K.faults out.old out.new (AnswersBoardScript number end none_to_scripts text.now)) }
+    ensures later { K.faults out.old ≤ K.faults out.new }
+{
+    match read_script(alloc, text) {
+        Ok(script) => with_end(script, end, out),
+        Err(ScriptRefused::Script(code)) => Err(say_script_refused(out, number, code)),
+        Err(ScriptRefused::NoMemory) => Err(Ending::NoMemory),
+    }
+}
+
+/// The same of the file of that name.
+fn script_of<F: Folder, K: Sink>(
+    alloc: Global,
+    number: u32,
+    end: u32,
+    name: &str,
+    folder: &mut F,
+    out: &mut K,
+) -> Result<Script, Ending>
+    ensures script { IfOk result (IsBoardScript (F.holds folder.old) (Rose (F.faults folder.old) (F.faults folder.new)) end name.now) }
+    ensures sound { IfOk result IsSound }
+    ensures unwritten { OnOk result (K.taken out.new ≡ K.taken out.old) }
+    ensures none { IfErr result (GivesOneOf K.taken K.faults out.old out.new
+        (OverBoardScript (F.holds folder.old) (Rose (F.faults folder.old) (F.faults folder.new)) end number name.now none_to_scripts)) }
+    ensures stays { (file : List ℕ) → F.holds folder.new file ≡ F.holds folder.old file }
+    ensures folder_later { F.faults folder.old ≤ F.faults folder.new }
+    ensures later { K.faults out.old ≤ K.faults out.new }
+{
+    match text_of(alloc, name, folder, out) {
+        Ok(text) => script_in(alloc, number, end, &text, out),
+        Err(ending) => Err(ending),
+    }
+}
+
+impl Boards {
+    /// No boards.
+    fn none(alloc: Global) -> Boards
+        ensures images { result.images.items ≡ [] }
+        ensures scripts { result.scripts.items ≡ [] }
+    {
+        Boards {
+            images: Vec::new(alloc),
+            scripts: Vec::new(alloc),
+        }
+    }
+
+    /// One more board, if there is memory.
+    fn push(&mut self, image: Vec<u8>, script: Script) -> Result<(), Ending>
+        ensures images { OnOk result (self.new.images.items ≡ self.old.images.items ++ image ∷ []) }
+        ensures scripts { OnOk result (self.new.scripts.items ≡ self.old.scripts.items ++ script ∷ []) }
+        ensures memory { IfErr result (λ ending. ending ≡ Ending.NoMemory) }
+    {
+        if self.images.push(image).is_err() {
+            return Err(Ending::NoMemory);
+        }
+        match self.scripts.push(script) {
+            Ok(()) => Ok(()),
+            Err(_) => Err(Ending::NoMemory),
+        }
+    }
+
+    /// A board with this image, if there is memory, with nothing written: its script is fetched and read. Where there is none, the answer that says so was given.
+    fn add_script<F: Folder, K: Sink>(
+        &mut self,
+        alloc: Global,
+        number: u32,
+        end: u32,
+        image: Vec<u8>,
+        name: &str,
+        folder: &mut F,
+        out: &mut K,
+    ) -> Result<(), Ending>
+        ensures added { OnOk result (HasScript (F.holds folder.old) (Rose (F.faults folder.old) (F.faults folder.new)) end name.now image self.old self.new) }
+        ensures unwritten { OnOk result (K.taken out.new ≡ K.taken out.old) }
+        ensures none { IfErr result (GivesOneOf K.taken K.faults out.old out.new
+            (OverBoardScript (F.holds folder.old) (Rose (F.faults folder.old) (F.faults folder.new)) end number name.now none_to_scripts)) }
+        ensures stays { (file : List ℕ) → F.holds folder.new file ≡ F.holds folder.old file }
+        ensures folder_later { F.faults folder.old ≤ F.faults folder.new }
+        ensures later { K.faults out.old ≤ K.faults out.new }
+    {
+        match script_of(alloc, number, end, name, folder, out) {
+            Ok(script) => self.push(image, script),
+            Err(ending) => Err(ending),
+        }
+    }
+
+    /// The board of that number, with nothing written: its program is fetched and built, and behind that its script is fetched and read. Where one can't be, the answer that says so was given.
+    fn add<F: Folder, K: Sink>(
+        &mut self,
+        alloc: Global,
+        number: u32,
+        end: u32,
+        names: &Names,
+        folder: &mut F,
+        out: &mut K,
+    ) -> Result<(), Ending>
+        requires { AreTexts names.now }
+        ensures added { OnOk result (HasAdded (F.holds folder.old) (Rose (F.faults folder.old) (F.faults folder.new)) end names.now self.old self.new) }
+        ensures unwritten { OnOk result (K.taken out.new ≡ K.taken out.old) }
+        ensures none { IfErr result (GivesOneOf K.taken K.faults out.old out.new
+            (OverBoard (F.holds folder.old) (Rose (F.faults folder.old) (F.faults folder.new)) end number names.now none_to_board)) }
+        ensures stays { (file : List ℕ) → F.holds folder.new file ≡ F.holds folder.old file }
+        ensures folder_later { F.faults folder.old ≤ F.faults folder.new }
+        ensures later { K.faults out.old ≤ K.faults out.new }
+    {
+        let program = name_text(names.program.as_slice());
+        let script = name_text(names.script.as_slice());
+        match image_of(alloc, number, program, folder, out) {
+            Ok(image) => self.add_script(alloc, number, end, image, script, folder, out),
+            Err(ending) => Err(ending),
+        }
+    }
+}
+
+/// The boards of these names, one after the other, with nothing written. Where one can't be made ready, the answer that says so was given, and no file of a later one was fetched.
+pub fn boards_of<F: Folder, K: Sink>(
+    alloc: Global,
+    end: u32,
+    names: &[Names],
+    folder: &mut F,
+    out: &mut K,
+) -> Result<Boards, Ending>
+    requires few { length names.now ≤ 8 }
+    requires texts { All AreTexts names.now }
+    ensures ready { IfOk result (AreReady (F.holds folder.old) (Rose (F.faults folder.old) (F.faults folder.new)) end names.now) }
+    ensures unwritten { OnOk result (K.taken out.new ≡ K.taken out.old) }
+    ensures none { IfErr result (GivesOneOf K.taken K.faults out.old out.new
+        (OverBoards (F.holds folder.old) (Rose (F.faults folder.old) (F.faults folder.new)) end 0 names.now none_to_all)) }
+    ensures folder_later { F.faults folder.old ≤ F.faults folder.new }
+    ensures later { K.faults out.old ≤ K.faults out.new }
+{
+    let mut boards = Boards::none(alloc);
+    for at in 0..names.len() {
+        match boards.add(alloc, at as u32, end, &names[at], folder, out) {
+            Ok(()) => {}
+            Err(ending) => return Err(ending),
+        }
+    }
+    Ok(boards)
+}
