@@ -12,7 +12,7 @@ use Rattle.class_world.proofs.Laws.{rising_heard, heard_of_before}
 use Rattle.class_steps.specs.Outlook.{Outlook, looks}
 use Rattle.class_radio.specs.declared.player.Player.{Player}
 use Rattle.class_radio.specs.Playing.{Setup, outlook}
-use Rattle.class_radio.specs.Stepped.{ClassPlan, IsSoundPlan, Past, setups_in, seens, outlooks, shown, HaveHeard, EachBoard}
+use Rattle.class_radio.specs.Stepped.{ClassPlan, IsSoundPlan, Past, setups_in, seens, outlooks, shown_boards, HaveHeard, EachBoard}
 
 module _ (R : ℕ → Past → Player → Type 0) where
   pub each_long : (b : ℕ) (hs : List Past) (ps : List Player) → EachBoard R b hs ps → length hs ≡ length ps
@@ -85,13 +85,13 @@ heard_scripts lost t until seen j [] here there still s c h = (sym c ∙ h.0 ∙
 heard_scripts lost t until seen j (g ∷ gs) here there still s c h = (h.0, heard_scripts lost t until seen (suc j) gs here there still s c h.1)
 
 -- the boards that players show, one behind the other
-pub shown_append : (gone still : List Past) (first rest : List Player) → length gone ≡ length first → shown (gone ++ still) (first ++ rest) ≡ shown gone first ++ shown still rest
+pub shown_append : (gone still : List Past) (first rest : List Player) → length gone ≡ length first → shown_boards (gone ++ still) (first ++ rest) ≡ shown_boards gone first ++ shown_boards still rest
 shown_append [] still [] rest e = refl
 shown_append [] still (p ∷ ps) rest e = absurd (omega (arith, e))
 shown_append (g ∷ gs) still [] rest e = absurd (omega (arith, e))
 shown_append (g ∷ gs) still (p ∷ ps) rest e = ap (λ (bs : List Board). (outlook g.seen p).board ∷ bs) (shown_append gs still ps rest (omega (arith, e)))
 
-pub shown_long : (gone : List Past) (first : List Player) → length (shown gone first) ≡ length first
+pub shown_long : (gone : List Past) (first : List Player) → length (shown_boards gone first) ≡ length first
 shown_long [] [] = refl
 shown_long [] (p ∷ ps) = ap suc (shown_long [] ps)
 shown_long (g ∷ gs) [] = refl

@@ -14,9 +14,9 @@ use Rattle.class_radio.specs.declared.player.Standing.{Standing}
 use Rattle.class_radio.specs.declared.player.Standing.TheVariants.{Panicked, Faulted}
 use Rattle.board_run.specs.View.{end_of}
 use Rattle.class_radio.specs.Playing.{standing_of}
-use Rattle.class_radio.specs.Stepped.{Past, Comes, EachBoard, outlooks}
+use Rattle.class_radio.specs.Stepped.{Past, IsAtMoment, EachBoard, outlooks}
 use Rattle.class_radio.specs.Outcome.{is_panic, is_fault, how_many_end}
-use Rattle.class_radio.specs.Closing.{AreLed, is_same, how_many_stand}
+use Rattle.class_radio.specs.Closing.{AreLed, stands_same, how_many_stand}
 
 -- one that the clock ends stands as one that goes on
 module _ (test : Option End → Bool) (quiet : test (Some Quietly) ≡ test None) (script : test (Some By_script) ≡ test None) where
@@ -37,24 +37,24 @@ module _ (test : Option End → Bool) (quiet : test (Some Quietly) ≡ test None
       ap (λ (c : Bool). (if c then 1 else 0) + how_many_end test (map (λ (q : Played A S). (world_of until q).board) ps)) (ap test (closes until p o h.0).end ∙ test_closed until o)
       ∙ ap (λ (n : ℕ). (if test o.board.end then 1 else 0) + n) (count_runs until ps os h.1)
 
-module _ (standing : Standing) (test : Option End → Bool) (same : (e : Option Stop) → is_same (standing_of e) standing ≡ test (option_map end_of e)) where
+module _ (standing : Standing) (test : Option End → Bool) (same : (e : Option Stop) → stands_same (standing_of e) standing ≡ test (option_map end_of e)) where
   count_looks : (b : ℕ) (seen : List (List Observation)) (ps : List Player) → AreLed b ps → how_many_stand standing ps ≡ how_many_end test (looks (outlooks seen ps))
   count_looks b seen [] h = refl
   count_looks b [] (p ∷ ps) h =
-      ap (λ (c : Bool). (if c then 1 else 0) + how_many_stand standing ps) (ap (λ (s : Standing). is_same s standing) h.0.stands ∙ same p.board.engine.end)
+      ap (λ (c : Bool). (if c then 1 else 0) + how_many_stand standing ps) (ap (λ (s : Standing). stands_same s standing) h.0.stands ∙ same p.board.engine.end)
       ∙ ap (λ (n : ℕ). (if test (option_map end_of p.board.engine.end) then 1 else 0) + n) (count_looks (suc b) [] ps h.1)
   count_looks b (os ∷ seen) (p ∷ ps) h =
-      ap (λ (c : Bool). (if c then 1 else 0) + how_many_stand standing ps) (ap (λ (s : Standing). is_same s standing) h.0.stands ∙ same p.board.engine.end)
+      ap (λ (c : Bool). (if c then 1 else 0) + how_many_stand standing ps) (ap (λ (s : Standing). stands_same s standing) h.0.stands ∙ same p.board.engine.end)
       ∙ ap (λ (n : ℕ). (if test (option_map end_of p.board.engine.end) then 1 else 0) + n) (count_looks (suc b) seen ps h.1)
 
-panic_same : (e : Option Stop) → is_same (standing_of e) Panicked ≡ is_panic (option_map end_of e)
+panic_same : (e : Option Stop) → stands_same (standing_of e) Panicked ≡ is_panic (option_map end_of e)
 panic_same None = refl
 panic_same (Some Quiet) = refl
 panic_same (Some Script) = refl
 panic_same (Some (Panic code)) = refl
 panic_same (Some (Fault fault address)) = refl
 
-fault_same : (e : Option Stop) → is_same (standing_of e) Faulted ≡ is_fault (option_map end_of e)
+fault_same : (e : Option Stop) → stands_same (standing_of e) Faulted ≡ is_fault (option_map end_of e)
 fault_same None = refl
 fault_same (Some Quiet) = refl
 fault_same (Some Script) = refl
@@ -70,7 +70,7 @@ module _ {A S : Type 0} (until : ℕ) (runs : List (Played A S)) (seen : List (L
   faults_are = count_looks Faulted is_fault fault_same 0 seen ps led ∙ sym (count_runs is_fault refl refl until runs (outlooks seen ps) h)
 
 -- boards that have come to a moment have the leads of their numbers, and stand as their runs do
-pub led_all : (budget t b : ℕ) (hs : List Past) (ps : List Player) → EachBoard (Comes budget t) b hs ps → AreLed b ps
+pub led_all : (budget t b : ℕ) (hs : List Past) (ps : List Player) → EachBoard (IsAtMoment budget t) b hs ps → AreLed b ps
 led_all budget t b [] [] h = tt
 led_all budget t b [] (p ∷ ps) h = absurd h
 led_all budget t b (x ∷ hs) [] h = absurd h

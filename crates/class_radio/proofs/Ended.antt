@@ -29,8 +29,8 @@ use Rattle.class_radio.specs.Playing.{Setup, run_given, outlook}
 use Rattle.class_radio.specs.Stepping.{world_behind, WasCut, WasBroken}
 use Rattle.class_radio.specs.Losses.{lost_by}
 use Rattle.class_radio.specs.Outcome.{members_of, class_of_parts, boards_of, HasSpent, IsStopped, RanClass}
-use Rattle.class_radio.specs.Stepped.{ClassPlan, IsSoundPlan, Past, setups_in, seens, outlooks, shown, HaveHeard, Comes, Passed, EachBoard, AreIn}
-use Rattle.class_radio.specs.Stopping.{IsSpent, FailedLast, EndsIn, HasGoneOn, IsEnded}
+use Rattle.class_radio.specs.Stepped.{ClassPlan, IsSoundPlan, Past, setups_in, seens, outlooks, shown_boards, HaveHeard, IsAtMoment, Passed, EachBoard, AreIn}
+use Rattle.class_radio.specs.Stopping.{SpentIn, FailedLast, EndsIn, HasGoneOn, IsEnded}
 use Rattle.class_radio.proofs.Boards.{each_long, heard_same, heard_scripts, setups_split, shown_append, wrote_at}
 use Rattle.class_radio.proofs.Turning.{before_twice}
 use Rattle.class_radio.proofs.Runs.{run_of, runs_of, frees_of, Fits, fit_all, fit_left, fit_right, members_are, in_order, hear_all, passed_all, come_all, within_passed, within_come}
@@ -93,7 +93,7 @@ module _ (plan : ClassPlan) (sound : IsSoundPlan plan) (began : Option (List ℕ
   long = each_long (Passed plan.budget t) 0 gone first are.passed
 
   long_still : length still ≡ length rest
-  long_still = each_long (Comes plan.budget t) (suc (length gone)) still rest are.come.1
+  long_still = each_long (IsAtMoment plan.budget t) (suc (length gone)) still rest are.come.1
 
   fits : AllByRecursion (Fits plan.until) (gone ++ here ∷ still)
   fits = fit_all (lost_by plan.losses) t plan.until (seens (gone ++ here ∷ still)) 0 (gone ++ here ∷ still)
@@ -160,10 +160,10 @@ module _ (plan : ClassPlan) (sound : IsSoundPlan plan) (began : Option (List ℕ
         (heard_same (lost_by plan.losses) t plan.until (seens (gone ++ here ∷ still)) P (sym (all_twice t (seens (gone ++ here ∷ still)))) 0 (gone ++ there ∷ still)
         (heard_scripts (lost_by plan.losses) t plan.until (seens (gone ++ here ∷ still)) 0 gone here there still refl refl are.heard)))
 
-    passed : Paired (Reached plan.until (suc t)) below (shown gone first)
+    passed : Paired (Reached plan.until (suc t)) below (shown_boards gone first)
     passed = passed_all C t plan.budget 0 gone first fits_gone are.passed
 
-    came : Paired (Reached plan.until t) above (shown still rest)
+    came : Paired (Reached plan.until t) above (shown_boards still rest)
     came = come_all C t plan.budget (suc (length gone)) still rest fits_still.1 are.come.1
 
     low : steps ≤ plan.budget → AllByRecursion (λ (p : Played Fiber Shared). p.steps ≤ plan.budget) (below ++ one ∷ above)
@@ -181,17 +181,17 @@ module _ (plan : ClassPlan) (sound : IsSoundPlan plan) (began : Option (List ℕ
       seen_here = sym (before_twice t V.board.seen) ∙ ap (before t) earlier
 
       -- over the boards that are known
-      e_boards : map (λ (w : Board). before t w.seen) (shown gone first ++ V.board ∷ shown still rest) ≡ P
+      e_boards : map (λ (w : Board). before t w.seen) (shown_boards gone first ++ V.board ∷ shown_boards still rest) ≡ P
       e_boards = from_gone gone first long
         where
-          from_still : (qs : List Past) (ps : List Player) → length qs ≡ length ps → map (λ (w : Board). before t w.seen) (shown qs ps) ≡ map (before t) (seens qs)
+          from_still : (qs : List Past) (ps : List Player) → length qs ≡ length ps → map (λ (w : Board). before t w.seen) (shown_boards qs ps) ≡ map (before t) (seens qs)
           from_still [] [] e = refl
           from_still [] (p ∷ ps) e = absurd (omega (arith, e))
           from_still (q ∷ qs) [] e = absurd (omega (arith, e))
           from_still (q ∷ qs) (p ∷ ps) e = ap (λ (l : List (List Observation)). before t q.seen ∷ l) (from_still qs ps (omega (arith, e)))
 
-          from_gone : (gs : List Past) (ps : List Player) → length gs ≡ length ps → map (λ (w : Board). before t w.seen) (shown gs ps ++ V.board ∷ shown still rest) ≡ map (before t) (seens (gs ++ here ∷ still))
-          from_gone [] [] e = ap (λ (x : List Observation). x ∷ map (λ (w : Board). before t w.seen) (shown still rest)) seen_here ∙ ap (λ (l : List (List Observation)). before t here.seen ∷ l) (from_still still rest long_still)
+          from_gone : (gs : List Past) (ps : List Player) → length gs ≡ length ps → map (λ (w : Board). before t w.seen) (shown_boards gs ps ++ V.board ∷ shown_boards still rest) ≡ map (before t) (seens (gs ++ here ∷ still))
+          from_gone [] [] e = ap (λ (x : List Observation). x ∷ map (λ (w : Board). before t w.seen) (shown_boards still rest)) seen_here ∙ ap (λ (l : List (List Observation)). before t here.seen ∷ l) (from_still still rest long_still)
           from_gone [] (p ∷ ps) e = absurd (omega (arith, e))
           from_gone (g ∷ gs) [] e = absurd (omega (arith, e))
           from_gone (g ∷ gs) (p ∷ ps) e = ap (λ (l : List (List Observation)). before t g.seen ∷ l) (from_gone gs ps (omega (arith, e)))
@@ -200,25 +200,25 @@ module _ (plan : ClassPlan) (sound : IsSoundPlan plan) (began : Option (List ℕ
       wrote : WroteSame t (outlook here.seen player).board V.board
       wrote = record { seen = sym seen_here; stopped = λ s b l. on s b l ∙ sym (late_stop t s b V.board clock l) }
 
-      lines_are : lines_before t (shown (gone ++ here ∷ still) (first ++ player ∷ rest)) ≡ lines_before t (shown gone first ++ V.board ∷ shown still rest)
+      lines_are : lines_before t (shown_boards (gone ++ here ∷ still) (first ++ player ∷ rest)) ≡ lines_before t (shown_boards gone first ++ V.board ∷ shown_boards still rest)
       lines_are =
           ap (lines_before t) (shown_append gone (here ∷ still) first (player ∷ rest) long)
-          ∙ lines_same t t (omega arith) _ _ (wrote_at t (shown gone first) (outlook here.seen player).board V.board (shown still rest) wrote)
+          ∙ lines_same t t (omega arith) _ _ (wrote_at t (shown_boards gone first) (outlook here.seen player).board V.board (shown_boards still rest) wrote)
 
-      took : Took began between (lines_before t (shown gone first ++ V.board ∷ shown still rest) ++ moment_lines t 0 (shown gone first))
-      took = subst (λ (r : ByteList). Took began between (r ++ moment_lines t 0 (shown gone first))) lines_are are.written
+      took : Took began between (lines_before t (shown_boards gone first ++ V.board ∷ shown_boards still rest) ++ moment_lines t 0 (shown_boards gone first))
+      took = subst (λ (r : ByteList). Took began between (r ++ moment_lines t 0 (shown_boards gone first))) lines_are are.written
 
       -- the sink failed in its lines
       pub broken : (taken : Option (List ℕ)) → steps ≤ plan.budget → TookPart between taken (lines_at t (length gone) V.board) → IsStopped plan.setups plan.losses plan.until plan.budget began taken
       broken taken l part =
-          (let law = begins_text C order plan.budget t within below above one (shown gone first) (shown still rest) boards P hear e_boards passed came (omega (arith, clock)) (low l) in
+          (let law = begins_text C order plan.budget t within below above one (shown_boards gone first) (shown_boards still rest) boards P hear e_boards passed came (omega (arith, clock)) (low l) in
           let text : ByteList = law.0 in
-          let begin : IsPrefix (lines_before t (shown gone first ++ V.board ∷ shown still rest) ++ (moment_lines t 0 (shown gone first) ++ lines_at t (length below) V.board)) text = law.2 in
-          let lines : ByteList = lines_before t (shown gone first ++ V.board ∷ shown still rest) in
-          let all : TookPart began taken ((lines ++ moment_lines t 0 (shown gone first)) ++ lines_at t (length gone) V.board) = part-then _ _ took part in
-          let same : ((lines ++ moment_lines t 0 (shown gone first)) ++ lines_at t (length gone) V.board) ++ begin.0 ≡ text =
-          ap (λ (r : ByteList). r ++ begin.0) (append_assoc lines (moment_lines t 0 (shown gone first)) (lines_at t (length gone) V.board)
-          ∙ ap (λ (n : ℕ). lines ++ (moment_lines t 0 (shown gone first) ++ lines_at t n V.board)) (sym number_is)) ∙ begin.1 in
+          let begin : IsPrefix (lines_before t (shown_boards gone first ++ V.board ∷ shown_boards still rest) ++ (moment_lines t 0 (shown_boards gone first) ++ lines_at t (length below) V.board)) text = law.2 in
+          let lines : ByteList = lines_before t (shown_boards gone first ++ V.board ∷ shown_boards still rest) in
+          let all : TookPart began taken ((lines ++ moment_lines t 0 (shown_boards gone first)) ++ lines_at t (length gone) V.board) = part-then _ _ took part in
+          let same : ((lines ++ moment_lines t 0 (shown_boards gone first)) ++ lines_at t (length gone) V.board) ++ begin.0 ≡ text =
+          ap (λ (r : ByteList). r ++ begin.0) (append_assoc lines (moment_lines t 0 (shown_boards gone first)) (lines_at t (length gone) V.board)
+          ∙ ap (λ (n : ℕ). lines ++ (moment_lines t 0 (shown_boards gone first) ++ lines_at t n V.board)) (sym number_is)) ∙ begin.1 in
           record { frees = frees; text = text; is = law.1; written = subst (TookPart began taken) same (part-more _ begin.0 all) })
 
       -- its budget ended
@@ -227,7 +227,7 @@ module _ (plan : ClassPlan) (sound : IsSoundPlan plan) (began : Option (List ℕ
         same_world = sym (run_settled one.member.kind (suc t) one.steps (starting plan.until one.member one.script) (λ o. some))
 
         e_runs : map (before t) (map (seen_by plan.until) (below ++ one ∷ above)) ≡ P
-        e_runs = from_below below (shown gone first) passed ∙ e_boards
+        e_runs = from_below below (shown_boards gone first) passed ∙ e_boards
           where
             from_above : (ps : List (Played Fiber Shared)) (bs : List Board) → Paired (Reached plan.until t) ps bs → map (before t) (map (seen_by plan.until) ps) ≡ map (λ (w : Board). before t w.seen) bs
             from_above [] [] h = refl
@@ -236,8 +236,8 @@ module _ (plan : ClassPlan) (sound : IsSoundPlan plan) (began : Option (List ℕ
             from_above (p ∷ ps) (b ∷ bs) h = ap (λ (x : List Observation). x ∷ map (before t) (map (seen_by plan.until) ps)) h.0.wrote.seen ∙ ap (λ (l : List (List Observation)). before t b.seen ∷ l) (from_above ps bs h.1)
 
             from_below : (ps : List (Played Fiber Shared)) (bs : List Board) → Paired (Reached plan.until (suc t)) ps bs
-                → map (before t) (map (seen_by plan.until) (ps ++ one ∷ above)) ≡ map (λ (w : Board). before t w.seen) (bs ++ V.board ∷ shown still rest)
-            from_below [] [] h = ap (λ (w : World Fiber Shared). before t w.board.seen ∷ map (before t) (map (seen_by plan.until) above)) same_world ∙ ap (λ (l : List (List Observation)). before t V.board.seen ∷ l) (from_above above (shown still rest) came)
+                → map (before t) (map (seen_by plan.until) (ps ++ one ∷ above)) ≡ map (λ (w : Board). before t w.seen) (bs ++ V.board ∷ shown_boards still rest)
+            from_below [] [] h = ap (λ (w : World Fiber Shared). before t w.board.seen ∷ map (before t) (map (seen_by plan.until) above)) same_world ∙ ap (λ (l : List (List Observation)). before t V.board.seen ∷ l) (from_above above (shown_boards still rest) came)
             from_below [] (b ∷ bs) h = absurd h
             from_below (p ∷ ps) [] h = absurd h
             from_below (p ∷ ps) (b ∷ bs) h =
@@ -245,11 +245,11 @@ module _ (plan : ClassPlan) (sound : IsSoundPlan plan) (began : Option (List ℕ
                 ∙ ap (λ (l : List (List Observation)). before t b.seen ∷ l) (from_below ps bs h.1)
 
         pub cut : IsCut C below one above
-        cut = is_cut C t below above one (shown gone first) (shown still rest) P (length gone) boards hear e_runs passed came goes some clock
+        cut = is_cut C t below above one (shown_boards gone first) (shown_boards still rest) P (length gone) boards hear e_runs passed came goes some clock
 
         text : cut_text (length gone) (world_of plan.until one).board (boards_of plan.until below) (boards_of plan.until (below ++ one ∷ above))
-            ≡ lines_before t (shown gone first ++ V.board ∷ shown still rest) ++ (moment_lines t 0 (shown gone first) ++ (seen_at t (length gone) V.board.seen ++ numbered (length gone) (closing_line t None)))
-        text = text_is C t below above one (shown gone first) (shown still rest) P (length gone) boards hear e_runs passed came goes some clock
+            ≡ lines_before t (shown_boards gone first ++ V.board ∷ shown_boards still rest) ++ (moment_lines t 0 (shown_boards gone first) ++ (seen_at t (length gone) V.board.seen ++ numbered (length gone) (closing_line t None)))
+        text = text_is C t below above one (shown_boards gone first) (shown_boards still rest) P (length gone) boards hear e_runs passed came goes some clock
 
         regroup : (a b c d : ByteList) → ((a ++ b) ++ c) ++ d ≡ a ++ (b ++ (c ++ d))
         regroup a b c d = append_assoc (a ++ b) c d ∙ append_assoc a b (c ++ d)
@@ -264,7 +264,7 @@ module _ (plan : ClassPlan) (sound : IsSoundPlan plan) (began : Option (List ℕ
           cut = cut;
           at = number_is;
           steps = made;
-          written = subst (Took began taken) (regroup (lines_before t (shown gone first ++ V.board ∷ shown still rest)) (moment_lines t 0 (shown gone first)) (seen_at t (length gone) V.board.seen) (numbered (length gone) (closing_line t None)) ∙ sym text) (took-then _ _ (took-then _ _ took seen) closed);
+          written = subst (Took began taken) (regroup (lines_before t (shown_boards gone first ++ V.board ∷ shown_boards still rest)) (moment_lines t 0 (shown_boards gone first)) (seen_at t (length gone) V.board.seen) (numbered (length gone) (closing_line t None)) ∙ sym text) (took-then _ _ (took-then _ _ took seen) closed);
         }
 
         pub spent_part : (mid taken : Option (List ℕ)) → steps ≡ plan.budget → Took between mid (seen_at t (length gone) V.board.seen) → TookPart mid taken (numbered (length gone) (closing_line t None))
@@ -280,7 +280,7 @@ module _ (plan : ClassPlan) (sound : IsSoundPlan plan) (began : Option (List ℕ
             steps = made;
             is = ap (λ (n : ℕ). cut_text n (world_of plan.until one).board (boards_of plan.until below) (boards_of plan.until (below ++ one ∷ above))) (sym number_is);
           });
-          written = subst (TookPart began taken) (regroup (lines_before t (shown gone first ++ V.board ∷ shown still rest)) (moment_lines t 0 (shown gone first)) (seen_at t (length gone) V.board.seen) (numbered (length gone) (closing_line t None)) ∙ sym text) (part-then _ _ (took-then _ _ took seen) closed);
+          written = subst (TookPart began taken) (regroup (lines_before t (shown_boards gone first ++ V.board ∷ shown_boards still rest)) (moment_lines t 0 (shown_boards gone first)) (seen_at t (length gone) V.board.seen) (numbered (length gone) (closing_line t None)) ∙ sym text) (part-then _ _ (took-then _ _ took seen) closed);
         }
 
   -- the world behind the moment, as the class has it

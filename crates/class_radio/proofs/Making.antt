@@ -10,10 +10,10 @@ use Rattle.event_script.specs.World.{world_entries}
 use Rattle.class_radio.specs.declared.player.Player.{Player}
 use Rattle.class_radio.specs.Playing.{Setup, IsNumbered, IsFresh}
 use Rattle.class_radio.specs.Outcome.{setups_of}
-use Rattle.class_radio.specs.Stepped.{Past, begun, EachBoard, Comes}
+use Rattle.class_radio.specs.Stepped.{Past, begun_pasts, EachBoard, IsAtMoment}
 use Rattle.class_radio.proofs.Boards.{each_long, each_more}
 
-begun_append : (ss : List Setup) (s : Setup) → begun (ss ++ s ∷ []) ≡ begun ss ++ begun (s ∷ [])
+begun_append : (ss : List Setup) (s : Setup) → begun_pasts (ss ++ s ∷ []) ≡ begun_pasts ss ++ begun_pasts (s ∷ [])
 begun_append [] s = refl
 begun_append (r ∷ rs) s = ap (λ (hs : List Past). record { setup = r; script = world_entries r.script.entries; used = []; seen = [] } ∷ hs) (begun_append rs s)
 
@@ -23,7 +23,7 @@ IsFit image = vec_len image ≤ flash_end
 -- some boards were mounted, and these images and scripts are left
 pub record Halfway (budget : ℕ) (images : List (Vec ℕ Global)) (scripts : List Script) (ps : List Player) (left : List (Vec ℕ Global)) (others : List Script) : Type 0 where
   pub done : List Setup
-  pub mounted : EachBoard (Comes budget 0) 0 (begun done) ps
+  pub mounted : EachBoard (IsAtMoment budget 0) 0 (begun_pasts done) ps
   pub all : done ++ setups_of left others ≡ setups_of images scripts
   pub few : length ps + length left ≤ 8
   pub same : length others ≡ length left
@@ -57,11 +57,11 @@ module _ (budget : ℕ) (images : List (Vec ℕ Global)) (scripts : List Script)
     pub half_more : (p : Player) → IsFresh (record { image = image.items; script = script }) p → IsNumbered (length ps) budget p → Halfway budget images scripts (ps ++ p ∷ []) left others
     half_more p fresh numbered =
         (let s : Setup = record { image = image.items; script = script } in
-        let new : Comes budget 0 (length ps) (record { setup = s; script = world_entries s.script.entries; used = []; seen = [] }) p = record { numbered = numbered; come = inr (fresh, refl, refl, refl, refl) } in
-        let long : length (begun h.done) ≡ length ps = each_long (Comes budget 0) 0 (begun h.done) ps h.mounted in
+        let new : IsAtMoment budget 0 (length ps) (record { setup = s; script = world_entries s.script.entries; used = []; seen = [] }) p = record { numbered = numbered; come = inr (fresh, refl, refl, refl, refl) } in
+        let long : length (begun_pasts h.done) ≡ length ps = each_long (IsAtMoment budget 0) 0 (begun_pasts h.done) ps h.mounted in
         record {
           done = h.done ++ s ∷ [];
-          mounted = subst (λ (hs : List Past). EachBoard (Comes budget 0) 0 hs (ps ++ p ∷ [])) (sym (begun_append h.done s)) (each_more (Comes budget 0) 0 (length ps) (begun h.done) ps _ p h.mounted (omega (arith, long)) new);
+          mounted = subst (λ (hs : List Past). EachBoard (IsAtMoment budget 0) 0 hs (ps ++ p ∷ [])) (sym (begun_append h.done s)) (each_more (IsAtMoment budget 0) 0 (length ps) (begun_pasts h.done) ps _ p h.mounted (omega (arith, long)) new);
           all = append_assoc h.done (s ∷ []) (setups_of left others) ∙ h.all;
           few = (let f = h.few in let l = length-append ps (p ∷ []) in omega (arith, f, l));
           same = (let e = h.same in omega (arith, e));
@@ -74,6 +74,6 @@ module _ (budget : ℕ) (images : List (Vec ℕ Global)) (scripts : List Script)
   none_made (x ∷ xs) [] e = refl
   none_made (x ∷ xs) (y ∷ ys) e = absurd (omega (arith, e))
 
-  pub half_done : (ps : List Player) (left : List (Vec ℕ Global)) (others : List Script) → Halfway budget images scripts ps left others → length others ≡ 0 → EachBoard (Comes budget 0) 0 (begun (setups_of images scripts)) ps
+  pub half_done : (ps : List Player) (left : List (Vec ℕ Global)) (others : List Script) → Halfway budget images scripts ps left others → length others ≡ 0 → EachBoard (IsAtMoment budget 0) 0 (begun_pasts (setups_of images scripts)) ps
   half_done ps left others h e =
-      subst (λ (ss : List Setup). EachBoard (Comes budget 0) 0 (begun ss) ps) (sym (append-nil h.done) ∙ ap (λ (l : List Setup). h.done ++ l) (sym (none_made left others e)) ∙ h.all) h.mounted
+      subst (λ (ss : List Setup). EachBoard (IsAtMoment budget 0) 0 (begun_pasts ss) ps) (sym (append-nil h.done) ∙ ap (λ (l : List Setup). h.done ++ l) (sym (none_made left others e)) ∙ h.all) h.mounted

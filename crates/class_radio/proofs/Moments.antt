@@ -14,7 +14,7 @@ use Rattle.board_run.specs.declared.end.Stop.{Stop}
 use Rattle.class_radio.specs.declared.player.Player.{Player}
 use Rattle.class_radio.specs.Playing.{outlook, HasPlayed, HasCome}
 use Rattle.class_radio.specs.Losses.{lost_by}
-use Rattle.class_radio.specs.Stepped.{ClassPlan, Past, seens, shown, HaveHeard, Comes, EachBoard, AreIn}
+use Rattle.class_radio.specs.Stepped.{ClassPlan, Past, seens, shown_boards, HaveHeard, IsAtMoment, EachBoard, AreIn}
 use Rattle.class_radio.specs.Hearing.{ComesToOne, IsNextOf, soonest}
 use Rattle.class_radio.proofs.Telling.{take_more}
 use Rattle.class_radio.proofs.Resting.{seen_so_far, wrote_so_far, plays_longer, due_late}
@@ -86,7 +86,7 @@ next_turn end ps i next new p within read is h =
 
 -- boards that have come to a moment behind the first wait for what comes next
 module _ (plan : ClassPlan) (began : Option (List ℕ)) (t : ℕ) (pasts : List Past) (players : List Player) (taken : Option (List ℕ)) (are : AreIn plan began (suc t) [] pasts [] players taken) where
-  played_of : (b : ℕ) (h : Past) (p : Player) → Comes plan.budget (suc t) b h p → HasPlayed h.setup h.script (suc t) h.used h.seen p
+  played_of : (b : ℕ) (h : Past) (p : Player) → IsAtMoment plan.budget (suc t) b h p → HasPlayed h.setup h.script (suc t) h.used h.seen p
   played_of b h p c = by_come c.come
     where
       by_come : HasCome h.setup h.script (suc t) h.used h.seen p → HasPlayed h.setup h.script (suc t) h.used h.seen p
@@ -94,7 +94,7 @@ module _ (plan : ClassPlan) (began : Option (List ℕ)) (t : ℕ) (pasts : List 
       by_come (inr fresh) = absurd (let e : suc t ≡ 0 = fresh.1 in omega (arith, e))
 
   -- what comes to one of them comes then or later
-  comes_late : (m b : ℕ) (hs : List Past) (ps : List Player) → EachBoard (Comes plan.budget (suc t)) b hs ps → ComesToOne m ps → suc t ≤ m
+  comes_late : (m b : ℕ) (hs : List Past) (ps : List Player) → EachBoard (IsAtMoment plan.budget (suc t)) b hs ps → ComesToOne m ps → suc t ≤ m
   comes_late m b [] [] e c = absurd c
   comes_late m b [] (p ∷ ps) e c = absurd e
   comes_late m b (h ∷ hs) [] e c = absurd e
@@ -105,21 +105,21 @@ module _ (plan : ClassPlan) (began : Option (List ℕ)) (t : ℕ) (pasts : List 
   next_late m c = comes_late m 0 pasts players are.come c
 
   module _ (u : ℕ) (later : suc t ≤ u) (late : AllByRecursion (λ (p : Player). IfSome p.due (λ m. u ≤ m)) players) where
-    each_longer : (b : ℕ) (hs : List Past) (ps : List Player) → EachBoard (Comes plan.budget (suc t)) b hs ps → AllByRecursion (λ (p : Player). IfSome p.due (λ m. u ≤ m)) ps → EachBoard (Comes plan.budget u) b hs ps
+    each_longer : (b : ℕ) (hs : List Past) (ps : List Player) → EachBoard (IsAtMoment plan.budget (suc t)) b hs ps → AllByRecursion (λ (p : Player). IfSome p.due (λ m. u ≤ m)) ps → EachBoard (IsAtMoment plan.budget u) b hs ps
     each_longer b [] [] e l = tt
     each_longer b [] (p ∷ ps) e l = absurd e
     each_longer b (h ∷ hs) [] e l = absurd e
     each_longer b (h ∷ hs) (p ∷ ps) e l =
         (record { numbered = e.0.numbered; come = inl (plays_longer h.setup h.script (suc t) h.used h.seen p (played_of b h p e.0) u later l.0) }, each_longer (suc b) hs ps e.1 l.1)
 
-    seen_all : (b : ℕ) (hs : List Past) (ps : List Player) → EachBoard (Comes plan.budget (suc t)) b hs ps → map (before (suc t)) (seens hs) ≡ seens hs
+    seen_all : (b : ℕ) (hs : List Past) (ps : List Player) → EachBoard (IsAtMoment plan.budget (suc t)) b hs ps → map (before (suc t)) (seens hs) ≡ seens hs
     seen_all b [] [] e = refl
     seen_all b [] (p ∷ ps) e = absurd e
     seen_all b (h ∷ hs) [] e = absurd e
     seen_all b (h ∷ hs) (p ∷ ps) e =
         ap (λ (os : List Observation). os ∷ map (before (suc t)) (seens hs)) (seen_so_far h.setup h.script (suc t) h.used h.seen p (played_of b h p e.0)) ∙ ap (λ (l : List (List Observation)). h.seen ∷ l) (seen_all (suc b) hs ps e.1)
 
-    wrote_all : (b : ℕ) (hs : List Past) (ps : List Player) → EachBoard (Comes plan.budget (suc t)) b hs ps → AllByRecursion (WroteBefore (suc t)) (shown hs ps)
+    wrote_all : (b : ℕ) (hs : List Past) (ps : List Player) → EachBoard (IsAtMoment plan.budget (suc t)) b hs ps → AllByRecursion (WroteBefore (suc t)) (shown_boards hs ps)
     wrote_all b [] [] e = tt
     wrote_all b [] (p ∷ ps) e = absurd e
     wrote_all b (h ∷ hs) [] e = absurd e
@@ -130,11 +130,11 @@ module _ (plan : ClassPlan) (began : Option (List ℕ)) (t : ℕ) (pasts : List 
     heard_longer j (x ∷ xs) h =
         (h.0 ∙ ap (λ (es : List Entry). with_heard es (world_entries x.setup.script.entries)) (sym (heard_still (lost_by plan.losses) plan.until (suc t) u later j 0 (seens pasts) (seen_all 0 pasts players are.come))), heard_longer (suc j) xs h.1)
 
-    lines_longer : lines_before u (shown pasts players) ≡ lines_before (suc t) (shown pasts players)
+    lines_longer : lines_before u (shown_boards pasts players) ≡ lines_before (suc t) (shown_boards pasts players)
     lines_longer =
         (let k : ℕ = u - suc t in
         let sum : (u - suc t) + suc t ≡ u = omega (arith, later) in
-        sym (ap (λ (m : ℕ). lines_before m (shown pasts players)) sum) ∙ lines_skip (suc t) (u - suc t) (shown pasts players) (wrote_all 0 pasts players are.come))
+        sym (ap (λ (m : ℕ). lines_before m (shown_boards pasts players)) sum) ∙ lines_skip (suc t) (u - suc t) (shown_boards pasts players) (wrote_all 0 pasts players are.come))
 
     pub wait_longer : AreIn plan began u [] pasts [] players taken
     wait_longer = record {

@@ -19,8 +19,8 @@ use Rattle.class_radio.specs.declared.player.Standing.TheVariants.{Plays, Panick
 use Rattle.class_radio.specs.Playing.{Setup, IsNumbered, outlook, HasPlayed, HasCome, hearing_as, hearing, hearing_all, said}
 use Rattle.class_radio.proofs.Hears.{hears_on}
 use Rattle.class_radio.specs.Losses.{lost_by}
-use Rattle.class_radio.specs.Stepped.{ClassPlan, IsSoundPlan, Past, setups_in, seens, outlooks, shown, HaveHeard, Comes, Passed, EachBoard, AreIn}
-use Rattle.class_radio.specs.Hearing.{told, all_hearing}
+use Rattle.class_radio.specs.Stepped.{ClassPlan, IsSoundPlan, Past, setups_in, seens, outlooks, shown_boards, HaveHeard, IsAtMoment, Passed, EachBoard, AreIn}
+use Rattle.class_radio.specs.Hearing.{told_to, all_hearing}
 use Rattle.class_radio.proofs.Queues.{told_queued, told_next, heard_is_told, none_heard_at}
 
 -- what hearing leaves as it is
@@ -87,10 +87,10 @@ module _ (plan : ClassPlan) (sound : IsSoundPlan plan) (began : Option (List ℕ
   heard_then : HaveHeard lost (suc t) plan.until (seens onward) 0 onward
   heard_then = subst (λ (seen : List (List Observation)). HaveHeard lost (suc t) plan.until seen 0 onward) (sym (same_seens lost t plan.until (seens pasts) 0 pasts)) (heard_next lost t plan.until (seens pasts) 0 pasts heard_all)
 
-  written_all : Took began taken (lines_before (suc t) (shown pasts players))
+  written_all : Took began taken (lines_before (suc t) (shown_boards pasts players))
   written_all =
-      subst (λ (hs : List Past). Took began taken (lines_before t (shown hs players) ++ moment_lines t 0 (shown pasts players))) (append-nil pasts)
-      (subst (λ (ps : List Player). Took began taken (lines_before t (shown (pasts ++ []) ps) ++ moment_lines t 0 (shown pasts players))) (append-nil players) are.written)
+      subst (λ (hs : List Past). Took began taken (lines_before t (shown_boards hs players) ++ moment_lines t 0 (shown_boards pasts players))) (append-nil pasts)
+      (subst (λ (ps : List Player). Took began taken (lines_before t (shown_boards (pasts ++ []) ps) ++ moment_lines t 0 (shown_boards pasts players))) (append-nil players) are.written)
 
   -- the scripts of all rise
   rising_from : (j : ℕ) (hs : List Past) → HaveHeard lost t plan.until (seens pasts) j hs → AllByRecursion (λ (s : Setup). IsRisingFrom 0 (world_entries s.script.entries)) (setups_in hs) → AllByRecursion (λ (h : Past). IsRisingFrom 0 h.script) hs
@@ -100,13 +100,13 @@ module _ (plan : ClassPlan) (sound : IsSoundPlan plan) (began : Option (List ℕ
   rising_all : AllByRecursion (λ (h : Past). IsRisingFrom 0 h.script) pasts
   rising_all = rising_from 0 pasts heard_all (subst (AllByRecursion (λ (s : Setup). IsRisingFrom 0 (world_entries s.script.entries))) (sym setups_all) sound.rising)
 
-  finish : (players' : List Player) → EachBoard (Comes plan.budget (suc t)) 0 onward players' → shown onward players' ≡ shown pasts players → AreIn plan began (suc t) [] onward [] players' taken
+  finish : (players' : List Player) → EachBoard (IsAtMoment plan.budget (suc t)) 0 onward players' → shown_boards onward players' ≡ shown_boards pasts players → AreIn plan began (suc t) [] onward [] players' taken
   finish players' come same = record {
     setups = same_setups lost t plan.until (seens pasts) 0 pasts ∙ setups_all;
     heard = heard_then;
     passed = tt;
     come = come;
-    written = subst (Took began taken) (ap (lines_before (suc t)) (sym same) ∙ sym (append-nil (lines_before (suc t) (shown onward players')))) written_all;
+    written = subst (Took began taken) (ap (lines_before (suc t)) (sym same) ∙ sym (append-nil (lines_before (suc t) (shown_boards onward players')))) written_all;
   }
 
   -- before the end, by what each hears
@@ -119,32 +119,32 @@ module _ (plan : ClassPlan) (sound : IsSoundPlan plan) (began : Option (List ℕ
         ap (λ (s : List ℤ). s ∷ map (said t) ps) e.0.says ∙ ap (λ (l : List (List ℤ)). take 32 (sent_at t h.seen) ∷ l) (says_of (suc b) hs ps e.1)
 
     each_on : (j : ℕ) (hs : List Past) (ps : List Player) → EachBoard (Passed plan.budget t) j hs ps → AllByRecursion (λ (h : Past). IsRisingFrom 0 h.script) hs
-        → EachBoard (Comes plan.budget (suc t)) j (heard_on_by lost t plan.until (seens pasts) j hs) (all_hearing lost t (map (said t) players) j ps)
+        → EachBoard (IsAtMoment plan.budget (suc t)) j (heard_on_by lost t plan.until (seens pasts) j hs) (all_hearing lost t (map (said t) players) j ps)
     each_on j [] [] e r = tt
     each_on j [] (p ∷ ps) e r = absurd e
     each_on j (h ∷ hs) [] e r = absurd e
     each_on j (h ∷ hs) (p ∷ ps) e r =
         (let ss : List (List ℤ) = map (sent_at t) (seens pasts) in
-        let numbers : List ℤ = told lost t j 0 (map (take 32) (map (sent_at t) (seens pasts))) in
-        let all : List ℤ = told lost t j 0 (map (sent_at t) (seens pasts)) in
+        let numbers : List ℤ = told_to lost t j 0 (map (take 32) (map (sent_at t) (seens pasts))) in
+        let all : List ℤ = told_to lost t j 0 (map (sent_at t) (seens pasts)) in
         let says : map (said t) players ≡ map (take 32) (map (sent_at t) (seens pasts)) = says_of 0 pasts players are.passed in
         let heard : HasPlayed h.setup (with_heard (raised_at (suc t) (heard_events all)) h.script) (suc t) h.used h.seen (hearing_all (suc t) numbers p) =
         hears_on h.setup h.script (suc t) h.used h.seen p numbers all r.0 (told_queued lost t j 0 ss) (told_next lost t j (suc t) 0 ss) e.0.played e.0.numbered.stands in
         let behind : heard_events all ≡ heard_behind lost t plan.until j 0 (seens pasts) = sym (heard_is_told lost t j plan.until soon 0 (seens pasts)) in (
           record {
-            numbered = numbered_still j plan.budget (suc t) (told lost t j 0 (map (said t) players)) p e.0.numbered;
-            come = inl (subst (λ (S' : List (List ℤ)). HasPlayed h.setup (with_heard (raised_at (suc t) (heard_behind lost t plan.until j 0 (seens pasts))) h.script) (suc t) h.used h.seen (hearing_all (suc t) (told lost t j 0 S') p)) (sym says)
+            numbered = numbered_still j plan.budget (suc t) (told_to lost t j 0 (map (said t) players)) p e.0.numbered;
+            come = inl (subst (λ (S' : List (List ℤ)). HasPlayed h.setup (with_heard (raised_at (suc t) (heard_behind lost t plan.until j 0 (seens pasts))) h.script) (suc t) h.used h.seen (hearing_all (suc t) (told_to lost t j 0 S') p)) (sym says)
                 (subst (λ (es : List Event). HasPlayed h.setup (with_heard (raised_at (suc t) es) h.script) (suc t) h.used h.seen (hearing_all (suc t) numbers p)) behind heard));
           },
           each_on (suc j) hs ps e.1 r.1,
         ))
 
-    shown_on : (j : ℕ) (hs : List Past) (ps : List Player) → shown (heard_on_by lost t plan.until (seens pasts) j hs) (all_hearing lost t (map (said t) players) j ps) ≡ shown hs ps
+    shown_on : (j : ℕ) (hs : List Past) (ps : List Player) → shown_boards (heard_on_by lost t plan.until (seens pasts) j hs) (all_hearing lost t (map (said t) players) j ps) ≡ shown_boards hs ps
     shown_on j [] [] = refl
-    shown_on j [] (p ∷ ps) = ap (λ (b : Board). b ∷ shown [] (all_hearing lost t (map (said t) players) (suc j) ps)) (shown_still (suc t) (told lost t j 0 (map (said t) players)) [] p) ∙ ap (λ (bs : List Board). (outlook [] p).board ∷ bs) (shown_on (suc j) [] ps)
+    shown_on j [] (p ∷ ps) = ap (λ (b : Board). b ∷ shown_boards [] (all_hearing lost t (map (said t) players) (suc j) ps)) (shown_still (suc t) (told_to lost t j 0 (map (said t) players)) [] p) ∙ ap (λ (bs : List Board). (outlook [] p).board ∷ bs) (shown_on (suc j) [] ps)
     shown_on j (h ∷ hs) [] = refl
     shown_on j (h ∷ hs) (p ∷ ps) =
-        ap (λ (b : Board). b ∷ shown (heard_on_by lost t plan.until (seens pasts) (suc j) hs) (all_hearing lost t (map (said t) players) (suc j) ps)) (shown_still (suc t) (told lost t j 0 (map (said t) players)) h.seen p)
+        ap (λ (b : Board). b ∷ shown_boards (heard_on_by lost t plan.until (seens pasts) (suc j) hs) (all_hearing lost t (map (said t) players) (suc j) ps)) (shown_still (suc t) (told_to lost t j 0 (map (said t) players)) h.seen p)
         ∙ ap (λ (bs : List Board). (outlook h.seen p).board ∷ bs) (shown_on (suc j) hs ps)
 
     pub hear_on : AreIn plan began (suc t) [] onward [] (all_hearing lost t (map (said t) players) 0 players) taken
@@ -158,11 +158,11 @@ module _ (plan : ClassPlan) (sound : IsSoundPlan plan) (began : Option (List ℕ
         ap (λ (es : List Event). record h { script = with_heard (raised_at (suc t) es) h.script } ∷ heard_on_by lost t plan.until (seens pasts) (suc j) hs) (none_heard_at lost t j plan.until late 0 (seens pasts))
         ∙ ap (λ (l : List Past). h ∷ l) (still_on (suc j) hs)
 
-    each_past : (j : ℕ) (hs : List Past) (ps : List Player) → EachBoard (Passed plan.budget t) j hs ps → EachBoard (Comes plan.budget (suc t)) j hs ps
+    each_past : (j : ℕ) (hs : List Past) (ps : List Player) → EachBoard (Passed plan.budget t) j hs ps → EachBoard (IsAtMoment plan.budget (suc t)) j hs ps
     each_past j [] [] e = tt
     each_past j [] (p ∷ ps) e = absurd e
     each_past j (h ∷ hs) [] e = absurd e
     each_past j (h ∷ hs) (p ∷ ps) e = (record { numbered = e.0.numbered; come = inl e.0.played }, each_past (suc j) hs ps e.1)
 
     pub hear_no_more : AreIn plan began (suc t) [] onward [] players taken
-    hear_no_more = finish players (subst (λ (hs : List Past). EachBoard (Comes plan.budget (suc t)) 0 hs players) (sym (still_on 0 pasts)) (each_past 0 pasts players are.passed)) (ap (λ (hs : List Past). shown hs players) (still_on 0 pasts))
+    hear_no_more = finish players (subst (λ (hs : List Past). EachBoard (IsAtMoment plan.budget (suc t)) 0 hs players) (sym (still_on 0 pasts)) (each_past 0 pasts players are.passed)) (ap (λ (hs : List Past). shown_boards hs players) (still_on 0 pasts))

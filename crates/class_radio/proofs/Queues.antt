@@ -8,7 +8,7 @@ use Rattle.class_world.specs.Hearing.{sent_at, heard_events, heard_behind}
 use Rattle.class_steps.specs.Outlook.{next_with}
 use Rattle.board_run.specs.Going.{queued_all}
 use Rattle.class_radio.specs.Playing.{heard_event}
-use Rattle.class_radio.specs.Hearing.{told}
+use Rattle.class_radio.specs.Hearing.{told_to}
 
 pub queued_append : (xs ys q : List Event) → queued_all (xs ++ ys) q ≡ queued_all ys (queued_all xs q)
 queued_append [] ys q = refl
@@ -45,43 +45,43 @@ module _ (lost : ℕ → ℕ → ℕ → Bool) (t j : ℕ) where
   abbrev Part : ℕ → List ℤ → List ℤ
   Part i ns = if (i == j) || lost t i j then [] else ns
 
-  -- what is told of the first 32 of each is as good as all
-  pub told_queued : (i : ℕ) (ss : List (List ℤ)) (q : List Event) → queued_all (heard_events (told lost t j i (map (take 32) ss))) q ≡ queued_all (heard_events (told lost t j i ss)) q
+  -- what is told_to of the first 32 of each is as good as all
+  pub told_queued : (i : ℕ) (ss : List (List ℤ)) (q : List Event) → queued_all (heard_events (told_to lost t j i (map (take 32) ss))) q ≡ queued_all (heard_events (told_to lost t j i ss)) q
   told_queued i [] q = refl
   told_queued i (s ∷ ss) q =
-      ap (λ (es : List Event). queued_all es q) (events_append (Part i (take 32 s)) (told lost t j (suc i) (map (take 32) ss)))
-      ∙ queued_append (heard_events (Part i (take 32 s))) (heard_events (told lost t j (suc i) (map (take 32) ss))) q
-      ∙ ap (λ (r : List Event). queued_all (heard_events (told lost t j (suc i) (map (take 32) ss))) r) (by_own ((i == j) || lost t i j))
+      ap (λ (es : List Event). queued_all es q) (events_append (Part i (take 32 s)) (told_to lost t j (suc i) (map (take 32) ss)))
+      ∙ queued_append (heard_events (Part i (take 32 s))) (heard_events (told_to lost t j (suc i) (map (take 32) ss))) q
+      ∙ ap (λ (r : List Event). queued_all (heard_events (told_to lost t j (suc i) (map (take 32) ss))) r) (by_own ((i == j) || lost t i j))
       ∙ told_queued (suc i) ss (queued_all (heard_events (Part i s)) q)
-      ∙ sym (queued_append (heard_events (Part i s)) (heard_events (told lost t j (suc i) ss)) q)
-      ∙ sym (ap (λ (es : List Event). queued_all es q) (events_append (Part i s) (told lost t j (suc i) ss)))
+      ∙ sym (queued_append (heard_events (Part i s)) (heard_events (told_to lost t j (suc i) ss)) q)
+      ∙ sym (ap (λ (es : List Event). queued_all es q) (events_append (Part i s) (told_to lost t j (suc i) ss)))
     where
       by_own : (c : Bool) → queued_all (heard_events (if c then [] else take 32 s)) q ≡ queued_all (heard_events (if c then [] else s)) q
       by_own true = refl
       by_own false = first_enough s 32 q (omega arith)
 
-  pub told_next : (u i : ℕ) (ss : List (List ℤ)) (next : Option ℕ) → next_with u (heard_events (told lost t j i (map (take 32) ss))) next ≡ next_with u (heard_events (told lost t j i ss)) next
+  pub told_next : (u i : ℕ) (ss : List (List ℤ)) (next : Option ℕ) → next_with u (heard_events (told_to lost t j i (map (take 32) ss))) next ≡ next_with u (heard_events (told_to lost t j i ss)) next
   told_next u i [] next = refl
   told_next u i (s ∷ ss) next =
-      ap (λ (es : List Event). next_with u es next) (events_append (Part i (take 32 s)) (told lost t j (suc i) (map (take 32) ss)))
-      ∙ next_append u (heard_events (Part i (take 32 s))) (heard_events (told lost t j (suc i) (map (take 32) ss))) next
+      ap (λ (es : List Event). next_with u es next) (events_append (Part i (take 32 s)) (told_to lost t j (suc i) (map (take 32) ss)))
+      ∙ next_append u (heard_events (Part i (take 32 s))) (heard_events (told_to lost t j (suc i) (map (take 32) ss))) next
       ∙ ap (next_with u (heard_events (Part i (take 32 s)))) (told_next u (suc i) ss next)
-      ∙ by_own ((i == j) || lost t i j) (next_with u (heard_events (told lost t j (suc i) ss)) next)
-      ∙ sym (next_append u (heard_events (Part i s)) (heard_events (told lost t j (suc i) ss)) next)
-      ∙ sym (ap (λ (es : List Event). next_with u es next) (events_append (Part i s) (told lost t j (suc i) ss)))
+      ∙ by_own ((i == j) || lost t i j) (next_with u (heard_events (told_to lost t j (suc i) ss)) next)
+      ∙ sym (next_append u (heard_events (Part i s)) (heard_events (told_to lost t j (suc i) ss)) next)
+      ∙ sym (ap (λ (es : List Event). next_with u es next) (events_append (Part i s) (told_to lost t j (suc i) ss)))
     where
       by_own : (c : Bool) (o : Option ℕ) → next_with u (heard_events (if c then [] else take 32 s)) o ≡ next_with u (heard_events (if c then [] else s)) o
       by_own true o = refl
       by_own false o = next_first u s o
 
   -- what is heard of all others, as events
-  pub heard_is_told : (until : ℕ) → nat_lt t until ≡ true → (i : ℕ) (seen : List (List Observation)) → heard_behind lost t until j i seen ≡ heard_events (told lost t j i (map (sent_at t) seen))
+  pub heard_is_told : (until : ℕ) → nat_lt t until ≡ true → (i : ℕ) (seen : List (List Observation)) → heard_behind lost t until j i seen ≡ heard_events (told_to lost t j i (map (sent_at t) seen))
   heard_is_told until soon i [] = refl
   heard_is_told until soon i (os ∷ rest) =
       ap (λ (c : Bool). (if i == j then [] else (if c && not (lost t i j) then heard_events (sent_at t os) else [])) ++ heard_behind lost t until j (suc i) rest) soon
       ∙ ap (λ (es : List Event). es ++ heard_behind lost t until j (suc i) rest) (by_own (i == j) (lost t i j))
       ∙ ap (λ (es : List Event). heard_events (Part i (sent_at t os)) ++ es) (heard_is_told until soon (suc i) rest)
-      ∙ sym (events_append (Part i (sent_at t os)) (told lost t j (suc i) (map (sent_at t) rest)))
+      ∙ sym (events_append (Part i (sent_at t os)) (told_to lost t j (suc i) (map (sent_at t) rest)))
     where
       by_own : (c d : Bool) → (if c then [] else (if true && not d then heard_events (sent_at t os) else [])) ≡ heard_events (if c || d then [] else sent_at t os)
       by_own true d = refl

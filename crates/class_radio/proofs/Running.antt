@@ -24,8 +24,8 @@ use Rattle.class_radio.specs.Playing.{Setup}
 use Rattle.class_radio.specs.Losses.{lost_by}
 use Rattle.class_radio.specs.Outcome.{setups_of, RanClass}
 use Rattle.class_radio.specs.Closing.{AreLed}
-use Rattle.class_radio.specs.Stepped.{ClassPlan, IsSoundPlan, Past, begun, setups_in, seens, HaveHeard, Comes, EachBoard, AreIn}
-use Rattle.class_radio.specs.Stopping.{AreAt, AllStepped, Closes}
+use Rattle.class_radio.specs.Stepped.{ClassPlan, IsSoundPlan, Past, begun_pasts, setups_in, seens, HaveHeard, IsAtMoment, EachBoard, AreIn}
+use Rattle.class_radio.specs.Stopping.{AreAt, AllStepped, ClosesAll}
 use Rattle.class_radio.proofs.Boards.{each_long}
 use Rattle.class_radio.proofs.Counting.{panics_are, faults_are, led_all}
 use Rattle.class_radio.proofs.Turning.{few_boards}
@@ -62,23 +62,23 @@ pub plan_sound : (images : List (Vec ℕ Global)) (scripts : List Script) (losse
 plan_sound images scripts losses until budget few sound ends some =
     record { few = (let l = few_setups images scripts in omega (arith, l, few)); ends = setups_end until images scripts ends; rising = setups_rise images scripts sound; some = some }
 
-begun_setups : (ss : List Setup) → setups_in (begun ss) ≡ ss
+begun_setups : (ss : List Setup) → setups_in (begun_pasts ss) ≡ ss
 begun_setups [] = refl
 begun_setups (s ∷ ss) = ap (λ (l : List Setup). s ∷ l) (begun_setups ss)
 
-none_heard : (lost : ℕ → ℕ → ℕ → Bool) (until j i : ℕ) (ss : List Setup) → heard_of lost 0 until j i (seens (begun ss)) ≡ []
+none_heard : (lost : ℕ → ℕ → ℕ → Bool) (until j i : ℕ) (ss : List Setup) → heard_of lost 0 until j i (seens (begun_pasts ss)) ≡ []
 none_heard lost until j i [] = refl
-none_heard lost until j i (s ∷ ss) = ap (λ (es : List Entry). es ++ heard_of lost 0 until j (suc i) (seens (begun ss))) (by_own (i == j)) ∙ none_heard lost until j (suc i) ss
+none_heard lost until j i (s ∷ ss) = ap (λ (es : List Entry). es ++ heard_of lost 0 until j (suc i) (seens (begun_pasts ss))) (by_own (i == j)) ∙ none_heard lost until j (suc i) ss
   where
     by_own : (c : Bool) → (if c then [] else heard (λ at. lost at i j) 0 until []) ≡ []
     by_own true = refl
     by_own false = refl
 
-begun_heard : (lost : ℕ → ℕ → ℕ → Bool) (until : ℕ) (all : List Setup) (j : ℕ) (ss : List Setup) → HaveHeard lost 0 until (seens (begun all)) j (begun ss)
+begun_heard : (lost : ℕ → ℕ → ℕ → Bool) (until : ℕ) (all : List Setup) (j : ℕ) (ss : List Setup) → HaveHeard lost 0 until (seens (begun_pasts all)) j (begun_pasts ss)
 begun_heard lost until all j [] = tt
 begun_heard lost until all j (s ∷ ss) = (sym (ap (λ (es : List Entry). with_heard es (world_entries s.script.entries)) (none_heard lost until j 0 all)), begun_heard lost until all (suc j) ss)
 
-pub begins_so : (plan : ClassPlan) → IsSoundPlan plan → (taken : Option (List ℕ)) (players : List Player) → EachBoard (Comes plan.budget 0) 0 (begun plan.setups) players → AreAt plan taken 0 (begun plan.setups) players taken
+pub begins_so : (plan : ClassPlan) → IsSoundPlan plan → (taken : Option (List ℕ)) (players : List Player) → EachBoard (IsAtMoment plan.budget 0) 0 (begun_pasts plan.setups) players → AreAt plan taken 0 (begun_pasts plan.setups) players taken
 begins_so plan sound taken players come = record {
   plan_is = sound;
   within = omega arith;
@@ -93,7 +93,7 @@ begins_so plan sound taken players come = record {
 
 -- the closing lines of boards that have come behind the end
 pub closed_ran : (plan : ClassPlan) (sound : IsSoundPlan plan) (began taken taken' : Option (List ℕ)) (players : List Player) (pasts : List Past) (are : AreIn plan began (suc plan.until) [] pasts [] players taken) (fs ms fs' : ℕ) (end : ClassEnd)
-    → fs ≤ ms → Closes (seens pasts) plan.until players taken taken' ms fs' end → RanClass plan.setups plan.losses plan.until plan.budget began taken' fs fs' end
+    → fs ≤ ms → ClosesAll (seens pasts) plan.until players taken taken' ms fs' end → RanClass plan.setups plan.losses plan.until plan.budget began taken' fs fs' end
 closed_ran plan sound began taken taken' players pasts are fs ms fs' (Done panics many) later h =
     (let led = led_all plan.budget (suc plan.until) 0 pasts players are.come in
     done plan sound began pasts players taken are taken' panics many h.0

@@ -18,7 +18,7 @@ use Rattle.class_radio.specs.declared.player.Player.{Player}
 use Rattle.class_radio.specs.Playing.{Setup, member_of, run_given, outlook, IsNumbered, HasPlayed, HasCome}
 use Rattle.class_radio.specs.Losses.{lost_by}
 use Rattle.class_radio.specs.Outcome.{members_of, class_of_parts}
-use Rattle.class_radio.specs.Stepped.{ClassPlan, IsSoundPlan, Past, setups_in, seens, outlooks, shown, HaveHeard, Comes, Passed, EachBoard, AreIn}
+use Rattle.class_radio.specs.Stepped.{ClassPlan, IsSoundPlan, Past, setups_in, seens, outlooks, shown_boards, HaveHeard, IsAtMoment, Passed, EachBoard, AreIn}
 use Rattle.class_radio.proofs.Boards.{each_long}
 
 -- a board's run, with the free words that it used and no others
@@ -77,14 +77,14 @@ module _ (until t budget : ℕ) where
   seen_one h p f played = subst (λ (u : ℕ). IsSeenAs u t (run_of h p.board.instructions) (outlook h.seen p)) f.end (played.looks [])
 
 module _ (C : Class Fiber Shared) (t budget : ℕ) where
-  pub passed_all : (b : ℕ) (hs : List Past) (ps : List Player) → AllByRecursion (Fits C.until) hs → EachBoard (Passed budget t) b hs ps → Paired (Reached C.until (suc t)) (runs_of hs ps) (shown hs ps)
+  pub passed_all : (b : ℕ) (hs : List Past) (ps : List Player) → AllByRecursion (Fits C.until) hs → EachBoard (Passed budget t) b hs ps → Paired (Reached C.until (suc t)) (runs_of hs ps) (shown_boards hs ps)
   passed_all b [] [] f e = tt
   passed_all b [] (p ∷ ps) f e = absurd e
   passed_all b (h ∷ hs) [] f e = absurd e
   passed_all b (h ∷ hs) (p ∷ ps) f e =
       (reached C (run_of h p.board.instructions) f.0.rising t (outlook h.seen p) (seen_one C.until (suc t) budget h p f.0 e.0.played), passed_all (suc b) hs ps f.1 e.1)
 
-  come_one : (u b : ℕ) → t ≡ u → (h : Past) (p : Player) → Fits C.until h → Comes budget t b h p → Reached C.until t (run_of h p.board.instructions) (outlook h.seen p).board
+  come_one : (u b : ℕ) → t ≡ u → (h : Past) (p : Player) → Fits C.until h → IsAtMoment budget t b h p → Reached C.until t (run_of h p.board.instructions) (outlook h.seen p).board
   come_one zero b e h p f c = subst (λ (u : ℕ). Reached C.until u (run_of h p.board.instructions) (outlook h.seen p).board) (sym e) (reached_first C.until (run_of h p.board.instructions) (outlook h.seen p).board)
   come_one (suc u) b e h p f c = by_come c.come
     where
@@ -94,7 +94,7 @@ module _ (C : Class Fiber Shared) (t budget : ℕ) where
           (reached C (run_of h p.board.instructions) f.rising u (outlook h.seen p) (seen_one C.until (suc u) budget h p f (subst (λ (v : ℕ). HasPlayed h.setup h.script v h.used h.seen p) e played)))
       by_come (inr fresh) = absurd (let z : t ≡ 0 = fresh.1 in omega (arith, e, z))
 
-  pub come_all : (b : ℕ) (hs : List Past) (ps : List Player) → AllByRecursion (Fits C.until) hs → EachBoard (Comes budget t) b hs ps → Paired (Reached C.until t) (runs_of hs ps) (shown hs ps)
+  pub come_all : (b : ℕ) (hs : List Past) (ps : List Player) → AllByRecursion (Fits C.until) hs → EachBoard (IsAtMoment budget t) b hs ps → Paired (Reached C.until t) (runs_of hs ps) (shown_boards hs ps)
   come_all b [] [] f e = tt
   come_all b [] (p ∷ ps) f e = absurd e
   come_all b (h ∷ hs) [] f e = absurd e
@@ -107,7 +107,7 @@ module _ (C : Class Fiber Shared) (t budget : ℕ) where
   within_passed b (h ∷ hs) [] e = absurd e
   within_passed b (h ∷ hs) (p ∷ ps) e = (e.0.numbered.within, within_passed (suc b) hs ps e.1)
 
-  pub within_come : (b : ℕ) (hs : List Past) (ps : List Player) → EachBoard (Comes budget t) b hs ps → AllByRecursion (λ (p : Played Fiber Shared). p.steps ≤ budget) (runs_of hs ps)
+  pub within_come : (b : ℕ) (hs : List Past) (ps : List Player) → EachBoard (IsAtMoment budget t) b hs ps → AllByRecursion (λ (p : Played Fiber Shared). p.steps ≤ budget) (runs_of hs ps)
   within_come b [] [] e = tt
   within_come b [] (p ∷ ps) e = absurd e
   within_come b (h ∷ hs) [] e = absurd e
@@ -119,13 +119,13 @@ module _ (until u budget : ℕ) where
   come_looks h p f (inl played) = seen_one until (suc u) budget h p f played
   come_looks h p f (inr fresh) = absurd (let z : suc u ≡ 0 = fresh.1 in omega (arith, z))
 
-  pub looks_all : (b : ℕ) (hs : List Past) (ps : List Player) → AllByRecursion (Fits until) hs → EachBoard (Comes budget (suc u)) b hs ps → Paired (IsSeenAs until (suc u)) (runs_of hs ps) (outlooks (seens hs) ps)
+  pub looks_all : (b : ℕ) (hs : List Past) (ps : List Player) → AllByRecursion (Fits until) hs → EachBoard (IsAtMoment budget (suc u)) b hs ps → Paired (IsSeenAs until (suc u)) (runs_of hs ps) (outlooks (seens hs) ps)
   looks_all b [] [] f e = tt
   looks_all b [] (p ∷ ps) f e = absurd e
   looks_all b (h ∷ hs) [] f e = absurd e
   looks_all b (h ∷ hs) (p ∷ ps) f e = (come_looks h p f.0 e.0.come, looks_all (suc b) hs ps f.1 e.1)
 
-  pub seen_all : (b : ℕ) (hs : List Past) (ps : List Player) → AllByRecursion (Fits until) hs → EachBoard (Comes budget (suc u)) b hs ps → map (seen_before until (suc u)) (runs_of hs ps) ≡ seens hs
+  pub seen_all : (b : ℕ) (hs : List Past) (ps : List Player) → AllByRecursion (Fits until) hs → EachBoard (IsAtMoment budget (suc u)) b hs ps → map (seen_before until (suc u)) (runs_of hs ps) ≡ seens hs
   seen_all b [] [] f e = refl
   seen_all b [] (p ∷ ps) f e = absurd e
   seen_all b (h ∷ hs) [] f e = absurd e

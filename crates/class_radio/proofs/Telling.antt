@@ -7,7 +7,7 @@ use Rattle.class_radio.specs.declared.player.Player.{Player}
 use Rattle.class_radio.specs.declared.player.Standing.{Standing}
 use Rattle.class_radio.specs.declared.player.Standing.TheVariants.{Plays, Panicked, Faulted}
 use Rattle.class_radio.specs.Playing.{hearing_as, hearing, hearing_all, said}
-use Rattle.class_radio.specs.Hearing.{told, all_hearing}
+use Rattle.class_radio.specs.Hearing.{told_to, all_hearing}
 
 pub hearing_append : (t : ℕ) (xs ys : List ℤ) (p : Player) → hearing_all t (xs ++ ys) p ≡ hearing_all t ys (hearing_all t xs p)
 hearing_append t [] ys p = refl
@@ -77,36 +77,36 @@ map_long f [] = refl
 map_long f (x ∷ xs) = ap suc (map_long f xs)
 
 module _ (lost : ℕ → ℕ → ℕ → Bool) (t j : ℕ) where
-  told_append : (i : ℕ) (xs ys : List (List ℤ)) → told lost t j i (xs ++ ys) ≡ told lost t j i xs ++ told lost t j (i + length xs) ys
-  told_append i [] ys = (let same : i ≡ i + 0 = omega arith in ap (λ (k : ℕ). told lost t j k ys) same)
+  told_append : (i : ℕ) (xs ys : List (List ℤ)) → told_to lost t j i (xs ++ ys) ≡ told_to lost t j i xs ++ told_to lost t j (i + length xs) ys
+  told_append i [] ys = (let same : i ≡ i + 0 = omega arith in ap (λ (k : ℕ). told_to lost t j k ys) same)
   told_append i (x ∷ xs) ys =
       (let mine : List ℤ = if (i == j) || lost t i j then [] else x in
       let same : suc i + length xs ≡ i + suc (length xs) = omega arith in
-      ap (λ (l : List ℤ). mine ++ l) (told_append (suc i) xs ys ∙ ap (λ (k : ℕ). told lost t j (suc i) xs ++ told lost t j k ys) same)
-      ∙ sym (append_assoc mine (told lost t j (suc i) xs) (told lost t j (i + suc (length xs)) ys)))
+      ap (λ (l : List ℤ). mine ++ l) (told_append (suc i) xs ys ∙ ap (λ (k : ℕ). told_to lost t j (suc i) xs ++ told_to lost t j k ys) same)
+      ∙ sym (append_assoc mine (told_to lost t j (suc i) xs) (told_to lost t j (i + suc (length xs)) ys)))
 
   told_more : (ps : List Player) (from : ℕ) (d : Player) → from < length ps
-      → told lost t j 0 (take (from + 1) (map (said t) ps)) ≡ told lost t j 0 (take from (map (said t) ps)) ++ (if (from == j) || lost t from j then [] else said t (get_or ps from d))
+      → told_to lost t j 0 (take (from + 1) (map (said t) ps)) ≡ told_to lost t j 0 (take from (map (said t) ps)) ++ (if (from == j) || lost t from j then [] else said t (get_or ps from d))
   told_more ps from d l =
       (let long = map_long (said t) ps in
       let inside : from < length (map (said t) ps) = omega (arith, l, long) in
       let S : List (List ℤ) = map (said t) ps in
       let count : 0 + length (take from (map (said t) ps)) ≡ from = (let k = take_long (map (said t) ps) from (omega (arith, inside)) in omega (arith, k)) in
-      ap (told lost t j 0) (take_more (map (said t) ps) from [] inside)
+      ap (told_to lost t j 0) (take_more (map (said t) ps) from [] inside)
       ∙ told_append 0 (take from (map (said t) ps)) (get_or (map (said t) ps) from [] ∷ [])
-      ∙ ap (λ (k : ℕ). told lost t j 0 (take from (map (said t) ps)) ++ told lost t j k (get_or (map (said t) ps) from [] ∷ [])) count
-      ∙ ap (λ (s : List ℤ). told lost t j 0 (take from (map (said t) ps)) ++ ((if (from == j) || lost t from j then [] else s) ++ [])) (said_at t ps from d l)
-      ∙ ap (λ (s : List ℤ). told lost t j 0 (take from (map (said t) ps)) ++ s) (append-nil (if (from == j) || lost t from j then [] else said t (get_or ps from d))))
+      ∙ ap (λ (k : ℕ). told_to lost t j 0 (take from (map (said t) ps)) ++ told_to lost t j k (get_or (map (said t) ps) from [] ∷ [])) count
+      ∙ ap (λ (s : List ℤ). told_to lost t j 0 (take from (map (said t) ps)) ++ ((if (from == j) || lost t from j then [] else s) ++ [])) (said_at t ps from d l)
+      ∙ ap (λ (s : List ℤ). told_to lost t j 0 (take from (map (said t) ps)) ++ s) (append-nil (if (from == j) || lost t from j then [] else said t (get_or ps from d))))
 
   -- the state of a loop over the boards that are heard
   abbrev Heard : (old : List Player) → ℕ → Player → Player
-  Heard old from d = hearing_all (t + 1) (told lost t j 0 (take from (map (said t) old))) (get_or old j d)
+  Heard old from d = hearing_all (t + 1) (told_to lost t j 0 (take from (map (said t) old))) (get_or old j d)
 
-  pub hears_none : (old : List Player) (from : ℕ) (d : Player) → from ≡ 0 → old ≡ set old j (hearing_all (t + 1) (told lost t j 0 (take from (map (said t) old))) (get_or old j d))
+  pub hears_none : (old : List Player) (from : ℕ) (d : Player) → from ≡ 0 → old ≡ set old j (hearing_all (t + 1) (told_to lost t j 0 (take from (map (said t) old))) (get_or old j d))
   hears_none old from d e =
-      sym (ap (λ (k : ℕ). set old j (hearing_all (t + 1) (told lost t j 0 (take k (map (said t) old))) (get_or old j d))) e ∙ by_list (map (said t) old) ∙ set-get_or old j d)
+      sym (ap (λ (k : ℕ). set old j (hearing_all (t + 1) (told_to lost t j 0 (take k (map (said t) old))) (get_or old j d))) e ∙ by_list (map (said t) old) ∙ set-get_or old j d)
     where
-      by_list : (S : List (List ℤ)) → set old j (hearing_all (t + 1) (told lost t j 0 (take 0 S)) (get_or old j d)) ≡ set old j (get_or old j d)
+      by_list : (S : List (List ℤ)) → set old j (hearing_all (t + 1) (told_to lost t j 0 (take 0 S)) (get_or old j d)) ≡ set old j (get_or old j d)
       by_list [] = refl
       by_list (x ∷ xs) = refl
 
@@ -124,13 +124,13 @@ module _ (lost : ℕ → ℕ → ℕ → Bool) (t j : ℕ) where
       ∙ ap (λ (p : Player). set now j (hearing_all (t + 1) (said t (get_or old from d)) p)) here
       ∙ ap (λ (ps : List Player). set ps j (hearing_all (t + 1) (said t (get_or old from d)) q)) is
       ∙ set_twice old j q _
-      ∙ ap (set old j) (sym (ap (λ (ns : List ℤ). hearing_all (t + 1) ns (get_or old j d)) (told_more old from d from_in ∙ ap (λ (s : List ℤ). told lost t j 0 (take from (map (said t) old)) ++ s) test)
-      ∙ hearing_append (t + 1) (told lost t j 0 (take from (map (said t) old))) (said t (get_or old from d)) (get_or old j d))))
+      ∙ ap (set old j) (sym (ap (λ (ns : List ℤ). hearing_all (t + 1) ns (get_or old j d)) (told_more old from d from_in ∙ ap (λ (s : List ℤ). told_to lost t j 0 (take from (map (said t) old)) ++ s) test)
+      ∙ hearing_append (t + 1) (told_to lost t j 0 (take from (map (said t) old))) (said t (get_or old from d)) (get_or old j d))))
 
   pub hears_not : (old now : List Player) (from : ℕ) (d : Player) → from < length old → (from == j) || lost t from j ≡ true → now ≡ set old j (Heard old from d) → now ≡ set old j (Heard old (from + 1) d)
   hears_not old now from d from_in not_heard is =
       is ∙ ap (λ (ns : List ℤ). set old j (hearing_all (t + 1) ns (get_or old j d)))
-      (sym (told_more old from d from_in ∙ ap (λ (c : Bool). told lost t j 0 (take from (map (said t) old)) ++ (if c then [] else said t (get_or old from d))) not_heard ∙ append-nil (told lost t j 0 (take from (map (said t) old)))))
+      (sym (told_more old from d from_in ∙ ap (λ (c : Bool). told_to lost t j 0 (take from (map (said t) old)) ++ (if c then [] else said t (get_or old from d))) not_heard ∙ append-nil (told_to lost t j 0 (take from (map (said t) old)))))
 
   pub hears_not_lost : (old now : List Player) (from : ℕ) (d : Player) → from < length old → lost t from j ≡ true → now ≡ set old j (Heard old from d) → now ≡ set old j (Heard old (from + 1) d)
   hears_not_lost old now from d from_in is_lost is = hears_not old now from d from_in (ap (λ (c : Bool). (from == j) || c) is_lost ∙ by_own (from == j)) is
@@ -142,14 +142,14 @@ module _ (lost : ℕ → ℕ → ℕ → Bool) (t j : ℕ) where
   pub hears_not_own : (old now : List Player) (from : ℕ) (d : Player) → from < length old → from ≡ j → now ≡ set old j (Heard old from d) → now ≡ set old j (Heard old (from + 1) d)
   hears_not_own old now from d from_in own is = hears_not old now from d from_in (let same : (from == j) ≡ true = grind (arith, nat_tests) in ap (λ (c : Bool). c || lost t from j) same) is
 
-  pub hears_all : (old now : List Player) (from : ℕ) (d : Player) → from ≡ length old → now ≡ set old j (Heard old from d) → now ≡ set old j (hearing_all (t + 1) (told lost t j 0 (map (said t) old)) (get_or old j d))
-  hears_all old now from d last is = is ∙ ap (λ (S : List (List ℤ)). set old j (hearing_all (t + 1) (told lost t j 0 S) (get_or old j d))) (take_whole (map (said t) old) from (last ∙ sym (map_long (said t) old)))
+  pub hears_all : (old now : List Player) (from : ℕ) (d : Player) → from ≡ length old → now ≡ set old j (Heard old from d) → now ≡ set old j (hearing_all (t + 1) (told_to lost t j 0 (map (said t) old)) (get_or old j d))
+  hears_all old now from d last is = is ∙ ap (λ (S : List (List ℤ)). set old j (hearing_all (t + 1) (told_to lost t j 0 S) (get_or old j d))) (take_whole (map (said t) old) from (last ∙ sym (map_long (said t) old)))
 
 -- the state of a loop over the boards that hear
 abbrev pub first_hearing : (lost : ℕ → ℕ → ℕ → Bool) → (t : ℕ) → List (List ℤ) → (n j : ℕ) → List Player → List Player
 first_hearing lost t S n j [] = []
 first_hearing lost t S zero j (p ∷ ps) = p ∷ ps
-first_hearing lost t S (suc n) j (p ∷ ps) = hearing_all (suc t) (told lost t j 0 S) p ∷ first_hearing lost t S n (suc j) ps
+first_hearing lost t S (suc n) j (p ∷ ps) = hearing_all (suc t) (told_to lost t j 0 S) p ∷ first_hearing lost t S n (suc j) ps
 
 module _ (lost : ℕ → ℕ → ℕ → Bool) (t : ℕ) (S : List (List ℤ)) where
   pub first_none : (j n : ℕ) (ps : List Player) → n ≡ 0 → first_hearing lost t S n j ps ≡ ps
@@ -160,7 +160,7 @@ module _ (lost : ℕ → ℕ → ℕ → Bool) (t : ℕ) (S : List (List ℤ)) w
   pub first_all : (j n : ℕ) (ps : List Player) → n ≡ length ps → first_hearing lost t S n j ps ≡ all_hearing lost t S j ps
   first_all j n [] e = refl
   first_all j zero (p ∷ ps) e = absurd (omega (arith, e))
-  first_all j (suc n) (p ∷ ps) e = ap (λ (l : List Player). hearing_all (suc t) (told lost t j 0 S) p ∷ l) (first_all (suc j) n ps (omega (arith, e)))
+  first_all j (suc n) (p ∷ ps) e = ap (λ (l : List Player). hearing_all (suc t) (told_to lost t j 0 S) p ∷ l) (first_all (suc j) n ps (omega (arith, e)))
 
   pub first_long : (j n : ℕ) (ps : List Player) → length (first_hearing lost t S n j ps) ≡ length ps
   first_long j n [] = refl
@@ -170,20 +170,20 @@ module _ (lost : ℕ → ℕ → ℕ → Bool) (t : ℕ) (S : List (List ℤ)) w
   first_said : (j n : ℕ) (ps : List Player) → map (said t) (first_hearing lost t S n j ps) ≡ map (said t) ps
   first_said j n [] = refl
   first_said j zero (p ∷ ps) = refl
-  first_said j (suc n) (p ∷ ps) = ap (λ (s : List ℤ). s ∷ map (said t) (first_hearing lost t S n (suc j) ps)) (said_still t (suc t) (told lost t j 0 S) p) ∙ ap (λ (l : List (List ℤ)). said t p ∷ l) (first_said (suc j) n ps)
+  first_said j (suc n) (p ∷ ps) = ap (λ (s : List ℤ). s ∷ map (said t) (first_hearing lost t S n (suc j) ps)) (said_still t (suc t) (told_to lost t j 0 S) p) ∙ ap (λ (l : List (List ℤ)). said t p ∷ l) (first_said (suc j) n ps)
 
   first_step : (j n : ℕ) (ps : List Player) (d : Player) → n < length ps
-      → set (first_hearing lost t S n j ps) n (hearing_all (suc t) (told lost t (j + n) 0 S) (get_or (first_hearing lost t S n j ps) n d)) ≡ first_hearing lost t S (suc n) j ps
+      → set (first_hearing lost t S n j ps) n (hearing_all (suc t) (told_to lost t (j + n) 0 S) (get_or (first_hearing lost t S n j ps) n d)) ≡ first_hearing lost t S (suc n) j ps
   first_step j n [] d l = absurd (omega (arith, l))
-  first_step j zero (p ∷ ps) d l = (let same : j + zero ≡ j = omega arith in ap (λ (k : ℕ). hearing_all (suc t) (told lost t k 0 S) p ∷ ps) same ∙ ap (λ (l' : List Player). hearing_all (suc t) (told lost t j 0 S) p ∷ l') (sym (first_none (suc j) zero ps refl)))
+  first_step j zero (p ∷ ps) d l = (let same : j + zero ≡ j = omega arith in ap (λ (k : ℕ). hearing_all (suc t) (told_to lost t k 0 S) p ∷ ps) same ∙ ap (λ (l' : List Player). hearing_all (suc t) (told_to lost t j 0 S) p ∷ l') (sym (first_none (suc j) zero ps refl)))
   first_step j (suc n) (p ∷ ps) d l =
       (let same : j + suc n ≡ suc j + n = omega arith in
-      ap (λ (l' : List Player). hearing_all (suc t) (told lost t j 0 S) p ∷ l')
-      (ap (λ (k : ℕ). set (first_hearing lost t S n (suc j) ps) n (hearing_all (suc t) (told lost t k 0 S) (get_or (first_hearing lost t S n (suc j) ps) n d))) same ∙ first_step (suc j) n ps d (omega (arith, l))))
+      ap (λ (l' : List Player). hearing_all (suc t) (told_to lost t j 0 S) p ∷ l')
+      (ap (λ (k : ℕ). set (first_hearing lost t S n (suc j) ps) n (hearing_all (suc t) (told_to lost t k 0 S) (get_or (first_hearing lost t S n (suc j) ps) n d))) same ∙ first_step (suc j) n ps d (omega (arith, l))))
 
 -- one more board hears
 pub first_more : (lost : ℕ → ℕ → ℕ → Bool) (t n : ℕ) (old now new : List Player) → n < length old → now ≡ first_hearing lost t (map (said t) old) n 0 old
-    → ((d : Player) → new ≡ set now n (hearing_all (t + 1) (told lost t n 0 (map (said t) now)) (get_or now n d))) → new ≡ first_hearing lost t (map (said t) old) (n + 1) 0 old
+    → ((d : Player) → new ≡ set now n (hearing_all (t + 1) (told_to lost t n 0 (map (said t) now)) (get_or now n d))) → new ≡ first_hearing lost t (map (said t) old) (n + 1) 0 old
 first_more lost t n [] now new l is heard = absurd (omega (arith, l))
 first_more lost t n (z ∷ zs) now new l is heard =
     (let old : List Player = z ∷ zs in
@@ -193,10 +193,10 @@ first_more lost t n (z ∷ zs) now new l is heard =
     let later : suc n ≡ n + 1 = omega arith in
     let here : n ≡ 0 + n = omega arith in
     heard z
-    ∙ ap (λ (u : ℕ). set now n (hearing_all u (told lost t n 0 (map (said t) now)) (get_or now n z))) next
-    ∙ ap (λ (T : List (List ℤ)). set now n (hearing_all (suc t) (told lost t n 0 T) (get_or now n z))) says
-    ∙ ap (λ (ps : List Player). set ps n (hearing_all (suc t) (told lost t n 0 (map (said t) (z ∷ zs))) (get_or ps n z))) is
-    ∙ ap (λ (k : ℕ). set (first_hearing lost t S n 0 (z ∷ zs)) n (hearing_all (suc t) (told lost t k 0 (map (said t) (z ∷ zs))) (get_or (first_hearing lost t S n 0 (z ∷ zs)) n z))) here
+    ∙ ap (λ (u : ℕ). set now n (hearing_all u (told_to lost t n 0 (map (said t) now)) (get_or now n z))) next
+    ∙ ap (λ (T : List (List ℤ)). set now n (hearing_all (suc t) (told_to lost t n 0 T) (get_or now n z))) says
+    ∙ ap (λ (ps : List Player). set ps n (hearing_all (suc t) (told_to lost t n 0 (map (said t) (z ∷ zs))) (get_or ps n z))) is
+    ∙ ap (λ (k : ℕ). set (first_hearing lost t S n 0 (z ∷ zs)) n (hearing_all (suc t) (told_to lost t k 0 (map (said t) (z ∷ zs))) (get_or (first_hearing lost t S n 0 (z ∷ zs)) n z))) here
     ∙ first_step lost t S 0 n (z ∷ zs) z l
     ∙ ap (λ (k : ℕ). first_hearing lost t (map (said t) (z ∷ zs)) k 0 (z ∷ zs)) later)
 

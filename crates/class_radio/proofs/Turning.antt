@@ -26,8 +26,8 @@ use Rattle.class_radio.proofs.Seen.{none_sent}
 use Rattle.class_radio.specs.declared.run.ClassEnd.{ClassEnd}
 use Rattle.class_radio.specs.declared.run.ClassEnd.TheVariants.{Done, Budget, SinkFault}
 use Rattle.class_radio.specs.Losses.{lost_by}
-use Rattle.class_radio.specs.Stepped.{ClassPlan, IsSoundPlan, Past, setups_in, seens, outlooks, shown, HaveHeard, Comes, Passed, EachBoard, AreIn}
-use Rattle.class_radio.specs.Stopping.{MayTurn, GoesOn, IsSpent, FailedLast, EndsIn, HasGoneOn, Turned, IsEnded, AreAt, AllTurned}
+use Rattle.class_radio.specs.Stepped.{ClassPlan, IsSoundPlan, Past, setups_in, seens, outlooks, shown_boards, HaveHeard, IsAtMoment, Passed, EachBoard, AreIn}
+use Rattle.class_radio.specs.Stopping.{MayTurn, GoesOn, SpentIn, FailedLast, EndsIn, HasGoneOn, Turned, IsEnded, AreAt, AllTurned}
 use Rattle.class_radio.proofs.Seams.{Behind, behind}
 use Rattle.class_radio.proofs.Boards.{each_long, each_more, Headed, headed, none_left, plan_at, heard_at_board, heard_same, heard_scripts, map_append, setups_split, shown_append, shown_long, moment_more, wrote_at}
 use Rattle.class_radio.proofs.Resting.{seen_so_far, clock_early, nothing_at, due_late, plays_longer}
@@ -148,7 +148,7 @@ turn_of plan began t n players p taken m within read =
     (let l : length players ≡ length (m.first ++ m.rest) = ap length m.split in
     let b : Behind m.first m.rest n p = behind m.first m.rest n p m.count (omega (arith, l, within)) (read ∙ ap (λ (ps : List Player). get_or ps n p) m.split) in
     let are : AreIn plan began t m.gone m.still m.first (p ∷ b.others) taken = subst (λ (ps : List Player). AreIn plan began t m.gone m.still m.first ps taken) b.is m.are in
-    let come : Headed (Comes plan.budget t) (length m.gone) m.still p b.others = headed (Comes plan.budget t) (length m.gone) m.still p b.others are.come in
+    let come : Headed (IsAtMoment plan.budget t) (length m.gone) m.still p b.others = headed (IsAtMoment plan.budget t) (length m.gone) m.still p b.others are.come in
     let long : length m.gone ≡ length m.first = each_long (Passed plan.budget t) 0 m.gone m.first m.are.passed in
     record {
       gone = m.gone;
@@ -168,7 +168,7 @@ module _ (plan : ClassPlan) (sound : IsSoundPlan plan) (began : Option (List ℕ
 
   pub may_turn : MayTurn plan.budget t n turn.here p
   may_turn = record {
-    comes = subst (λ (k : ℕ). Comes plan.budget t k turn.here p) turn.number turn.are.come.0;
+    comes = subst (λ (k : ℕ). IsAtMoment plan.budget t k turn.here p) turn.number turn.are.come.0;
     some = sound.some;
     within = (let e : turn.here.setup.script.end ≡ plan.until = plan_at plan (λ (s : Setup). s.script.end ≡ plan.until) sound.ends turn.gone turn.here turn.still turn.are.setups in omega (arith, e, within));
     rising = heard_at_board (lost_by plan.losses) t plan.until (seens (turn.gone ++ turn.here ∷ turn.still)) 0 turn.gone turn.here turn.still turn.are.heard
@@ -213,27 +213,27 @@ module _ (plan : ClassPlan) (sound : IsSoundPlan plan) (began : Option (List ℕ
         by_list [] = ap (λ (os : List Observation). os ∷ map (before t) (seens turn.still)) g.same.seen
         by_list (x ∷ xs) = ap (λ (oss : List (List Observation)). before t x.seen ∷ oss) (by_list xs)
 
-    shown_old : shown (turn.gone ++ here ∷ turn.still) (turn.first ++ p ∷ turn.rest) ≡ shown turn.gone turn.first ++ (outlook here.seen p).board ∷ shown turn.still turn.rest
+    shown_old : shown_boards (turn.gone ++ here ∷ turn.still) (turn.first ++ p ∷ turn.rest) ≡ shown_boards turn.gone turn.first ++ (outlook here.seen p).board ∷ shown_boards turn.still turn.rest
     shown_old = shown_append turn.gone (here ∷ turn.still) turn.first (p ∷ turn.rest) long
 
-    shown_new : shown (turn.gone ++ there ∷ turn.still) (turn.first ++ q ∷ turn.rest) ≡ shown turn.gone turn.first ++ (outlook g.sees q).board ∷ shown turn.still turn.rest
+    shown_new : shown_boards (turn.gone ++ there ∷ turn.still) (turn.first ++ q ∷ turn.rest) ≡ shown_boards turn.gone turn.first ++ (outlook g.sees q).board ∷ shown_boards turn.still turn.rest
     shown_new = shown_append turn.gone (there ∷ turn.still) turn.first (q ∷ turn.rest) long
 
-    before_same : lines_before t (shown (turn.gone ++ here ∷ turn.still) (turn.first ++ p ∷ turn.rest)) ≡ lines_before t (shown ((turn.gone ++ there ∷ []) ++ turn.still) ((turn.first ++ q ∷ []) ++ turn.rest))
+    before_same : lines_before t (shown_boards (turn.gone ++ here ∷ turn.still) (turn.first ++ p ∷ turn.rest)) ≡ lines_before t (shown_boards ((turn.gone ++ there ∷ []) ++ turn.still) ((turn.first ++ q ∷ []) ++ turn.rest))
     before_same =
         ap (lines_before t) shown_old
-        ∙ lines_same t t (omega arith) _ _ (wrote_at t (shown turn.gone turn.first) (outlook here.seen p).board (outlook g.sees q).board (shown turn.still turn.rest) g.same)
+        ∙ lines_same t t (omega arith) _ _ (wrote_at t (shown_boards turn.gone turn.first) (outlook here.seen p).board (outlook g.sees q).board (shown_boards turn.still turn.rest) g.same)
         ∙ sym (ap (lines_before t) shown_new)
-        ∙ sym (ap (λ (hs : List Past). lines_before t (shown hs (turn.first ++ q ∷ turn.rest))) more)
-        ∙ sym (ap (λ (ps : List Player). lines_before t (shown ((turn.gone ++ there ∷ []) ++ turn.still) ps)) more_players)
+        ∙ sym (ap (λ (hs : List Past). lines_before t (shown_boards hs (turn.first ++ q ∷ turn.rest))) more)
+        ∙ sym (ap (λ (ps : List Player). lines_before t (shown_boards ((turn.gone ++ there ∷ []) ++ turn.still) ps)) more_players)
 
-    moment_now : moment_lines t 0 (shown turn.gone turn.first) ++ lines_at t n (outlook g.sees q).board ≡ moment_lines t 0 (shown (turn.gone ++ there ∷ []) (turn.first ++ q ∷ []))
+    moment_now : moment_lines t 0 (shown_boards turn.gone turn.first) ++ lines_at t n (outlook g.sees q).board ≡ moment_lines t 0 (shown_boards (turn.gone ++ there ∷ []) (turn.first ++ q ∷ []))
     moment_now =
-        (let count : 0 + length (shown turn.gone turn.first) ≡ n = (let l = shown_long turn.gone turn.first in let k = turn.count in omega (arith, l, k)) in
+        (let count : 0 + length (shown_boards turn.gone turn.first) ≡ n = (let l = shown_long turn.gone turn.first in let k = turn.count in omega (arith, l, k)) in
         sym (ap (moment_lines t 0) (shown_append turn.gone (there ∷ []) turn.first (q ∷ []) long)
-        ∙ moment_more t 0 (shown turn.gone turn.first) ((outlook g.sees q).board ∷ [])
-        ∙ ap (λ (k : ℕ). moment_lines t 0 (shown turn.gone turn.first) ++ (lines_at t k (outlook g.sees q).board ++ [])) count
-        ∙ ap (λ (r : ByteList). moment_lines t 0 (shown turn.gone turn.first) ++ r) (append-nil (lines_at t n (outlook g.sees q).board))))
+        ∙ moment_more t 0 (shown_boards turn.gone turn.first) ((outlook g.sees q).board ∷ [])
+        ∙ ap (λ (k : ℕ). moment_lines t 0 (shown_boards turn.gone turn.first) ++ (lines_at t k (outlook g.sees q).board ++ [])) count
+        ∙ ap (λ (r : ByteList). moment_lines t 0 (shown_boards turn.gone turn.first) ++ r) (append-nil (lines_at t n (outlook g.sees q).board))))
 
     pub goes_on : Midway plan began t (n + 1) (set players n q) taken'
     goes_on = record {
@@ -249,11 +249,11 @@ module _ (plan : ClassPlan) (sound : IsSoundPlan plan) (began : Option (List ℕ
             (heard_same (lost_by plan.losses) t plan.until (seens (turn.gone ++ here ∷ turn.still)) (seens (turn.gone ++ there ∷ turn.still)) seen_alike 0 (turn.gone ++ there ∷ turn.still)
             (heard_scripts (lost_by plan.losses) t plan.until (seens (turn.gone ++ here ∷ turn.still)) 0 turn.gone here there turn.still refl refl turn.are.heard));
         passed = each_more (Passed plan.budget t) 0 n turn.gone turn.first there q turn.are.passed (let k = turn.number in omega (arith, k)) g.passed;
-        come = subst (λ (k : ℕ). EachBoard (Comes plan.budget t) k turn.still turn.rest) (let l = length-append turn.gone (there ∷ []) in let same : suc (length turn.gone) ≡ length (turn.gone ++ there ∷ []) = omega (arith, l) in same) turn.are.come.1;
+        come = subst (λ (k : ℕ). EachBoard (IsAtMoment plan.budget t) k turn.still turn.rest) (let l = length-append turn.gone (there ∷ []) in let same : suc (length turn.gone) ≡ length (turn.gone ++ there ∷ []) = omega (arith, l) in same) turn.are.come.1;
         written = subst (Took began taken')
-            (append_assoc (lines_before t (shown (turn.gone ++ here ∷ turn.still) (turn.first ++ p ∷ turn.rest))) (moment_lines t 0 (shown turn.gone turn.first)) (lines_at t n (outlook g.sees q).board)
-            ∙ ap (λ (r : ByteList). lines_before t (shown (turn.gone ++ here ∷ turn.still) (turn.first ++ p ∷ turn.rest)) ++ r) moment_now
-            ∙ ap (λ (r : ByteList). r ++ moment_lines t 0 (shown (turn.gone ++ there ∷ []) (turn.first ++ q ∷ []))) before_same)
+            (append_assoc (lines_before t (shown_boards (turn.gone ++ here ∷ turn.still) (turn.first ++ p ∷ turn.rest))) (moment_lines t 0 (shown_boards turn.gone turn.first)) (lines_at t n (outlook g.sees q).board)
+            ∙ ap (λ (r : ByteList). lines_before t (shown_boards (turn.gone ++ here ∷ turn.still) (turn.first ++ p ∷ turn.rest)) ++ r) moment_now
+            ∙ ap (λ (r : ByteList). r ++ moment_lines t 0 (shown_boards (turn.gone ++ there ∷ []) (turn.first ++ q ∷ []))) before_same)
             (took-then _ _ turn.are.written g.written);
       };
     }
@@ -266,7 +266,7 @@ all_gone plan began t n players taken m last =
     let c = m.count in
     let none : m.rest ≡ [] = empty m.rest (omega (arith, l, k, c, last)) in
     let are : AreIn plan began t m.gone m.still m.first [] taken = subst (λ (ps : List Player). AreIn plan began t m.gone m.still m.first ps taken) none m.are in
-    let is : m.still ≡ [] = none_left (Comes plan.budget t) (length m.gone) m.still are.come in (
+    let is : m.still ≡ [] = none_left (IsAtMoment plan.budget t) (length m.gone) m.still are.come in (
       m.gone,
       subst (λ (ps : List Player). AreIn plan began t m.gone [] ps [] taken) (sym (m.split ∙ ap (λ (ps : List Player). m.first ++ ps) none ∙ append-nil m.first))
           (subst (λ (hs : List Past). AreIn plan began t m.gone hs m.first [] taken) is are),
@@ -295,7 +295,7 @@ module _ (budget t number : ℕ) (h : Past) (p : Player) (may : MayTurn budget t
 -- there are few boards
 pub few_boards : (plan : ClassPlan) → IsSoundPlan plan → (began : Option (List ℕ)) (t : ℕ) (pasts : List Past) (players : List Player) (taken : Option (List ℕ)) → AreIn plan began t [] pasts [] players taken → length players ≤ 8
 few_boards plan sound began t pasts players taken are =
-    (let one : length pasts ≡ length players = each_long (Comes plan.budget t) 0 pasts players are.come in
+    (let one : length pasts ≡ length players = each_long (IsAtMoment plan.budget t) 0 pasts players are.come in
     let two : length (setups_in pasts) ≡ length pasts = map_long pasts in
     let three : length (setups_in pasts) ≡ length plan.setups = ap length are.setups in
     let four : length plan.setups ≤ 8 = sound.few in

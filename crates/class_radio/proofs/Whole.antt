@@ -18,7 +18,7 @@ use Rattle.class_radio.specs.declared.player.Player.{Player}
 use Rattle.class_radio.specs.Playing.{Setup}
 use Rattle.class_radio.specs.Losses.{lost_by}
 use Rattle.class_radio.specs.Outcome.{members_of, class_of_parts, boards_of, is_panic, is_fault, how_many_end, IsDone, IsStopped}
-use Rattle.class_radio.specs.Stepped.{ClassPlan, IsSoundPlan, Past, setups_in, seens, outlooks, shown, Comes, EachBoard, AreIn}
+use Rattle.class_radio.specs.Stepped.{ClassPlan, IsSoundPlan, Past, setups_in, seens, outlooks, shown_boards, IsAtMoment, EachBoard, AreIn}
 use Rattle.class_radio.proofs.Runs.{runs_of, frees_of, Fits, fit_all, members_are, in_order, hear_all, looks_all, seen_all, within_come}
 
 module _ (plan : ClassPlan) (sound : IsSoundPlan plan) (began : Option (List ℕ)) (pasts : List Past) (players : List Player) (taken : Option (List ℕ)) (are : AreIn plan began (suc plan.until) [] pasts [] players taken) where
@@ -37,14 +37,14 @@ module _ (plan : ClassPlan) (sound : IsSoundPlan plan) (began : Option (List ℕ
       (subst (AllByRecursion (λ (s : Setup). IsRisingFrom 0 (world_entries s.script.entries))) (sym are.setups) sound.rising) are.heard
 
   boards : map (λ (p : Played Fiber Shared). p.member) runs ≡ C.members
-  boards = members_are (Comes plan.budget (suc plan.until)) 0 pasts players are.come ∙ ap (λ (ss : List Setup). members_of ss (frees_of pasts)) are.setups
+  boards = members_are (IsAtMoment plan.budget (suc plan.until)) 0 pasts players are.come ∙ ap (λ (ss : List Setup). members_of ss (frees_of pasts)) are.setups
 
   pub looks_are : Paired (IsSeenAs plan.until (suc plan.until)) runs os
   looks_are = looks_all plan.until plan.until plan.budget 0 pasts players fits are.come
 
   hear : Hear C (suc plan.until) (map (seen_before plan.until (suc plan.until)) runs) 0 runs
   hear = subst (λ (S : List (List Observation)). Hear C (suc plan.until) S 0 runs) (sym (seen_all plan.until plan.until plan.budget 0 pasts players fits are.come))
-      (hear_all C (suc plan.until) (seens pasts) (Comes plan.budget (suc plan.until)) 0 0 pasts players are.come are.heard)
+      (hear_all C (suc plan.until) (seens pasts) (IsAtMoment plan.budget (suc plan.until)) 0 0 pasts players are.come are.heard)
 
   whole : IsWhole C runs × (whole_text plan.until (boards_of plan.until runs) ≡ text_of_looks plan.until os)
   whole = ends_whole C runs os (in_order plan.setups (frees_of pasts) sound.rising) boards hear looks_are

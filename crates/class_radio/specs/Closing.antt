@@ -29,33 +29,33 @@ latest_clock [] = 0
 latest_clock (p ∷ ps) = max p.board.engine.clock (latest_clock ps)
 
 -- the closing line of a class: by the script at its end, or quiet at a moment
-abbrev pub last_of : Bool → (end latest : ℕ) → ByteList
-last_of by_script end latest = if by_script then closing_line end (Some By_script) else closing_line latest (Some Quietly)
+abbrev pub last_line_of : Bool → (end latest : ℕ) → ByteList
+last_line_of by_script end latest = if by_script then closing_line end (Some By_script) else closing_line latest (Some Quietly)
 
 -- the line of a player that stands so
-abbrev pub line_of : Standing → (number : ℕ) → ByteList → ByteList
-line_of Plays number text = numbered number text
-line_of Panicked number text = []
-line_of Faulted number text = []
+abbrev pub end_line_of : Standing → (number : ℕ) → ByteList → ByteList
+end_line_of Plays number text = numbered number text
+end_line_of Panicked number text = []
+end_line_of Faulted number text = []
 
 -- the lines of players, from this number on
 abbrev pub ends_of : ByteList → ℕ → List Player → ByteList
 ends_of text b [] = []
-ends_of text b (p ∷ ps) = line_of p.standing b text ++ ends_of text (suc b) ps
+ends_of text b (p ∷ ps) = end_line_of p.standing b text ++ ends_of text (suc b) ps
 
 -- two of these are the same
-abbrev pub is_same : Standing → Standing → Bool
-is_same Plays Plays = true
-is_same Plays Panicked = false
-is_same Plays Faulted = false
-is_same Panicked Plays = false
-is_same Panicked Panicked = true
-is_same Panicked Faulted = false
-is_same Faulted Plays = false
-is_same Faulted Panicked = false
-is_same Faulted Faulted = true
+abbrev pub stands_same : Standing → Standing → Bool
+stands_same Plays Plays = true
+stands_same Plays Panicked = false
+stands_same Plays Faulted = false
+stands_same Panicked Plays = false
+stands_same Panicked Panicked = true
+stands_same Panicked Faulted = false
+stands_same Faulted Plays = false
+stands_same Faulted Panicked = false
+stands_same Faulted Faulted = true
 
 -- how many stand so
 abbrev pub how_many_stand : Standing → List Player → ℕ
 how_many_stand standing [] = 0
-how_many_stand standing (p ∷ ps) = (if is_same p.standing standing then 1 else 0) + how_many_stand standing ps
+how_many_stand standing (p ∷ ps) = (if stands_same p.standing standing then 1 else 0) + how_many_stand standing ps

@@ -5,14 +5,14 @@ use Rattle.class_radio.specs.declared.player.Player.{Player}
 use Rattle.class_radio.specs.Playing.{hearing_all}
 
 -- what board j hears of what each board, from number i on, said at a moment
-abbrev pub told : (lost : ℕ → ℕ → ℕ → Bool) → (t j i : ℕ) → List (List ℤ) → List ℤ
-told lost t j i [] = []
-told lost t j i (numbers ∷ rest) = (if (i == j) || lost t i j then [] else numbers) ++ told lost t j (suc i) rest
+abbrev pub told_to : (lost : ℕ → ℕ → ℕ → Bool) → (t j i : ℕ) → List (List ℤ) → List ℤ
+told_to lost t j i [] = []
+told_to lost t j i (numbers ∷ rest) = (if (i == j) || lost t i j then [] else numbers) ++ told_to lost t j (suc i) rest
 
 -- players, from board j on, once each has heard that, a moment later
 abbrev pub all_hearing : (lost : ℕ → ℕ → ℕ → Bool) → (t : ℕ) → List (List ℤ) → (j : ℕ) → List Player → List Player
 all_hearing lost t numbers j [] = []
-all_hearing lost t numbers j (p ∷ ps) = hearing_all (suc t) (told lost t j 0 numbers) p ∷ all_hearing lost t numbers (suc j) ps
+all_hearing lost t numbers j (p ∷ ps) = hearing_all (suc t) (told_to lost t j 0 numbers) p ∷ all_hearing lost t numbers (suc j) ps
 
 -- something comes to one of these players at a moment
 abbrev pub ComesToOne : ℕ → List Player → Type 0

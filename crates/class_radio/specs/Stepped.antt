@@ -36,9 +36,9 @@ pub record Past : Type 0 where
   pub seen : List Observation
 
 -- the pasts of boards to which nothing has happened
-abbrev pub begun : List Setup → List Past
-begun [] = []
-begun (s ∷ ss) = record { setup = s; script = world_entries s.script.entries; used = []; seen = [] } ∷ begun ss
+abbrev pub begun_pasts : List Setup → List Past
+begun_pasts [] = []
+begun_pasts (s ∷ ss) = record { setup = s; script = world_entries s.script.entries; used = []; seen = [] } ∷ begun_pasts ss
 
 abbrev pub setups_in : List Past → List Setup
 setups_in hs = map (λ (h : Past). h.setup) hs
@@ -52,8 +52,8 @@ outlooks seen [] = []
 outlooks [] (p ∷ ps) = outlook [] p ∷ outlooks [] ps
 outlooks (os ∷ seen) (p ∷ ps) = outlook os p ∷ outlooks seen ps
 
-abbrev pub shown : List Past → List Player → List Board
-shown hs ps = looks (outlooks (seens hs) ps)
+abbrev pub shown_boards : List Past → List Player → List Board
+shown_boards hs ps = looks (outlooks (seens hs) ps)
 
 -- the script of each board, from board j on, is its own with what it has heard of what these have seen before a moment
 abbrev pub HaveHeard : (lost : ℕ → ℕ → ℕ → Bool) → (t until : ℕ) → List (List Observation) → ℕ → List Past → Type 0
@@ -61,7 +61,7 @@ HaveHeard lost t until seen j [] = Unit {0}
 HaveHeard lost t until seen j (h ∷ hs) = (h.script ≡ with_heard (heard_of lost t until j 0 seen) (world_entries h.setup.script.entries)) × HaveHeard lost t until seen (suc j) hs
 
 -- The board with this number has come to a moment.
-pub record Comes (budget t number : ℕ) (h : Past) (p : Player) : Type 0 where
+pub record IsAtMoment (budget t number : ℕ) (h : Past) (p : Player) : Type 0 where
   pub numbered : IsNumbered number budget p
   pub come : HasCome h.setup h.script t h.used h.seen p
 
@@ -84,5 +84,5 @@ pub record AreIn (plan : ClassPlan) (began : Option (List ℕ)) (t : ℕ) (gone 
   pub setups : setups_in (gone ++ still) ≡ plan.setups
   pub heard : HaveHeard (lost_by plan.losses) t plan.until (seens (gone ++ still)) 0 (gone ++ still)
   pub passed : EachBoard (Passed plan.budget t) 0 gone first
-  pub come : EachBoard (Comes plan.budget t) (length gone) still rest
-  pub written : Took began taken (lines_before t (shown (gone ++ still) (first ++ rest)) ++ moment_lines t 0 (shown gone first))
+  pub come : EachBoard (IsAtMoment plan.budget t) (length gone) still rest
+  pub written : Took began taken (lines_before t (shown_boards (gone ++ still) (first ++ rest)) ++ moment_lines t 0 (shown_boards gone first))

@@ -15,11 +15,11 @@ use Rattle.class_radio.specs.declared.run.ClassEnd.{ClassEnd}
 use Rattle.class_radio.specs.declared.run.ClassEnd.TheVariants.{Done, Budget, SinkFault}
 use Rattle.class_radio.specs.declared.player.Standing.TheVariants.{Panicked, Faulted}
 use Rattle.class_radio.specs.Closing.{how_many_stand}
-use Rattle.class_radio.specs.Stepped.{ClassPlan, IsSoundPlan, Past, outlooks, Comes, Passed, AreIn}
+use Rattle.class_radio.specs.Stepped.{ClassPlan, IsSoundPlan, Past, outlooks, IsAtMoment, Passed, AreIn}
 
 -- A board may have its turn at a moment.
 pub record MayTurn (budget t number : ℕ) (h : Past) (p : Player) : Type 0 where
-  pub comes : Comes budget t number h p
+  pub comes : IsAtMoment budget t number h p
   pub some : 1 ≤ budget
   pub within : t ≤ h.setup.script.end
   pub rising : IsRisingFrom 0 h.script
@@ -34,7 +34,7 @@ pub record GoesOn (budget t number : ℕ) (h : Past) (p q : Player) (taken taken
   pub written : Took taken taken' (lines_at t number (outlook sees q).board)
 
 -- Its budget ended in the moment, and its closing line was taken.
-pub record IsSpent (budget t number : ℕ) (h : Past) (taken taken' : Option (List ℕ)) : Type 0 where
+pub record SpentIn (budget t number : ℕ) (h : Past) (taken taken' : Option (List ℕ)) : Type 0 where
   pub between : Option (List ℕ)
   pub cut : WasCut number budget h.setup h.script t h.seen taken between
   pub closed : Took between taken' (numbered number (closing_line t None))
@@ -48,7 +48,7 @@ pub record FailedLast (budget t number : ℕ) (h : Past) (taken taken' : Option 
 -- how a board's turn ends the class's run
 abbrev pub EndsIn : (budget t number : ℕ) → Past → Option (List ℕ) → Option (List ℕ) → ℕ → ℕ → ClassEnd → Type 0
 EndsIn budget t number h taken taken' fs fs' (Done panics faults) = ⊥
-EndsIn budget t number h taken taken' fs fs' (Budget b) = (b ≡ number) × IsSpent budget t number h taken taken'
+EndsIn budget t number h taken taken' fs fs' (Budget b) = (b ≡ number) × SpentIn budget t number h taken taken'
 EndsIn budget t number h taken taken' fs fs' SinkFault = (WasBroken number budget h.setup h.script t h.seen taken taken' ⊎ FailedLast budget t number h taken taken') × Rose fs fs'
 
 -- it hadn't written its end before the moment
@@ -94,8 +94,8 @@ AllStepped plan began players taken fs fs' (Ok u) = (pasts : List Past) × AreIn
 AllStepped plan began players taken fs fs' (Err end) = IsEnded plan began taken fs fs' end
 
 -- what became of the closing lines of players that have seen this: all were taken, with how many of them stopped, or the sink failed in them
-abbrev pub Closes : (seen : List (List Observation)) → (end : ℕ) → List Player → Option (List ℕ) → Option (List ℕ) → ℕ → ℕ → ClassEnd → Type 0
-Closes seen end players taken taken' fs fs' (Done panics faults) =
+abbrev pub ClosesAll : (seen : List (List Observation)) → (end : ℕ) → List Player → Option (List ℕ) → Option (List ℕ) → ℕ → ℕ → ClassEnd → Type 0
+ClosesAll seen end players taken taken' fs fs' (Done panics faults) =
     Took taken taken' (closing_lines (last_line end (outlooks seen players)) 0 (looks (outlooks seen players))) × (panics ≡ how_many_stand Panicked players) × (faults ≡ how_many_stand Faulted players)
-Closes seen end players taken taken' fs fs' (Budget b) = ⊥
-Closes seen end players taken taken' fs fs' SinkFault = TookPart taken taken' (closing_lines (last_line end (outlooks seen players)) 0 (looks (outlooks seen players))) × Rose fs fs'
+ClosesAll seen end players taken taken' fs fs' (Budget b) = ⊥
+ClosesAll seen end players taken taken' fs fs' SinkFault = TookPart taken taken' (closing_lines (last_line end (outlooks seen players)) 0 (looks (outlooks seen players))) × Rose fs fs'

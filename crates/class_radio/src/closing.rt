@@ -6,7 +6,7 @@ ghost use Rattle.tool_io.specs.Putting.{PutsTo};
 ghost use Rattle.class_world.specs.Lines.{closing_lines, numbered};
 ghost use Rattle.class_steps.specs.Outlook.{last_line, looks};
 ghost use Rattle.class_radio.specs.Stepped.{outlooks};
-ghost use Rattle.class_radio.specs.Closing.{IsLed, AreLed, some_due, latest_clock, last_of, line_of, is_same, how_many_stand};
+ghost use Rattle.class_radio.specs.Closing.{IsLed, AreLed, some_due, latest_clock, last_line_of, end_line_of, stands_same, how_many_stand};
 
 use crate::player::{Player, Standing};
 use board_outside::{then_put_budget, then_put_quiet, then_put_script};
@@ -60,7 +60,7 @@ fn put_last<K: Sink>(
     out: &mut K,
 ) -> Result<(), PutFailed>
     ensures { (number : ℕ) → player.now.lead ≡ count_text number ++ codes " "
-        → PutsTo K.taken K.faults out.old out.new (numbered number (last_of by_script end latest)) result }
+        → PutsTo K.taken K.faults out.old out.new (numbered number (last_line_of by_script end latest)) result }
 {
     let put = out.put(player.lead());
     if by_script {
@@ -79,7 +79,7 @@ fn put_end<K: Sink>(
     out: &mut K,
 ) -> Result<(), PutFailed>
     ensures { (number : ℕ) → IsLed number player.now
-        → PutsTo K.taken K.faults out.old out.new (line_of player.now.standing number (last_of by_script end latest)) result }
+        → PutsTo K.taken K.faults out.old out.new (end_line_of player.now.standing number (last_line_of by_script end latest)) result }
 {
     match player.standing() {
         Standing::Plays => put_last(player, by_script, end, latest, out),
@@ -107,7 +107,7 @@ pub fn put_ends<K: Sink>(players: &[Player], end: u32, out: &mut K) -> Result<()
 
 /// Whether two boards stand alike.
 fn is_so(first: Standing, second: Standing) -> bool
-    ensures { result ≡ is_same first second }
+    ensures { result ≡ stands_same first second }
 {
     match (first, second) {
         (Standing::Plays, Standing::Plays) => true,
@@ -121,7 +121,7 @@ fn is_so(first: Standing, second: Standing) -> bool
 
 /// 1 for a board that stands so.
 fn one_of(player: &Player, standing: Standing) -> u32
-    ensures { result ≡ (if is_same player.now.standing standing then 1 else 0) }
+    ensures { result ≡ (if stands_same player.now.standing standing then 1 else 0) }
 {
     if is_so(player.standing(), standing) {
         1

@@ -3,7 +3,7 @@ ghost use Rattle.std.specs.Prelude.{◌≡◌, ◌+◌, ◌<◌, ◌≢◌, map,
 ghost use Rattle.class_radio.specs.declared.player.Player.{Player as PlayerState};
 ghost use Rattle.class_radio.specs.Playing.{hearing_all, said};
 ghost use Rattle.class_radio.specs.Losses.{lost_by};
-ghost use Rattle.class_radio.specs.Hearing.{told, all_hearing};
+ghost use Rattle.class_radio.specs.Hearing.{told_to, all_hearing};
 
 use crate::losses::Losses;
 use crate::player::Player;
@@ -29,7 +29,7 @@ fn hear_others(players: &mut Vec<Player>, losses: &Losses, to: usize, moment: u3
     requires early { moment < 4294967295 }
     requires to { to < vec_len players.old }
     ensures heard { (d : PlayerState) → players.new.items ≡ set players.old.items to
-        (hearing_all (moment + 1) (told (lost_by losses.now) moment to 0 (map (said moment) players.old.items)) (slice_index_or players.old.items to d)) }
+        (hearing_all (moment + 1) (told_to (lost_by losses.now) moment to 0 (map (said moment) players.old.items)) (slice_index_or players.old.items to d)) }
     ensures same { vec_len players.new ≡ vec_len players.old }
 {
     for from in 0..players.len() {

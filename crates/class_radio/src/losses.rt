@@ -1,7 +1,7 @@
 //! What is lost between the boards of a class, found by its moment.
 ghost use Rattle.std.specs.Prelude.{◌≡◌, ◌+◌, ◌*◌, ◌<◌, length, take, IfOk};
 ghost use Rattle.class_radio.specs.Losses.{lost_by};
-ghost use Rattle.class_radio.specs.Index.{key_of, HasKeys};
+ghost use Rattle.class_radio.specs.Index.{loss_key, HasKeys};
 
 use class_file::Loss;
 use std::alloc::Global;
@@ -30,14 +30,14 @@ impl Model for Losses {
 
 /// The number that stands for a moment and two boards.
 fn key(at: u32, from: u32, to: u32) -> u128
-    ensures { result ≡ key_of at from to }
+    ensures { result ≡ loss_key at from to }
 {
     (at as u128 * 4294967296 + from as u128) * 4294967296 + to as u128
 }
 
 /// That of a loss.
 fn key_of_loss(loss: Loss) -> u128
-    ensures key { result ≡ key_of loss.at loss.from loss.to }
+    ensures key { result ≡ loss_key loss.at loss.from loss.to }
     ensures from { loss.from < 4294967296 }
     ensures to { loss.to < 4294967296 }
 {

@@ -3,7 +3,7 @@ ghost use Rattle.std.specs.Prelude.{◌≡◌, ◌≤◌, All, IfOk, vec_len};
 ghost use Rattle.thumb_code.specs.Map.{flash_end};
 ghost use Rattle.event_script.specs.Sound.{IsSound};
 ghost use Rattle.class_radio.specs.Outcome.{setups_of};
-ghost use Rattle.class_radio.specs.Stepped.{begun, EachBoard, Comes};
+ghost use Rattle.class_radio.specs.Stepped.{begun_pasts, EachBoard, IsAtMoment};
 
 use crate::player::Player;
 use event_script::Script;
@@ -22,7 +22,7 @@ pub fn mount_all(
     requires scripts { vec_len scripts ≡ vec_len images }
     requires sound { All IsSound scripts.items }
     requires most { budget ≤ 2147483648 }
-    ensures mounted { IfOk result (λ players. EachBoard (Comes budget 0) 0 (begun (setups_of images.items scripts.items)) players.items) }
+    ensures mounted { IfOk result (λ players. EachBoard (IsAtMoment budget 0) 0 (begun_pasts (setups_of images.items scripts.items)) players.items) }
 {
     let mut players = Vec::new(alloc);
     for (image, script) in images.into_iter().zip(scripts) {

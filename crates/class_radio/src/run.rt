@@ -6,7 +6,7 @@ ghost use Rattle.event_script.specs.declared.script.Script.{Script as EventScrip
 ghost use Rattle.board_world.specs.Observations.{Observation};
 ghost use Rattle.class_radio.specs.Outcome.{setups_of, RanClass};
 ghost use Rattle.class_radio.specs.Closing.{AreLed};
-ghost use Rattle.class_radio.specs.Stopping.{Closes};
+ghost use Rattle.class_radio.specs.Stopping.{ClosesAll};
 
 use crate::closing::{how_many, put_ends};
 use crate::losses::Losses;
@@ -34,7 +34,7 @@ pub enum ClassEnd {
 fn close_all<K: Sink>(players: &[Player], end: u32, out: &mut K) -> ClassEnd
     requires few { length players.now < 4294967296 }
     requires led { AreLed 0 players.now }
-    ensures closes { (seen : List (List Observation)) → Closes seen end players.now (K.taken out.old) (K.taken out.new) (K.faults out.old) (K.faults out.new) result }
+    ensures closes { (seen : List (List Observation)) → ClosesAll seen end players.now (K.taken out.old) (K.taken out.new) (K.faults out.old) (K.faults out.new) result }
     ensures later { K.faults out.old ≤ K.faults out.new }
 {
     match put_ends(players, end, out) {
