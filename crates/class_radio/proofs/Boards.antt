@@ -1,5 +1,5 @@
 -- Boards one by one.
-use Rattle.std.proofs.Common.{◌≡◌, ℕ, suc, zero, ◌+◌, ◌<◌, Bool, List, [], ◌∷◌, ◌++◌, length, map, refl, ap, sym, ◌∙◌, subst, arith, append_assoc}
+use Rattle.std.proofs.Common.{◌≡◌, ℕ, suc, ◌+◌, Bool, List, [], ◌∷◌, ◌++◌, length, map, refl, ap, sym, ◌∙◌, subst, arith, append_assoc}
 use Rattle.std.specs.List.{AllByRecursion}
 use Rattle.board_world.specs.Observations.{ByteList, Observation}
 use Rattle.board_world.specs.Board.{Board, Entry}
@@ -9,10 +9,9 @@ use Rattle.event_script.specs.World.{world_entries}
 use Rattle.class_world.specs.Hearing.{before, heard_of, with_heard}
 use Rattle.class_world.specs.Lines.{lines_at, moment_lines, WroteSame}
 use Rattle.class_world.proofs.Laws.{rising_heard, heard_of_before}
-use Rattle.class_steps.specs.Outlook.{Outlook, looks}
 use Rattle.class_radio.specs.declared.player.Player.{Player}
 use Rattle.class_radio.specs.Playing.{Setup, outlook}
-use Rattle.class_radio.specs.Stepped.{ClassPlan, IsSoundPlan, Past, setups_in, seens, outlooks, shown_boards, HaveHeard, EachBoard}
+use Rattle.class_radio.specs.Stepped.{ClassPlan, Past, setups_in, shown_boards, HaveHeard, EachBoard}
 
 module _ (R : ℕ → Past → Player → Type 0) where
   pub each_long : (b : ℕ) (hs : List Past) (ps : List Player) → EachBoard R b hs ps → length hs ≡ length ps

@@ -2,7 +2,6 @@
 use Rattle.std.proofs.Common.{◌≡◌, ℕ, suc, ◌+◌, Bool, if◌then◌else◌, List, [], ◌∷◌, map, Option, Some, None, is_some, refl, ap, sym, ◌∙◌}
 use Rattle.std.specs.Option.{option_map}
 use Rattle.board_world.specs.Observations.{Observation, End, Quietly, By_script}
-use Rattle.board_world.specs.Board.{Board}
 use Rattle.board_world.specs.Simulation.{Paired}
 use Rattle.class_world.specs.Classes.{Played, world_of}
 use Rattle.class_steps.specs.Outlook.{Outlook, IsSeenAs, looks}

@@ -1,27 +1,25 @@
 -- A class whose run was ended in a moment by one of its boards.
-use Rattle.std.proofs.Common.{◌≡◌, ◌≤◌, ◌<◌, ◌⊎◌, inl, inr, ℕ, suc, zero, ◌+◌, Bool, true, false, ◌&&◌, if◌then◌else◌, ◌==◌, nat_lt, List, [], ◌∷◌, ◌++◌, length, map, Option, Some, None, refl, ap, sym, ◌∙◌, subst, arith, append-nil, append_assoc}
+use Rattle.std.proofs.Common.{◌≡◌, ◌≤◌, ◌<◌, ◌⊎◌, inl, inr, ℕ, suc, ◌+◌, Bool, true, false, ◌&&◌, if◌then◌else◌, ◌==◌, nat_lt, List, [], ◌∷◌, ◌++◌, length, map, Option, None, refl, ap, sym, ◌∙◌, subst, arith, append_assoc}
 use Rattle.std.proofs.lemmas.Bool.Decides.{nat_tests}
 use Rattle.std.specs.List.{AllByRecursion}
-use Rattle.sts_base.specs.Faults.{Rose}
 use Rattle.sts_base.specs.Prefix.{IsPrefix}
 use Rattle.board_world.specs.Observations.{ByteList, Observation}
 use Rattle.board_world.specs.Transcript.{closing_line}
-use Rattle.board_world.specs.Board.{Board, Entry, over}
+use Rattle.board_world.specs.Board.{Board, over}
 use Rattle.board_world.specs.Activities.{World}
 use Rattle.board_world.specs.Before.{IsRisingFrom}
-use Rattle.board_world.specs.Simulation.{IsSettled, Paired}
+use Rattle.board_world.specs.Simulation.{Paired}
 use Rattle.board_world.proofs.Laws.{run_settled}
 use Rattle.bank_model.specs.Fibers.{Fiber, Shared}
 use Rattle.event_script.specs.World.{world_entries}
 use Rattle.tool_io.specs.Putting.{Took, TookPart}
 use Rattle.tool_io.proofs.Laws.{took-then, part-then, part-more, rose-before}
 use Rattle.class_world.specs.Hearing.{moment_of, before}
-use Rattle.class_world.specs.Classes.{Member, Class, Played, starting, world_of, world_before, seen_by, Hear, AreInOrder, IsCut}
+use Rattle.class_world.specs.Classes.{Class, Played, starting, world_of, world_before, seen_by, Hear, AreInOrder, IsCut}
 use Rattle.class_world.specs.Lines.{numbered, seen_at, is_stopped, stopped_at, lines_at, moment_lines, lines_before, cut_text, WroteSame}
 use Rattle.class_world.proofs.Laws.{lines_same}
-use Rattle.class_steps.specs.Texts.{Reached, boards_now, HasCutText, IsTextOf}
+use Rattle.class_steps.specs.Texts.{Reached}
 use Rattle.class_steps.proofs.Laws.{is_cut, text_is, begins_text}
-use Rattle.class_file.specs.declared.class.Loss.{Loss}
 use Rattle.class_radio.specs.declared.run.ClassEnd.{ClassEnd}
 use Rattle.class_radio.specs.declared.run.ClassEnd.TheVariants.{Done, Budget, SinkFault}
 use Rattle.class_radio.specs.declared.player.Player.{Player}
@@ -29,8 +27,8 @@ use Rattle.class_radio.specs.Playing.{Setup, run_given, outlook}
 use Rattle.class_radio.specs.Stepping.{world_behind, WasCut, WasBroken}
 use Rattle.class_radio.specs.Losses.{lost_by}
 use Rattle.class_radio.specs.Outcome.{members_of, class_of_parts, boards_of, HasSpent, IsStopped, RanClass}
-use Rattle.class_radio.specs.Stepped.{ClassPlan, IsSoundPlan, Past, setups_in, seens, outlooks, shown_boards, HaveHeard, IsAtMoment, Passed, EachBoard, AreIn}
-use Rattle.class_radio.specs.Stopping.{SpentIn, FailedLast, EndsIn, HasGoneOn, IsEnded}
+use Rattle.class_radio.specs.Stepped.{ClassPlan, IsSoundPlan, Past, setups_in, seens, shown_boards, IsAtMoment, Passed, EachBoard, AreIn}
+use Rattle.class_radio.specs.Stopping.{FailedLast, EndsIn, HasGoneOn, IsEnded}
 use Rattle.class_radio.proofs.Boards.{each_long, heard_same, heard_scripts, setups_split, shown_append, wrote_at}
 use Rattle.class_radio.proofs.Turning.{before_twice}
 use Rattle.class_radio.proofs.Runs.{run_of, runs_of, frees_of, Fits, fit_all, fit_left, fit_right, members_are, in_order, hear_all, passed_all, come_all, within_passed, within_come}

@@ -3,19 +3,17 @@ use Rattle.std.proofs.Common.{◌≡◌, ℕ, zero, suc, ◌+◌, ◌≤◌, ◌
 use Rattle.std.proofs.lemmas.List.{take_more, append-nil, length-take-le, take-append-drop, take_all}
 use Rattle.std.specs.Prelude.{codes}
 use Rattle.std.specs.Option.{option_map}
-use Rattle.std.specs.List.{list_any}
-use Rattle.board_world.specs.Observations.{ByteList, Observation, Quietly, By_script}
-use Rattle.board_world.specs.Transcript.{count_text, closing_line}
+use Rattle.board_world.specs.Observations.{ByteList, Observation}
+use Rattle.board_world.specs.Transcript.{count_text}
 use Rattle.board_world.specs.Before.{is_by_clock}
 use Rattle.tool_io.specs.Putting.{Puts}
 use Rattle.tool_io.proofs.Laws.{puts-then, puts-more, puts-as}
 use Rattle.class_world.specs.Lines.{numbered, is_stopped, latest, closing_lines}
-use Rattle.class_steps.specs.Outlook.{Outlook, looks, some_next, last_line}
+use Rattle.class_steps.specs.Outlook.{looks, some_next, last_line}
 use Rattle.board_run.specs.declared.end.Stop.{Stop}
 use Rattle.board_run.specs.declared.end.Stop.TheVariants.{Quiet, Script, Panic, Fault}
 use Rattle.class_radio.specs.declared.player.Player.{Player}
 use Rattle.class_radio.specs.declared.player.Standing.{Standing}
-use Rattle.class_radio.specs.declared.player.Standing.TheVariants.{Plays, Panicked, Faulted}
 use Rattle.board_run.specs.View.{end_of}
 use Rattle.class_radio.specs.Playing.{standing_of, outlook}
 use Rattle.class_radio.specs.Stepped.{outlooks}

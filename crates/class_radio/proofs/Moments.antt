@@ -1,18 +1,17 @@
 -- The next moment at which something comes to some board, and boards that wait for it.
-use Rattle.std.proofs.Common.{◌≡◌, ◌≤◌, ◌<◌, ◌⊎◌, inl, inr, ℕ, suc, zero, ◌+◌, ◌-◌, Bool, true, false, if◌then◌else◌, nat_lt, nat_le, List, [], ◌∷◌, ◌++◌, length, map, take, get_or, Option, Some, None, refl, ap, sym, ◌∙◌, subst, arith, append-nil}
+use Rattle.std.proofs.Common.{◌≡◌, ◌≤◌, ◌<◌, inl, inr, ℕ, suc, ◌+◌, ◌-◌, Bool, true, false, if◌then◌else◌, nat_lt, nat_le, List, [], ◌∷◌, ◌++◌, length, map, take, get_or, Option, Some, None, refl, ap, sym, ◌∙◌, subst, arith}
 use Rattle.std.specs.Prelude.{IfSome}
 use Rattle.std.proofs.lemmas.Bool.Decides.{nat_tests}
 use Rattle.std.specs.List.{AllByRecursion}
 use Rattle.board_world.specs.Observations.{ByteList, Observation}
-use Rattle.board_world.specs.Board.{Board, Entry}
+use Rattle.board_world.specs.Board.{Entry}
 use Rattle.event_script.specs.World.{world_entries}
 use Rattle.tool_io.specs.Putting.{Took}
-use Rattle.class_world.specs.Hearing.{before, heard_of, with_heard}
+use Rattle.class_world.specs.Hearing.{before, with_heard}
 use Rattle.class_world.specs.Lines.{lines_before, WroteBefore}
 use Rattle.class_world.proofs.Laws.{heard_still, lines_skip}
-use Rattle.board_run.specs.declared.end.Stop.{Stop}
 use Rattle.class_radio.specs.declared.player.Player.{Player}
-use Rattle.class_radio.specs.Playing.{outlook, HasPlayed, HasCome}
+use Rattle.class_radio.specs.Playing.{HasPlayed, HasCome}
 use Rattle.class_radio.specs.Losses.{lost_by}
 use Rattle.class_radio.specs.Stepped.{ClassPlan, Past, seens, shown_boards, HaveHeard, IsAtMoment, EachBoard, AreIn}
 use Rattle.class_radio.specs.Hearing.{ComesToOne, IsNextOf, soonest}

@@ -1,25 +1,22 @@
 -- Boards hear of what the others sent, and come to the moment behind.
-use Rattle.std.proofs.Common.{◌≡◌, ◌≤◌, ◌<◌, ◌⊎◌, inl, inr, ℕ, suc, zero, ◌+◌, ℤ, Bool, true, false, if◌then◌else◌, nat_lt, ◌==◌, List, [], ◌∷◌, ◌++◌, length, map, take, Option, Some, None, refl, ap, sym, ◌∙◌, subst, arith, append-nil}
-use Rattle.std.proofs.lemmas.Bool.Decides.{nat_tests}
+use Rattle.std.proofs.Common.{◌≡◌, inl, ℕ, suc, ℤ, Bool, true, false, nat_lt, List, [], ◌∷◌, ◌++◌, map, take, Option, refl, ap, sym, ◌∙◌, subst, append-nil}
 use Rattle.std.specs.List.{AllByRecursion}
 use Rattle.board_world.specs.declared.events.Event.{Event}
-use Rattle.board_world.specs.Observations.{ByteList, Observation}
-use Rattle.board_world.specs.Board.{Board, Entry}
+use Rattle.board_world.specs.Observations.{Observation}
+use Rattle.board_world.specs.Board.{Board}
 use Rattle.board_world.specs.Before.{IsRisingFrom}
 use Rattle.event_script.specs.World.{world_entries}
 use Rattle.tool_io.specs.Putting.{Took}
 use Rattle.class_world.specs.Hearing.{sent_at, heard_of, with_heard, raised_at, heard_events, heard_behind}
 use Rattle.class_world.specs.Lines.{moment_lines, lines_before}
 use Rattle.class_world.proofs.Laws.{heard_on, rising_heard}
-use Rattle.class_steps.specs.Outlook.{next_with}
-use Rattle.board_run.specs.Going.{queued_all}
 use Rattle.class_radio.specs.declared.player.Player.{Player}
 use Rattle.class_radio.specs.declared.player.Standing.{Standing}
 use Rattle.class_radio.specs.declared.player.Standing.TheVariants.{Plays, Panicked, Faulted}
-use Rattle.class_radio.specs.Playing.{Setup, IsNumbered, outlook, HasPlayed, HasCome, hearing_as, hearing, hearing_all, said}
+use Rattle.class_radio.specs.Playing.{Setup, IsNumbered, outlook, HasPlayed, hearing_as, hearing, hearing_all, said}
 use Rattle.class_radio.proofs.Hears.{hears_on}
 use Rattle.class_radio.specs.Losses.{lost_by}
-use Rattle.class_radio.specs.Stepped.{ClassPlan, IsSoundPlan, Past, setups_in, seens, outlooks, shown_boards, HaveHeard, IsAtMoment, Passed, EachBoard, AreIn}
+use Rattle.class_radio.specs.Stepped.{ClassPlan, IsSoundPlan, Past, setups_in, seens, shown_boards, HaveHeard, IsAtMoment, Passed, EachBoard, AreIn}
 use Rattle.class_radio.specs.Hearing.{told_to, all_hearing}
 use Rattle.class_radio.proofs.Queues.{told_queued, told_next, heard_is_told, none_heard_at}
 

@@ -1,21 +1,19 @@
 -- A board to which nothing comes for a while.
-use Rattle.std.proofs.Common.{◌≡◌, ◌≤◌, ◌<◌, ℕ, suc, zero, ◌+◌, Bool, true, false, not, ◌&&◌, if◌then◌else◌, ◌==◌, List, [], ◌∷◌, ◌++◌, length, map, Option, Some, None, is_some, refl, ap, sym, ◌∙◌, subst, arith, append-nil}
-use Rattle.std.specs.Prelude.{IfSome, IsSome}
+use Rattle.std.proofs.Common.{◌≡◌, ◌≤◌, ◌<◌, ℕ, Bool, true, false, ◌&&◌, if◌then◌else◌, ◌==◌, List, [], ◌∷◌, ◌++◌, Option, Some, None, is_some, refl, ap, sym, ◌∙◌, subst, arith, append-nil}
+use Rattle.std.specs.Prelude.{IfSome}
 use Rattle.std.specs.Option.{option_map}
 use Rattle.std.proofs.lemmas.Bool.Decides.{nat_tests}
 use Rattle.board_world.specs.declared.events.Event.{Event}
 use Rattle.board_world.specs.Observations.{ByteList, Observation}
 use Rattle.board_world.specs.Transcript.{closing_line}
-use Rattle.board_world.specs.Board.{Board, Entry}
-use Rattle.board_world.specs.Activities.{World}
+use Rattle.board_world.specs.Board.{Entry}
 use Rattle.class_world.specs.Hearing.{before}
 use Rattle.class_world.specs.Classes.{world_before}
 use Rattle.class_world.specs.Keeping.{with_kept}
-use Rattle.class_world.specs.Lines.{numbered, numbered_lines, seen_at, is_stopped, stopped_at, lines_at, WroteBefore}
+use Rattle.class_world.specs.Lines.{numbered, seen_at, is_stopped, stopped_at, lines_at, WroteBefore}
 use Rattle.class_world.proofs.Laws.{seen_at_new}
-use Rattle.class_steps.specs.Outlook.{Outlook, IsSeenAs, next_with}
+use Rattle.class_steps.specs.Outlook.{next_with}
 use Rattle.class_steps.proofs.Laws.{waits_longer, same_later, seen_early}
-use Rattle.bank_model.specs.Fibers.{Fiber, Shared}
 use Rattle.board_run.specs.declared.end.Stop.{Stop}
 use Rattle.board_run.specs.Going.{queued_all, next_moment}
 use Rattle.board_run.specs.View.{end_of}

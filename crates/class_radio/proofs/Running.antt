@@ -1,19 +1,16 @@
 -- The run of a class from its images on.
-use Rattle.std.proofs.Common.{◌≡◌, ◌≤◌, ◌<◌, ℕ, suc, zero, ◌+◌, Bool, true, false, if◌then◌else◌, ◌==◌, List, [], ◌∷◌, ◌++◌, length, map, Option, Some, None, refl, ap, sym, ◌∙◌, subst, arith, All}
+use Rattle.std.proofs.Common.{◌≡◌, ◌≤◌, ℕ, suc, Bool, true, false, if◌then◌else◌, ◌==◌, List, [], ◌∷◌, ◌++◌, length, Option, Some, None, refl, ap, sym, ◌∙◌, arith, All}
 use Rattle.std.specs.Prelude.{IfSome}
 use Rattle.std.specs.List.{AllByRecursion}
 use Rattle.std.specs.declared.vec.Vec.{Vec}
 use Rattle.std.specs.declared.alloc.Global.{Global}
 use Rattle.std.proofs.lemmas.List.Elements.{All-head, All-tail}
-use Rattle.sts_base.specs.Faults.{Rose}
-use Rattle.board_world.specs.Observations.{Observation}
 use Rattle.board_world.specs.Board.{Entry, next_entry}
 use Rattle.board_world.proofs.Laws.{rises_in_order}
 use Rattle.board_world.specs.Before.{IsRisingFrom}
 use Rattle.event_script.specs.declared.script.Script.{Script}
 use Rattle.event_script.specs.Sound.{IsSound}
 use Rattle.event_script.specs.World.{world_entries}
-use Rattle.tool_io.specs.Putting.{Took, TookPart}
 use Rattle.tool_io.proofs.Laws.{took-nothing, rose-before}
 use Rattle.class_world.specs.Hearing.{heard, heard_of, with_heard}
 use Rattle.class_file.specs.declared.class.Loss.{Loss}
@@ -25,11 +22,10 @@ use Rattle.class_radio.specs.Losses.{lost_by}
 use Rattle.class_radio.specs.Outcome.{setups_of, RanClass}
 use Rattle.class_radio.specs.Closing.{AreLed}
 use Rattle.class_radio.specs.Stepped.{ClassPlan, IsSoundPlan, Past, begun_pasts, setups_in, seens, HaveHeard, IsAtMoment, EachBoard, AreIn}
-use Rattle.class_radio.specs.Stopping.{AreAt, AllStepped, ClosesAll}
-use Rattle.class_radio.proofs.Boards.{each_long}
+use Rattle.class_radio.specs.Stopping.{AreAt, ClosesAll}
 use Rattle.class_radio.proofs.Counting.{panics_are, faults_are, led_all}
 use Rattle.class_radio.proofs.Turning.{few_boards}
-use Rattle.class_radio.proofs.Whole.{runs, os, looks_are, done, stopped}
+use Rattle.class_radio.proofs.Whole.{runs, looks_are, done, stopped}
 
 -- what a class is given
 abbrev pub plan_of : List (Vec ℕ Global) → List Script → List Loss → (until budget : ℕ) → ClassPlan

@@ -1,25 +1,21 @@
 -- Players as runs of their class.
-use Rattle.std.proofs.Common.{◌≡◌, ◌≤◌, ◌<◌, ◌⊎◌, inl, inr, ℕ, suc, zero, ◌+◌, Bool, true, false, List, [], ◌∷◌, ◌++◌, length, map, Option, Some, None, refl, ap, sym, ◌∙◌, subst, arith, append-nil}
+use Rattle.std.proofs.Common.{◌≡◌, ◌≤◌, inl, inr, ℕ, suc, zero, Bool, List, [], ◌∷◌, ◌++◌, map, refl, ap, sym, ◌∙◌, subst, arith}
 use Rattle.std.specs.List.{AllByRecursion}
-use Rattle.board_world.specs.Observations.{ByteList, Observation}
-use Rattle.board_world.specs.Board.{Board, Entry}
+use Rattle.board_world.specs.Observations.{Observation}
 use Rattle.board_world.specs.Before.{IsRisingFrom}
 use Rattle.board_world.specs.Simulation.{Paired}
 use Rattle.bank_model.specs.Fibers.{Fiber, Shared}
 use Rattle.event_script.specs.World.{world_entries}
-use Rattle.class_world.specs.Hearing.{before, heard_of, with_heard}
-use Rattle.class_world.specs.Classes.{Member, Class, Played, world_before, seen_before, Hear, AreInOrder}
+use Rattle.class_world.specs.Hearing.{heard_of}
+use Rattle.class_world.specs.Classes.{Member, Class, Played, seen_before, Hear, AreInOrder}
 use Rattle.class_world.proofs.Laws.{rising_heard}
-use Rattle.class_steps.specs.Outlook.{Outlook, IsSeenAs, looks}
+use Rattle.class_steps.specs.Outlook.{IsSeenAs}
 use Rattle.class_steps.specs.Texts.{Reached}
 use Rattle.class_steps.proofs.Laws.{reached, reached_first}
-use Rattle.class_file.specs.declared.class.Loss.{Loss}
 use Rattle.class_radio.specs.declared.player.Player.{Player}
-use Rattle.class_radio.specs.Playing.{Setup, member_of, run_given, outlook, IsNumbered, HasPlayed, HasCome}
-use Rattle.class_radio.specs.Losses.{lost_by}
-use Rattle.class_radio.specs.Outcome.{members_of, class_of_parts}
-use Rattle.class_radio.specs.Stepped.{ClassPlan, IsSoundPlan, Past, setups_in, seens, outlooks, shown_boards, HaveHeard, IsAtMoment, Passed, EachBoard, AreIn}
-use Rattle.class_radio.proofs.Boards.{each_long}
+use Rattle.class_radio.specs.Playing.{Setup, member_of, run_given, outlook, HasPlayed, HasCome}
+use Rattle.class_radio.specs.Outcome.{members_of}
+use Rattle.class_radio.specs.Stepped.{Past, setups_in, seens, outlooks, shown_boards, HaveHeard, IsAtMoment, Passed, EachBoard}
 
 -- a board's run, with the free words that it used and no others
 abbrev pub run_of : Past → ℕ → Played Fiber Shared

@@ -1,35 +1,32 @@
 -- A board's turn at a moment, and the turns of all.
-use Rattle.std.proofs.Common.{◌≡◌, ◌≤◌, ◌<◌, ◌⊎◌, inl, inr, ℕ, suc, zero, ◌+◌, Bool, true, false, not, ◌&&◌, if◌then◌else◌, ◌==◌, nat_lt, List, [], ◌∷◌, ◌++◌, length, map, take, get_or, Option, Some, None, is_some, Result, Ok, Err, refl, ap, sym, ◌∙◌, subst, arith, append-nil, append_assoc, length-append}
+use Rattle.std.proofs.Common.{◌≡◌, ◌≤◌, ◌<◌, inl, inr, ℕ, suc, ◌+◌, Bool, true, false, not, ◌&&◌, if◌then◌else◌, ◌==◌, nat_lt, List, [], ◌∷◌, ◌++◌, length, map, take, get_or, Option, Some, None, is_some, refl, ap, sym, ◌∙◌, subst, arith, append-nil, append_assoc, length-append}
 use Rattle.std.proofs.Math.ListN.{set}
-use Rattle.std.specs.Prelude.{IfSome, IsSome, OnOk, OnErr}
+use Rattle.std.specs.Prelude.{IfSome}
 use Rattle.std.specs.Option.{option_map}
 use Rattle.std.proofs.lemmas.Bool.Decides.{nat_tests}
 use Rattle.sts_base.specs.Faults.{Rose}
 use Rattle.board_world.specs.Observations.{ByteList, Observation}
 use Rattle.board_world.specs.Transcript.{closing_line}
-use Rattle.board_world.specs.Board.{Board, Entry}
 use Rattle.board_world.specs.Before.{IsRisingFrom, is_by_clock}
 use Rattle.event_script.specs.World.{world_entries}
-use Rattle.tool_io.specs.Putting.{Took, TookPart, Puts}
+use Rattle.tool_io.specs.Putting.{Took, TookPart}
 use Rattle.tool_io.proofs.Laws.{took-nothing, took-then, rose-before}
-use Rattle.class_world.specs.Hearing.{moment_of, before, sent_at}
-use Rattle.class_world.specs.Lines.{numbered, is_stopped, stopped_at, lines_at, moment_lines, lines_before, WroteSame}
+use Rattle.class_world.specs.Hearing.{moment_of, before}
+use Rattle.class_world.specs.Lines.{numbered, is_stopped, stopped_at, lines_at, moment_lines, lines_before}
 use Rattle.class_world.proofs.Laws.{lines_same}
 use Rattle.board_run.specs.declared.end.Stop.{Stop}
 use Rattle.board_run.specs.View.{end_of}
 use Rattle.class_radio.specs.declared.player.Player.{Player}
-use Rattle.class_radio.specs.declared.player.Step.{Step}
-use Rattle.class_radio.specs.declared.player.Step.TheVariants.{Through, Budget as BudgetStep, SinkFault as SinkFaultStep}
-use Rattle.class_radio.specs.Playing.{Setup, outlook, HasPlayed, HasCome, said}
-use Rattle.class_radio.specs.Stepping.{MayGoOn, WentThrough, WasCut, WasBroken, PlayedOn}
+use Rattle.class_radio.specs.Playing.{Setup, outlook, HasPlayed, HasCome}
+use Rattle.class_radio.specs.Stepping.{MayGoOn, WentThrough, WasCut, WasBroken}
 use Rattle.class_radio.proofs.Seen.{none_sent}
 use Rattle.class_radio.specs.declared.run.ClassEnd.{ClassEnd}
-use Rattle.class_radio.specs.declared.run.ClassEnd.TheVariants.{Done, Budget, SinkFault}
+use Rattle.class_radio.specs.declared.run.ClassEnd.TheVariants.{Budget, SinkFault}
 use Rattle.class_radio.specs.Losses.{lost_by}
-use Rattle.class_radio.specs.Stepped.{ClassPlan, IsSoundPlan, Past, setups_in, seens, outlooks, shown_boards, HaveHeard, IsAtMoment, Passed, EachBoard, AreIn}
-use Rattle.class_radio.specs.Stopping.{MayTurn, GoesOn, SpentIn, FailedLast, EndsIn, HasGoneOn, Turned, IsEnded, AreAt, AllTurned}
+use Rattle.class_radio.specs.Stepped.{ClassPlan, IsSoundPlan, Past, setups_in, seens, shown_boards, HaveHeard, IsAtMoment, Passed, EachBoard, AreIn}
+use Rattle.class_radio.specs.Stopping.{MayTurn, GoesOn, EndsIn, HasGoneOn, IsEnded}
 use Rattle.class_radio.proofs.Seams.{Behind, behind}
-use Rattle.class_radio.proofs.Boards.{each_long, each_more, Headed, headed, none_left, plan_at, heard_at_board, heard_same, heard_scripts, map_append, setups_split, shown_append, shown_long, moment_more, wrote_at}
+use Rattle.class_radio.proofs.Boards.{each_long, each_more, Headed, headed, none_left, plan_at, heard_at_board, heard_same, heard_scripts, setups_split, shown_append, shown_long, moment_more, wrote_at}
 use Rattle.class_radio.proofs.Resting.{seen_so_far, clock_early, nothing_at, due_late, plays_longer}
 
 pub before_twice : (t : ℕ) (os : List Observation) → before t (before t os) ≡ before t os

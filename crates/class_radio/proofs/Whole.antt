@@ -1,16 +1,14 @@
 -- A class all of whose boards have come behind its end.
-use Rattle.std.proofs.Common.{◌≡◌, ◌≤◌, ℕ, suc, ◌+◌, Bool, List, [], ◌∷◌, ◌++◌, map, inl, Option, refl, ap, sym, ◌∙◌, subst, arith, append-nil}
+use Rattle.std.proofs.Common.{◌≡◌, ◌≤◌, ℕ, suc, List, [], map, inl, Option, refl, ap, sym, ◌∙◌, subst, append-nil}
 use Rattle.std.specs.List.{AllByRecursion}
-use Rattle.sts_base.specs.Faults.{Rose}
-use Rattle.board_world.specs.Observations.{ByteList, Observation}
-use Rattle.board_world.specs.Board.{Board, Entry}
+use Rattle.board_world.specs.Observations.{Observation}
 use Rattle.board_world.specs.Before.{IsRisingFrom}
 use Rattle.board_world.specs.Simulation.{Paired}
 use Rattle.bank_model.specs.Fibers.{Fiber, Shared}
 use Rattle.event_script.specs.World.{world_entries}
 use Rattle.tool_io.specs.Putting.{Took, TookPart}
 use Rattle.tool_io.proofs.Laws.{took-then, part-then}
-use Rattle.class_world.specs.Classes.{Member, Class, Played, world_of, seen_before, Hear, AreInOrder, IsWhole}
+use Rattle.class_world.specs.Classes.{Class, Played, seen_before, Hear, IsWhole}
 use Rattle.class_world.specs.Lines.{lines_before, closing_lines, whole_text}
 use Rattle.class_steps.specs.Outlook.{Outlook, IsSeenAs, looks, last_line, text_of_looks}
 use Rattle.class_steps.proofs.Laws.{ends_whole}
@@ -18,7 +16,7 @@ use Rattle.class_radio.specs.declared.player.Player.{Player}
 use Rattle.class_radio.specs.Playing.{Setup}
 use Rattle.class_radio.specs.Losses.{lost_by}
 use Rattle.class_radio.specs.Outcome.{members_of, class_of_parts, boards_of, is_panic, is_fault, how_many_end, IsDone, IsStopped}
-use Rattle.class_radio.specs.Stepped.{ClassPlan, IsSoundPlan, Past, setups_in, seens, outlooks, shown_boards, IsAtMoment, EachBoard, AreIn}
+use Rattle.class_radio.specs.Stepped.{ClassPlan, IsSoundPlan, Past, seens, outlooks, IsAtMoment, AreIn}
 use Rattle.class_radio.proofs.Runs.{runs_of, frees_of, Fits, fit_all, members_are, in_order, hear_all, looks_all, seen_all, within_come}
 
 module _ (plan : ClassPlan) (sound : IsSoundPlan plan) (began : Option (List ℕ)) (pasts : List Past) (players : List Player) (taken : Option (List ℕ)) (are : AreIn plan began (suc plan.until) [] pasts [] players taken) where

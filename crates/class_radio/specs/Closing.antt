@@ -1,5 +1,5 @@
 -- How a class of players ends.
-use Rattle.std.specs.Prelude.{◌≡◌, ◌+◌, ℕ, suc, max, Bool, true, false, if◌then◌else◌, is_some, List, [], ◌∷◌, ◌++◌, codes, Option, Some, None}
+use Rattle.std.specs.Prelude.{◌≡◌, ◌+◌, ℕ, suc, max, Bool, true, false, if◌then◌else◌, is_some, List, [], ◌∷◌, ◌++◌, codes, Some}
 use Rattle.std.specs.List.{list_any}
 use Rattle.board_world.specs.Observations.{ByteList, Quietly, By_script}
 use Rattle.board_world.specs.Transcript.{count_text, closing_line}

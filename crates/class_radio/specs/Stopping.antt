@@ -1,5 +1,5 @@
 -- How a board goes through a moment of its class, and how that may end the class's run.
-use Rattle.std.specs.Prelude.{◌≡◌, ◌≤◌, ◌<◌, ◌⊎◌, ℕ, suc, List, [], ◌∷◌, ◌++◌, length, Option, None, Result, Ok, Err}
+use Rattle.std.specs.Prelude.{◌≡◌, ◌≤◌, ◌<◌, ◌⊎◌, ℕ, suc, List, [], ◌∷◌, length, Option, None, Result, Ok, Err}
 use Rattle.sts_base.specs.Faults.{Rose}
 use Rattle.board_world.specs.Observations.{Observation}
 use Rattle.board_world.specs.Transcript.{closing_line}

@@ -1,4 +1,4 @@
-use Rattle.std.proofs.Common.{◌≡◌, ◌≤◌, ◌<◌, arith, length}
+use Rattle.std.proofs.Common.{arith}
 use Rattle.class_radio.proofs.Lining.{count_step}
 use Rattle.class_radio.proofs.closing.how_many.Goals as goal
 

@@ -1,7 +1,7 @@
-use Rattle.std.proofs.Common.{◌≡◌, ◌∙◌, ap, sym, map, length, arith, rules}
+use Rattle.std.proofs.Common.{◌∙◌, sym, map, arith}
 use Rattle.class_radio.specs.Playing.{said}
 use Rattle.class_radio.specs.Losses.{lost_by}
-use Rattle.class_radio.proofs.Telling.{first_none, first_more, first_all, first_long}
+use Rattle.class_radio.proofs.Telling.{first_none, first_more, first_all}
 use Rattle.class_radio.proofs.hearing.hear_all.Goals as goal
 
 pub loop-to-init : goal.loop-to-init

@@ -1,4 +1,4 @@
-use Rattle.std.proofs.Common.{◌≡◌, ◌∙◌, ◌+◌, ap, sym, ℤ, pos, get_or, length, FitsSigned, w32, arith, rules}
+use Rattle.std.proofs.Common.{◌∙◌, ◌+◌, ap, ℤ, pos, get_or, length, FitsSigned, w32, arith, rules}
 use Rattle.std.proofs.lemmas.Int.{to_z-of_z}
 use Rattle.std.proofs.lemmas.List.{length-set}
 use Rattle.class_radio.specs.Playing.{hearing}

@@ -1,4 +1,4 @@
-use Rattle.std.proofs.Common.{◌≡◌, ◌+◌, length, take, get_or, slice_set}
+use Rattle.std.proofs.Common.{◌≡◌, ◌+◌, length, take, get_or}
 use Rattle.std.proofs.Math.ListN.{set}
 use Rattle.class_radio.specs.declared.player.Player.{Player}
 use Rattle.class_radio.specs.Playing.{hearing_all, said}

@@ -1,4 +1,4 @@
-use Rattle.std.proofs.Common.{◌≡◌, ◌<◌, true, false, ◌∙◌, ap, sym, length, vec_len, Vec, Global, arith, rules}
+use Rattle.std.proofs.Common.{◌∙◌, ap, sym, length, Vec, Global, arith}
 use Rattle.class_radio.specs.declared.player.Player.{Player}
 use Rattle.class_radio.specs.Losses.{lost_by}
 use Rattle.class_radio.proofs.Telling.{hears_from, hears_not_lost, hears_not_own}

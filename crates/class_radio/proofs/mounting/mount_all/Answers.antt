@@ -1,7 +1,7 @@
-use Rattle.std.proofs.Common.{◌≡◌, List, [], ◌∷◌, ◌++◌, rules, sym, subst, arith, inl, inr}
+use Rattle.std.proofs.Common.{◌≡◌, [], ◌∷◌, ◌++◌, rules, sym, subst, arith}
 use Rattle.std.specs.Iterator.Adapters.{zip_first, zip_second}
 use Rattle.std.specs.Vec.Iter.{into_iter_items}
-use Rattle.class_radio.proofs.Making.{Halfway, half_begun, half_few, half_fits, half_sound, half_more, half_done, half_turned}
+use Rattle.class_radio.proofs.Making.{Halfway, half_begun, half_more, half_turned}
 use Rattle.class_radio.proofs.mounting.mount_all.Goals as goal
 
 pub loop-image-init : goal.loop-image-init

@@ -1,4 +1,4 @@
-use Rattle.std.proofs.Common.{[], refl, arith, rules}
+use Rattle.std.proofs.Common.{[], rules}
 use Rattle.class_radio.proofs.run.close_all.Goals as goal
 
 pub returns-in-Err-clause-closes : goal.returns-in-Err-clause-closes

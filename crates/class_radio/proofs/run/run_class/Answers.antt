@@ -1,4 +1,4 @@
-use Rattle.std.proofs.Common.{◌≤◌, ◌<◌, refl, sym, ap, subst, length, List, arith, rules}
+use Rattle.std.proofs.Common.{refl, sym, ap, subst, length, List, arith}
 use Rattle.class_radio.specs.declared.player.Player.{Player}
 use Rattle.class_radio.specs.Outcome.{setups_of}
 use Rattle.class_radio.specs.Closing.{AreLed}

@@ -1,5 +1,4 @@
-use Rattle.std.proofs.Common.{◌≡◌, ◌∙◌, take, ap, sym, subst, length, arith, rules}
-use Rattle.class_radio.specs.declared.player.Player.{Player}
+use Rattle.std.proofs.Common.{◌∙◌, ap, subst, arith}
 use Rattle.class_radio.specs.Hearing.{IsNextOf, soonest}
 use Rattle.class_radio.proofs.Telling.{take_whole}
 use Rattle.class_radio.proofs.Moments.{next_turn}

@@ -1,7 +1,7 @@
-use Rattle.std.proofs.Common.{◌≡◌, ◌≤◌, ◌<◌, ◌∙◌, ℕ, map, ap, sym, subst, Vec, Global, List, arith, rules}
+use Rattle.std.proofs.Common.{◌<◌, ◌∙◌, ap, sym, subst, Vec, Global, arith}
 use Rattle.class_radio.specs.declared.player.Player.{Player}
 use Rattle.class_radio.specs.Hearing.{IsNextOf}
-use Rattle.class_radio.proofs.Stepped.{moments_left, begins_at, onto_at, ends_at, then_next, then_less, ended_later}
+use Rattle.class_radio.proofs.Stepped.{moments_left, onto_at, then_next, then_less, ended_later}
 use Rattle.class_radio.proofs.stepping.step_all.Goals as goal
 use Rattle.class_radio.proofs.stepping.step_all.Goals.{then-moment-end, else-moment-end}
 

@@ -1,4 +1,4 @@
-use Rattle.std.proofs.Common.{◌≡◌, ◌≤◌, ◌+◌, ◌-◌, ℕ, List, Option}
+use Rattle.std.proofs.Common.{◌≡◌, ◌≤◌, List}
 use Rattle.class_radio.specs.Stepped.{ClassPlan, Past}
 use Rattle.class_radio.specs.Stopping.{AreAt}
 use Rattle.class_radio.proofs.Stepped.{Onto, moments_left}

@@ -1,6 +1,6 @@
-use Rattle.std.proofs.Common.{◌≡◌, ◌≤◌, ◌<◌, ◌∙◌, length, ap, sym, subst, arith, rules}
+use Rattle.std.proofs.Common.{◌∙◌, arith}
 use Rattle.std.proofs.lemmas.List.{length-set}
-use Rattle.class_radio.proofs.Turning.{few_boards, begins, Turn, turn_of, may_turn, goes_on, ended, all_gone}
+use Rattle.class_radio.proofs.Turning.{few_boards, begins, turn_of, may_turn, goes_on, ended, all_gone}
 use Rattle.class_radio.proofs.turns.go_all.Goals as goal
 
 pub loop-number-init : goal.loop-number-init

@@ -1,4 +1,4 @@
-use Rattle.std.proofs.Common.{◌∙◌, rules, arith}
+use Rattle.std.proofs.Common.{◌∙◌}
 use Rattle.class_radio.proofs.Turning.{may_go_on, went, spent_so, failed_last, broke}
 use Rattle.class_radio.proofs.turns.go_now.Goals as goal
 
