@@ -2,7 +2,7 @@
 use Rattle.std.proofs.Common.{◌≡◌, ◌≢◌, ◌+◌, ◌*◌, ◌-◌, ◌<◌, ◌≤◌, ℕ, zero, suc, refl, sym, ap, ◌∙◌, subst, arith, List, [], ◌∷◌, ◌++◌, length, set, get_or, length-set}
 use Rattle.std.specs.Prelude.{Bool, true, false, not, if◌then◌else◌}
 use Rattle.derived_types.specs.declared.work.Work.{Work}
-use Rattle.derived_types.specs.Work.{unasked, Asks, IsOpen, effort}
+use Rattle.derived_types.specs.Work.{unasked, AsksFor, IsOpen, effort}
 use Rattle.std.proofs.lemmas.List.{length-append}
 
 pub unasked_set : (marks : List Bool) (d : ℕ) → get_or marks d true ≡ false → suc (unasked (set marks d true)) ≡ unasked marks
@@ -25,10 +25,10 @@ pub not_true : (b : Bool) → true ≡ not b → b ≡ false
 not_true false h = refl
 not_true true h = cc
 
-pub asks_none : (work : Work) → Asks work work
+pub asks_none : (work : Work) → AsksFor work work
 asks_none work = record { marked = refl; longer = omega arith; all = refl; woken = refl; next = refl }
 
-pub asks_more : (a b c : Work) → Asks a b → Asks b c → Asks a c
+pub asks_more : (a b c : Work) → AsksFor a b → AsksFor b c → AsksFor a c
 asks_more a b c x y = record {
   marked = y.marked ∙ x.marked;
   longer = let p : length a.pending.items ≤ length b.pending.items = x.longer in let q : length b.pending.items ≤ length c.pending.items = y.longer in omega (arith, p, q);
@@ -39,7 +39,7 @@ asks_more a b c x y = record {
 
 -- one is asked for
 pub asked_one : (old new : Work) (marks : List Bool) (d : ℕ) (b : Bool) → marks ≡ old.asked.items → b ≡ not (get_or marks d true) → new.asked.items ≡ (if b then set marks d true else marks) → b ≡ true →
-    new.pending.items ≡ old.pending.items ++ d ∷ [] → new.woken.items ≡ old.woken.items → new.next ≡ old.next → Asks old new
+    new.pending.items ≡ old.pending.items ++ d ∷ [] → new.woken.items ≡ old.woken.items → new.next ≡ old.next → AsksFor old new
 asked_one old new marks d false m f a e p w n = cc
 asked_one old new marks d true m f a e p w n =
     let one : suc (unasked (set marks d true)) ≡ unasked marks = unasked_set marks d (not_true (get_or marks d true) f) in
@@ -56,7 +56,7 @@ asked_one old new marks d true m f a e p w n =
 
 -- none is, since it was before
 pub asked_before : (old new : Work) (marks : List Bool) (d : ℕ) (b : Bool) → marks ≡ old.asked.items → new.asked.items ≡ (if b then set marks d true else marks) → b ≡ false →
-    new.pending.items ≡ old.pending.items → new.woken.items ≡ old.woken.items → new.next ≡ old.next → Asks old new
+    new.pending.items ≡ old.pending.items → new.woken.items ≡ old.woken.items → new.next ≡ old.next → AsksFor old new
 asked_before old new marks d true m a e p w n = cc
 asked_before old new marks d false m a e p w n =
     let here : unasked new.asked.items ≡ unasked old.asked.items = ap unasked (a ∙ m) in

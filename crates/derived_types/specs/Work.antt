@@ -16,7 +16,7 @@ abbrev pub waiters : List (Vec ℕ Global) → ℕ → List ℕ
 waiters waiting e = elim (slice_get waiting e) [ None ↦ [] | Some all ↦ all.items ]
 
 -- of so many declarations none was asked for
-pub record IsNew (count : ℕ) (work : Work) : Type 0 where
+pub record IsUntouched (count : ℕ) (work : Work) : Type 0 where
   pub none : All (λ b. b ≡ false) work.asked.items
   pub all : length work.asked.items ≡ count
   pub lists : length work.waiting.items ≡ count
@@ -25,7 +25,7 @@ pub record IsNew (count : ℕ) (work : Work) : Type 0 where
   pub next : work.next ≡ 0
 
 -- Declarations were asked for: each that is pending now and wasn't has its mark now and had none.
-pub record Asks (old new : Work) : Type 0 where
+pub record AsksFor (old new : Work) : Type 0 where
   pub marked : unasked new.asked.items + length new.pending.items ≡ unasked old.asked.items + length old.pending.items
   pub longer : length old.pending.items ≤ length new.pending.items
   pub all : length new.asked.items ≡ length old.asked.items

@@ -1,7 +1,7 @@
 // The work list: which declarations were asked for, which wait for the type of another, and which are to be derived next.
 ghost use Rattle.std.specs.Prelude.{◌≡◌, ℕ, ◌≤◌, ◌<◌, ◌++◌, ◌∷◌, [], true, false, not, length, get_or, set, if◌then◌else◌, OnOk, IfOk, IfNone, IfSome};
 ghost use Rattle.std.specs.List.{All, Contains};
-ghost use Rattle.derived_types.specs.Work.{Asks, IsNew, IsOpen, waiters, effort};
+ghost use Rattle.derived_types.specs.Work.{AsksFor, IsUntouched, IsOpen, waiters, effort};
 
 use std::alloc::Global;
 use sts_base::NoMemory;
@@ -99,7 +99,7 @@ fn no_lists(alloc: Global, count: usize) -> Result<Vec<Vec<usize>>, NoMemory>
 impl Work {
     /// So many declarations, none of which was asked for.
     pub fn of(alloc: Global, count: usize) -> Result<Work, NoMemory>
-        ensures { IfOk result (λ work. IsNew count work) }
+        ensures { IfOk result (λ work. IsUntouched count work) }
     {
         let asked = no_marks(alloc, count)?;
         let waiting = no_lists(alloc, count)?;
@@ -114,9 +114,9 @@ impl Work {
         })
     }
 
-    /// Asks for a declaration, if it wasn't asked for before.
+    /// AsksFor for a declaration, if it wasn't asked for before.
     fn ask(&mut self, d: usize) -> Result<(), NoMemory>
-        ensures asks { OnOk result (Asks self.old self.new) }
+        ensures asks { OnOk result (AsksFor self.old self.new) }
         ensures asked { OnOk result (get_or self.new.asked.items d true ≡ true) }
     {
         if mark(&mut self.asked, d) {
@@ -129,7 +129,7 @@ impl Work {
 
     /// A declaration asks for another: that one comes first, or it was asked for before and is waited for.
     fn hear_one(&mut self, d: usize, e: usize) -> Result<(), NoMemory>
-        ensures asks { OnOk result (Asks self.old self.new) }
+        ensures asks { OnOk result (AsksFor self.old self.new) }
         ensures waits { OnOk result (get_or self.old.asked.items e false ≡ true → e < length self.old.waiting.items → Contains (waiters self.new.waiting.items e) d) }
     {
         if e < self.asked.len() && self.asked[e] {
@@ -141,7 +141,7 @@ impl Work {
 
     /// A declaration asks for others.
     fn hear(&mut self, d: usize, noted: &[usize]) -> Result<(), NoMemory>
-        ensures { OnOk result (Asks self.old self.new) }
+        ensures { OnOk result (AsksFor self.old self.new) }
     {
         for i in 0..noted.len() {
             self.hear_one(d, noted[i])?;
@@ -187,7 +187,7 @@ impl Work {
         Ok(())
     }
 
-    /// Asks for the next one in its turn.
+    /// AsksFor for the next one in its turn.
     fn ask_next(&mut self) -> Result<(), NoMemory>
         requires { self.old.next < length self.old.asked.items }
         ensures { OnOk result (effort self.new < effort self.old) }

@@ -51,11 +51,11 @@ abbrev pub AreLines : List Entry → List ClassHead → List Node → List (Opti
 AreLines entries classes nodes lines = (c : ℕ) (line : Line) → at lines c ≡ Some line → IsLine entries classes nodes (Some c) line
 
 -- From a class on, if there is one: classes that weren't seen and are now, each the base of the one before it, up to one that was seen or has no base.
-abbrev pub Sees : List ClassHead → List Bool → List Bool → Option ℕ → List ℕ → Type 0
-Sees classes old new None [] = new ≡ old
-Sees classes old new None (d ∷ rest) = ⊥
-Sees classes old new (Some c) [] = (get_or old c true ≡ true) × (new ≡ old)
-Sees classes old new (Some c) (d ∷ rest) = (d ≡ c) × (get_or old c true ≡ false) × Sees classes (set old c true) new (base_of classes c) rest
+abbrev pub GoesUp : List ClassHead → List Bool → List Bool → Option ℕ → List ℕ → Type 0
+GoesUp classes old new None [] = new ≡ old
+GoesUp classes old new None (d ∷ rest) = ⊥
+GoesUp classes old new (Some c) [] = (get_or old c true ≡ true) × (new ≡ old)
+GoesUp classes old new (Some c) (d ∷ rest) = (d ≡ c) × (get_or old c true ≡ false) × GoesUp classes (set old c true) new (base_of classes c) rest
 
 -- that of a base, where it is known
 abbrev pub above : List (Option Line) → Option ℕ → Option Line

@@ -1,4 +1,4 @@
-pub mod Named
+pub mod Handled
 pub mod Calls
 pub mod Found
 pub mod Handed

@@ -30,9 +30,6 @@ kinds_of c p takes args = kinds_given c.tables.now c.known.now p takes args
 abbrev pub handler_fault : Context → Place → Routine → Option Fault
 handler_fault c p r = node.handler_fault c.tables.now (naming c) c.known.now p r
 
-abbrev pub serves_itself : Context → Place → Routine → Bool
-serves_itself c p r = node.serves_itself c.tables.now (naming c) c.known.now p r
-
 abbrev pub optional_fault : Context → Place → OptionalTree → Option Fault
 optional_fault c p e = node.optional_fault c.tables.now (naming c) c.known.now p e
 

@@ -440,7 +440,7 @@ fn serves_there(role: Role, serves: bool) -> bool
 #[cycle(walk)]
 fn handler(context: &Context, room: usize, scope: &Scope, body: &Body) -> Result<bool, Refused>
     ensures found { Finds result (c.handler_fault context.now (place scope.now) (routine body.now)) }
-    ensures serves { IfOk result (λ b. b ≡ c.serves_itself context.now (place scope.now) (routine body.now)) }
+    ensures serves { IfOk result (λ b. b ≡ node.serves_itself context.now.tables.now (naming context.now) context.now.known.now (place scope.now) (routine body.now)) }
 {
     check_parameter_types(context.classes, body.params.as_slice())?;
     check_written(context.classes, &body.gives)?;

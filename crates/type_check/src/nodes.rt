@@ -25,8 +25,8 @@ use sts_base::{Code, Refused};
 use sts_scope::{Base, Environment, Found, Kind, Part, assign, counted, or_no_memory, unless};
 use sts_syntax::{BoardCall, Expr, Node};
 use type_derive::{
-    Called, Context, Role, Scope, board_kind, constant, gives_of, made, name_fixed, name_found,
-    kind_at, name_kind, named_callee, part_callee, part_kind, part_of, part_settable, serves,
+    Called, Context, Role, Scope, board_kind, constant, gives_of, kind_at, made, name_fixed,
+    name_found, name_kind, named_callee, part_callee, part_kind, part_of, part_settable, serves,
     super_method, this_kind,
 };
 
@@ -95,11 +95,7 @@ pub fn name_seen(
     let found = name_found(context.tables, context.known, scope, x);
     match found {
         Found::Function(d) => routine_seen(context, role, d, at),
-        _ => own(
-            name_kind(context.known, scope, found),
-            why_name(found),
-            at,
-        ),
+        _ => own(name_kind(context.known, scope, found), why_name(found), at),
     }
 }
 

@@ -23,7 +23,7 @@ use Rattle.sts_scope.specs.Rules.{this_kind, name_kind, name_fixed, local_kind, 
 use Rattle.sts_scope.specs.Lookup.{sort_of}
 use Rattle.type_derive.specs.declared.roles.Role.{Role}
 use Rattle.type_derive.specs.declared.roles.Role.TheVariants.{Free, Given}
-use Rattle.type_derive.specs.Typing.{◌>>=◌, Callee, callee, finds, space_of, space, constant_of, own_call, board_callee, named_callee, part_callee, super_method, made, given_to, called, type_of, types_of, callee_of, settable, names_function, is_function, are_given, is_drawing, board_kind, spelling, is_given}
+use Rattle.type_derive.specs.Typing.{◌>>=◌, Callee, callee, finds, space_of, space, constant_of, own_call, board_callee, named_callee, part_callee, super_method, made, given_to, called, type_of, types_of, callee_of, settable, names_function, is_routine, are_given, is_drawing, board_kind, spelling, is_given}
 use Rattle.type_derive.specs.Derived.{Less}
 use Rattle.type_derive.specs.Growth.{LocalsGrow, KnownGrows, PlaceGrows, CalleeGrows}
 
@@ -328,7 +328,7 @@ module _ (tables : Tables) where
         settable_grows (Item at a i) e = e
         settable_grows _ e = e
 
-        function_grows : (e : Tree) → is_function tables k p e ≡ true → is_function tables l q e ≡ true
+        function_grows : (e : Tree) → is_routine tables k p e ≡ true → is_routine tables l q e ≡ true
         function_grows (Name at x) e = ap (names_function tables l) (same_found x) ∙ e
         function_grows (Handler at body) e = e
         function_grows _ e = e
@@ -339,7 +339,7 @@ module _ (tables : Tables) where
             and_true (given_to tables k (type_of tables k p Given a) u) (are_given tables k p ps rest) (given_to tables l (type_of tables l q Given a) u) (are_given tables l q ps rest)
             (given_less (type_of tables k p Given a) (type_of tables l q Given a) u (grows Given a)) (given_grows ps rest) e
         given_grows (board.Handler ∷ ps) (more a rest) e =
-            and_true (is_function tables k p a) (are_given tables k p ps rest) (is_function tables l q a) (are_given tables l q ps rest) (function_grows a) (given_grows ps rest) e
+            and_true (is_routine tables k p a) (are_given tables k p ps rest) (is_routine tables l q a) (are_given tables l q ps rest) (function_grows a) (given_grows ps rest) e
         given_grows (board.Drawing ∷ ps) (more a rest) e =
             and_true (is_drawing tables a) (are_given tables k p ps rest) (is_drawing tables a) (are_given tables l q ps rest) (λ i. i) (given_grows ps rest) e
         given_grows [] (more a rest) e = e

@@ -21,7 +21,7 @@ use Rattle.sts_scope.specs.Rules.{this_kind, name_kind, part_of, part_kind, call
 use Rattle.sts_scope.specs.Codes.{why_name, why_this, why_part, why_call, why_make, why_super}
 use Rattle.type_derive.specs.declared.roles.Role.{Role}
 use Rattle.type_derive.specs.declared.roles.Role.TheVariants.{Free, Given, Called, Served}
-use Rattle.type_derive.specs.Typing.{◌>>=◌, Callee, finds, constant_of, board_callee, callee_of, part_callee, super_method, made, type_of, types_of, is_function, are_given, role_of, behind}
+use Rattle.type_derive.specs.Typing.{◌>>=◌, Callee, finds, constant_of, board_callee, callee_of, part_callee, super_method, made, type_of, types_of, is_routine, are_given, role_of, behind}
 use Rattle.type_derive.specs.Returns.{is_alone, parameter_locals, all_returned, answered, bound, after, after_first, looped}
 
 abbrev pub takes_nothing : List Parameter → Bool
@@ -106,7 +106,7 @@ module _ (tables : Tables) (names : Naming) (k : Known) where
 
   -- no function stands where a handler is wanted
   abbrev pub lacks_handler : Place → List BoardParameter → Trees → Bool
-  lacks_handler p (board.Handler ∷ ps) (more a rest) = not (is_function tables k p a) || lacks_handler p ps rest
+  lacks_handler p (board.Handler ∷ ps) (more a rest) = not (is_routine tables k p a) || lacks_handler p ps rest
   lacks_handler p (board.Of u ∷ ps) (more a rest) = lacks_handler p ps rest
   lacks_handler p (board.Drawing ∷ ps) (more a rest) = lacks_handler p ps rest
   lacks_handler p [] args = false

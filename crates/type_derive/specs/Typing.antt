@@ -143,10 +143,10 @@ module _ (tables : Tables) (k : Known) where
   names_function (found.Function d) = true
   names_function _ = false
 
-  abbrev pub is_function : Place → Tree → Bool
-  is_function p (Name at x) = names_function (finds p x)
-  is_function p (Handler at body) = true
-  is_function p _ = false
+  abbrev pub is_routine : Place → Tree → Bool
+  is_routine p (Name at x) = names_function (finds p x)
+  is_routine p (Handler at body) = true
+  is_routine p _ = false
 
   abbrev pub given_to : Option Kind → ValueType → Bool
   given_to None u = false
@@ -206,7 +206,7 @@ module _ (tables : Tables) (k : Known) where
     pub are_given : Place → List BoardParameter → Trees → Bool
     are_given p [] none = true
     are_given p (board.Of u ∷ ps) (more a rest) = given_to (type_of p Given a) u && are_given p ps rest
-    are_given p (board.Handler ∷ ps) (more a rest) = is_function p a && are_given p ps rest
+    are_given p (board.Handler ∷ ps) (more a rest) = is_routine p a && are_given p ps rest
     are_given p (board.Drawing ∷ ps) (more a rest) = is_drawing tables a && are_given p ps rest
     are_given p [] (more a rest) = false
     are_given p (q ∷ ps) none = false

@@ -104,7 +104,7 @@ fn names_function(found: Found) -> bool
 
 /// Whether an expression is a function, by its name or as an expression: what may stand where a handler is wanted.
 pub fn is_function(tables: &Tables, known: &Environment, scope: &Scope, e: &Expr) -> bool
-    ensures { result ≡ typing.is_function tables.now known.now (place scope.now) (tree e.now) }
+    ensures { result ≡ typing.is_routine tables.now known.now (place scope.now) (tree e.now) }
 {
     match &e.node {
         Node::Name(x) => names_function(name_found(tables, known, scope, *x)),

@@ -34,7 +34,7 @@ use Rattle.sts_scope.specs.Globals.{is_dollar}
 use Rattle.sts_scope.specs.Rules.{maker_takes_of, part_of, operate, prefix, joined, choose, assign, counted, element, items_type, all_go, all_go_to, goes, serves, is_nothing, is_boolean}
 use Rattle.type_derive.specs.declared.roles.Role.{Role}
 use Rattle.type_derive.specs.declared.roles.Role.TheVariants.{Free, Given, Called, Served}
-use Rattle.type_derive.specs.Typing.{◌>>=◌, board_kind, finds, constant_of, board_callee, named_callee, part_callee, callee_of, super_method, made, given_to, type_of, types_of, are_given, settable, is_function, is_drawing}
+use Rattle.type_derive.specs.Typing.{◌>>=◌, board_kind, finds, constant_of, board_callee, named_callee, part_callee, callee_of, super_method, made, given_to, type_of, types_of, are_given, settable, is_routine, is_drawing}
 use Rattle.typed_laws.proofs.Returning.{give_value, gives_value}
 use Rattle.type_derive.specs.Returns.{is_alone, bound, declared, all_declared, after, items_of, looped}
 use Rattle.type_derive.specs.Nodes.{kind_role, fault, faults, handler_fault, is_list, initial_fault, optional_fault, test_fault, declaration_fault, declarations_fault, statement_fault, first_fault, statements_fault, own_local, own_bound, own_called, own_super, own_make, fits}
@@ -460,7 +460,7 @@ module _ (tables : Tables) (names : Naming) (k : Known) (numbers : Numbering) (P
         (λ xs os. gives_pure P R (e.more x xs) (o, os))))
         (λ x o. o) (omega (arith, none_in))
     asked S known s (board.Handler ∷ ps) (more a rest) at f h q y =
-        let (serves_so, rest_so) = both_true (is_function tables k s.place a) (are_given tables k s.place ps rest) q in
+        let (serves_so, rest_so) = both_true (is_routine tables k s.place a) (are_given tables k s.place ps rest) q in
         let R : TypedTrees → Type 0 = Asked tables names k numbers P st S known (board.Handler ∷ ps) in
         let made : Making TypedTree = argument_made tables names k numbers s (board.Handler ∷ ps) a (mk s None a) in
         gives_as P R R (handlers a + (handlers_of rest + 0)) (handlers a + handlers_of rest) (made >=> λ x. made_asked tables names k numbers s ps rest >=> λ xs. pure (e.more x xs))
@@ -472,9 +472,9 @@ module _ (tables : Tables) (names : Naming) (k : Known) (numbers : Numbering) (P
         (λ x o. o) (omega arith)
 
     -- an argument that serves
-    handler : (S : Setting) (known : List ℕ) (s : Site) (ps : List BoardParameter) (a : Tree) → Stand S known s → IsFormed a → bad s Served a ≡ None → is_function tables k s.place a ≡ true
+    handler : (S : Setting) (known : List ℕ) (s : Site) (ps : List BoardParameter) (a : Tree) → Stand S known s → IsFormed a → bad s Served a ≡ None → is_routine tables k s.place a ≡ true
         → Gives P (IsHandler P) (handlers a) (argument_made tables names k numbers s (board.Handler ∷ ps) a (mk s None a))
-    handler S known s ps (Name i x) at f h q = gives_pure P (IsHandler P) (plain_handler tables names k numbers s (Name i x)) 
+    handler S known s ps (Name i x) at f h q = gives_pure P (IsHandler P) (plain_handler tables names k numbers s (Name i x))
         (plain_serves tables names k numbers P st (finds tables k s.place x) s (real k tables s.place x) (served_so tables names k numbers P st s.place (finds tables k s.place x) i q h))
     handler S known s ps (Handler i (Does j [] gives all arrow)) at f h q =
         let site' : Site = in_handler_site tables names k numbers s [] gives all in

@@ -1,6 +1,6 @@
 -- An expression without a failure has a type.
 use Rattle.std.proofs.Common.{◌≡◌, ℕ, refl, sym, subst, Option, Some, None, List, [], Bool, true, false}
-use Rattle.std.specs.Prelude.{ℤ, IsSome, if◌then◌else◌, not}
+use Rattle.std.specs.Prelude.{ℤ, IsSome, if◌then◌else◌, not, ◌&&◌}
 use Rattle.sts_base.specs.declared.tables.Tables.{Tables}
 use Rattle.sts_base.specs.declared.refused.Code.{Code}
 use Rattle.sts_base.specs.declared.refused.Code.TheVariants.{Mismatch, BadHandler}
