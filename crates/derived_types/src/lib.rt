@@ -3,5 +3,6 @@
 
 mod origins;
 mod solving;
+mod work;
 
 pub use solving::solve;

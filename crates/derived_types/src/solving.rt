@@ -12,8 +12,10 @@ ghost use Rattle.type_derive.specs.Scopes.{place};
 ghost use Rattle.type_derive.specs.Solved.{IsSolved};
 ghost use Rattle.derived_types.specs.Underway as way;
 ghost use Rattle.derived_types.specs.Underway.{Keeps};
+ghost use Rattle.derived_types.specs.Work.{IsOpen, effort};
 
 use crate::origins::{Origin, origins_of};
+use crate::work::Work;
 use std::alloc::Global;
 use sts_base::{NoMemory, Tables};
 use sts_scope::{Base, ByNumber, Declared, Environment, Kind, Table, This, flat, written_kind};
@@ -188,60 +190,113 @@ fn rounds(
     Ok(())
 }
 
-/// Goes on with the declaration that was asked for last, else with one that waited for a type that is known now, else with the next one. The next one behind it.
-fn step(
+/// Tries a declaration, if there is one of this number. Whether something new was said.
+fn tried(
     alloc: Global,
     wanted: &mut Wanted,
     classes: &ByNumber,
     tables: &Tables,
     known: &mut Environment,
     origins: &[Origin],
-    next: usize,
-) -> Result<usize, NoMemory>
+    d: usize,
+) -> Result<bool, NoMemory>
     requires { way.IsUnderway (derived.rule tables.now (value_at classes.now.values.items) known.old (sources origins.now)) known.old.kinds }
-    ensures underway { OnOk result (way.IsUnderway (derived.rule tables.now (value_at classes.now.values.items) known.old (sources origins.now)) known.new.kinds) }
-    ensures len { OnOk result (length known.new.kinds ≡ length known.old.kinds) }
+    ensures moves { IfOk result (λ said. way.Moves (derived.rule tables.now (value_at classes.now.values.items) known.old (sources origins.now)) known.old.kinds known.new.kinds said) }
     ensures same { OnOk result (Keeps known.old known.new) }
 {
-    match wanted.last() {
-        None => wanted.go_on(next),
-        Some(d) => {
-            let pending = wanted.pending();
-            if d < known.kinds().len() {
-                wanted.begin(d);
-                let said = advance(alloc, wanted, classes, tables, known, origins, d)?;
-                wanted.answer(d, said)?;
-            }
-            if wanted.pending() == pending {
-                wanted.done();
-            }
-            Ok(next)
+    if d < known.kinds().len() {
+        advance(alloc, wanted, classes, tables, known, origins, d)
+    } else {
+        Ok(false)
+    }
+}
+
+/// Goes on with the declaration that was asked for last. Whether something new was said; else it waits for what it asked for.
+fn resume(
+    alloc: Global,
+    classes: &ByNumber,
+    tables: &Tables,
+    known: &mut Environment,
+    origins: &[Origin],
+    work: &mut Work,
+    d: usize,
+) -> Result<bool, NoMemory>
+    requires underway { way.IsUnderway (derived.rule tables.now (value_at classes.now.values.items) known.old (sources origins.now)) known.old.kinds }
+    requires pending { 1 ≤ length work.old.pending.items }
+    ensures moves { IfOk result (λ said. way.Moves (derived.rule tables.now (value_at classes.now.values.items) known.old (sources origins.now)) known.old.kinds known.new.kinds said) }
+    ensures less { IfOk result (λ said. said ≡ false → effort work.new < effort work.old) }
+    ensures same { OnOk result (Keeps known.old known.new) }
+{
+    let mut wanted = Wanted::each(alloc);
+    let said = tried(alloc, &mut wanted, classes, tables, known, origins, d)?;
+    if said {
+        work.answer(alloc, d)?;
+    } else {
+        work.put_off(d, wanted.noted.as_slice())?;
+    }
+    Ok(said)
+}
+
+/// Goes on with the declaration that was asked for last, else with one that waited for a type that is known now, else with the next one in its turn. Whether something new was said.
+fn step(
+    alloc: Global,
+    classes: &ByNumber,
+    tables: &Tables,
+    known: &mut Environment,
+    origins: &[Origin],
+    work: &mut Work,
+) -> Result<bool, NoMemory>
+    requires underway { way.IsUnderway (derived.rule tables.now (value_at classes.now.values.items) known.old (sources origins.now)) known.old.kinds }
+    requires more { IsOpen work.old }
+    ensures moves { IfOk result (λ said. way.Moves (derived.rule tables.now (value_at classes.now.values.items) known.old (sources origins.now)) known.old.kinds known.new.kinds said) }
+    ensures less { IfOk result (λ said. said ≡ false → effort work.new < effort work.old) }
+    ensures same { OnOk result (Keeps known.old known.new) }
+{
+    match work.last() {
+        None => {
+            work.go_on()?;
+            Ok(false)
+        }
+        Some(d) => resume(alloc, classes, tables, known, origins, work, d),
+    }
+}
+
+/// Goes on until something new is said, or nothing is left. Whether something was said.
+fn until_said(
+    alloc: Global,
+    classes: &ByNumber,
+    tables: &Tables,
+    known: &mut Environment,
+    origins: &[Origin],
+    work: &mut Work,
+) -> Result<bool, NoMemory>
+    requires { way.IsUnderway (derived.rule tables.now (value_at classes.now.values.items) known.old (sources origins.now)) known.old.kinds }
+    ensures moves { IfOk result (λ said. way.Moves (derived.rule tables.now (value_at classes.now.values.items) known.old (sources origins.now)) known.old.kinds known.new.kinds said) }
+    ensures same { OnOk result (Keeps known.old known.new) }
+{
+    while work.is_open() {
+        if step(alloc, classes, tables, known, origins, work)? {
+            return Ok(true);
         }
     }
+    Ok(false)
 }
 
 /// Derives declarations, those that others ask for before them.
 fn in_order(
     alloc: Global,
-    wanted: &mut Wanted,
     classes: &ByNumber,
     tables: &Tables,
     known: &mut Environment,
     origins: &[Origin],
+    work: &mut Work,
 ) -> Result<(), NoMemory>
     requires { way.IsUnderway (derived.rule tables.now (value_at classes.now.values.items) known.old (sources origins.now)) known.old.kinds }
     ensures underway { OnOk result (way.IsUnderway (derived.rule tables.now (value_at classes.now.values.items) known.old (sources origins.now)) known.new.kinds) }
     ensures len { OnOk result (length known.new.kinds ≡ length known.old.kinds) }
     ensures same { OnOk result (Keeps known.old known.new) }
 {
-    // Each declaration is asked for once, and gone on with once more for each time that it asks for others or is woken: once for each that it waits for.
-    let mut next = 0;
-    for _ in 0..u64::MAX {
-        if wanted.is_over(next) {
-            break;
-        }
-        next = step(alloc, wanted, classes, tables, known, origins, next)?;
-    }
+    while until_said(alloc, classes, tables, known, origins, work)? {}
     Ok(())
 }
 
@@ -272,8 +327,9 @@ fn derive_all(
     let count = known.entries().len();
     let kinds = blank(alloc, count)?;
     known.set_kinds(kinds);
-    let mut wanted = Wanted::of(alloc, count)?;
-    in_order(alloc, &mut wanted, classes, tables, known, origins)?;
+    let mut work = Work::of(alloc, count)?;
+    in_order(alloc, classes, tables, known, origins, &mut work)?;
+    let mut wanted = Wanted::nothing(alloc);
     rounds(alloc, &mut wanted, classes, tables, known, origins)?;
     Ok(())
 }

@@ -4,5 +4,6 @@ pub mod Whole
 pub mod Chains
 pub mod Symbols
 pub mod Longer
+pub mod Seeing
 pub mod Going
 pub mod Laws

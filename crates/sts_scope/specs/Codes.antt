@@ -1,14 +1,16 @@
 -- Why a node has no type although its parts have: the first cause of the list.
-use Rattle.std.specs.Prelude.{Option, Some, None}
+use Rattle.std.specs.Prelude.{ℕ, Option, Some, None, if◌then◌else◌}
 use Rattle.sts_base.specs.declared.refused.Code.{Code}
 use Rattle.sts_base.specs.declared.refused.Code.TheVariants.{UnknownName, Captures, NeedsType, BadHandler, Mismatch}
 use Rattle.sts_scope.specs.declared.kinds.Kind.{Kind}
+use Rattle.sts_scope.specs.declared.known.Known.{Known}
 use Rattle.sts_scope.specs.declared.known.This.{This}
 use Rattle.sts_scope.specs.declared.known.This.TheVariants as this
 use Rattle.sts_scope.specs.declared.known.Found.{Found}
 use Rattle.sts_scope.specs.declared.known.Found.TheVariants as found
 use Rattle.sts_scope.specs.declared.known.Part.{Part}
 use Rattle.sts_scope.specs.declared.known.Part.TheVariants as part
+use Rattle.sts_scope.specs.Lookup.{inherits_field}
 
 -- a name that is read
 abbrev pub why_name : Found → Code
@@ -47,8 +49,8 @@ why_make (found.Local i) = UnknownName
 why_make (found.Global d) = UnknownName
 why_make (found.Function d) = UnknownName
 
--- `super.m(..)` where there is no such method of a base
-abbrev pub why_super : This → Code
-why_super this.Nowhere = UnknownName
-why_super (this.Object c) = UnknownName
-why_super (this.Hidden c) = Captures
+-- `super.m(..)` where m is no method of a base: a field of that name is known
+abbrev pub why_super : Known → This → ℕ → Code
+why_super k this.Nowhere m = UnknownName
+why_super k (this.Object c) m = if inherits_field k.entries k.classes c m then Mismatch else UnknownName
+why_super k (this.Hidden c) m = Captures

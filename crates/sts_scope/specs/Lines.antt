@@ -1,5 +1,5 @@
 -- The lines of classes: of each class itself, its base, the base's base, and so on, kept by maps.
-use Rattle.std.specs.Prelude.{◌≡◌, ℕ, ◌≤◌, ◌++◌, false, Option, Some, None, List, [], slice_get, is_some}
+use Rattle.std.specs.Prelude.{◌≡◌, ℕ, ◌≤◌, ◌++◌, Bool, true, false, Option, Some, None, List, [], ◌∷◌, slice_get, get_or, set, is_some}
 use Rattle.std.specs.Map.{lookup}
 use Rattle.std.specs.Ordering.{nat_cmp, is_eq}
 use Rattle.made_maps.specs.declared.maps.Node.{Node}
@@ -9,7 +9,7 @@ use Rattle.sts_scope.specs.declared.entries.Entry.{Entry}
 use Rattle.sts_scope.specs.declared.entries.ClassHead.{ClassHead}
 use Rattle.sts_scope.specs.declared.lines.Line.{Line}
 use Rattle.sts_scope.specs.Values.{or_else}
-use Rattle.sts_scope.specs.Lookup.{member_from}
+use Rattle.sts_scope.specs.Lookup.{base_of, member_from}
 use Rattle.sts_scope.specs.Bases.{above as class_above}
 use Rattle.sts_scope.specs.Rules.{reaches, maker_from}
 
@@ -49,6 +49,13 @@ at lines c = elim (slice_get lines c) [ None ↦ None | Some line ↦ line ]
 
 abbrev pub AreLines : List Entry → List ClassHead → List Node → List (Option Line) → Type 0
 AreLines entries classes nodes lines = (c : ℕ) (line : Line) → at lines c ≡ Some line → IsLine entries classes nodes (Some c) line
+
+-- From a class on, if there is one: classes that weren't seen and are now, each the base of the one before it, up to one that was seen or has no base.
+abbrev pub GoesUp : List ClassHead → List Bool → List Bool → Option ℕ → List ℕ → Type 0
+GoesUp classes old new None [] = new ≡ old
+GoesUp classes old new None (d ∷ rest) = ⊥
+GoesUp classes old new (Some c) [] = (get_or old c true ≡ true) × (new ≡ old)
+GoesUp classes old new (Some c) (d ∷ rest) = (d ≡ c) × (get_or old c true ≡ false) × GoesUp classes (set old c true) new (base_of classes c) rest
 
 -- that of a base, where it is known
 abbrev pub above : List (Option Line) → Option ℕ → Option Line

@@ -30,9 +30,6 @@ pub use kinds::{Base, Kind};
 pub use known::{Found, Known, Local, Part, This};
 pub use lookup::{is_dollar, sort_of};
 pub use rows::{rows_of_bases, rows_of_headings, rows_of_names};
-pub use rules::{
-    all_go, all_go_to, assign, call_kind, choose, counted, element, items_type, joined, operate,
-    prefix,
-};
+pub use rules::{all_go, all_go_to, assign, choose, counted, element, joined, operate, prefix};
 pub use symbol_table::SymbolTable;
 pub use table::Table;

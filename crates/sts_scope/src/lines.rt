@@ -1,5 +1,6 @@
 // The lines of classes: of each class itself, its base, the base's base, and so on.
-ghost use Rattle.std.specs.Prelude.{◌≡◌, ℕ, ◌+◌, ◌<◌, ◌≤◌, Some, None, length, IfOk, IfSome};
+ghost use Rattle.std.specs.Prelude.{◌≡◌, ℕ, ◌+◌, ◌<◌, ◌≤◌, ◌++◌, ◌∷◌, [], List, not, true, false, Some, None, length, get_or, set, if◌then◌else◌, IfOk, IfSome, OnOk};
+ghost use Rattle.std.specs.List.{All};
 ghost use Rattle.std.specs.BTreeMap.{get};
 ghost use Rattle.std.specs.Ordering.{nat_cmp};
 ghost use Rattle.made_maps.specs.Nodes.{IsWithin, Stays, found};
@@ -154,33 +155,55 @@ fn no_lines(alloc: Global, count: usize) -> Result<Table<Option<Line>>, NoMemory
     Ok(all)
 }
 
-/// The class at a place and its bases that aren't seen yet, the nearest first.
+/// Marks a class as seen. Whether it wasn't seen yet.
+fn mark(seen: &mut [bool], c: u32) -> bool
+    ensures first { result ≡ not (get_or seen.old c true) }
+    ensures marked { seen.new ≡ if result then set seen.old c true else seen.old }
+{
+    let at = c as usize;
+    if at < seen.len() && !seen[at] {
+        seen[at] = true;
+        true
+    } else {
+        false
+    }
+}
+
+/// Adds a class.
+fn add(order: &mut Vec<u32>, c: u32) -> Result<(), NoMemory>
+    ensures { OnOk result (order.new.items ≡ order.old.items ++ c ∷ []) }
+{
+    match order.push(c) {
+        Ok(()) => Ok(()),
+        Err(_) => Err(NoMemory),
+    }
+}
+
+/// The class at a place and its bases, as far as they aren't seen yet, the nearest first. They are seen from now on.
 fn see(
     seen: &mut [bool],
     order: &mut Vec<u32>,
     classes: &[ClassHead],
     c: u32,
-) -> Result<(), NoMemory> {
+) -> Result<(), NoMemory>
+    ensures { OnOk result ((these : List ℕ) × (order.new.items ≡ order.old.items ++ these) × lines.GoesUp classes.now seen.old seen.new (Some c) these) }
+{
     let mut next = Some(c);
-    for _ in 0..classes.len() {
-        let Some(c) = next else {
+    while let Some(c) = next {
+        if !mark(seen, c) {
             break;
-        };
-        match seen.get_mut(c as usize) {
-            Some(seen) if !*seen => *seen = true,
-            _ => break,
         }
-        match order.push(c) {
-            Ok(()) => {}
-            Err(_) => return Err(NoMemory),
-        }
+        add(order, c)?;
         next = base_of(classes, c as usize);
     }
     Ok(())
 }
 
 /// So many classes, none of which is seen.
-fn none_seen(alloc: Global, count: usize) -> Result<Vec<bool>, NoMemory> {
+fn none_seen(alloc: Global, count: usize) -> Result<Vec<bool>, NoMemory>
+    ensures none { IfOk result (λ seen. All (λ b. b ≡ false) seen.items) }
+    ensures len { IfOk result (λ seen. length seen.items ≡ count) }
+{
     let mut seen = Vec::new(alloc);
     for _ in 0..count {
         match seen.push(false) {

@@ -197,34 +197,3 @@ pub fn element(a: Kind, i: Kind) -> Option<Kind>
         None
     }
 }
-
-/// A list literal, by its first item's type and those of the others.
-#[tactic(auto, unfolding(crate::specs::Rules::items_type))]
-pub fn items_type(known: &Environment, t: Kind, ts: &[Kind]) -> Result<Option<Kind>, Refused>
-    ensures ok { IfOk result (λ u. u ≡ rule.items_type known.now.classes t ts.now) }
-    ensures err { IfErr result (λ e. e ≡ Refused.NoMemory) }
-{
-    if all_go_to(known, t, ts) {
-        let u = array(t)?;
-        Ok(Some(u))
-    } else {
-        Ok(None)
-    }
-}
-
-/// A call with arguments of some types.
-#[tactic(auto, unfolding(crate::specs::Rules::call_kind))]
-pub fn call_kind(
-    known: &Environment,
-    takes: &[Kind],
-    gives: Option<Kind>,
-    ts: &[Kind],
-) -> Option<Kind>
-    ensures { result ≡ rule.call_kind known.now.classes takes.now gives ts.now }
-{
-    if all_go(known, ts, takes) {
-        gives
-    } else {
-        None
-    }
-}

@@ -12,19 +12,20 @@ use Rattle.sts_syntax.specs.Trees.{Parameter, Tree, Num, Text, Truth, Null, This
 use Rattle.sts_scope.specs.declared.kinds.Kind.{Kind}
 use Rattle.sts_scope.specs.declared.known.Known.{Known}
 use Rattle.sts_scope.specs.declared.known.Found.{Found}
+use Rattle.sts_scope.specs.declared.known.Found.TheVariants as found
 use Rattle.sts_scope.specs.declared.known.Part.{Part}
 use Rattle.sts_scope.specs.Faults.{Fault, ◌then◌, fault_at, unless, own}
 use Rattle.sts_scope.specs.Entries.{Naming, kind_of}
 use Rattle.sts_scope.specs.Globals.{is_dollar}
 use Rattle.sts_scope.specs.Headings.{type_fault, written_fault}
 use Rattle.sts_scope.specs.Places.{Place, inner, is_twice}
-use Rattle.sts_scope.specs.Rules.{this_kind, name_kind, part_of, part_kind, call_kind, kind_at, is_nothing, is_boolean}
+use Rattle.sts_scope.specs.Rules.{this_kind, name_kind, part_of, part_kind, call_kind, kind_at, is_nothing, is_boolean, serves}
 use Rattle.sts_scope.specs.Codes.{why_name, why_this, why_part, why_call, why_make, why_super}
 use Rattle.type_derive.specs.declared.roles.Role.{Role}
-use Rattle.type_derive.specs.declared.roles.Role.TheVariants.{Free, Given, Called}
+use Rattle.type_derive.specs.declared.roles.Role.TheVariants.{Free, Given, Called, Served}
 use Rattle.type_derive.specs.Typing.{◌>>=◌, Callee, finds, constant_of, board_callee, callee_of, part_callee, super_method, made, type_of, types_of, are_given, role_of, behind}
 use Rattle.type_derive.specs.Returns.{bound, after, after_first, looped}
-use Rattle.type_derive.specs.Nodes.{names_routine, is_called, is_served, shape_role, kind_role, fits, parameter_types_fault, handler_place, own_name, own_part, own_member, own_called, own_super, own_make, lacks_handler, own_board, own_local, own_bound, waives, is_list, fault, faults, handler_fault, initial_fault, optional_fault, test_fault, declaration_fault, declarations_fault, statement_fault, first_fault, statements_fault}
+use Rattle.type_derive.specs.Nodes.{is_called, is_served, serves_itself, shape_role, kind_role, fits, parameter_types_fault, handler_place, own_name, own_part, own_member, own_called, own_super, own_make, lacks_handler, own_board, own_local, own_bound, waives, is_list, fault, faults, handler_fault, initial_fault, optional_fault, test_fault, declaration_fault, declarations_fault, statement_fault, first_fault, statements_fault}
 use Rattle.sts_whole.proofs.NodePlaces.{AnnotationAt, WrittenAt, ParametersAt, TreeAt, TreesAt, OptionAt, RoutineAt, DeclarationAt, DeclarationsAt, StatementAt, FirstAt, StatementsAt}
 
 -- A failure, if there is one, is at such a place.
@@ -82,7 +83,21 @@ module _ (P : ℕ → Type 0) (tables : Tables) (names : Naming) (k : Known) whe
 
   -- a node's own failure
   name_in : (r : Role) (p : Place) (f : Found) (at : ℕ) → P at → In (own_name tables names k r p f at)
-  name_in r p f at h = if_in (names_routine r f) None (own (name_kind k p f) (why_name f) at) none_in (own_in (name_kind k p f) (why_name f) at h)
+  name_in Free p f at h = own_in (name_kind k p f) (why_name f) at h
+  name_in Given p f at h = own_in (name_kind k p f) (why_name f) at h
+  name_in Called p (found.Function d) at h = none_in
+  name_in Served p (found.Function d) at h =
+      then_in (own (kind_at k d) NeedsType at) (unless (serves k (found.Function d)) BadHandler at) (own_in (kind_at k d) NeedsType at h) (unless_in (serves k (found.Function d)) BadHandler at h)
+  name_in Called p (found.Local i) at h = own_in (name_kind k p (found.Local i)) (why_name (found.Local i)) at h
+  name_in Called p found.Captured at h = own_in (name_kind k p found.Captured) (why_name found.Captured) at h
+  name_in Called p (found.Global d) at h = own_in (name_kind k p (found.Global d)) (why_name (found.Global d)) at h
+  name_in Called p (found.Class c) at h = own_in (name_kind k p (found.Class c)) (why_name (found.Class c)) at h
+  name_in Called p found.Unknown at h = own_in (name_kind k p found.Unknown) (why_name found.Unknown) at h
+  name_in Served p (found.Local i) at h = own_in (name_kind k p (found.Local i)) (why_name (found.Local i)) at h
+  name_in Served p found.Captured at h = own_in (name_kind k p found.Captured) (why_name found.Captured) at h
+  name_in Served p (found.Global d) at h = own_in (name_kind k p (found.Global d)) (why_name (found.Global d)) at h
+  name_in Served p (found.Class c) at h = own_in (name_kind k p (found.Class c)) (why_name (found.Class c)) at h
+  name_in Served p found.Unknown at h = own_in (name_kind k p found.Unknown) (why_name found.Unknown) at h
 
   part_in : (r : Role) (part : Part) (at : ℕ) → P at → In (own_part tables names k r part at)
   part_in r part at h =
@@ -96,9 +111,9 @@ module _ (P : ℕ → Type 0) (tables : Tables) (names : Naming) (k : Known) whe
   called_in None ts at h = at_in Mismatch at h
   called_in (Some d) ts at h = own_in (ts >>= λ us. call_kind k.classes d.takes d.gives us) (why_call d.gives) at h
 
-  super_in : (p : Place) (d : Option ℕ) (u : Option Kind) (at : ℕ) → P at → In (own_super tables names k p d u at)
-  super_in p None u at h = at_in (why_super p.this) at h
-  super_in p (Some d) u at h = own_in u (why_call (kind_at k d)) at h
+  super_in : (p : Place) (m : ℕ) (d : Option ℕ) (u : Option Kind) (at : ℕ) → P at → In (own_super tables names k p m d u at)
+  super_in p m None u at h = at_in (why_super k p.this m) at h
+  super_in p m (Some d) u at h = own_in u (why_call (kind_at k d)) at h
 
   make_in : (f : Found) (d : Option Callee) (u : Option Kind) (at : ℕ) → P at → In (own_make tables names k f d u at)
   make_in f None u at h = at_in (why_make f) at h
@@ -182,13 +197,14 @@ module _ (P : ℕ → Type 0) (tables : Tables) (names : Naming) (k : Known) whe
     fault_in p r (Call at f args) h = call_in p at f args (board_callee tables k p f) h.0 (fault_in p Called f h.1) (λ takes. faults_in p takes args h.2)
     fault_in p r (SuperCall at None args) h = then_in (faults tables names k p [] args) (fault_at Mismatch at) (faults_in p [] args h.1) (at_in Mismatch at h.0)
     fault_in p r (SuperCall at (Some m) args) h =
-        then_in (faults tables names k p [] args) (own_super tables names k p (super_method tables k p.this m) (ty p r (SuperCall at (Some m) args)) at) (faults_in p [] args h.1)
-        (super_in p (super_method tables k p.this m) (ty p r (SuperCall at (Some m) args)) at h.0)
+        then_in (faults tables names k p [] args) (own_super tables names k p m (super_method tables k p.this m) (ty p r (SuperCall at (Some m) args)) at) (faults_in p [] args h.1)
+        (super_in p m (super_method tables k p.this m) (ty p r (SuperCall at (Some m) args)) at h.0)
     fault_in p r (Make at x args) h =
         then_in (faults tables names k p [] args) (own_make tables names k (finds tables k p x) (made tables k (finds tables k p x)) (ty p r (Make at x args)) at) (faults_in p [] args h.1)
         (make_in (finds tables k p x) (made tables k (finds tables k p x)) (ty p r (Make at x args)) at h.0)
     fault_in p r (Handler at body) h =
-        then_in (handler_fault tables names k p body) (unless (is_served r) BadHandler at) (handler_in p body h.1) (unless_in (is_served r) BadHandler at h.0)
+        let serves_so : Bool = is_served r && serves_itself tables names k p body in
+        then_in (handler_fault tables names k p body) (unless serves_so BadHandler at) (handler_in p body h.1) (unless_in serves_so BadHandler at h.0)
 
     pub faults_in : (p : Place) (takes : List BoardParameter) (args : Trees) → TreesAt P args → In (faults tables names k p takes args)
     faults_in p takes none h = none_in

@@ -171,15 +171,15 @@ module _ (c : Context) (p : Place) (r : Role) where
       subst (λ q. IfOk result (λ s. s ≡ plain q)) (sym (called_is t k p d args ∙ ap (λ q. called_kind k.classes d q) (sym ho))) seen
 
   pub super_found : (at m : ℕ) (args : Trees) (os : List (Option Kind)) (result : Result Seen Refused) → faults c p [] args ≡ None → os ≡ kinds_of c p [] args →
-      Finds result (own_super c.tables.now (naming c) c.known.now p (super_method c.tables.now c.known.now p.this m) (called_kind c.known.now.classes (super_callee c.tables.now c.known.now p.this m) os) at) →
+      Finds result (own_super c.tables.now (naming c) c.known.now p m (super_method c.tables.now c.known.now p.this m) (called_kind c.known.now.classes (super_callee c.tables.now c.known.now p.this m) os) at) →
       Finds result (fault c p r (SuperCall at (Some m) args))
   super_found at m args os result ha ho found =
       let t = c.tables.now in
       let k = c.known.now in
       let n = naming c in
       let d = super_callee t k p.this m in
-      subst (Finds result) (sym (ap (λ q. q then own_super t n k p (super_method t k p.this m) (called t k d (types_of t k p args)) at) ha
-      ∙ ap (λ q. own_super t n k p (super_method t k p.this m) q at) (called_is t k p d args ∙ ap (λ q. called_kind k.classes d q) (sym ho)))) found
+      subst (Finds result) (sym (ap (λ q. q then own_super t n k p m (super_method t k p.this m) (called t k d (types_of t k p args)) at) ha
+      ∙ ap (λ q. own_super t n k p m (super_method t k p.this m) q at) (called_is t k p d args ∙ ap (λ q. called_kind k.classes d q) (sym ho)))) found
 
   pub super_typed : (at m : ℕ) (args : Trees) (os : List (Option Kind)) (result : Result Seen Refused) → os ≡ kinds_of c p [] args →
       IfOk result (λ s. s ≡ plain (called_kind c.known.now.classes (super_callee c.tables.now c.known.now p.this m) os)) → IfOk result (λ s. s ≡ seen_of c p r (SuperCall at (Some m) args))

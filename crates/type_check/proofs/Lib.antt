@@ -1,3 +1,4 @@
+pub mod Handled
 pub mod Calls
 pub mod Found
 pub mod Handed

@@ -20,7 +20,7 @@ use Rattle.sts_scope.specs.Places.{Place}
 use Rattle.sts_scope.specs.Rules.{takes_at, kind_at, part_of, part_kind, is_boolean}
 use Rattle.type_derive.specs.declared.roles.Role.{Role}
 use Rattle.type_derive.specs.declared.roles.Role.TheVariants.{Free}
-use Rattle.type_derive.specs.Typing.{Callee, callee, super_method, ◌>>=◌, type_of, role_of, behind, given_to, is_handler, is_drawing, are_given, board_kind}
+use Rattle.type_derive.specs.Typing.{Callee, callee, super_method, ◌>>=◌, type_of, role_of, behind, given_to, is_routine, is_drawing, are_given, board_kind}
 use Rattle.type_derive.specs.Shown.{goes_some}
 use Rattle.type_derive.specs.Nodes.{waives, shape_role}
 use Rattle.type_check.specs.declared.seen.Seen.{Seen}
@@ -91,16 +91,16 @@ module _ (tables : Tables) (k : Known) where
   abbrev pub member : Option Kind → ℕ → Seen
   member t m = record { kind = t >>= λ u. part_kind k (part_of tables.names k u m); part = t >>= λ u. Some (part_of tables.names k u m) }
 
-  -- an argument that should serve doesn't
+  -- no function stands where a handler is wanted
   abbrev pub lacks_here : Place → BoardParameter → Tree → Bool
-  lacks_here p board.Handler a = not (is_handler tables k p a)
+  lacks_here p board.Handler a = not (is_routine tables k p a)
   lacks_here p (board.Of u) a = false
   lacks_here p board.Drawing a = false
 
   -- an argument of this type fits its place in a call of the board
   abbrev pub fits_place : Place → BoardParameter → Option Kind → Tree → Bool
   fits_place p (board.Of u) kind a = given_to tables k kind u
-  fits_place p board.Handler kind a = is_handler tables k p a
+  fits_place p board.Handler kind a = is_routine tables k p a
   fits_place p board.Drawing kind a = is_drawing tables a
 
   -- the type of a call of the board

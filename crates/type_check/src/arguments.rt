@@ -11,10 +11,9 @@ ghost use Rattle.type_check.specs.Seen.{fit_all, fit_one, listed_kind, called_ki
 
 use sts_base::NoMemory;
 use sts_scope::{Base, Environment, Kind, flat};
-use sts_syntax::{BoardParameter, Expr, Node};
+use sts_syntax::{BoardParameter, Expr};
 use type_derive::{
-    Called, Context, Scope, gives_of, goes_some, is_drawing, listed, name_found, serves,
-    serves_itself, takes_of,
+    Called, Context, Scope, gives_of, goes_some, is_drawing, is_function, listed, takes_of,
 };
 
 /// Whether values of types go where types are given, each to each; one without a type doesn't.
@@ -75,33 +74,19 @@ pub fn call_type(known: &Environment, called: &Called, ss: &[Option<Kind>]) -> O
     }
 }
 
-/// Whether an expression serves events.
-fn is_handler(context: &Context, scope: &Scope, e: &Expr) -> bool
-    ensures { result ≡ typing.is_handler context.now.tables.now context.now.known.now (place scope.now) (tree e.now) }
-{
-    match &e.node {
-        Node::Name(x) => serves(
-            context.known,
-            name_found(context.tables, context.known, scope, *x),
-        ),
-        Node::Handler(body) => serves_itself(body),
-        _ => false,
-    }
-}
-
-/// Whether an argument that should serve doesn't.
+/// Whether no function stands where a handler is wanted.
 fn lacks_here(context: &Context, scope: &Scope, to: BoardParameter, a: &Expr) -> bool
     ensures { result ≡ lacks_here context.now.tables.now context.now.known.now (place scope.now) (board_parameter to) (tree a.now) }
 {
     match to {
-        BoardParameter::Handler => !is_handler(context, scope, a),
+        BoardParameter::Handler => !is_function(context.tables, context.known, scope, a),
         BoardParameter::Number => false,
         BoardParameter::Text => false,
         BoardParameter::Drawing => false,
     }
 }
 
-/// Whether one of some arguments that should serve doesn't.
+/// Whether at one of some arguments no function stands where a handler is wanted.
 pub fn lacks_handler(
     context: &Context,
     scope: &Scope,
@@ -131,7 +116,7 @@ fn fits_place(
     match to {
         BoardParameter::Number => goes_some(context.known, kind, flat(Base::Number)),
         BoardParameter::Text => goes_some(context.known, kind, flat(Base::Text)),
-        BoardParameter::Handler => is_handler(context, scope, a),
+        BoardParameter::Handler => is_function(context.tables, context.known, scope, a),
         BoardParameter::Drawing => is_drawing(context.tables, a),
     }
 }

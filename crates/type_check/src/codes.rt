@@ -3,7 +3,7 @@ ghost use Rattle.std.specs.Prelude.{◌≡◌};
 ghost use Rattle.sts_scope.specs.Codes as code;
 
 use sts_base::Code;
-use sts_scope::{Found, Kind, Part, This};
+use sts_scope::{Environment, Found, Kind, Part, This};
 
 /// Why a name can't be read.
 pub fn why_name(found: Found) -> Code
@@ -68,13 +68,19 @@ pub fn why_make(found: Found) -> Code
     }
 }
 
-/// Why there is no method of a base.
-pub fn why_super(this: This) -> Code
-    ensures { result ≡ code.why_super this }
+/// Why there is no method of a base of this name.
+pub fn why_super(known: &Environment, this: This, m: u32) -> Code
+    ensures { result ≡ code.why_super known.now this m }
 {
     match this {
         This::Nowhere => Code::UnknownName,
-        This::Object(_) => Code::UnknownName,
+        This::Object(c) => {
+            if known.inherits_field(c, m) {
+                Code::Mismatch
+            } else {
+                Code::UnknownName
+            }
+        }
         This::Hidden(_) => Code::Captures,
     }
 }

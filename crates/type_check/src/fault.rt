@@ -1,16 +1,18 @@
 // The first failure of an expression, else its type: each of its parts is gone through once, in text order, before itself.
-ghost use Rattle.std.specs.Prelude.{◌≡◌, ◌≤◌, ◌++◌, ◌∷◌, [], Some, None, length, drop, map, IfOk, IfErr, OnOk, if◌then◌else◌};
+ghost use Rattle.std.specs.Prelude.{◌≡◌, ◌≤◌, ◌&&◌, ◌++◌, ◌∷◌, [], Some, None, length, drop, map, IfOk, IfErr, OnOk, if◌then◌else◌};
 ghost use Rattle.sts_base.specs.declared.refused.Code.TheVariants as code;
 ghost use Rattle.sts_syntax.specs.BoardViews.{board_parameter};
 ghost use Rattle.sts_syntax.specs.Trees as t;
-ghost use Rattle.sts_syntax.specs.Views.{tree, trees, routine, optional_expression, optional_annotation, statement, statements, declaration, declarations, optional_written};
+ghost use Rattle.sts_syntax.specs.Views.{tree, trees, routine, parameters, optional_expression, optional_annotation, statement, statements, declaration, declarations, optional_written};
 ghost use Rattle.sts_scope.specs.Faults.{Finds, ◌then◌};
 ghost use Rattle.sts_scope.specs.Places as name;
+ghost use Rattle.sts_scope.specs.Rules as rule;
 ghost use Rattle.type_derive.specs.Scopes.{place};
 ghost use Rattle.type_derive.specs.Typing as typing;
 ghost use Rattle.sts_scope.specs.Kinds as kind;
 ghost use Rattle.type_check.specs.Bounds.{optional_boxed};
 ghost use Rattle.type_check.specs.Contexts as c;
+ghost use Rattle.type_derive.specs.Nodes as node;
 ghost use Rattle.type_derive.specs.Naming.{naming};
 ghost use Rattle.type_derive.specs.Moves.{Extends};
 ghost use Rattle.type_check.specs.Seen.{is_test, initial_kind};
@@ -27,7 +29,7 @@ use crate::places::enter_loop;
 use crate::seen::{Seen, always, own, plain};
 use sts_base::{Code, Refused, Seq};
 use sts_scope::{Base, Kind, flat, is_dollar, or_no_memory, unless};
-use sts_syntax::{Binding, BoardCall, BoardParameter, Body, Expr, Form, Node, Shape, Stmt};
+use sts_syntax::{Binding, BoardCall, BoardParameter, Body, Expr, Form, Node, Param, Shape, Stmt};
 use text_headings::check_written;
 use type_derive::{
     Context, Role, Scope, board_callee, both, chosen, constant, declare, enter, handler_result,
@@ -249,8 +251,8 @@ fn serving(
     let at = e.at;
     match &e.node {
         Node::Handler(body) => {
-            handler(context, room, scope, body)?;
-            unless(is_served(role), Code::BadHandler, at)?;
+            let serves = handler(context, room, scope, body)?;
+            unless(serves_there(role, serves), Code::BadHandler, at)?;
             Ok(plain(None))
         }
         _ => Err(Refused::NoMemory),
@@ -417,10 +419,28 @@ fn make(
     make_seen(context, scope, x, kinds.as_slice(), at)
 }
 
-/// A function expression.
+/// Whether a function expression with these parameters and this result may be a handler.
+fn may_serve(params: &[Param], gives: Option<Kind>) -> bool
+    ensures { result ≡ (node.takes_nothing (parameters params.now) && rule.is_nothing gives) }
+{
+    match params {
+        [] => is_nothing(gives),
+        [_, ..] => false,
+    }
+}
+
+/// Whether it stands where a handler is wanted and may be one.
+fn serves_there(role: Role, serves: bool) -> bool
+    ensures { result ≡ (node.is_served role && serves) }
+{
+    is_served(role) && serves
+}
+
+/// A function expression: its first failure, else whether it serves.
 #[cycle(walk)]
-fn handler(context: &Context, room: usize, scope: &Scope, body: &Body) -> Result<(), Refused>
-    ensures { Finds result (c.handler_fault context.now (place scope.now) (routine body.now)) }
+fn handler(context: &Context, room: usize, scope: &Scope, body: &Body) -> Result<bool, Refused>
+    ensures found { Finds result (c.handler_fault context.now (place scope.now) (routine body.now)) }
+    ensures serves { IfOk result (λ b. b ≡ node.serves_itself context.now.tables.now (naming context.now) context.now.known.now (place scope.now) (routine body.now)) }
 {
     check_parameter_types(context.classes, body.params.as_slice())?;
     check_written(context.classes, &body.gives)?;
@@ -432,7 +452,8 @@ fn handler(context: &Context, room: usize, scope: &Scope, body: &Body) -> Result
         body.stmts.as_slice(),
     )?;
     let mut inside = or_no_memory(handler_scope(context, &*scope, body.params.as_slice(), gives))?;
-    statements(context, room, &mut inside, body.stmts.as_slice())
+    statements(context, room, &mut inside, body.stmts.as_slice())?;
+    Ok(may_serve(body.params.as_slice(), gives))
 }
 
 /// Statements of a block.

@@ -8,6 +8,8 @@ ghost use Rattle.sts_scope.specs.Faults.{Finds};
 ghost use Rattle.sts_scope.specs.Kinds as kind;
 ghost use Rattle.sts_scope.specs.Rules as rule;
 ghost use Rattle.type_derive.specs.Nodes as node;
+ghost use Rattle.type_derive.specs.declared.roles.Role.TheVariants as role;
+ghost use Rattle.sts_scope.specs.declared.known.Found.TheVariants as found;
 ghost use Rattle.type_derive.specs.Scopes.{place};
 ghost use Rattle.type_derive.specs.Shown.{shown, all_shown};
 ghost use Rattle.type_derive.specs.Typing as typing;
@@ -23,9 +25,9 @@ use sts_base::{Code, Refused};
 use sts_scope::{Base, Environment, Found, Kind, Part, assign, counted, or_no_memory, unless};
 use sts_syntax::{BoardCall, Expr, Node};
 use type_derive::{
-    Called, Context, Role, Scope, board_kind, constant, gives_of, made, name_fixed, name_found,
-    name_kind, named_callee, part_callee, part_kind, part_of, part_settable, super_method,
-    this_kind,
+    Called, Context, Role, Scope, board_kind, constant, gives_of, kind_at, made, name_fixed,
+    name_found, name_kind, named_callee, part_callee, part_kind, part_of, part_settable, serves,
+    super_method, this_kind,
 };
 
 /// Whether it is the place of what is called.
@@ -52,17 +54,30 @@ pub fn is_served(role: Role) -> bool
     }
 }
 
-/// A function's name where one may be called or may serve.
-fn names_routine(role: Role, found: Found) -> bool
-    ensures { result ≡ node.names_routine role found }
+/// The name of a function where a handler is wanted: its result is known, and it takes nothing and gives nothing.
+fn served_name(context: &Context, d: usize, at: u32) -> Result<Seen, Refused>
+    ensures found { (p : _) → Finds result (node.own_name context.now.tables.now (naming context.now) context.now.known.now role.Served p (found.Function d) at) }
+    ensures seen { IfOk result (λ s. s ≡ plain None) }
 {
-    match found {
-        Found::Function(_) => is_called(role) || is_served(role),
-        Found::Local(_) => false,
-        Found::Captured => false,
-        Found::Global(_) => false,
-        Found::Class(_) => false,
-        Found::Unknown => false,
+    own(kind_at(context.known, d), Code::NeedsType, at)?;
+    unless(
+        serves(context.known, Found::Function(d)),
+        Code::BadHandler,
+        at,
+    )?;
+    Ok(plain(None))
+}
+
+/// The name of a function: where one is called, where a handler is wanted, or where it is none's place.
+fn routine_seen(context: &Context, role: Role, d: usize, at: u32) -> Result<Seen, Refused>
+    ensures found { (p : _) → Finds result (node.own_name context.now.tables.now (naming context.now) context.now.known.now role p (found.Function d) at) }
+    ensures seen { IfOk result (λ s. s ≡ plain None) }
+{
+    match role {
+        Role::Called => Ok(plain(None)),
+        Role::Served => served_name(context, d, at),
+        Role::Free => own(None, Code::BadHandler, at),
+        Role::Given => own(None, Code::BadHandler, at),
     }
 }
 
@@ -78,11 +93,9 @@ pub fn name_seen(
     ensures seen { IfOk result (λ s. s ≡ plain (rule.name_kind context.now.known.now (place scope.now) (typing.finds context.now.tables.now context.now.known.now (place scope.now) x))) }
 {
     let found = name_found(context.tables, context.known, scope, x);
-    let kind = name_kind(context.known, scope, found);
-    if names_routine(role, found) {
-        Ok(plain(kind))
-    } else {
-        own(kind, why_name(found), at)
+    match found {
+        Found::Function(d) => routine_seen(context, role, d, at),
+        _ => own(name_kind(context.known, scope, found), why_name(found), at),
     }
 }
 
@@ -250,12 +263,12 @@ pub fn super_call_seen(
     kinds: &[Option<Kind>],
     at: u32,
 ) -> Result<Seen, Refused>
-    ensures found { Finds result (node.own_super context.now.tables.now (naming context.now) context.now.known.now (place scope.now) (typing.super_method context.now.tables.now context.now.known.now scope.now.this m) (called_kind context.now.known.now.classes (super_callee context.now.tables.now context.now.known.now scope.now.this m) kinds.now) at) }
+    ensures found { Finds result (node.own_super context.now.tables.now (naming context.now) context.now.known.now (place scope.now) m (typing.super_method context.now.tables.now context.now.known.now scope.now.this m) (called_kind context.now.known.now.classes (super_callee context.now.tables.now context.now.known.now scope.now.this m) kinds.now) at) }
     ensures seen { IfOk result (λ s. s ≡ plain (called_kind context.now.known.now.classes (super_callee context.now.tables.now context.now.known.now scope.now.this m) kinds.now)) }
 {
     match super_method(context.known, scope.this, m) {
         None => Err(Refused::Program {
-            code: why_super(scope.this),
+            code: why_super(context.known, scope.this, m),
             at,
         }),
         Some(d) => {

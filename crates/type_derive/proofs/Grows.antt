@@ -19,11 +19,11 @@ use Rattle.sts_scope.specs.declared.known.This.{This as Self}
 use Rattle.sts_scope.specs.declared.known.This.TheVariants as this
 use Rattle.sts_scope.specs.Kinds.{number, empty}
 use Rattle.sts_scope.specs.Places.{Place, is_hidden, found_among, last_from, last_named}
-use Rattle.sts_scope.specs.Rules.{this_kind, name_kind, name_fixed, local_kind, local_fixed, kind_at, takes_at, maker_takes_of, part_of, part_kind, part_settable, serves, none_taken, is_nothing, call_kind, all_go, goes, operate, prefix, joined, choose, assign, counted, element, items_type, sort_fixed}
+use Rattle.sts_scope.specs.Rules.{this_kind, name_kind, name_fixed, local_kind, local_fixed, kind_at, takes_at, maker_takes_of, part_of, part_kind, part_settable, call_kind, all_go, goes, operate, prefix, joined, choose, assign, counted, element, items_type, sort_fixed}
 use Rattle.sts_scope.specs.Lookup.{sort_of}
 use Rattle.type_derive.specs.declared.roles.Role.{Role}
 use Rattle.type_derive.specs.declared.roles.Role.TheVariants.{Free, Given}
-use Rattle.type_derive.specs.Typing.{◌>>=◌, Callee, callee, finds, space_of, space, constant_of, own_call, board_callee, named_callee, part_callee, super_method, made, given_to, called, type_of, types_of, callee_of, settable, is_handler, are_given, is_drawing, board_kind, spelling, is_given}
+use Rattle.type_derive.specs.Typing.{◌>>=◌, Callee, callee, finds, space_of, space, constant_of, own_call, board_callee, named_callee, part_callee, super_method, made, given_to, called, type_of, types_of, callee_of, settable, names_function, is_routine, are_given, is_drawing, board_kind, spelling, is_given}
 use Rattle.type_derive.specs.Derived.{Less}
 use Rattle.type_derive.specs.Growth.{LocalsGrow, KnownGrows, PlaceGrows, CalleeGrows}
 
@@ -123,10 +123,6 @@ and_true : (a b c d : Bool) → (a ≡ true → c ≡ true) → (b ≡ true → 
 and_true true b c d h i e = ap (λ x. x && d) (h refl) ∙ i e
 and_true false b c d h i e = cc
 
-nothing_grows : (o u : Option Kind) → Less o u → is_nothing o ≡ true → is_nothing u ≡ true
-nothing_grows None u h e = cc
-nothing_grows (Some s) u h e = ap is_nothing h ∙ e
-
 module _ (tables : Tables) where
   module _ (k l : Known) (g : KnownGrows k l) where
     same_takes : (d : ℕ) → takes_at l.entries d ≡ takes_at k.entries d
@@ -179,17 +175,6 @@ module _ (tables : Tables) where
         (λ vs.
         let P : Option Kind → Type 0 = λ z. Less (call_kind k.classes c.takes c.gives vs) z in
         subst P (sym (ap (λ cs. call_kind cs d.takes d.gives vs) g.classes ∙ ap (λ t. call_kind k.classes t d.gives vs) h.0)) (call_less k.classes c.takes c.gives d.gives vs h.1))
-
-    serves_grows : (f : Found) → serves k f ≡ true → serves l f ≡ true
-    unfolding serves
-    serves_grows (found.Function d) e =
-        and_true (none_taken (takes_at k.entries d)) (is_nothing (kind_at k d)) (none_taken (takes_at l.entries d)) (is_nothing (kind_at l d))
-        (λ i. ap none_taken (same_takes d) ∙ i) (nothing_grows (kind_at k d) (kind_at l d) (g.kinds d)) e
-    serves_grows (found.Local i) e = e
-    serves_grows found.Captured e = e
-    serves_grows (found.Global d) e = e
-    serves_grows (found.Class c) e = e
-    serves_grows found.Unknown e = e
 
     given_less : (o u : Option Kind) (t : ValueType) → Less o u → given_to tables k o t ≡ true → given_to tables l u t ≡ true
     given_less None u t h e = cc
@@ -343,10 +328,10 @@ module _ (tables : Tables) where
         settable_grows (Item at a i) e = e
         settable_grows _ e = e
 
-        handler_grows : (e : Tree) → is_handler tables k p e ≡ true → is_handler tables l q e ≡ true
-        handler_grows (Name at x) e = ap (serves l) (same_found x) ∙ serves_grows (finds tables k p x) e
-        handler_grows (Handler at body) e = e
-        handler_grows _ e = e
+        function_grows : (e : Tree) → is_routine tables k p e ≡ true → is_routine tables l q e ≡ true
+        function_grows (Name at x) e = ap (names_function tables l) (same_found x) ∙ e
+        function_grows (Handler at body) e = e
+        function_grows _ e = e
 
         given_grows : (ps : List BoardParameter) (es : Trees) → are_given tables k p ps es ≡ true → are_given tables l q ps es ≡ true
         given_grows [] none e = e
@@ -354,7 +339,7 @@ module _ (tables : Tables) where
             and_true (given_to tables k (type_of tables k p Given a) u) (are_given tables k p ps rest) (given_to tables l (type_of tables l q Given a) u) (are_given tables l q ps rest)
             (given_less (type_of tables k p Given a) (type_of tables l q Given a) u (grows Given a)) (given_grows ps rest) e
         given_grows (board.Handler ∷ ps) (more a rest) e =
-            and_true (is_handler tables k p a) (are_given tables k p ps rest) (is_handler tables l q a) (are_given tables l q ps rest) (handler_grows a) (given_grows ps rest) e
+            and_true (is_routine tables k p a) (are_given tables k p ps rest) (is_routine tables l q a) (are_given tables l q ps rest) (function_grows a) (given_grows ps rest) e
         given_grows (board.Drawing ∷ ps) (more a rest) e =
             and_true (is_drawing tables a) (are_given tables k p ps rest) (is_drawing tables a) (are_given tables l q ps rest) (λ i. i) (given_grows ps rest) e
         given_grows [] (more a rest) e = e

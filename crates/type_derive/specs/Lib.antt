@@ -19,3 +19,4 @@ pub mod Libraries
 pub mod Solved
 pub mod Heads
 pub mod Naming
+pub mod Wanted

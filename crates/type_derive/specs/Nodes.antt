@@ -17,18 +17,16 @@ use Rattle.sts_scope.specs.Entries.{Naming, kind_of}
 use Rattle.sts_scope.specs.Globals.{is_dollar}
 use Rattle.sts_scope.specs.Headings.{written_fault}
 use Rattle.sts_scope.specs.Places.{Place, in_handler, inner, is_twice}
-use Rattle.sts_scope.specs.Rules.{this_kind, name_kind, part_of, part_kind, call_kind, kind_at, is_nothing, is_boolean, goes}
+use Rattle.sts_scope.specs.Rules.{this_kind, name_kind, part_of, part_kind, call_kind, kind_at, is_nothing, is_boolean, serves, goes}
 use Rattle.sts_scope.specs.Codes.{why_name, why_this, why_part, why_call, why_make, why_super}
 use Rattle.type_derive.specs.declared.roles.Role.{Role}
 use Rattle.type_derive.specs.declared.roles.Role.TheVariants.{Free, Given, Called, Served}
-use Rattle.type_derive.specs.Typing.{◌>>=◌, Callee, finds, constant_of, board_callee, callee_of, part_callee, super_method, made, type_of, types_of, is_handler, are_given, role_of, behind}
+use Rattle.type_derive.specs.Typing.{◌>>=◌, Callee, finds, constant_of, board_callee, callee_of, part_callee, super_method, made, type_of, types_of, is_routine, are_given, role_of, behind}
 use Rattle.type_derive.specs.Returns.{is_alone, parameter_locals, all_returned, answered, bound, after, after_first, looped}
 
--- a function's name where one may be called or may serve is no node
-abbrev pub names_routine : Role → Found → Bool
-names_routine Called (found.Function d) = true
-names_routine Served (found.Function d) = true
-names_routine _ _ = false
+abbrev pub takes_nothing : List Parameter → Bool
+takes_nothing [] = true
+takes_nothing (q ∷ rest) = false
 
 abbrev pub is_called : Role → Bool
 is_called Called = true
@@ -77,8 +75,15 @@ module _ (tables : Tables) (names : Naming) (k : Known) where
   abbrev pub handler_place : Place → List Parameter → Option Annotation → Statements → Place
   handler_place p params gives all = handler_within p params (handler_result p params gives all)
 
+  -- a function expression that may be a handler takes nothing, and its result is nothing
+  abbrev pub serves_itself : Place → Routine → Bool
+  serves_itself p (Does at params gives all arrow) = takes_nothing params && is_nothing (handler_result p params gives all)
+
+  -- a name: that of a function where one is called is no node, and where a handler is wanted it is one that takes nothing and gives nothing
   abbrev pub own_name : Role → Place → Found → ℕ → Option Fault
-  own_name r p f at = if names_routine r f then None else own (name_kind k p f) (why_name f) at
+  own_name Called p (found.Function d) at = None
+  own_name Served p (found.Function d) at = own (kind_at k d) NeedsType at then unless (serves k (found.Function d)) BadHandler at
+  own_name r p f at = own (name_kind k p f) (why_name f) at
 
   abbrev pub own_part : Role → Part → ℕ → Option Fault
   own_part r part at = if is_called r && is_some (part_callee tables k part) then None else own (part_kind k part) (why_part part) at
@@ -91,17 +96,17 @@ module _ (tables : Tables) (names : Naming) (k : Known) where
   own_called None ts at = fault_at Mismatch at
   own_called (Some d) ts at = own (ts >>= λ us. call_kind k.classes d.takes d.gives us) (why_call d.gives) at
 
-  abbrev pub own_super : Place → Option ℕ → Option Kind → ℕ → Option Fault
-  own_super p None u at = fault_at (why_super p.this) at
-  own_super p (Some d) u at = own u (why_call (kind_at k d)) at
+  abbrev pub own_super : Place → ℕ → Option ℕ → Option Kind → ℕ → Option Fault
+  own_super p m None u at = fault_at (why_super k p.this m) at
+  own_super p m (Some d) u at = own u (why_call (kind_at k d)) at
 
   abbrev pub own_make : Found → Option Callee → Option Kind → ℕ → Option Fault
   own_make f None u at = fault_at (why_make f) at
   own_make f (Some d) u at = own u Mismatch at
 
-  -- an argument that should serve doesn't
+  -- no function stands where a handler is wanted
   abbrev pub lacks_handler : Place → List BoardParameter → Trees → Bool
-  lacks_handler p (board.Handler ∷ ps) (more a rest) = not (is_handler tables k p a) || lacks_handler p ps rest
+  lacks_handler p (board.Handler ∷ ps) (more a rest) = not (is_routine tables k p a) || lacks_handler p ps rest
   lacks_handler p (board.Of u ∷ ps) (more a rest) = lacks_handler p ps rest
   lacks_handler p (board.Drawing ∷ ps) (more a rest) = lacks_handler p ps rest
   lacks_handler p [] args = false
@@ -158,9 +163,9 @@ module _ (tables : Tables) (names : Naming) (k : Known) where
       | None ↦ fault p Called f then faults p [] args then own_called (callee_of tables k p f) (types_of tables k p args) at
     ]
     fault p r (SuperCall at None args) = faults p [] args then fault_at Mismatch at
-    fault p r (SuperCall at (Some m) args) = faults p [] args then own_super p (super_method tables k p.this m) (type_of tables k p r (SuperCall at (Some m) args)) at
+    fault p r (SuperCall at (Some m) args) = faults p [] args then own_super p m (super_method tables k p.this m) (type_of tables k p r (SuperCall at (Some m) args)) at
     fault p r (Make at x args) = faults p [] args then own_make (finds tables k p x) (made tables k (finds tables k p x)) (type_of tables k p r (Make at x args)) at
-    fault p r (Handler at body) = handler_fault p body then unless (is_served r) BadHandler at
+    fault p r (Handler at body) = handler_fault p body then unless (is_served r && serves_itself p body) BadHandler at
 
     -- of arguments, by what their places do with them
     pub faults : Place → List BoardParameter → Trees → Option Fault

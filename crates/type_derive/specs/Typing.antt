@@ -7,7 +7,7 @@ use Rattle.sts_syntax.specs.Types.{ValueType}
 use Rattle.sts_syntax.specs.BoardTable as board
 use Rattle.sts_syntax.specs.BoardTable.{BoardParameter, row_of, call_named, constant_named}
 use Rattle.sts_syntax.specs.declared.board_calls.BoardCall.{BoardCall}
-use Rattle.sts_syntax.specs.Trees.{Tree, Num, Text, Truth, Null, This, Name, Unary, Binary, Both, Either, Choice, Set, Bump, Member, Item, Call, SuperCall, Make, Items, Handler, Trees, none, more, absent, present, Statement, Block, Let, IfOnly, IfElse, While, DoWhile, For, ForOf, Return, Break, Continue, Plain, Empty, Statements, done, also, Routine, Does}
+use Rattle.sts_syntax.specs.Trees.{Tree, Num, Text, Truth, Null, This, Name, Unary, Binary, Both, Either, Choice, Set, Bump, Member, Item, Call, SuperCall, Make, Items, Handler, Trees, none, more}
 use Rattle.sts_scope.specs.declared.kinds.Kind.{Kind}
 use Rattle.sts_scope.specs.declared.entries.Sort.TheVariants as sort
 use Rattle.sts_scope.specs.declared.known.Known.{Known}
@@ -20,7 +20,7 @@ use Rattle.sts_scope.specs.declared.known.This.TheVariants as this
 use Rattle.sts_scope.specs.Kinds.{number, boolean, text, nothing, null, empty, object}
 use Rattle.sts_scope.specs.Lookup.{inherited, sort_of}
 use Rattle.sts_scope.specs.Places.{Place, name_found}
-use Rattle.sts_scope.specs.Rules.{this_kind, name_kind, name_fixed, operate, prefix, joined, choose, assign, counted, element, items_type, part_of, part_kind, part_settable, takes_at, kind_at, maker_takes_of, serves, call_kind, goes}
+use Rattle.sts_scope.specs.Rules.{this_kind, name_kind, name_fixed, operate, prefix, joined, choose, assign, counted, element, items_type, part_of, part_kind, part_settable, takes_at, kind_at, maker_takes_of, call_kind, goes}
 use Rattle.type_derive.specs.declared.roles.Role.{Role}
 use Rattle.type_derive.specs.declared.roles.Role.TheVariants.{Free, Given, Called, Served}
 
@@ -61,33 +61,6 @@ role_of _ = Given
 abbrev pub behind : List BoardParameter → List BoardParameter
 behind [] = []
 behind (p ∷ ps) = ps
-
--- a value is returned somewhere in it; handlers in it return for themselves
-abbrev mutual
-  pub gives_value : Statement → Bool
-  gives_value (Return at (present e)) = true
-  gives_value (Return at absent) = false
-  gives_value (Block at all) = give_value all
-  gives_value (IfOnly at test a) = gives_value a
-  gives_value (IfElse at test a b) = gives_value a || gives_value b
-  gives_value (While at test a) = gives_value a
-  gives_value (DoWhile at a test) = gives_value a
-  gives_value (For at first test step a) = gives_value a
-  gives_value (ForOf at fixed name list a) = gives_value a
-  gives_value (Let at fixed each) = false
-  gives_value (Break at) = false
-  gives_value (Continue at) = false
-  gives_value (Plain at e) = false
-  gives_value (Empty at) = false
-
-  pub give_value : Statements → Bool
-  give_value done = false
-  give_value (also s rest) = gives_value s || give_value rest
-
--- a function expression that serves: no parameters, and no value is returned
-abbrev pub serves_itself : Routine → Bool
-serves_itself (Does at [] gives all arrow) = not (give_value all)
-serves_itself (Does at (p ∷ ps) gives all arrow) = false
 
 -- A text draws a frame where its characters other than white space are 25 of `.` and `#`.
 abbrev pub is_white : ℕ → Bool
@@ -165,6 +138,16 @@ module _ (tables : Tables) (k : Known) where
   made (found.Class c) = Some (callee (maker_takes_of k.classes c) (Some (object c)))
   made _ = None
 
+  -- A function stands where a handler is wanted. Whether it may be one is said where it stands.
+  abbrev pub names_function : Found → Bool
+  names_function (found.Function d) = true
+  names_function _ = false
+
+  abbrev pub is_routine : Place → Tree → Bool
+  is_routine p (Name at x) = names_function (finds p x)
+  is_routine p (Handler at body) = true
+  is_routine p _ = false
+
   abbrev pub given_to : Option Kind → ValueType → Bool
   given_to None u = false
   given_to (Some s) u = goes k.classes s (board_kind u)
@@ -219,16 +202,11 @@ module _ (tables : Tables) (k : Known) where
     settable p (Item at a i) = true
     settable p _ = false
 
-    pub is_handler : Place → Tree → Bool
-    is_handler p (Name at x) = serves k (finds p x)
-    is_handler p (Handler at body) = serves_itself body
-    is_handler p _ = false
-
     -- as many arguments as a call of the board takes, each of which fits
     pub are_given : Place → List BoardParameter → Trees → Bool
     are_given p [] none = true
     are_given p (board.Of u ∷ ps) (more a rest) = given_to (type_of p Given a) u && are_given p ps rest
-    are_given p (board.Handler ∷ ps) (more a rest) = is_handler p a && are_given p ps rest
+    are_given p (board.Handler ∷ ps) (more a rest) = is_routine p a && are_given p ps rest
     are_given p (board.Drawing ∷ ps) (more a rest) = is_drawing tables a && are_given p ps rest
     are_given p [] (more a rest) = false
     are_given p (q ∷ ps) none = false

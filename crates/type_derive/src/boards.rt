@@ -1,19 +1,18 @@
-// What calls of the board take and give, and what serves.
-ghost use Rattle.std.specs.Prelude.{◌≡◌, not, IfOk, drop};
+// What calls of the board take and give, and which expressions are functions.
+ghost use Rattle.std.specs.Prelude.{◌≡◌, drop};
 ghost use Rattle.std.specs.Option.{option_map};
 ghost use Rattle.sts_syntax.specs.Types.{value_type};
-ghost use Rattle.sts_syntax.specs.Views.{tree, statement, statements, routine};
+ghost use Rattle.sts_syntax.specs.Views.{tree};
 ghost use Rattle.type_derive.specs.Scopes.{place};
 ghost use Rattle.type_derive.specs.Shown.{goes_some, goes_first, row_shown, row_called};
 ghost use Rattle.type_derive.specs.Typing as typing;
 
 use crate::callees::board_callee;
 use crate::roles::Role;
-use crate::scopes::{Scope, name_found, serves};
-use crate::wanted::Wanted;
-use sts_base::{NoMemory, Tables};
-use sts_scope::{Base, Environment, Kind, flat, goes};
-use sts_syntax::{BoardParameter, Body, Expr, Form, Node, Stmt, Ty};
+use crate::scopes::{Scope, name_found};
+use sts_base::Tables;
+use sts_scope::{Base, Environment, Found, Kind, flat, goes};
+use sts_syntax::{BoardParameter, Expr, Node, Ty};
 
 /// Whether a place gives a type.
 pub fn is_given(role: Role) -> bool
@@ -69,58 +68,6 @@ pub fn board_takes(
     }
 }
 
-/// Whether a value is returned somewhere in a statement; handlers in it return for themselves.
-#[cycle(gives)]
-pub fn gives_value(s: &Stmt) -> bool
-    ensures { result ≡ typing.gives_value (statement s.now) }
-{
-    match &s.form {
-        Form::Return(value) => value.is_some(),
-        Form::Block(all) => give_value(all.as_slice()),
-        Form::If(_, a, other) => match other {
-            None => gives_value(a),
-            Some(b) => gives_value(a) || gives_value(b),
-        },
-        Form::While(_, a) => gives_value(a),
-        Form::DoWhile(a, _) => gives_value(a),
-        Form::For(_, _, _, a) => gives_value(a),
-        Form::ForOf {
-            fixed: _,
-            name: _,
-            list: _,
-            body,
-        } => gives_value(body),
-        Form::Let { fixed: _, each: _ } => false,
-        Form::Break => false,
-        Form::Continue => false,
-        Form::Plain(_) => false,
-        Form::Empty => false,
-    }
-}
-
-#[cycle(gives)]
-pub fn give_value(all: &[Stmt]) -> bool
-    ensures { result ≡ typing.give_value (statements all.now) }
-{
-    for i in 0..all.len() {
-        if gives_value(&all[i]) {
-            return true;
-        }
-    }
-    false
-}
-
-/// Whether a function expression serves: it takes nothing, and returns no value.
-#[tactic(auto, using(sts_syntax::proofs::Laws::routine_parts))]
-pub fn serves_itself(body: &Body) -> bool
-    ensures { result ≡ typing.serves_itself (routine body.now) }
-{
-    match body.params.as_slice() {
-        [] => !give_value(body.stmts.as_slice()),
-        [_, ..] => false,
-    }
-}
-
 /// Whether a value goes where a type is given; without a type itself it doesn't.
 pub fn goes_some(known: &Environment, s: Option<Kind>, t: Kind) -> bool
     ensures { result ≡ goes_some known.now.classes s t }
@@ -141,23 +88,27 @@ pub fn goes_at(known: &Environment, s: Option<Kind>, ts: &[Kind], i: usize) -> b
     }
 }
 
-/// Whether an expression serves events.
-pub fn is_handler(
-    wanted: &mut Wanted,
-    tables: &Tables,
-    known: &Environment,
-    scope: &Scope,
-    e: &Expr,
-) -> Result<bool, NoMemory>
-    ensures { IfOk result (λ b. b ≡ typing.is_handler tables.now known.now (place scope.now) (tree e.now)) }
+/// Whether a name is a function's.
+fn names_function(found: Found) -> bool
+    ensures { (tables : _) → (known : _) → result ≡ typing.names_function tables known found }
+{
+    match found {
+        Found::Function(_) => true,
+        Found::Local(_) => false,
+        Found::Captured => false,
+        Found::Global(_) => false,
+        Found::Class(_) => false,
+        Found::Unknown => false,
+    }
+}
+
+/// Whether an expression is a function, by its name or as an expression: what may stand where a handler is wanted.
+pub fn is_function(tables: &Tables, known: &Environment, scope: &Scope, e: &Expr) -> bool
+    ensures { result ≡ typing.is_routine tables.now known.now (place scope.now) (tree e.now) }
 {
     match &e.node {
-        Node::Name(x) => {
-            let found = name_found(tables, known, scope, *x);
-            wanted.note_found(known, found)?;
-            Ok(serves(known, found))
-        }
-        Node::Handler(body) => Ok(serves_itself(body)),
-        _ => Ok(false),
+        Node::Name(x) => names_function(name_found(tables, known, scope, *x)),
+        Node::Handler(_) => true,
+        _ => false,
     }
 }

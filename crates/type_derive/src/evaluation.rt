@@ -12,7 +12,7 @@ ghost use Rattle.type_derive.specs.Shown.{shown, all_shown, fits_some, row_shown
 ghost use Rattle.type_derive.specs.Typing as typing;
 ghost use Rattle.type_derive.specs.Typing.{◌>>=◌ as bind};
 
-use crate::boards::{BoardTakes, board_takes, goes_at, goes_some, is_given, is_handler};
+use crate::boards::{BoardTakes, board_takes, goes_at, goes_some, is_function, is_given};
 use crate::callees::{
     Called, constant, gives_of, made, named_callee, part_callee, routine, super_method, takes_of,
 };
@@ -353,7 +353,7 @@ fn fits_board(
 {
     let kind = match to {
         None => return Ok(false),
-        Some(BoardParameter::Handler) => return is_handler(wanted, tables, known, scope, a),
+        Some(BoardParameter::Handler) => return Ok(is_function(tables, known, scope, a)),
         Some(BoardParameter::Drawing) => return Ok(is_drawing(tables, a)),
         Some(BoardParameter::Number) => flat(Base::Number),
         Some(BoardParameter::Text) => flat(Base::Text),

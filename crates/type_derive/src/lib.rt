@@ -18,10 +18,7 @@ mod theorems;
 mod wanted;
 
 pub use beginnings::{handler_scope, outer_scope, routine_scope};
-pub use boards::{
-    BoardTakes, board_kind, board_takes, give_value, gives_value, goes_at, goes_some, is_given,
-    is_handler, serves_itself,
-};
+pub use boards::{BoardTakes, board_kind, board_takes, goes_at, goes_some, is_function, is_given};
 pub use callees::{
     Called, board_callee, constant, gives_of, made, named_callee, part_callee, routine, spelling,
     super_method, takes_at, takes_of,

@@ -1,90 +1,60 @@
-// Which declarations' types were asked for before they were derived. It only says what is worth deriving next: no clause speaks of it.
+// Which declarations' types were asked for and aren't known. No clause says which an expression asks for: it only says what is worth deriving next.
+ghost use Rattle.std.specs.Prelude.{◌≡◌, ◌++◌, ◌∷◌, [], true, false, Some, None, OnOk};
+ghost use Rattle.sts_scope.specs.Rules as rule;
+ghost use Rattle.type_derive.specs.Wanted.{asked_for};
+
 use crate::callees::Called;
 use crate::scopes::kind_at;
 use std::alloc::Global;
 use sts_base::NoMemory;
 use sts_scope::{Environment, Found, Part};
 
-/// Declarations whose types were asked for and aren't known. Each is derived when it is asked for, and again when a type on which it waited is known.
+/// Declarations whose types were asked for and aren't known, as they were asked for, if they are noted.
 #[derive(Drop)]
 pub struct Wanted {
-    /// of each declaration whether it was asked for; past the end nothing is noted
-    asked: Vec<bool>,
-    /// those that were asked for and aren't done yet, the next one last
-    pending: Vec<usize>,
-    /// the one that is being derived
-    derived: usize,
-    /// those that wait for the type of each declaration
-    waiting: Vec<Vec<usize>>,
-    /// those that waited for a type that is known now
-    woken: Vec<usize>,
-    /// of each declaration whether it is among these
-    is_woken: Vec<bool>,
-}
-
-fn put<T: Drop>(list: &mut Vec<T>, item: T) -> Result<(), NoMemory> {
-    match list.push(item) {
-        Ok(()) => Ok(()),
-        Err(_) => Err(NoMemory),
-    }
+    /// whether they are noted
+    pub notes: bool,
+    /// those that were noted
+    pub noted: Vec<usize>,
 }
 
 impl Wanted {
     /// Notes nothing.
-    pub fn nothing(alloc: Global) -> Wanted {
+    pub fn nothing(alloc: Global) -> Wanted
+        ensures { result.noted.items ≡ [] }
+    {
         Wanted {
-            asked: Vec::new(alloc),
-            pending: Vec::new(alloc),
-            derived: 0,
-            waiting: Vec::new(alloc),
-            woken: Vec::new(alloc),
-            is_woken: Vec::new(alloc),
+            notes: false,
+            noted: Vec::new(alloc),
         }
     }
 
-    /// Notes each of so many declarations.
-    pub fn of(alloc: Global, count: usize) -> Result<Wanted, NoMemory> {
-        let mut wanted = Wanted::nothing(alloc);
-        for _ in 0..count {
-            put(&mut wanted.asked, false)?;
-            put(&mut wanted.waiting, Vec::new(alloc))?;
-            put(&mut wanted.is_woken, false)?;
-        }
-        Ok(wanted)
-    }
-
-    /// Asks for a declaration that wasn't asked for before.
-    pub fn ask(&mut self, d: usize) -> Result<(), NoMemory> {
-        if d < self.asked.len() && !self.asked[d] {
-            self.asked[d] = true;
-            put(&mut self.pending, d)
-        } else {
-            Ok(())
+    /// Notes each.
+    pub fn each(alloc: Global) -> Wanted
+        ensures { result.noted.items ≡ [] }
+    {
+        Wanted {
+            notes: true,
+            noted: Vec::new(alloc),
         }
     }
 
-    /// The one that is being derived waits for a declaration that was asked for.
-    fn wait(&mut self, d: usize) -> Result<(), NoMemory> {
-        let waiter = self.derived;
-        match self.waiting.get_mut(d) {
-            None => Ok(()),
-            Some(all) => match all.as_slice() {
-                [.., last] if *last == waiter => Ok(()),
-                _ => put(all, waiter),
-            },
+    /// Adds a declaration.
+    fn add(&mut self, d: usize) -> Result<(), NoMemory>
+        ensures { OnOk result (self.new.noted.items ≡ self.old.noted.items ++ d ∷ []) }
+    {
+        match self.noted.push(d) {
+            Ok(()) => Ok(()),
+            Err(_) => Err(NoMemory),
         }
     }
 
     /// Notes a declaration whose type isn't known.
-    pub fn note(&mut self, known: &Environment, d: usize) -> Result<(), NoMemory> {
+    pub fn note(&mut self, known: &Environment, d: usize) -> Result<(), NoMemory>
+        ensures { OnOk result (self.new.noted.items ≡ self.old.noted.items ++ asked_for known.now self.old.notes d) }
+    {
         match kind_at(known, d) {
-            None => {
-                if d < self.asked.len() && self.asked[d] {
-                    self.wait(d)
-                } else {
-                    self.ask(d)
-                }
-            }
+            None => { if self.notes { self.add(d) } else { Ok(()) } }
             Some(_) => Ok(()),
         }
     }
@@ -127,84 +97,5 @@ impl Wanted {
             Some(Called::Maker(_)) => Ok(()),
             None => Ok(()),
         }
-    }
-
-    /// How many are pending.
-    pub fn pending(&self) -> usize {
-        self.pending.len()
-    }
-
-    /// The one that is pending last.
-    pub fn last(&self) -> Option<usize> {
-        match self.pending.as_slice() {
-            [] => None,
-            [.., d] => Some(*d),
-        }
-    }
-
-    /// The one that is pending last is done.
-    pub fn done(&mut self) {
-        let _ = self.pending.pop();
-    }
-
-    /// A declaration is being derived.
-    pub fn begin(&mut self, d: usize) {
-        self.derived = d;
-    }
-
-    /// One that waits for a declaration, which it doesn't from now on.
-    fn waiter(&mut self, d: usize) -> Option<usize> {
-        match self.waiting.get_mut(d) {
-            None => None,
-            Some(all) => all.pop(),
-        }
-    }
-
-    /// Notes one that waited.
-    fn wake(&mut self, d: usize) -> Result<(), NoMemory> {
-        if d < self.is_woken.len() && !self.is_woken[d] {
-            self.is_woken[d] = true;
-            put(&mut self.woken, d)
-        } else {
-            Ok(())
-        }
-    }
-
-    /// Wakes those that wait for a declaration, where its type is new.
-    pub fn answer(&mut self, d: usize, said: bool) -> Result<(), NoMemory> {
-        let count = match self.waiting.get(d) {
-            None => 0,
-            Some(all) => all.len(),
-        };
-        if said {
-            for _ in 0..count {
-                if let Some(waiter) = self.waiter(d) {
-                    self.wake(waiter)?;
-                }
-            }
-        }
-        Ok(())
-    }
-
-    /// Goes on with one that was woken, else with the next one if it wasn't asked for yet. The next one behind it.
-    pub fn go_on(&mut self, next: usize) -> Result<usize, NoMemory> {
-        match self.woken.pop() {
-            None => {
-                self.ask(next)?;
-                Ok(next.saturating_add(1))
-            }
-            Some(d) => {
-                if d < self.is_woken.len() {
-                    self.is_woken[d] = false;
-                }
-                put(&mut self.pending, d)?;
-                Ok(next)
-            }
-        }
-    }
-
-    /// Whether nothing is left to derive, where the next one to be asked for is this.
-    pub fn is_over(&self, next: usize) -> bool {
-        self.pending.is_empty() && self.woken.is_empty() && self.asked.len() <= next
     }
 }

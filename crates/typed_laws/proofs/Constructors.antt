@@ -29,7 +29,8 @@ use Rattle.sts_scope.specs.Headings.{written_fault, members_fault, member_fault,
 use Rattle.sts_scope.specs.Lookup.{base_of, member_number}
 use Rattle.sts_scope.specs.Places.{Place, outside}
 use Rattle.sts_scope.specs.Rules.{kind_at, maker_takes_of, all_go}
-use Rattle.type_derive.specs.Typing.{types_of, give_value}
+use Rattle.type_derive.specs.Typing.{types_of}
+use Rattle.typed_laws.proofs.Returning.{give_value}
 use Rattle.type_derive.specs.Returns.{bound}
 use Rattle.type_derive.specs.Derived.{Source, member_sources, follows, declared_source, routine_source}
 use Rattle.type_derive.specs.Nodes.{faults, statements_fault, initial_fault, own_bound}

@@ -1,6 +1,6 @@
 -- How many functions stand in what is made of trees without a failure: as many as the trees have.
 use Rattle.std.proofs.Common.{◌≡◌, ℕ, ℤ, suc, ◌+◌, refl, sym, ap, ◌∙◌, subst, Bool, true, false, Option, Some, None, List, [], ◌∷◌, ◌++◌, length, arith, length-append}
-use Rattle.std.specs.Prelude.{not, if◌then◌else◌}
+use Rattle.std.specs.Prelude.{not, if◌then◌else◌, ◌&&◌}
 use Rattle.sts_base.specs.declared.tables.Tables.{Tables}
 use Rattle.sts_base.specs.declared.refused.Code.TheVariants.{Mismatch, BadHandler, UnknownName, NeedsType}
 use Rattle.sts_syntax.specs.Annotations.{Annotation}
@@ -25,9 +25,9 @@ use Rattle.sts_scope.specs.Places.{Place, inner}
 use Rattle.sts_scope.specs.Rules.{takes_at, maker_takes_of}
 use Rattle.type_derive.specs.declared.roles.Role.{Role}
 use Rattle.type_derive.specs.declared.roles.Role.TheVariants.{Free, Given, Called, Served}
-use Rattle.type_derive.specs.Typing.{Callee, space, constant_of, board_callee, callee_of, super_method, type_of, types_of, are_given, is_handler, is_drawing, spelling, finds, given_to}
+use Rattle.type_derive.specs.Typing.{Callee, space, constant_of, board_callee, callee_of, super_method, type_of, types_of, are_given, is_routine, is_drawing, spelling, finds, given_to}
 use Rattle.type_derive.specs.Returns.{is_alone, bound, after, after_first, looped, items_of}
-use Rattle.type_derive.specs.Nodes.{fault, faults, handler_fault, own_member, own_called, own_super, own_board, is_called, is_served, kind_role, initial_fault, optional_fault, test_fault, declaration_fault, declarations_fault, statement_fault, first_fault, statements_fault, own_local, own_bound, is_list}
+use Rattle.type_derive.specs.Nodes.{fault, faults, handler_fault, own_member, own_called, own_super, own_board, is_called, is_served, serves_itself, kind_role, initial_fault, optional_fault, test_fault, declaration_fault, declarations_fault, statement_fault, first_fault, statements_fault, own_local, own_bound, is_list}
 use Rattle.sts_scope.specs.Handlers.{handlers, handlers_of, optional_handlers, declarations_handlers, statement_handlers, first_handlers, statements_handlers}
 use Rattle.type_derive.specs.Making.{Made, Making, pure, ◌>=>◌, a_local}
 use Rattle.sts_scope.specs.Numbers.{Numbering, routine_number}
@@ -197,11 +197,11 @@ module _ (tables : Tables) (names : Naming) (k : Known) (numbers : Numbering) wh
   given_of_board : (s : Site) (ps : List BoardParameter) (args : Trees) (i : ℕ) → own_board tables names k s.place ps args i ≡ None → are_given tables k s.place ps args ≡ true
   given_of_board s ps args i h = unless_true (are_given tables k s.place ps args) Mismatch i (last _ (unless (are_given tables k s.place ps args) Mismatch i) h)
 
-  served_read : (r : Role) (i : ℕ) → IsRead r → unless (is_served r) BadHandler i ≡ None → ⊥
-  served_read Free i q h = cc
-  served_read Given i q h = cc
-  served_read Called i q h = q
-  served_read Served i q h = q
+  served_read : (r : Role) (serves : Bool) (i : ℕ) → IsRead r → unless (is_served r && serves) BadHandler i ≡ None → ⊥
+  served_read Free serves i read h = cc
+  served_read Given serves i read h = cc
+  served_read Called serves i read h = read
+  served_read Served serves i read h = read
 
   role_read : (g : Option Kind) → IsRead (kind_role g)
   role_read None = tt
@@ -221,13 +221,13 @@ module _ (tables : Tables) (names : Naming) (k : Known) (numbers : Numbering) wh
   abbrev u_of : Site → Tree → ValueType
   u_of s list = value_type (kind_or_nothing tables names k numbers (items_of tables names k (type_of tables k s.place Free list)))
 
-  super_counts : (s : Site) (i : ℕ) (args : Trees) (n : ValueType) (u : Option Kind) (d : Option ℕ) → (faults tables names k s.place [] args then own_super tables names k s.place d u i) ≡ None
+  super_counts : (s : Site) (i m : ℕ) (args : Trees) (n : ValueType) (u : Option Kind) (d : Option ℕ) → (faults tables names k s.place [] args then own_super tables names k s.place m d u i) ≡ None
       → ((takes : List Kind) → faults tables names k s.place [] args ≡ None → Counts (handlers_of args) (made_given tables names k numbers s takes args))
       → Counts (handlers_of args) (elim d [ None ↦ pure amiss | Some j ↦ made_given tables names k numbers s (takes_at k.entries j) args >=> λ xs. pure (e.SuperCall n (routine_number numbers j) xs) ])
-  super_counts s i args n u None h given = let z : own_super tables names k s.place None u i ≡ None = last (faults tables names k s.place [] args) (own_super tables names k s.place None u i) h in cc
-  super_counts s i args n u (Some j) h given =
+  super_counts s i m args n u None h given = let z : own_super tables names k s.place m None u i ≡ None = last (faults tables names k s.place [] args) (own_super tables names k s.place m None u i) h in cc
+  super_counts s i m args n u (Some j) h given =
       counts_one (handlers_of args) (made_given tables names k numbers s (takes_at k.entries j) args) (λ xs. e.SuperCall n (routine_number numbers j) xs)
-      (given (takes_at k.entries j) (first (faults tables names k s.place [] args) (own_super tables names k s.place (Some j) u i) h))
+      (given (takes_at k.entries j) (first (faults tables names k s.place [] args) (own_super tables names k s.place m (Some j) u i) h))
 
   mutual
     pub tree_counts : (s : Site) (r : Role) (g : Option Kind) (a : Tree) → IsRead r → bad s r a ≡ None → Counts (handlers a) (mk s g a)
@@ -273,11 +273,13 @@ module _ (tables : Tables) (names : Naming) (k : Known) (numbers : Numbering) wh
         (λ takes h'. given_counts s takes args h') (λ ps h' q. asked_counts s ps args h' q)
     tree_counts s r g (SuperCall i None args) read h = let z : fault_at Mismatch i ≡ None = last (faults tables names k s.place [] args) (fault_at Mismatch i) h in cc
     tree_counts s r g (SuperCall i (Some m) args) read h =
-        super_counts s i args (noted tables names k numbers s g (SuperCall i (Some m) args)) (type_of tables k s.place r (SuperCall i (Some m) args)) (super_method tables k s.place.this m) h (λ takes h'. given_counts s takes args h')
+        super_counts s i m args (noted tables names k numbers s g (SuperCall i (Some m) args)) (type_of tables k s.place r (SuperCall i (Some m) args)) (super_method tables k s.place.this m) h (λ takes h'. given_counts s takes args h')
     tree_counts s r g (Make i x args) read h =
         let class = class_found tables names k numbers (finds tables k s.place x) in
         counts_one (handlers_of args) (made_given tables names k numbers s (maker_takes_of k.classes class) args) (λ xs. e.Make (t.Object class) class xs) (given_counts s (maker_takes_of k.classes class) args (first (faults tables names k s.place [] args) _ h))
-    tree_counts s r g (Handler i body) read h = absurd (served_read r i read (last (handler_fault tables names k s.place body) (unless (is_served r) BadHandler i) h))
+    tree_counts s r g (Handler i body) read h =
+        let serves : Bool = serves_itself tables names k s.place body in
+        absurd (served_read r serves i read (last (handler_fault tables names k s.place body) (unless (is_served r && serves) BadHandler i) h))
 
     pub given_counts : (s : Site) (takes : List Kind) (args : Trees) → faults tables names k s.place [] args ≡ None → Counts (handlers_of args) (made_given tables names k numbers s takes args)
     given_counts s takes none h = λ m n. refl
@@ -342,15 +344,15 @@ module _ (tables : Tables) (names : Naming) (k : Known) (numbers : Numbering) wh
         counts_two (handlers a) (handlers_of rest) (pure (drawing tables names k numbers a)) (made_asked tables names k numbers s ps rest) (λ x xs. e.more x xs)
         (counts_as 0 (handlers a) (pure (drawing tables names k numbers a)) (λ m n. refl) (sym (drawing_plain a draws_so))) (asked_counts s ps rest (last (bad s Given a) (faults tables names k s.place ps rest) h) rest_so)
     asked_counts s (board.Handler ∷ ps) (more a rest) h q =
-        let (serves_so, rest_so) = both_true (is_handler tables k s.place a) (are_given tables k s.place ps rest) q in
+        let (serves_so, rest_so) = both_true (is_routine tables k s.place a) (are_given tables k s.place ps rest) q in
         counts_two (handlers a) (handlers_of rest) (argument_made tables names k numbers s (board.Handler ∷ ps) a (mk s None a)) (made_asked tables names k numbers s ps rest) (λ x xs. e.more x xs)
         (handler_counts s ps a (first (bad s Served a) (faults tables names k s.place ps rest) h) serves_so) (asked_counts s ps rest (last (bad s Served a) (faults tables names k s.place ps rest) h) rest_so)
 
-    handler_counts : (s : Site) (ps : List BoardParameter) (a : Tree) → bad s Served a ≡ None → is_handler tables k s.place a ≡ true → Counts (handlers a) (argument_made tables names k numbers s (board.Handler ∷ ps) a (mk s None a))
+    handler_counts : (s : Site) (ps : List BoardParameter) (a : Tree) → bad s Served a ≡ None → is_routine tables k s.place a ≡ true → Counts (handlers a) (argument_made tables names k numbers s (board.Handler ∷ ps) a (mk s None a))
     handler_counts s ps (Name i x) h q = λ m n. refl
     handler_counts s ps (Handler i (Does j params gives all arrow)) h q =
         let site' : Site = in_handler_site tables names k numbers s params gives all in
-        let h0 : handler_fault tables names k s.place (Does j params gives all arrow) ≡ None = first (handler_fault tables names k s.place (Does j params gives all arrow)) (unless true BadHandler i) h in
+        let h0 : handler_fault tables names k s.place (Does j params gives all arrow) ≡ None = first (handler_fault tables names k s.place (Does j params gives all arrow)) (unless (serves_itself tables names k s.place (Does j params gives all arrow)) BadHandler i) h in
         let (h1, h2, h3) = parts2 _ (written_fault names gives) (statements_fault tables names k site'.place all) h0 in
         λ m n. ap suc (statements_counts site' all h3 0 (suc n))
     handler_counts s ps (Num i n) h q = cc

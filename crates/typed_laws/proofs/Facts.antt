@@ -28,7 +28,8 @@ use Rattle.sts_scope.specs.Globals.{is_dollar}
 use Rattle.type_derive.specs.declared.roles.Role.TheVariants.{Free}
 use Rattle.sts_scope.specs.Rules.{kind_at, takes_at, maker_takes_of, is_boolean}
 use Rattle.sts_scope.specs.Rules as rules
-use Rattle.type_derive.specs.Typing.{give_value, gives_value, type_of}
+use Rattle.type_derive.specs.Typing.{type_of}
+use Rattle.typed_laws.proofs.Returning.{give_value, gives_value}
 use Rattle.type_derive.specs.Returns.{declared, all_declared, parameter_locals, within, returned, all_returned, answered, or_else, after, after_first, looped}
 use Rattle.type_derive.specs.Derived.{Source, Stated, member_sources, item_sources, sources_from, routine_source, declared_source, follows}
 use Rattle.type_derive.specs.Nodes.{fits, statement_fault, first_fault, statements_fault, fault, kind_role, optional_fault, test_fault, is_list}

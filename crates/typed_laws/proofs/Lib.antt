@@ -1,3 +1,4 @@
+pub mod Returning
 pub mod Typed
 pub mod OneNode
 pub mod Makings

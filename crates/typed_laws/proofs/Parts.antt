@@ -30,7 +30,7 @@ use Rattle.sts_scope.specs.Lookup.{base_of}
 use Rattle.sts_scope.specs.Places.{Place, outside}
 use Rattle.sts_scope.specs.Rules.{kind_at, maker_takes_of, is_nothing}
 use Rattle.sts_scope.specs.Rules as rules
-use Rattle.type_derive.specs.Typing.{gives_value}
+use Rattle.typed_laws.proofs.Returning.{gives_value}
 use Rattle.type_derive.specs.Returns.{bound}
 use Rattle.type_derive.specs.Derived.{Source, Stated, item_sources, main_sources, global_sources, sources_from, member_sources, declared_source, follows}
 use Rattle.type_derive.specs.Nodes.{initial_fault, own_bound}

@@ -23,7 +23,7 @@ use Rattle.sts_scope.specs.Kinds.{number, boolean, text, nothing, object, array,
 use Rattle.sts_scope.specs.Entries.{Naming, kind_of, written_kind, parameter_kinds}
 use Rattle.sts_scope.specs.Lookup.{base_of}
 use Rattle.sts_scope.specs.Rules.{local_kind}
-use Rattle.type_derive.specs.Typing.{give_value}
+use Rattle.typed_laws.proofs.Returning.{give_value}
 use Rattle.type_derive.specs.Returns.{parameter_locals, within}
 use Rattle.type_derive.specs.Nodes.{statements_fault}
 use Rattle.sts_scope.specs.Handlers.{statements_handlers}

@@ -2,7 +2,7 @@
 use Rattle.std.proofs.Common.{◌≡◌, ℕ, ℤ, suc, ◌+◌, ◌<◌, refl, sym, ap, ◌∙◌, subst, Bool, true, false, ◌&&◌, ◌||◌, Option, Some, None, List, [], ◌∷◌, ◌++◌, length, inl, inr, arith, append-nil, append_assoc}
 use Rattle.std.specs.Prelude.{not, if◌then◌else◌, unwrap_or}
 use Rattle.sts_base.specs.declared.tables.Tables.{Tables}
-use Rattle.sts_base.specs.declared.refused.Code.TheVariants.{BadHandler}
+use Rattle.sts_base.specs.declared.refused.Code.TheVariants.{BadHandler, NeedsType}
 use Rattle.sts_syntax.specs.Annotations.{Annotation}
 use Rattle.sts_syntax.specs.declared.typed.Spot.{Spot}
 use Rattle.sts_syntax.specs.declared.typed.Spot.TheVariants.{Local}
@@ -29,16 +29,16 @@ use Rattle.sts_scope.specs.declared.known.Part.TheVariants as part
 use Rattle.sts_scope.specs.declared.known.This.{This as Self}
 use Rattle.sts_scope.specs.declared.known.This.TheVariants as this
 use Rattle.sts_scope.specs.Kinds.{number, boolean, nothing, null, empty, object, array, item, same, is_array, class_of, takes_null, value_type, value_types}
-use Rattle.sts_scope.specs.Faults.{Fault, ◌then◌, unless}
+use Rattle.sts_scope.specs.Faults.{Fault, ◌then◌, unless, own}
 use Rattle.sts_scope.specs.Entries.{Naming}
 use Rattle.sts_scope.specs.Places.{Place}
 use Rattle.sts_scope.specs.declared.known.Local.{Local as Scoped}
 use Rattle.sts_scope.specs.Rules.{name_kind, kind_at, takes_at, maker_takes_of, part_of, part_kind, part_settable, operate, assign, comparable, below, is_equality, is_arithmetic, is_order, items_type, all_go, all_go_to, goes, call_kind, serves, none_taken, is_nothing, local_kind}
 use Rattle.type_derive.specs.declared.roles.Role.{Role}
-use Rattle.type_derive.specs.declared.roles.Role.TheVariants.{Free, Given, Called}
-use Rattle.type_derive.specs.Typing.{◌>>=◌, Callee, callee, board_kind, space, space_of, finds, constant_of, board_callee, named_callee, part_callee, callee_of, super_method, made, called, given_to, type_of, types_of, are_given, is_drawing, spelling, text_at}
+use Rattle.type_derive.specs.declared.roles.Role.TheVariants.{Free, Given, Called, Served}
+use Rattle.type_derive.specs.Typing.{◌>>=◌, Callee, callee, names_function, board_kind, space, space_of, finds, constant_of, board_callee, named_callee, part_callee, callee_of, super_method, made, called, given_to, type_of, types_of, are_given, is_drawing, spelling, text_at}
 use Rattle.type_derive.specs.Returns.{declared, all_declared, after, after_first}
-use Rattle.type_derive.specs.Nodes.{kind_role, is_called, fault, faults, is_list, own_member, own_called, own_board, fits}
+use Rattle.type_derive.specs.Nodes.{kind_role, is_called, fault, faults, is_list, own_name, own_member, own_called, own_board, fits}
 use Rattle.sts_scope.specs.Handlers.{handlers, handlers_of}
 use Rattle.type_derive.specs.Making.{Making, pure, ◌>=>◌, a_local}
 use Rattle.sts_scope.specs.Numbers.{Numbering, field_names, slot_names, place_among, routine_number}
@@ -47,7 +47,7 @@ use Rattle.type_derive.specs.Formed.{IsFormed, AreFormed}
 use Rattle.typed_laws.specs.Stands.{IsProper, EachProper, Stands}
 use Rattle.type_derive.specs.Libraries.{taken}
 use Rattle.typed_laws.proofs.OneNode.{both_true, either_true, if_some, if_cases, same_types, works, array_type, class_type}
-use Rattle.typed_laws.proofs.Typed.{typed, first}
+use Rattle.typed_laws.proofs.Typed.{typed, first, last, unless_true}
 use Rattle.typed_laws.proofs.Makings.{Gives, gives_pure, gives_bind, gives_as, good_free, good_as}
 use Rattle.typed_laws.proofs.Makings.{Good as Built}
 use Rattle.typed_laws.proofs.Names.{bind_some, some_is, Real, HasPart, has_part, proper}
@@ -541,6 +541,16 @@ module _ (tables : Tables) (names : Naming) (k : Known) (numbers : Numbering) (P
   plain_serves (found.Class i) s r h = cc
   plain_serves found.Captured s r h = cc
   plain_serves found.Unknown s r h = cc
+
+  -- where a handler is wanted and it has no failure
+  pub served_so : (p : Place) (f : Found) (at : ℕ) → names_function tables k f ≡ true → own_name tables names k Served p f at ≡ None → serves k f ≡ true
+  served_so p (found.Function d) at h bad =
+      unless_true (serves k (found.Function d)) BadHandler at (last (own (kind_at k d) NeedsType at) (unless (serves k (found.Function d)) BadHandler at) bad)
+  served_so p (found.Local i) at h bad = cc
+  served_so p (found.Global i) at h bad = cc
+  served_so p (found.Class i) at h bad = cc
+  served_so p found.Captured at h bad = cc
+  served_so p found.Unknown at h bad = cc
 
   pub given_to_is : (o : Option Kind) (u : ValueType) → given_to tables k o u ≡ true → (v : Kind) × (o ≡ Some v) × (goes k.classes v (board_kind u) ≡ true)
   given_to_is None u h = cc

@@ -34,16 +34,17 @@ use Rattle.sts_scope.specs.Globals.{is_dollar}
 use Rattle.sts_scope.specs.Rules.{maker_takes_of, part_of, operate, prefix, joined, choose, assign, counted, element, items_type, all_go, all_go_to, goes, serves, is_nothing, is_boolean}
 use Rattle.type_derive.specs.declared.roles.Role.{Role}
 use Rattle.type_derive.specs.declared.roles.Role.TheVariants.{Free, Given, Called, Served}
-use Rattle.type_derive.specs.Typing.{◌>>=◌, board_kind, finds, constant_of, board_callee, named_callee, part_callee, callee_of, super_method, made, given_to, type_of, types_of, are_given, settable, is_handler, is_drawing, give_value, gives_value}
+use Rattle.type_derive.specs.Typing.{◌>>=◌, board_kind, finds, constant_of, board_callee, named_callee, part_callee, callee_of, super_method, made, given_to, type_of, types_of, are_given, settable, is_routine, is_drawing}
+use Rattle.typed_laws.proofs.Returning.{give_value, gives_value}
 use Rattle.type_derive.specs.Returns.{is_alone, bound, declared, all_declared, after, items_of, looped}
-use Rattle.type_derive.specs.Nodes.{kind_role, fault, faults, is_list, initial_fault, optional_fault, test_fault, declaration_fault, declarations_fault, statement_fault, first_fault, statements_fault, own_local, own_bound, own_called, own_super, own_make, fits}
+use Rattle.type_derive.specs.Nodes.{kind_role, fault, faults, handler_fault, is_list, initial_fault, optional_fault, test_fault, declaration_fault, declarations_fault, statement_fault, first_fault, statements_fault, own_local, own_bound, own_called, own_super, own_make, fits}
 use Rattle.sts_scope.specs.Handlers.{handlers, handlers_of, optional_handlers, declarations_handlers, statement_handlers, first_handlers, statements_handlers}
 use Rattle.type_derive.specs.Making.{Making, pure, ◌>=>◌, a_local}
 use Rattle.sts_scope.specs.Numbers.{Numbering}
 use Rattle.type_derive.specs.Built.{Site, in_block, spots_from, in_handler_site, behind_statement, first_site, made_first, made_optional, made_value, made_locals, made_local, made_statement, made_opening, made_statements, made_tree, made_given, made_items, made_asked, noted, type_in, part_in, class_in, part_target, part_takes, routine_of, routine_takes, class_found, spot_of, plain_handler, drawing, argument_made}
 use Rattle.type_derive.specs.Formed.{IsFormed, AreFormed, MayBeFormed, AreFormedDeclarations, IsFormedIn, IsFormedFirst, AreFormedIn}
 use Rattle.typed_laws.specs.Stands.{is_proper_base, IsProper, EachProper, Stands}
-use Rattle.typed_laws.proofs.OneNode.{both_true, not_true, works, prefixes, joins, chooses, counts, elements, array_type, arrayed}
+use Rattle.typed_laws.proofs.OneNode.{both_true, same_is, works, prefixes, joins, chooses, counts, elements, array_type, arrayed}
 use Rattle.typed_laws.proofs.Typed.{typed, last, first, unless_true, own_has}
 use Rattle.typed_laws.proofs.Makings.{IsInner, Inners, Gives, gives_pure, gives_bind, gives_as, kept_all, good_pure, good_bind, good_bind_at, good_free, good_local, good_as}
 use Rattle.typed_laws.proofs.Makings.{Good as Built}
@@ -51,7 +52,11 @@ use Rattle.typed_laws.proofs.Names.{bind_some, some_is, either_some, real, has_p
 use Rattle.typed_laws.proofs.Sites.{seen, Suits, Wanted, suits_given, given_goes, at_block, at_local, IsGood, At, name_good, this_good}
 use Rattle.typed_laws.proofs.Boards.{are_plain, plain_first, plain_rest}
 use Rattle.typed_laws.proofs.TreeFacts.{noted_is, kind_is, parts2, parts3, settable_is, test_is, alone_is, unless_waived, parts4}
-use Rattle.typed_laws.proofs.TreeParts.{free_proper, given_proper, seen_as, one, two, function_call, set_good, assign_suits, make_good, make_takes, takes_of_found, takes_of_part, takes_of_made, called_parts, go_parts, go_none, go_more, go_to_parts, items_parts, Asked, called_fault, call_fault, call_type, call_made, plain_serves, given_to_is, drawing_good, ArgumentsTyped, AskedTyped, member, member_target, super, board_call, member_call, list_is, fits_is, handler_stand, gives_after, Declared, declared_one, declare, first_place, first_gives, declared_more}
+use Rattle.typed_laws.proofs.TreeParts.{free_proper, given_proper, seen_as, one, two, function_call, set_good, assign_suits, make_good, make_takes, takes_of_found, takes_of_part, takes_of_made, called_parts, go_parts, go_none, go_more, go_to_parts, items_parts, Asked, called_fault, call_fault, call_type, call_made, plain_serves, served_so, given_to_is, drawing_good, ArgumentsTyped, AskedTyped, member, member_target, super, board_call, member_call, list_is, fits_is, handler_stand, gives_after, Declared, declared_one, declare, first_place, first_gives, declared_more}
+
+nothing_either : (b : Bool) → (if b then t.Nothing else t.Nothing) ≡ t.Nothing
+nothing_either true = refl
+nothing_either false = refl
 
 module _ (tables : Tables) (names : Naming) (k : Known) (numbers : Numbering) (P : TypedProgram) (st : Stands tables k numbers P) where
   abbrev Good : Setting → List ℕ → ValueType → TypedTree → Type 0
@@ -285,7 +290,7 @@ module _ (tables : Tables) (names : Naming) (k : Known) (numbers : Numbering) (P
         (λ takes us p' h' q' go. given S known s takes us args at f.1 p' h' q' go) (λ ps h' q' y. asked S known s ps args at f.1 h' q' y)
     tree S known s g (SuperCall i None args) u at f g' h q z = cc
     tree S known s g (SuperCall i (Some m) args) u at f g' h q z =
-        super tables names k numbers P st S known s g m args u (noted tables names k numbers s g (SuperCall i (Some m) args)) (super_method tables k s.place.this m) at f refl (first (faults tables names k s.place [] args) (own_super tables names k s.place (super_method tables k s.place.this m) (ty s (kind_role g) (SuperCall i (Some m) args)) i) h) q
+        super tables names k numbers P st S known s g m args u (noted tables names k numbers s g (SuperCall i (Some m) args)) (super_method tables k s.place.this m) at f refl (first (faults tables names k s.place [] args) (own_super tables names k s.place m (super_method tables k s.place.this m) (ty s (kind_role g) (SuperCall i (Some m) args)) i) h) q
         (noted_is (ty s (kind_role g) (SuperCall i (Some m) args)) u q) (free_proper tables names k numbers P st S known s at (SuperCall i (Some m) args) u q)
         (λ takes us p' h' q' go. given S known s takes us args at f p' h' q' go)
     tree S known s g (Make i x args) u at f g' h q z =
@@ -455,7 +460,7 @@ module _ (tables : Tables) (names : Naming) (k : Known) (numbers : Numbering) (P
         (λ xs os. gives_pure P R (e.more x xs) (o, os))))
         (λ x o. o) (omega (arith, none_in))
     asked S known s (board.Handler ∷ ps) (more a rest) at f h q y =
-        let (serves_so, rest_so) = both_true (is_handler tables k s.place a) (are_given tables k s.place ps rest) q in
+        let (serves_so, rest_so) = both_true (is_routine tables k s.place a) (are_given tables k s.place ps rest) q in
         let R : TypedTrees → Type 0 = Asked tables names k numbers P st S known (board.Handler ∷ ps) in
         let made : Making TypedTree = argument_made tables names k numbers s (board.Handler ∷ ps) a (mk s None a) in
         gives_as P R R (handlers a + (handlers_of rest + 0)) (handlers a + handlers_of rest) (made >=> λ x. made_asked tables names k numbers s ps rest >=> λ xs. pure (e.more x xs))
@@ -467,29 +472,36 @@ module _ (tables : Tables) (names : Naming) (k : Known) (numbers : Numbering) (P
         (λ x o. o) (omega arith)
 
     -- an argument that serves
-    handler : (S : Setting) (known : List ℕ) (s : Site) (ps : List BoardParameter) (a : Tree) → Stand S known s → IsFormed a → bad s Served a ≡ None → is_handler tables k s.place a ≡ true
+    handler : (S : Setting) (known : List ℕ) (s : Site) (ps : List BoardParameter) (a : Tree) → Stand S known s → IsFormed a → bad s Served a ≡ None → is_routine tables k s.place a ≡ true
         → Gives P (IsHandler P) (handlers a) (argument_made tables names k numbers s (board.Handler ∷ ps) a (mk s None a))
-    handler S known s ps (Name i x) at f h q = gives_pure P (IsHandler P) (plain_handler tables names k numbers s (Name i x)) (plain_serves tables names k numbers P st (finds tables k s.place x) s (real k tables s.place x) q)
+    handler S known s ps (Name i x) at f h q = gives_pure P (IsHandler P) (plain_handler tables names k numbers s (Name i x))
+        (plain_serves tables names k numbers P st (finds tables k s.place x) s (real k tables s.place x) (served_so tables names k numbers P st s.place (finds tables k s.place x) i q h))
     handler S known s ps (Handler i (Does j [] gives all arrow)) at f h q =
         let site' : Site = in_handler_site tables names k numbers s [] gives all in
-        let h1 : (written_fault names gives then statements_fault tables names k site'.place all) ≡ None = first (written_fault names gives then statements_fault tables names k site'.place all) (unless true BadHandler i) h in
+        let bad_inside : Option Fault = written_fault names gives then statements_fault tables names k site'.place all in
+        let serves : Bool = is_nothing site'.place.gives in
+        let h1 : bad_inside ≡ None = first bad_inside (unless serves BadHandler i) h in
+        let served : serves ≡ true = unless_true serves BadHandler i (last bad_inside (unless serves BadHandler i) h) in
         let h2 : statements_fault tables names k site'.place all ≡ None = last (written_fault names gives) (statements_fault tables names k site'.place all) h1 in
-        let no_value : give_value all ≡ false = not_true (give_value all) q in
-        let answers : (S' : Setting) → S'.main ≡ false → Answered S' site'.place.gives (give_value all) = λ S' o. (
-          (λ b. ((if S'.maker then t.Nothing else S'.routine.gives), ap (λ (x : Bool). let y : Option ValueType = if x then None else Some (if S'.maker then t.Nothing else S'.routine.gives) in y) o)),
-          (λ b. let z : true ≡ false = sym b ∙ no_value in cc),
+        let answer_is : (S' : Setting) → S'.routine.gives ≡ t.Nothing → S'.main ≡ false → w.answer S' ≡ Some t.Nothing = λ S' n o.
+        ap (λ (x : Bool). let y : Option ValueType = if x then None else Some (if S'.maker then t.Nothing else S'.routine.gives) in y) o
+        ∙ ap (λ (u : ValueType). Some (if S'.maker then t.Nothing else u)) n ∙ ap (λ (u : ValueType). Some u) (nothing_either S'.maker) in
+        let answers : (S' : Setting) → S'.routine.gives ≡ t.Nothing → S'.main ≡ false → Answered S' site'.place.gives (give_value all) = λ S' n o. (
+          (λ b. (t.Nothing, answer_is S' n o)),
+          (λ b v same. let z : v ≡ nothing = same_is v nothing (sym (ap is_nothing same) ∙ served) in (answer_is S' n o ∙ ap (λ (y : Kind). Some (value_type y)) (sym z), subst IsProper (sym z) refl)),
         ) in
         λ m n placed.
         let made = made_statements tables names k numbers site' all 0 (suc n) in
         let r : TypedRoutine = record { params = []; locals = made.locals; gives = t.Nothing; all = made.it } in
         let build : (S' : Setting) → S'.routine ≡ r → S'.main ≡ false
         → w.AreSound P S' made.it false [] × (w'.all_declared made.it ≡ [] ++ w'.numbers 0 (length made.locals)) × Inners P made.routines × (length made.routines ≡ statements_handlers all) =
-        λ S' same o. statements S' [] site' false site'.place.gives all 0 (suc n) (handler_stand tables names k numbers P st S S' known s gives all at) f refl h2 (answers S' o) placed.1 (kept_all P S' made.locals (ap (λ (x : TypedRoutine). x.locals) same)) in
+        λ S' same o. statements S' [] site' false site'.place.gives all 0 (suc n) (handler_stand tables names k numbers P st S S' known s gives all at) f refl h2 (answers S' (ap (λ (x : TypedRoutine). x.gives) same) o) placed.1 (kept_all P S' made.locals (ap (λ (x : TypedRoutine). x.locals) same)) in
         let S0 : Setting = record { routine = r; this = false; maker = false; main = false } in
         let (sound, locals_so, inners, count) = build S0 refl refl in
         let inner_so : IsInner P r = record { nothing = refl; body = λ S' same o. subst (λ (x : TypedRoutine). w.AreSound P S' made.it false []) same (build S' same o).0; locals = locals_so } in
         ((r, placed.0, refl, refl), refl, (inner_so, inners), ap suc count)
-    handler S known s ps (Handler i (Does j (l ∷ ls) gives all arrow)) at f h q = cc
+    handler S known s ps (Handler i (Does j (l ∷ ls) gives all arrow)) at f h q =
+        let z : unless false BadHandler i ≡ None = last (handler_fault tables names k s.place (Does j (l ∷ ls) gives all arrow)) (unless false BadHandler i) h in cc
     handler S known s ps (Num i n) at f h q = cc
     handler S known s ps (Text i n) at f h q = cc
     handler S known s ps (Truth i x) at f h q = cc

@@ -1,6 +1,6 @@
 -- An expression without a failure has a type.
 use Rattle.std.proofs.Common.{◌≡◌, ℕ, refl, sym, subst, Option, Some, None, List, [], Bool, true, false}
-use Rattle.std.specs.Prelude.{ℤ, IsSome, if◌then◌else◌, not}
+use Rattle.std.specs.Prelude.{ℤ, IsSome, if◌then◌else◌, not, ◌&&◌}
 use Rattle.sts_base.specs.declared.tables.Tables.{Tables}
 use Rattle.sts_base.specs.declared.refused.Code.{Code}
 use Rattle.sts_base.specs.declared.refused.Code.TheVariants.{Mismatch, BadHandler}
@@ -21,7 +21,7 @@ use Rattle.type_derive.specs.declared.roles.Role.{Role}
 use Rattle.type_derive.specs.declared.roles.Role.TheVariants.{Free, Given, Called, Served}
 use Rattle.type_derive.specs.Typing.{◌>>=◌, Callee, finds, constant_of, board_callee, callee_of, super_method, made, called, type_of, types_of, are_given, board_kind}
 use Rattle.typed_laws.specs.Laws.{IsRead}
-use Rattle.type_derive.specs.Nodes.{fault, faults, handler_fault, own_name, own_part, own_member, own_called, own_super, own_make, own_board, lacks_handler, is_called, is_served}
+use Rattle.type_derive.specs.Nodes.{fault, faults, handler_fault, own_name, own_part, own_member, own_called, own_super, own_make, own_board, lacks_handler, is_called, is_served, serves_itself}
 
 -- a value that is there
 pub record Has {A : Type 0} (o : Option A) : Type 0 where
@@ -81,19 +81,19 @@ module _ (tables : Tables) (names : Naming) (k : Known) where
   called_has None ts at h = cc
   called_has (Some d) ts at h = own_has (ts >>= λ us. call_kind k.classes d.takes d.gives us) (why_call d.gives) at h
 
-  super_has : (p : Place) (d : Option ℕ) (u : Option Kind) (at : ℕ) → own_super tables names k p d u at ≡ None → Has u
-  super_has p None u at h = cc
-  super_has p (Some d) u at h = own_has u (why_call (kind_at k d)) at h
+  super_has : (p : Place) (m : ℕ) (d : Option ℕ) (u : Option Kind) (at : ℕ) → own_super tables names k p m d u at ≡ None → Has u
+  super_has p m None u at h = cc
+  super_has p m (Some d) u at h = own_has u (why_call (kind_at k d)) at h
 
   make_has : (f : Found) (d : Option Callee) (u : Option Kind) (at : ℕ) → own_make tables names k f d u at ≡ None → Has u
   make_has f None u at h = cc
   make_has f (Some d) u at h = own_has u Mismatch at h
 
-  handler_fails : (r : Role) (at : ℕ) → IsRead r → unless (is_served r) BadHandler at ≡ None → ⊥
-  handler_fails Free at i h = cc
-  handler_fails Given at i h = cc
-  handler_fails Called at i h = i
-  handler_fails Served at i h = i
+  handler_fails : (r : Role) (serves : Bool) (at : ℕ) → IsRead r → unless (is_served r && serves) BadHandler at ≡ None → ⊥
+  handler_fails Free serves at i h = cc
+  handler_fails Given serves at i h = cc
+  handler_fails Called serves at i h = i
+  handler_fails Served serves at i h = i
 
   call_fails : (r : Role) (at : ℕ) → IsRead r → unless (is_called r) BadHandler at ≡ None → ⊥
   call_fails Free at i h = cc
@@ -167,8 +167,10 @@ module _ (tables : Tables) (names : Naming) (k : Known) where
   typed p r (SuperCall at None args) i h = absurd (no_super (last (faults tables names k p [] args) (fault_at Mismatch at) h))
   typed p r (SuperCall at (Some m) args) i h =
       let d = super_method tables k p.this m in
-      super_has p d (type_of tables k p r (SuperCall at (Some m) args)) at (last (faults tables names k p [] args) (own_super tables names k p d (type_of tables k p r (SuperCall at (Some m) args)) at) h)
+      super_has p m d (type_of tables k p r (SuperCall at (Some m) args)) at (last (faults tables names k p [] args) (own_super tables names k p m d (type_of tables k p r (SuperCall at (Some m) args)) at) h)
   typed p r (Make at x args) i h =
       let f = finds tables k p x in
       make_has f (made tables k f) (type_of tables k p r (Make at x args)) at (last (faults tables names k p [] args) (own_make tables names k f (made tables k f) (type_of tables k p r (Make at x args)) at) h)
-  typed p r (Handler at body) i h = absurd (handler_fails r at i (last (handler_fault tables names k p body) (unless (is_served r) BadHandler at) h))
+  typed p r (Handler at body) i h =
+      let serves : Bool = serves_itself tables names k p body in
+      absurd (handler_fails r serves at i (last (handler_fault tables names k p body) (unless (is_served r && serves) BadHandler at) h))

@@ -31,7 +31,7 @@ pub fn rows_of_accepted()
 /// Overriding methods, handlers, and results that are derived.
 pub fn rows_of_functions()
     ensures overriding { refused overriding_names overriding ≡ fault_at Mismatch 46 }
-    ensures bad_handler { refused handler_names bad_handler ≡ fault_at BadHandler 26 }
+    ensures bad_handler { refused handler_names bad_handler ≡ fault_at BadHandler 47 }
     ensures derived { refused call_names calling ≡ None }
     ensures underived { refused call_names calling_itself ≡ fault_at NeedsType 22 }
 {}

@@ -4,7 +4,7 @@ ghost use Rattle.sts_syntax.specs.Types as value;
 ghost use Rattle.sts_scope.specs.Kinds as kind;
 
 use std::alloc::Global;
-use sts_base::{NoMemory, Seq};
+use sts_base::NoMemory;
 use sts_scope::{Base, Kind};
 use sts_syntax::Ty;
 
@@ -39,17 +39,6 @@ pub fn type_of_values(alloc: Global, of: Kind) -> Result<Ty, NoMemory>
     let mut found = base_type(of.base);
     for _ in 0..of.depth {
         found = list_of(alloc, found)?;
-    }
-    Ok(found)
-}
-
-/// The types of values that some types are.
-pub fn types_of_values(alloc: Global, all: &[Kind]) -> Result<Seq<Ty>, NoMemory>
-    ensures { IfOk result (λ found. value.value_types found ≡ kind.value_types all.now) }
-{
-    let mut found = Seq::new(alloc);
-    for of in all {
-        found.push(type_of_values(alloc, *of)?)?;
     }
     Ok(found)
 }

@@ -115,25 +115,19 @@ pub fn handlers_1() -> &'static [Row] {
 
 static HANDLERS_1: [Row; 8] = [
     Row {
-        at: &[Is("basic"), Is("."), Is("forever"), Is("("), Is("function")],
+        before: &[Is("basic"), Is("."), Is("forever"), Is("(")],
         sentence: "`basic.forever` takes a handler: a function without parameters that gives no value.",
         example: "basic.forever(function () { })",
         ..ANYWHERE
     },
     Row {
-        at: &[
-            Is("control"),
-            Is("."),
-            Is("inBackground"),
-            Is("("),
-            Is("function"),
-        ],
+        before: &[Is("control"), Is("."), Is("inBackground"), Is("(")],
         sentence: "`control.inBackground` takes a handler: a function without parameters that gives no value.",
         example: "control.inBackground(function () { })",
         ..ANYWHERE
     },
     Row {
-        at: &[
+        before: &[
             Is("input"),
             Is("."),
             Is("onButtonPressed"),
@@ -142,7 +136,6 @@ static HANDLERS_1: [Row; 8] = [
             Is("."),
             Name,
             Is(","),
-            Is("function"),
         ],
         sentence: "`input.onButtonPressed` takes a button and a handler: a function without parameters that gives no value.",
         example: "input.onButtonPressed(Button.A, function () { })",

@@ -12,3 +12,6 @@ invariant-loop l = record {
   len : length l.known.kinds ≡ length l.initial.known.kinds;
   same : Keeps l.initial.known l.known;
 }
+
+abbrev pub decreases-loop : goal.decreases-loop
+decreases-loop l = way.holes l.known.kinds

@@ -3,8 +3,9 @@ use Rattle.std.proofs.lemmas.Grind.{common_steps}
 use Rattle.std.proofs.lemmas.List.{drop-map}
 use Rattle.std.specs.Prelude.{IfOk, OnOk, is_some, if◌then◌else◌}
 use Rattle.sts_syntax.specs.BoardViews.{board_parameter}
-use Rattle.sts_syntax.specs.Trees.{Binary, Both, Either, Choice, Set, Bump, Member, Item, Items, Call, SuperCall, Make, For}
-use Rattle.sts_syntax.specs.Views.{tree, trees, node_tree, statement, statements, declarations, form_statement, optional_expression}
+use Rattle.sts_syntax.specs.declared.trees.Body.{out-Body}
+use Rattle.sts_syntax.specs.Trees.{Binary, Both, Either, Choice, Set, Bump, Member, Item, Items, Call, SuperCall, Make, For, Does}
+use Rattle.sts_syntax.specs.Views.{tree, trees, node_tree, statement, statements, declarations, form_statement, optional_expression, optional_annotation, parameters}
 use Rattle.sts_scope.specs.Faults.{Finds, ◌then◌}
 use Rattle.sts_scope.specs.Rules.{operate, joined, element, choose, assign, counted}
 use Rattle.type_derive.specs.declared.roles.Role.TheVariants.{Free, Given}
@@ -16,6 +17,7 @@ use Rattle.sts_syntax.proofs.Laws.{routine_parts, let_statement}
 use Rattle.type_check.specs.declared.seen.Seen.{Seen}
 use Rattle.type_check.specs.Bounds.{optional_boxed}
 use Rattle.type_derive.specs.Naming.{naming}
+use Rattle.type_derive.specs.Nodes.{serves_itself}
 use Rattle.type_check.specs.Contexts.{fault, seen_of, taken, handler_fault, statement_fault, statements_fault, declarations_fault, all_declared, after}
 use Rattle.type_check.proofs.Found.{part_kind, part_fault, found_one, found_two, found_three, trees_first, args_step, args_kept, kinds_more, untyped, member_board, member_found, call_found, call_typed, make_found, make_typed, super_found, super_typed, items_found, items_typed}
 use Rattle.type_check.proofs.Steps.{return_is, statements_kept, extends_after, for_is, for_of_step, returned_step, returned_found, first_extends}
@@ -355,23 +357,52 @@ kinds_of-loop-i-preserved t c =
           c.in_ok-s.ensures.seen c.in_ok-add.ensures.ok c.loop-i.invariant.kinds;
     }
 
-pub handler-returns : goal.handler-returns
-handler-returns t c =
+pub handler-returns-clause-found : goal.handler-returns-clause-found
+handler-returns-clause-found t c =
     let z = c.args.context.now in
     let p = place c.args.scope.now in
-    subst (Finds c.statements.result) (sym (ap (handler_fault z p) (routine_parts c.args.body.now))) (grind (arith, common_steps))
+    ap (handler_fault z p) (routine_parts c.args.body.now) ∙ grind (arith, common_steps)
 
-pub handler-returns-in_err-check_parameter_types : goal.handler-returns-in_err-check_parameter_types
-handler-returns-in_err-check_parameter_types t c =
+pub handler-returns-clause-serves : goal.handler-returns-clause-serves
+handler-returns-clause-serves t c =
+    let z = c.args.context.now in
+    let p = place c.args.scope.now in
+    let b = out-Body c.args.body.now in
+    let is : c.may_serve.result ≡ serves_itself z.tables.now (naming z) z.known.now p (Does b.at (parameters b.params) (optional_annotation b.gives) (statements b.stmts) b.arrow) = grind (arith, common_steps) in
+    is ∙ sym (ap (serves_itself z.tables.now (naming z) z.known.now p) (routine_parts c.args.body.now))
+
+pub handler-returns-in_err-check_parameter_types-clause-found : goal.handler-returns-in_err-check_parameter_types-clause-found
+handler-returns-in_err-check_parameter_types-clause-found t c =
     let z = c.args.context.now in
     let p = place c.args.scope.now in
     subst (Finds c.from_residual.result) (sym (ap (handler_fault z p) (routine_parts c.args.body.now))) (grind (arith, common_steps))
 
-pub handler-returns-in_err-check_written : goal.handler-returns-in_err-check_written
-handler-returns-in_err-check_written t c =
+pub handler-returns-in_err-check_written-clause-found : goal.handler-returns-in_err-check_written-clause-found
+handler-returns-in_err-check_written-clause-found t c =
     let z = c.args.context.now in
     let p = place c.args.scope.now in
     subst (Finds c.from_residual-in_err-check_written.result) (sym (ap (handler_fault z p) (routine_parts c.args.body.now))) (grind (arith, common_steps))
+
+pub handler-returns-in_err-statements-clause-found : goal.handler-returns-in_err-statements-clause-found
+handler-returns-in_err-statements-clause-found t c =
+    let z = c.args.context.now in
+    let p = place c.args.scope.now in
+    subst (Finds c.from_residual-in_err-statements.result) (sym (ap (handler_fault z p) (routine_parts c.args.body.now))) (grind (arith, common_steps))
+
+pub handler-returns-in_err-check_parameter_types-clause-serves : goal.handler-returns-in_err-check_parameter_types-clause-serves
+handler-returns-in_err-check_parameter_types-clause-serves t c = IfOk-from_err c.from_residual.result _ c.from_residual.ensures.0
+
+pub handler-returns-in_err-check_written-clause-serves : goal.handler-returns-in_err-check_written-clause-serves
+handler-returns-in_err-check_written-clause-serves t c = IfOk-from_err c.from_residual-in_err-check_written.result _ c.from_residual-in_err-check_written.ensures.0
+
+pub handler-returns-in_err-gives-clause-serves : goal.handler-returns-in_err-gives-clause-serves
+handler-returns-in_err-gives-clause-serves t c = IfOk-from_err c.from_residual-in_err-gives.result _ c.from_residual-in_err-gives.ensures.0
+
+pub handler-returns-in_err-inside-clause-serves : goal.handler-returns-in_err-inside-clause-serves
+handler-returns-in_err-inside-clause-serves t c = IfOk-from_err c.from_residual-in_err-inside.result _ c.from_residual-in_err-inside.ensures.0
+
+pub handler-returns-in_err-statements-clause-serves : goal.handler-returns-in_err-statements-clause-serves
+handler-returns-in_err-statements-clause-serves t c = IfOk-from_err c.from_residual-in_err-statements.result _ c.from_residual-in_err-statements.ensures.0
 
 pub statements-loop-i-preserved : goal.statements-loop-i-preserved
 statements-loop-i-preserved t c =
@@ -637,8 +668,8 @@ member-returns-in_err-unless-in-Member-clause-seen t c = IfOk-from_err c.from_re
 pub member-returns-in_err-s-in-Member-clause-seen : goal.member-returns-in_err-s-in-Member-clause-seen
 member-returns-in_err-s-in-Member-clause-seen t c = IfOk-from_err c.from_residual-in_err-s-in-Member.result _ c.from_residual-in_err-s-in-Member.ensures.0
 
-pub serving-returns-in_err-handler-in-Handler-clause-seen : goal.serving-returns-in_err-handler-in-Handler-clause-seen
-serving-returns-in_err-handler-in-Handler-clause-seen t c = IfOk-from_err c.from_residual.result _ c.from_residual.ensures.0
+pub serving-returns-in_err-serves-in-Handler-clause-seen : goal.serving-returns-in_err-serves-in-Handler-clause-seen
+serving-returns-in_err-serves-in-Handler-clause-seen t c = IfOk-from_err c.from_residual.result _ c.from_residual.ensures.0
 
 pub serving-returns-in_err-unless-in-Handler-clause-seen : goal.serving-returns-in_err-unless-in-Handler-clause-seen
 serving-returns-in_err-unless-in-Handler-clause-seen t c = IfOk-from_err c.from_residual-in_err-unless-in-Handler.result _ c.from_residual-in_err-unless-in-Handler.ensures.0
@@ -844,11 +875,11 @@ for_of-returns-in_err-s-clause-found t c = grind (arith, common_steps)
 pub for_of-returns-in_err-unless-2-clause-found : goal.for_of-returns-in_err-unless-2-clause-found
 for_of-returns-in_err-unless-2-clause-found t c = grind (arith, common_steps)
 
-pub handler-returns-in_err-gives : goal.handler-returns-in_err-gives
-handler-returns-in_err-gives t c = grind (arith, common_steps)
+pub handler-returns-in_err-gives-clause-found : goal.handler-returns-in_err-gives-clause-found
+handler-returns-in_err-gives-clause-found t c = grind (arith, common_steps)
 
-pub handler-returns-in_err-inside : goal.handler-returns-in_err-inside
-handler-returns-in_err-inside t c = grind (arith, common_steps)
+pub handler-returns-in_err-inside-clause-found : goal.handler-returns-in_err-inside-clause-found
+handler-returns-in_err-inside-clause-found t c = grind (arith, common_steps)
 
 pub initial-returns-in-None-clause-found : goal.initial-returns-in-None-clause-found
 initial-returns-in-None-clause-found t c = grind (arith, common_steps)
@@ -934,8 +965,8 @@ optional-returns-in_ok-s-in-Some-clause-found t c = grind (arith, common_steps)
 pub optional-returns-in_ok-s-in-Some-clause-tests : goal.optional-returns-in_ok-s-in-Some-clause-tests
 optional-returns-in_ok-s-in-Some-clause-tests t c = grind (arith, common_steps)
 
-pub serving-returns-in_err-handler-in-Handler-clause-found : goal.serving-returns-in_err-handler-in-Handler-clause-found
-serving-returns-in_err-handler-in-Handler-clause-found t c = grind (arith, common_steps)
+pub serving-returns-in_err-serves-in-Handler-clause-found : goal.serving-returns-in_err-serves-in-Handler-clause-found
+serving-returns-in_err-serves-in-Handler-clause-found t c = grind (arith, common_steps)
 
 pub serving-returns-in_err-unless-in-Handler-clause-found : goal.serving-returns-in_err-unless-in-Handler-clause-found
 serving-returns-in_err-unless-in-Handler-clause-found t c = grind (arith, common_steps)
