@@ -50,7 +50,8 @@ impl Plan {
 
     fn run<W: Write>(self, alloc: Global, out: &mut W) -> anyhow::Result<()> {
         let mut sink = MemorySink::new(alloc, Seq::new(alloc)).map_err(|_| anyhow!("no memory"))?;
-        sink.reserve(alloc, 1 << 20).map_err(|_| anyhow!("no memory"))?;
+        sink.reserve(alloc, 1 << 20)
+            .map_err(|_| anyhow!("no memory"))?;
         let end = run_class(
             alloc,
             self.images,
@@ -74,12 +75,7 @@ impl Plan {
 }
 
 /// Obeys a line.
-fn obey<W: Write>(
-    alloc: Global,
-    plan: Plan,
-    line: &str,
-    out: &mut W,
-) -> anyhow::Result<Plan> {
+fn obey<W: Write>(alloc: Global, plan: Plan, line: &str, out: &mut W) -> anyhow::Result<Plan> {
     let mut plan = plan;
     let (verb, rest) = line.split_once(" ").unwrap_or((line, ""));
     let mut numbers = Vec::new(alloc);

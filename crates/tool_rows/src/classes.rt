@@ -108,7 +108,7 @@ enum Written {
     Otherwise,
 }
 
-fn written(taken: &[u8], transcript: &str) -> Written {
+fn what_stands(taken: &[u8], transcript: &str) -> Written {
     if transcript.as_bytes().starts_with(taken) {
         if taken.len() == transcript.len() {
             Written::Whole
@@ -136,7 +136,7 @@ fn play(alloc: Global, course: &Course, fetch: u64, put: u64) -> io::Result<(u8,
     if !are_untold(plugs.as_slice(), 0) {
         return Ok((status, Written::Otherwise));
     }
-    Ok((status, written(sink.taken(), course.transcript)))
+    Ok((status, what_stands(sink.taken(), course.transcript)))
 }
 
 /// Each put failing in turn, until a run meets no fault: a part of the transcript is written, and at last the whole.
