@@ -18,7 +18,7 @@ class Browser:
         self.home = tempfile.TemporaryDirectory(ignore_cleanup_errors=True)
         to_it, self.write = os.pipe()
         self.read, from_it = os.pipe()
-        words = [page.chromium(), "--headless", "--no-sandbox", "--disable-gpu", f"--user-data-dir={self.home.name}", "--remote-debugging-pipe", "about:blank"]
+        words = [page.chromium(), "--headless", "--no-sandbox", "--disable-gpu", "--disable-background-timer-throttling", "--disable-backgrounding-occluded-windows", "--disable-renderer-backgrounding", f"--user-data-dir={self.home.name}", "--remote-debugging-pipe", "about:blank"]
         self.runs = subprocess.Popen(["sh", "-c", f'exec "$@" 3<&{to_it} 4>&{from_it}', "sh", *words], pass_fds=(to_it, from_it), stdout=subprocess.DEVNULL, stderr=subprocess.DEVNULL)
         os.close(to_it)
         os.close(from_it)

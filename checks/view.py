@@ -187,6 +187,15 @@ def is_narrow(it):
     return it.value("document.documentElement.scrollWidth <= document.documentElement.clientWidth && [...document.querySelectorAll('button, input, select, .lights, .strip, pre, .pin')].filter((it) => !it.closest('.inner')).every((it) => it.getBoundingClientRect().right <= document.documentElement.clientWidth)")
 
 
+def settled_moment(it):
+    """The moment that the page shows, once it stays."""
+    before, now = None, moment_of(it)
+    while now != before:
+        time.sleep(0.2)
+        before, now = now, moment_of(it)
+    return now
+
+
 def by_keys(it, transcript, frames, end):
     """Steps, plays and moves along by keys alone."""
     for lines in range(1, 6):
@@ -195,11 +204,11 @@ def by_keys(it, transcript, frames, end):
     for lines in range(4, 2, -1):
         it.key("ArrowLeft")
         expect(f"keys: the lights after steps back to {lines}", stepped(transcript, lines), it.lights())
-    before = moment_of(it)
+    before = settled_moment(it)
     it.key(" ")
     expect("keys: it plays", "Pause", it.value("document.getElementById('play').textContent"))
-    until = time.time() + 20
-    while moment_of(it) == before and time.time() < until:
+    until = time.time() + 60
+    while moment_of(it) <= before and time.time() < until:
         time.sleep(0.05)
     it.key(" ")
     stopped = moment_of(it)
