@@ -98,7 +98,7 @@ digits_end test goes text i j j' h e h' e' =
       ]
     ]
 
-digit_goes_on : (byte : ℕ) → IsTrue (is_ascii_digit byte) → IsTrue (ends_number byte) → ⊥
+pub digit_goes_on : (byte : ℕ) → IsTrue (is_ascii_digit byte) → IsTrue (ends_number byte) → ⊥
 digit_goes_on byte h e = grind (arith, nat_tests)
 
 -- `0x` is no decimal number

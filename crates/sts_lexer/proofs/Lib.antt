@@ -13,4 +13,6 @@ pub mod Refusing
 pub mod SameNumbers
 pub mod Front
 pub mod Checked
+pub mod Standing
+pub mod SomeReading
 pub mod Laws

@@ -1,5 +1,5 @@
 -- What holds of tokens whoever reads them.
-use Rattle.std.specs.Prelude.{◌≡◌, ℕ, List}
+use Rattle.std.specs.Prelude.{◌≡◌, ◌⊎◌, ℕ, List}
 use Rattle.sts_base.specs.Distinct.{IsDistinct}
 use Rattle.sts_base.specs.declared.tables.Tables.{Tables}
 use Rattle.sts_base.specs.declared.refused.Code.{Code}
@@ -37,3 +37,8 @@ pub record IsRead (old : Tables) (text : List ℕ) (new : Tables) (all : List To
 pub record OneNumbering : Type 0 where
   pub one : (old new new' : Tables) (text : List ℕ) (all all' : List Token) → IsRead old text new all → IsRead old text new' all'
       → (new ≡ new') × (all ≡ all')
+
+-- A text that is read over tables of distinct strings has tokens, or there is a reason and a place for which it has none.
+abbrev pub SomeReading : Type 0
+SomeReading = (old : Tables) (text : List ℕ) → IsDistinct old.names → IsDistinct old.texts
+    → ((new : Tables) × (all : List Token) × IsRead old text new all) ⊎ ((why : Code) × (at : ℕ) × IsRefusal text why at)

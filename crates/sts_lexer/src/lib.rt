@@ -18,6 +18,6 @@ mod words;
 
 pub use lexer::tokens;
 pub use marks::Mark;
-pub use theorems::{one_numbering, one_reading, spellings_stay};
+pub use theorems::{one_numbering, one_reading, spellings_stay, texts_are_read_or_refused};
 pub use token::{Kind, Token};
 pub use words::Word;

@@ -1,5 +1,5 @@
 // Laws of tokens.
-ghost use Rattle.sts_lexer.specs.Laws.{OneNumbering, OneReading, SpellingsStay};
+ghost use Rattle.sts_lexer.specs.Laws.{OneNumbering, OneReading, SomeReading, SpellingsStay};
 
 /// A text has one list of tokens by given tables, or one refusal, and never both.
 pub fn one_reading()
@@ -14,4 +14,9 @@ pub fn spellings_stay()
 /// A text that is read over given tables has one list of tokens, and leaves one pair of tables.
 pub fn one_numbering()
     ensures { OneNumbering }
+{}
+
+/// A text that is read over given tables has tokens, or is refused for want of them.
+pub fn texts_are_read_or_refused()
+    ensures { SomeReading }
 {}
