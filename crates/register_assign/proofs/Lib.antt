@@ -3,4 +3,5 @@ pub mod Covering
 pub mod Assigning
 pub mod Checking
 pub mod Unreading
+pub mod Saving
 pub mod Laws

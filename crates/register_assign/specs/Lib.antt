@@ -3,3 +3,4 @@ pub mod Marks
 pub mod Intervals
 pub mod Checks
 pub mod Unread
+pub mod Saving
