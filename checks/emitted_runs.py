@@ -176,9 +176,9 @@ def heap():
 
 
 def linked(code):
-    """The code with calls of itself, and of the program's panic (BLX r8) for SVC 1."""
+    """The code with calls of itself, and of the program's panic (BLX r8) for SVC 1. Its last POP with PC stands before the pool."""
     halves = list(struct.unpack(f"<{len(code) // 2}H", code))
-    at, last = 0, max(i for i, half in enumerate(halves) if half == 0xBDF0)
+    at, last = 0, max(i for i, half in enumerate(halves) if half & 0xFF0F == 0xBD00)
     while at <= last:
         if halves[at] >> 11 == 0b11110 and halves[at + 1] >> 14 == 0b11:
             by = -(2 * at + 4)

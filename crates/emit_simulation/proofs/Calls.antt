@@ -80,7 +80,7 @@ module _ (C : FlatCode) (placed : List Placed) (flash : List ℕ) (a : Addresses
   frames_fill ws [] kept k x = let e = x.0 in omega arith
   frames_fill ws (f ∷ fs) kept k x =
       let o = slice_get C.functions f.function in
-      let h = frames_fill ws fs (saved_at o ws k) (k + words_at o) x.1 in
+      let h = frames_fill ws fs (saved_at o (place_in C placed flash a f.function) kept ws k) (k + words_at o) x.1 in
       let e : flat.words C f.function ≡ words_at o = ap words_of (entry_is C.functions f.function) ∙ words_same o in
       omega arith
 

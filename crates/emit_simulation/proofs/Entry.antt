@@ -17,14 +17,16 @@ use Rattle.flat_ir.specs.Liveness.{IsLiveAt}
 use Rattle.register_assign.specs.declared.places.Place.{Place}
 use Rattle.register_assign.specs.declared.places.Place.TheVariants.{Reg, Slot, Incoming}
 use Rattle.register_assign.specs.Sound.{place_of, IsWithin, ArePlacesSound}
+use Rattle.register_assign.specs.Saving.{saves}
+use Rattle.register_assign.proofs.Laws.{saves_few}
 use Rattle.sts_meaning.specs.Values.{Value}
 use Rattle.thumb_emit.specs.Emit.{move_pieces, moves_pieces, entry_pieces}
-use Rattle.thumb_emit.specs.Frame.{from_place, to_place, lowers}
+use Rattle.thumb_emit.specs.Frame.{from_place, to_place, lowers, below_saved, saved_list}
 use Rattle.thumb_emit.specs.Bounds.{total_cost}
 use Rattle.placed_frames.specs.View.{View, with_low, registers_of, bank_of, Quiet, At}
 use Rattle.placed_frames.specs.Places.{Store, put, move, moved, IsRoom, own, words}
 use Rattle.placed_frames.specs.Frames.{Frame, HasFrames, Running, AreWords, outgoing_of}
-use Rattle.placed_frames.proofs.Laws.{at_view, quiet_does, push_five, frames_room, move_room, move_incoming, calls, pushed_at}
+use Rattle.placed_frames.proofs.Laws.{Bm, at_view, quiet_does, run_listed, leaving, leaving_at, leaving_last, leaving_length, leaving_words, kept_at, push_is, pushes_words, frames_room, move_room, move_incoming, calls, HasPushed, pushed}
 use Rattle.emit_simulation.specs.Laid.{Fm, over, Laid, Comes, Flows, OfInstr, OfLabel, OfNumber, AllFlow, loaded_flags, steps_of, store_of}
 use Rattle.emit_simulation.specs.Starts.{StandAt}
 use Rattle.emit_simulation.proofs.Flowing.{flows, flows_one, branches, passes_by, then, goes_next, each_goes}
@@ -140,19 +142,16 @@ eight n = omega arith
 few_enough : (m k : ℕ) → m ≤ 4 * k → 11 + (2 + (2 + (4 + m))) ≤ 21 + 4 * k
 few_enough m k l = omega arith
 
-long_is : (x n o l : ℕ) → x ≡ n + (5 + l) → n ≡ o → x ≡ o + 5 + l
-long_is x n o l e f = omega arith
-
 -- the head of an entry
-abbrev head : Function → List Piece
-head f =
+abbrev head : Function → (ℕ → Place) → List Piece
+head f place =
     Plain (MovHigh 3 14) ∷ (Plain (MovHigh 0 13) ∷ (Number 1 (0x20003080 + 4 * words f) ∷ (Plain (CmpReg 0 1) ∷ (Go 2 (3 * length f.ops)
-    ∷ (Plain (MovImm 0 102) ∷ (Plain (Svc 1) ∷ (Label (3 * length f.ops) ∷ (Plain (MovHigh 14 3) ∷ (Plain (Push 240 true) ∷ [])))))))))
+    ∷ (Plain (MovImm 0 102) ∷ (Plain (Svc 1) ∷ (Label (3 * length f.ops) ∷ (Plain (MovHigh 14 3) ∷ (Plain (Push (saved_list f place) true) ∷ [])))))))))
 
 module _ (fetch : ℕ → Fetched) (flash : List ℕ) (p : Places) (pieces : List Piece) (laid : Laid fetch flash p pieces) (gn : Function) (place : ℕ → Place)
     (st : StandAt pieces 0 (entry_pieces gn place)) where
-  pub at_head : (n : ℕ) → n < 10 → slice_get pieces n ≡ slice_get (head gn) n
-  at_head n l = ap (slice_get pieces) (omega arith) ∙ first_of pieces 0 (head gn) (lowers (own gn) ++ moves_pieces gn place 0 gn.params) st n l
+  pub at_head : (n : ℕ) → n < 10 → slice_get pieces n ≡ slice_get (head gn place) n
+  at_head n l = ap (slice_get pieces) (omega arith) ∙ first_of pieces 0 (head gn place) (lowers (below_saved gn place) ++ moves_pieces gn place 0 gn.params) st n l
 
   abbrev bound : ℕ
   bound = 0x20003080 + 4 * words gn
@@ -267,19 +266,28 @@ module _ (fetch : ℕ → Fetched) (flash : List ℕ) (p : Places) (pieces : Lis
         let m8' = subst (λ j. Reaches over fetch 1 2 r8 (b4, free) (registers_of v4 j s) (b4, free)) p8 m8 in
         let l4 = slice_index v4.low 4 in let l5 = slice_index v4.low 5 in let l6 = slice_index v4.low 6 in let l7 = slice_index v4.low 7 in
         let small : (j : ℕ) → slice_index (store_of v4).kept j < 2 ^ 32 = λ j. subst (λ (q : Store). slice_index q.kept j < 2 ^ 32) (sym k4) (aw j) in
-        let pu = push_five flash (p.behind 9) r9 b4 free at4 (omega arith) (small 0, (small 1, (small 2, (small 3, (lr, tt))))) in
-        let ws9 = l4 ∷ (l5 ∷ (l6 ∷ (l7 ∷ (s.lr ∷ v.words)))) in
+        let n = saves gn place in
+        let few : n ≤ 4 = saves_few gn place (λ u l. subst (λ (pl : ℕ → Place). IsWithin gn (pl u)) (sym pe) (sound.within u l)) in
+        let list = saved_list gn place in
+        let vs = leaving r9 4 n in
+        let lv : length vs ≡ n + 1 = leaving_length r9 4 n in
+        let sp9 = s.sp - 4 * length vs in
+        let pu = pushes_words flash (p.behind 9) r9 b4 free vs at4 (omega arith)
+        (leaving_words r9 4 n (λ i l. subst (λ w. w < 2 ^ 32) (sym (kept_at v4.low i (omega arith))) (small i)) lr) in
+        let does = ap (Bm (b4, free) s.sp) (push_is (p.behind 9) r9 list n (run_listed n few)) ∙ pu.1 in
+        let ws9 = vs ++ v.words in
         let b9 : Bank = record b4 { words = ws9 } in
-        let q9 : Registers = record r9 { sp = s.sp - 20; pc = p.behind 9 } in
-        let m9 = each_goes fetch flash p pieces laid 9 (Plain (Push 240 true)) (at_head 9 (omega arith)) (omega arith) r9 (b4, free) q9 (b9, pu.0) refl at4
-        pu.1 in
-        let p9 = laid.next 9 (Plain (Push 240 true)) (at_head 9 (omega arith)) refl in
-        let r10 : Registers = record r9 { sp = s.sp - 20; pc = p.at 10 } in
-        let m9' = subst (λ j. Reaches over fetch 1 2 r9 (b4, free) (record r9 { sp = s.sp - 20; pc = j }) (b9, pu.0)) p9 m9 in
-        let st10 = rest_of pieces 0 (head gn) (lowers (own gn) ++ ms) st in
-        let lw = lowered_by fetch flash p pieces laid 10 (own gn) r10 b9 pu.0 (first_of pieces 10 (lowers (own gn)) ms st10) pu.2 (omega arith) in
-        let i11 = 10 + length (lowers (own gn)) in
-        let sp1 = s.sp - 20 - 4 * own gn in
+        let q9 : Registers = record r9 { sp = sp9; pc = p.behind 9 } in
+        let m9 = each_goes fetch flash p pieces laid 9 (Plain (Push list true)) (at_head 9 (omega arith)) (omega arith) r9 (b4, free) q9 (b9, pu.0) refl at4
+        does in
+        let p9 = laid.next 9 (Plain (Push list true)) (at_head 9 (omega arith)) refl in
+        let r10 : Registers = record r9 { sp = sp9; pc = p.at 10 } in
+        let m9' = subst (λ j. Reaches over fetch 1 2 r9 (b4, free) (record r9 { sp = sp9; pc = j }) (b9, pu.0)) p9 m9 in
+        let st10 = rest_of pieces 0 (head gn place) (lowers (below_saved gn place) ++ ms) st in
+        let lw = lowered_by fetch flash p pieces laid 10 (below_saved gn place) r10 b9 pu.0 (first_of pieces 10 (lowers (below_saved gn place)) ms st10) pu.2
+        (omega arith) in
+        let i11 = 10 + length (lowers (below_saved gn place)) in
+        let sp1 = sp9 - 4 * below_saved gn place in
         let sp' = s.sp - 4 * words gn in
         let zp : sp1 ≡ sp' = omega arith in
         let ws10 = lw.new ++ ws9 in
@@ -287,20 +295,22 @@ module _ (fetch : ℕ → Fetched) (flash : List ℕ) (p : Places) (pieces : Lis
         let v5 : View = record v4 { words = ws10 } in
         let s7 : Registers = record s { sp = sp1 } in
         let fr = frames_room Is code places return_to v.words fs (store_of v).kept 0 x in
-        let dl = lw.long in
-        let len : length ws10 ≡ length lw.new + (5 + length v.words) = length-append lw.new ws9 ∙ omega arith in
+        let hp : HasPushed gn n (store_of v4).kept s.lr v.words ws10
+        = pushed gn n (store_of v4).kept s.lr v.words lw.new vs few lw.long lv (λ i l. leaving_at r9 4 n i l ∙ kept_at v4.low i (omega arith))
+        (leaving_last r9 4 n) in
+        let hp' = subst (λ (pl : ℕ → Place). HasPushed gn (saves gn pl) (store_of v4).kept s.lr v.words ws10) pe hp in
+        let len = hp.long in
         let rm : IsRoom gn (store_of v5) = record { four = refl; long = omega arith } in
         let within : (u : ℕ) → u < gn.params → IsWithin gn (place u) = λ u l. subst (λ (pl : ℕ → Place). IsWithin gn (pl u)) (sym pe)
         (sound.within u (omega arith)) in
         let mv = moves_flow flash p gn place within 0 gn.params v5 (omega arith) rm n4
-        (λ u l. subst (λ q. q < 2 ^ 32) (sym (pushed_at Is code places return_to lw.new l4 l5 l6 l7 s.lr v.words (suc (suc (suc (suc (suc u))))) (words gn + u)
-        (omega arith))) (as' u l).1) in
-        let cm = flows fetch flash p pieces laid ms i11 v5 mv.v' s7 b10 lw.free' (rest_of pieces 10 (lowers (own gn)) ms st10) lw.at refl mv.flow in
-        let cl = calls Is code places return_to gn ps args fs l4 l5 l6 l7 s.lr lw.new v.words sound dl el lp as' small
+        (λ u l. subst (λ q. q < 2 ^ 32) (sym (hp.behind u)) (as' u l).1) in
+        let cm = flows fetch flash p pieces laid ms i11 v5 mv.v' s7 b10 lw.free' (rest_of pieces 10 (lowers (below_saved gn place)) ms st10) lw.at refl mv.flow in
+        let cl = calls Is code places return_to gn ps args fs l4 l5 l6 l7 s.lr v.words ws10 sound hp' el lp as' small
         (subst (λ (q : Store). HasFrames Is code places return_to v.words fs q.kept 0) (sym k4) x) in
         let cl' = subst (λ (pl : ℕ → Place). Running Is code places return_to gn pl (λ t. IsLiveAt gn.ops t 0) args fs (moved gn pl 0 gn.params (store_of v5)))
         (sym pe) cl in
-        let ln : length (entry_pieces gn place) ≡ i11 + length ms = omega arith ∙ ap (λ n. 10 + n) (length-append (lowers (own gn)) ms) ∙ omega arith in
+        let ln : length (entry_pieces gn place) ≡ i11 + length ms = omega arith ∙ ap (λ j. 10 + j) (length-append (lowers (below_saved gn place)) ms) ∙ omega arith in
         let end : Registers = record (registers_of mv.v' (p.at (i11 + length ms)) s) { sp = sp1; lr = cm.link } in
         let end' : Registers = record (registers_of mv.v' (p.at (length (entry_pieces gn place))) s) { sp = sp'; lr = cm.link } in
         let m10 = reaches_add over fetch 1 4 (steps_of ms) (total_cost ms) r10 (b9, pu.0) (record r10 { sp = sp1; pc = p.at i11 }) (b10, lw.free') end
@@ -323,7 +333,7 @@ module _ (fetch : ℕ → Fetched) (flash : List ℕ) (p : Places) (pieces : Lis
           at = at_view flash sp' mv.v' b10 cm.long (subst (λ n. At flash n b10) zp lw.at);
           runs = subst (Running Is code places return_to gn place (λ t. IsLiveAt gn.ops t 0) args fs) (sym mv.store) cl';
           low = mv.low;
-          long = long_is (length mv.v'.words) (length lw.new) (own gn) (length v.words) (cm.long ∙ len) dl;
+          long = cm.long ∙ len;
           globals = mv.globals;
           arena = mv.arena;
         }

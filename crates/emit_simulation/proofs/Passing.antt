@@ -85,9 +85,10 @@ module _ (C : FlatCode) (placed : List Placed) (flash : List ℕ) (a : Addresses
           small = fr.small;
         } in
         let w0 : words fn ≡ 0 + words fn = omega arith in
-        let above = subst (λ n. HasFrames Is C.functions pin ret c.bank (frames_of callers) (saved fn c.bank 0) n) w0 r.above in
+        let above = subst (λ n. HasFrames Is C.functions pin ret c.bank (frames_of callers) (saved fn (pin f.function) kept c.bank 0) n) w0
+        (subst (λ (q : ℕ → Place). HasFrames Is C.functions pin ret c.bank (frames_of callers) (saved fn q kept c.bank 0) (words fn)) pe r.above) in
         subst (λ (o : Option Function). HasWaiting Is C.functions pin ret c.bank o (frame_of f) (frames_of callers) kept 0 × HasFrames Is C.functions pin ret
-        c.bank (frames_of callers) (saved_at o c.bank 0) (0 + words_at o)) (sym fw.function) (frame, above)
+        c.bank (frames_of callers) (saved_at o (pin f.function) kept c.bank 0) (0 + words_at o)) (sym fw.function) (frame, above)
 
     -- what is kept while arguments are passed
     pub record Passes (u : View) : Type 0 where

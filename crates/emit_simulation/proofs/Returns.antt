@@ -252,13 +252,14 @@ module _ (C : FlatCode) (placed : List Placed) (flash : List ℕ) (a : Addresses
         let hs : HasFrames Is C.functions pin ret y.seen.words (frames_of (fr ∷ fs)) kept
         0 = subst (λ gs. HasFrames Is C.functions pin ret y.seen.words (frames_of gs) kept 0) ce y.frames in
         let hs' = subst (λ (o : Option Function). HasWaiting Is C.functions pin ret y.seen.words o (frame_of fr) (frames_of fs) kept 0 × HasFrames Is
-        C.functions pin ret y.seen.words (frames_of fs) (saved_at o y.seen.words 0) (0 + words_at o)) fe hs in
+        C.functions pin ret y.seen.words (frames_of fs) (saved_at o (pin fr.function) kept y.seen.words 0) (0 + words_at o)) fe hs in
         let pe : pin fr.function ≡ place = ap place_at there in
         let w0 : 0 + words fn ≡ words fn = omega arith in
         let run : Running Is C.functions pin ret fn place (Waits fn fr.place) fr.temps (frames_of fs) (store_of y.seen) = record {
           four = refl;
           frame = subst (λ (g : ℕ → Place). HasFrame Is C.functions pin ret y.seen.words fn g (Waits fn fr.place) fr.temps (frames_of fs) kept 0) pe hs'.0;
-          above = subst (λ n. HasFrames Is C.functions pin ret y.seen.words (frames_of fs) (saved_at (Some fn) y.seen.words 0) n) w0 hs'.1;
+          above = subst (λ (g : ℕ → Place). HasFrames Is C.functions pin ret y.seen.words (frames_of fs) (saved_at (Some fn) g kept y.seen.words 0) (words fn)) pe
+              (subst (λ n. HasFrames Is C.functions pin ret y.seen.words (frames_of fs) (saved_at (Some fn) (pin fr.function) kept y.seen.words 0) n) w0 hs'.1);
         } in
         let ds = y.less in let d0 = x.deep in
         let isat : IsAt C placed flash a pr (Waits fn fr.place) fr fs base (ci + 1) c2 = record {

@@ -1,23 +1,52 @@
 -- Frames under a write, and where words come or go below them.
-use Rattle.std.proofs.Common.{◌≡◌, ℕ, ◌+◌, ◌<◌, ◌≤◌, ◌⊎◌, inl, inr, List, [], ◌∷◌, length, Option, Some, None, refl, sym, ap, ◌∙◌, subst, arith, slice_set, slice_get, slice_index, get_or-set_other}
+use Rattle.std.proofs.Common.{zero, suc, ◌≡◌, ℕ, ◌+◌, ◌-◌, ◌<◌, ◌≤◌, ◌⊎◌, inl, inr, Bool, true, false, nat_lt, if◌then◌else◌, List, [], ◌∷◌, length, Option, Some, None, refl, sym, ap, ◌∙◌, subst, arith, slice_set, slice_get, slice_index, get_or-set_other}
+use Rattle.std.proofs.lemmas.Bool.Decides.{nat_tests}
 use Rattle.std.proofs.lemmas.List.{length-set}
 use Rattle.flat_ir.specs.declared.ops.Function.{Function}
 use Rattle.register_assign.specs.declared.places.Place.{Place}
 use Rattle.register_assign.specs.declared.places.Place.TheVariants.{Reg, Slot, Incoming}
+use Rattle.register_assign.specs.Saving.{saves}
 use Rattle.placed_frames.specs.Places.{own, words, value}
-use Rattle.placed_frames.specs.Frames.{Frame, saved, saved_at, words_at, outgoing_at, Waits, outgoing_of, HasFrame, HasWaiting, HasFrames, AreWords}
+use Rattle.placed_frames.specs.Frames.{Frame, saved_word, saved, saved_at, words_at, outgoing_at, Waits, outgoing_of, HasFrame, HasWaiting, HasFrames, AreWords}
 
 pub four : (a b c d a' b' c' d' : ℕ) → a ≡ a' → b ≡ b' → c ≡ c' → d ≡ d' → (a ∷ (b ∷ (c ∷ (d ∷ [])))) ≡ (a' ∷ (b' ∷ (c' ∷ (d' ∷ []))))
 four a b c d a' b' c' d' e f g h = λ i. e i ∷ (f i ∷ (g i ∷ (h i ∷ [])))
 
+-- a choice whose first value, or whose second, is another one
+same_first : (b : Bool) (x y z : ℕ) → (b ≡ true → x ≡ y) → (if b then x else z) ≡ (if b then y else z)
+same_first true x y z h = h refl
+same_first false x y z h = refl
+
+same_second : (b : Bool) (x y z : ℕ) → (b ≡ false → y ≡ z) → (if b then x else y) ≡ (if b then x else z)
+same_second true x y z h = refl
+same_second false x y z h = h refl
+
 -- what stays in a list where one word is written, where words go away in front, and where words come in front
-pub saved_set : (f : Function) (ws : List ℕ) (k i v : ℕ) → (i < k + own f) ⊎ (k + words f ≤ i) → saved f (slice_set ws i v) k ≡ saved f ws k
-saved_set f ws k i v (inl l) = four _ _ _ _ _ _ _ _ (get_or-set_other ws i (k + own f) v 0 (omega arith))
-    (get_or-set_other ws i (k + own f + 1) v 0 (omega arith)) (get_or-set_other ws i (k + own f + 2) v 0 (omega arith))
-    (get_or-set_other ws i (k + own f + 3) v 0 (omega arith))
-saved_set f ws k i v (inr l) = four _ _ _ _ _ _ _ _ (get_or-set_other ws i (k + own f) v 0 (omega arith))
-    (get_or-set_other ws i (k + own f + 1) v 0 (omega arith)) (get_or-set_other ws i (k + own f + 2) v 0 (omega arith))
-    (get_or-set_other ws i (k + own f + 3) v 0 (omega arith))
+word_set : (n : ℕ) (f : Function) (kept ws : List ℕ) (k i j v : ℕ) → i < 4 → (j < k + own f) ⊎ (k + words f ≤ j)
+    → saved_word n f kept (slice_set ws j v) k i ≡ saved_word n f kept ws k i
+word_set n f kept ws k i j v l (inl m) = same_first (nat_lt i n) _ _ _ (λ e. get_or-set_other ws j (k + (own f + (4 - n)) + i) v 0 (omega arith))
+word_set n f kept ws k i j v l (inr m) =
+    same_first (nat_lt i n) _ _ _
+    (λ e. let q : i < n = grind (arith, nat_tests) in get_or-set_other ws j (k + (own f + (4 - n)) + i) v 0 (omega arith))
+
+pub saved_set : (f : Function) (place : ℕ → Place) (kept ws : List ℕ) (k j v : ℕ) → (j < k + own f) ⊎ (k + words f ≤ j)
+    → saved f place kept (slice_set ws j v) k ≡ saved f place kept ws k
+saved_set f place kept ws k j v h =
+    let n = saves f place in
+    four _ _ _ _ _ _ _ _ (word_set n f kept ws k 0 j v (omega arith) h) (word_set n f kept ws k 1 j v (omega arith) h)
+    (word_set n f kept ws k 2 j v (omega arith) h) (word_set n f kept ws k 3 j v (omega arith) h)
+
+-- the registers that a function saves may change
+word_changed : (n : ℕ) (f : Function) (kept kept' ws : List ℕ) (k i : ℕ) → ((j : ℕ) → n ≤ j → slice_index kept j ≡ slice_index kept' j)
+    → saved_word n f kept ws k i ≡ saved_word n f kept' ws k i
+word_changed n f kept kept' ws k i h = same_second (nat_lt i n) _ _ _ (λ e. h i (grind (arith, nat_tests)))
+
+pub saved_changed : (f : Function) (place : ℕ → Place) (kept kept' ws : List ℕ) (k : ℕ)
+    → ((j : ℕ) → saves f place ≤ j → slice_index kept j ≡ slice_index kept' j) → saved f place kept ws k ≡ saved f place kept' ws k
+saved_changed f place kept kept' ws k h =
+    let n = saves f place in
+    four _ _ _ _ _ _ _ _ (word_changed n f kept kept' ws k 0 h) (word_changed n f kept kept' ws k 1 h)
+    (word_changed n f kept kept' ws k 2 h) (word_changed n f kept kept' ws k 3 h)
 
 -- words xs, and ys with each word from j on where xs has it from k on
 abbrev pub Shifted : List ℕ → ℕ → List ℕ → ℕ → Type 0
@@ -32,11 +61,16 @@ shifted_at xs ys j k i a b h e f = at_sum ys b (k + i) e ∙ (h i ∙ at_sum xs 
 shifted_on : (xs ys : List ℕ) (j k n : ℕ) → Shifted xs j ys k → Shifted xs (j + n) ys (k + n)
 shifted_on xs ys j k n h i = at_sum ys (k + n + i) (k + (n + i)) (omega arith) ∙ (h (n + i) ∙ at_sum xs (j + (n + i)) (j + n + i) (omega arith))
 
-shifted_saved : (f : Function) (xs ys : List ℕ) (j k : ℕ) → Shifted xs j ys k → saved f xs j ≡ saved f ys k
-shifted_saved f xs ys j k h = four _ _ _ _ _ _ _ _ (sym (shifted_at xs ys j k (own f) (j + own f) (k + own f) h refl refl))
-    (sym (shifted_at xs ys j k (own f + 1) (j + own f + 1) (k + own f + 1) h (omega arith) (omega arith)))
-    (sym (shifted_at xs ys j k (own f + 2) (j + own f + 2) (k + own f + 2) h (omega arith) (omega arith)))
-    (sym (shifted_at xs ys j k (own f + 3) (j + own f + 3) (k + own f + 3) h (omega arith) (omega arith)))
+shifted_word : (n : ℕ) (f : Function) (kept xs ys : List ℕ) (j k i : ℕ) → Shifted xs j ys k → saved_word n f kept xs j i ≡ saved_word n f kept ys k i
+shifted_word n f kept xs ys j k i h =
+    let at = own f + (4 - n) in
+    same_first (nat_lt i n) _ _ _ (λ e. sym (shifted_at xs ys j k (at + i) (j + at + i) (k + at + i) h (omega arith) (omega arith)))
+
+shifted_saved : (f : Function) (place : ℕ → Place) (kept xs ys : List ℕ) (j k : ℕ) → Shifted xs j ys k → saved f place kept xs j ≡ saved f place kept ys k
+shifted_saved f place kept xs ys j k h =
+    let n = saves f place in
+    four _ _ _ _ _ _ _ _ (shifted_word n f kept xs ys j k 0 h) (shifted_word n f kept xs ys j k 1 h)
+    (shifted_word n f kept xs ys j k 2 h) (shifted_word n f kept xs ys j k 3 h)
 
 shifted_value : (f : Function) (kept xs ys : List ℕ) (j k : ℕ) (p : Place) → Shifted xs j ys k → value f kept ys k p ≡ value f kept xs j p
 shifted_value f kept xs ys j k (Reg r) h = refl
@@ -60,9 +94,10 @@ module _ {V : Type 0} (Is : V → ℕ → Type 0) (code : List Function) (places
   waiting_shifts xs ys j k h None f fs kept x = x
   waiting_shifts xs ys j k h (Some fn) f fs kept x = frame_shifts xs ys j k h fn (places f.function) (Waits fn f.place) f.temps fs kept x
 
-  shifted_saved_at : (o : Option Function) (xs ys : List ℕ) (j k : ℕ) → Shifted xs j ys k → saved_at o xs j ≡ saved_at o ys k
-  shifted_saved_at None xs ys j k h = refl
-  shifted_saved_at (Some f) xs ys j k h = shifted_saved f xs ys j k h
+  shifted_saved_at : (o : Option Function) (place : ℕ → Place) (kept xs ys : List ℕ) (j k : ℕ) → Shifted xs j ys k
+      → saved_at o place kept xs j ≡ saved_at o place kept ys k
+  shifted_saved_at None place kept xs ys j k h = refl
+  shifted_saved_at (Some f) place kept xs ys j k h = shifted_saved f place kept xs ys j k h
 
   pub frames_shift : (xs ys : List ℕ) (fs : List (Frame V)) (kept : List ℕ) (j k : ℕ) → Shifted xs j ys k → (length ys + j ≡ length xs + k)
       → HasFrames Is code places return_to xs fs kept j → HasFrames Is code places return_to ys fs kept k
@@ -71,8 +106,8 @@ module _ {V : Type 0} (Is : V → ℕ → Type 0) (code : List Function) (places
       let o = slice_get code f.function in
       let n = words_at o in (
         waiting_shifts xs ys j k h o f fs kept x.0,
-        frames_shift xs ys fs (saved_at o ys k) (j + n) (k + n) (shifted_on xs ys j k n h) (omega arith)
-            (subst (λ s. HasFrames Is code places return_to xs fs s (j + n)) (shifted_saved_at o xs ys j k h) x.1),
+        frames_shift xs ys fs (saved_at o (places f.function) kept ys k) (j + n) (k + n) (shifted_on xs ys j k n h) (omega arith)
+            (subst (λ s. HasFrames Is code places return_to xs fs s (j + n)) (shifted_saved_at o (places f.function) kept xs ys j k h) x.1),
       )
 
   -- a word of the running frame, or of the outgoing words above it, is none of the frames above
@@ -91,9 +126,10 @@ module _ {V : Type 0} (Is : V → ℕ → Type 0) (code : List Function) (places
     small = x.small;
   }
 
-  stays_saved : (ws : List ℕ) (i v : ℕ) (o : Option Function) (k : ℕ) → i < k + outgoing_at o → saved_at o ws k ≡ saved_at o (slice_set ws i v) k
-  stays_saved ws i v None k l = refl
-  stays_saved ws i v (Some f) k l = sym (saved_set f ws k i v (inl (omega arith)))
+  stays_saved : (ws : List ℕ) (i v : ℕ) (o : Option Function) (place : ℕ → Place) (kept : List ℕ) (k : ℕ) → i < k + outgoing_at o
+      → saved_at o place kept ws k ≡ saved_at o place kept (slice_set ws i v) k
+  stays_saved ws i v None place kept k l = refl
+  stays_saved ws i v (Some f) place kept k l = sym (saved_set f place kept ws k i v (inl (omega arith)))
 
   more : (o : Option Function) → outgoing_at o ≤ words_at o
   more None = omega arith
@@ -106,8 +142,8 @@ module _ {V : Type 0} (Is : V → ℕ → Type 0) (code : List Function) (places
       let o = slice_get code f.function in
       let m = more o in (
         waiting_stays ws i v o f fs kept k l x.0,
-        subst (λ s. HasFrames Is code places return_to (slice_set ws i v) fs s (k + words_at o)) (stays_saved ws i v o k l)
-            (frames_stay ws i v fs (saved_at o ws k) (k + words_at o) (omega arith) x.1),
+        subst (λ s. HasFrames Is code places return_to (slice_set ws i v) fs s (k + words_at o)) (stays_saved ws i v o (places f.function) kept k l)
+            (frames_stay ws i v fs (saved_at o (places f.function) kept ws k) (k + words_at o) (omega arith) x.1),
       )
 
   -- the frames fill the bank, and the outgoing words of the first are there
@@ -117,7 +153,7 @@ module _ {V : Type 0} (Is : V → ℕ → Type 0) (code : List Function) (places
   frames_room ws (f ∷ fs) kept k x =
       let o = slice_get code f.function in
       let m = more o in
-      let i = frames_room ws fs (saved_at o ws k) (k + words_at o) x.1 in
+      let i = frames_room ws fs (saved_at o (places f.function) kept ws k) (k + words_at o) x.1 in
       omega arith
 
   waiting_small : (ws : List ℕ) (o : Option Function) (f : Frame V) (fs : List (Frame V)) (kept : List ℕ) (k : ℕ) → HasWaiting Is code places return_to ws o f

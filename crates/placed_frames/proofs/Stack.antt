@@ -1,10 +1,10 @@
--- PUSH and POP of r4 to r7 with the return address, and SP down and up by words.
-use Rattle.std.proofs.Common.{zero, suc, ◌≡◌, ℕ, ◌+◌, ◌*◌, ◌-◌, ◌/◌, ◌%◌, ◌^◌, ◌<◌, ◌≤◌, List, [], ◌∷◌, ◌++◌, length, drop, true, false, None, refl, ap, ◌∙◌, arith, slice_set, slice_index, ◌==◌, min, map}
+-- PUSH and POP of registers with the return address, and SP down and up by words.
+use Rattle.std.proofs.Common.{zero, suc, ◌≡◌, ℕ, ◌+◌, ◌*◌, ◌-◌, ◌/◌, ◌%◌, ◌^◌, ◌<◌, ◌≤◌, List, [], ◌∷◌, ◌++◌, length, drop, true, false, None, refl, sym, ap, ◌∙◌, arith, slice_set, slice_index, ◌==◌, min, map}
 use Rattle.std.proofs.lemmas.List.{length-append, length-drop, length-set}
-use Rattle.thumb_code.specs.declared.instructions.Instr.TheVariants.{AddSpImm, SubSpImm, Push, Pop}
+use Rattle.thumb_code.specs.declared.instructions.Instr.TheVariants.{AddSpImm, SubSpImm}
 use Rattle.thumb_code.specs.declared.register_file.Registers.{Registers}
-use Rattle.thumb_code.specs.RegisterFile.{word, low, listed, listed_from, filled}
-use Rattle.thumb_code.specs.Effect.{effect, Outcome, Goes, Access, words_from, words_to, jumps}
+use Rattle.thumb_code.specs.RegisterFile.{word, filled}
+use Rattle.thumb_code.specs.Effect.{effect, Outcome, Goes, Access, words_from, words_to, jumps, pushes, pops}
 use Rattle.thumb_code.specs.Memory.{Done, first_fault, store_all, load_all}
 use Rattle.thumb_code.specs.Map.{stack_at, sp_in_range}
 use Rattle.bank_model.specs.Bank.{Bank, bank_sp, bank_memory, bank_move, lowered, next_free}
@@ -102,7 +102,7 @@ abbrev put_from : List ℕ → ℕ → List ℕ → List ℕ
 put_from ws k [] = ws
 put_from ws k (v ∷ vs) = put_from (slice_set ws k v) (k + 1) vs
 
-abbrev get_from : List ℕ → ℕ → ℕ → List ℕ
+abbrev pub get_from : List ℕ → ℕ → ℕ → List ℕ
 get_from ws k zero = []
 get_from ws k (suc n) = slice_index ws k ∷ get_from ws (k + 1) n
 
@@ -145,10 +145,17 @@ loads_all flash sp at k b free h e (suc n) w l =
     let g = loads_all flash sp (at + 4) (k + 1) b free h (omega arith) n w.1 (omega arith) in
     rw f (rw g refl)
 
-five : (new ws : List ℕ) (v0 v1 v2 v3 v4 : ℕ) → length new ≡ 5 → put_from (new ++ ws) 0
-    (v0 ∷ (v1 ∷ (v2 ∷ (v3 ∷ (v4 ∷ []))))) ≡ v0 ∷ (v1 ∷ (v2 ∷ (v3 ∷ (v4 ∷ ws))))
-five (a ∷ (b ∷ (c ∷ (d ∷ (e ∷ []))))) ws v0 v1 v2 v3 v4 l = refl
-five _ ws v0 v1 v2 v3 v4 l = grind arith
+-- where as many words stood as are put
+put_behind : (x : ℕ) (xs vs : List ℕ) (k : ℕ) → put_from (x ∷ xs) (suc k) vs ≡ x ∷ put_from xs k vs
+put_behind x xs [] k = refl
+put_behind x xs (v ∷ vs) k =
+    let z : suc k + 1 ≡ suc (k + 1) = omega arith in
+    ap (λ j. put_from (x ∷ slice_set xs k v) j vs) z ∙ put_behind x (slice_set xs k v) vs (k + 1)
+
+put_all : (new ws vs : List ℕ) → length new ≡ length vs → put_from (new ++ ws) 0 vs ≡ vs ++ ws
+put_all [] ws [] l = refl
+put_all (x ∷ new) ws (v ∷ vs) l = put_behind v (new ++ ws) vs 0 ∙ ap (λ ys. v ∷ ys) (put_all new ws vs (omega arith))
+put_all _ ws vs l = absurd (omega arith)
 
 executes : (t t1 t2 t3 : Bank × List ℕ) (sp sp' : ℕ) (ss : List (Access × ℕ)) (q : Registers) → sp_in_range t.0.base sp' ≡ true → bank_move t (min sp sp') ≡ t1
     → first_fault bank_memory t1 true (map (λ p. p.0) ss) ≡ None → store_all bank_memory t1 ss ≡ t2 → bank_move t2 sp' ≡ t3
@@ -161,29 +168,27 @@ executes_loads : (t t1 t2 t3 : Bank × List ℕ) (sp sp' : ℕ) (as' : List Acce
     → Bm t sp (record { sp = sp'; loads = as'; stores = []; after = after }) ≡ Done (record q { sp = sp' }) t3
 executes_loads t t1 t2 t3 sp sp' as' after ws q a b c d g e = rw a (rw b (rw c (rw d (rw g (rw e refl)))))
 
--- PUSH {r4-r7, lr}: exactly these words stand in front
-pub push_five : (flash : List ℕ) (next : ℕ) (s : Registers) (b : Bank) (free : List ℕ) → At flash s.sp b → 20 + stack_at ≤ s.sp
-    → AllWords (low s 4 ∷ (low s 5 ∷ (low s 6 ∷ (low s 7 ∷ (s.lr ∷ [])))))
-    → (free' : List ℕ) × (Bm (b, free) s.sp (effect next s (Push 240 true)) ≡ Done (record s { sp = s.sp - 20; pc = next })
-    (record b { words = low s 4 ∷ (low s 5 ∷ (low s 6 ∷ (low s 7 ∷ (s.lr ∷ b.words)))) }, free'))
-    × At flash (s.sp - 20) (record b { words = low s 4 ∷ (low s 5 ∷ (low s 6 ∷ (low s 7 ∷ (s.lr ∷ b.words)))) })
-unfolding listed listed_from
-push_five flash next s b free h l aw =
+-- PUSH: exactly these words stand in front
+pub pushes_words : (flash : List ℕ) (next : ℕ) (s : Registers) (b : Bank) (free vs : List ℕ) → At flash s.sp b → 4 * length vs + stack_at ≤ s.sp → AllWords vs
+    → (free' : List ℕ) × (Bm (b, free) s.sp (pushes next s vs) ≡ Done (record s { sp = s.sp - 4 * length vs; pc = next })
+    (record b { words = vs ++ b.words }, free'))
+    × At flash (s.sp - 4 * length vs) (record b { words = vs ++ b.words })
+pushes_words flash next s b free vs h l aw =
     let e = h.sp_is in let i = h.low in let g = h.high in
-    let d = move_down flash s.sp 5 b free h (omega arith) in
-    let vs = low s 4 ∷ (low s 5 ∷ (low s 6 ∷ (low s 7 ∷ (s.lr ∷ [])))) in
+    let n = length vs in
+    let d = move_down flash s.sp n b free h l in
     let nb : Bank = record b { words = d.new ++ b.words } in
-    let pushed = low s 4 ∷ (low s 5 ∷ (low s 6 ∷ (low s 7 ∷ (s.lr ∷ b.words)))) in
-    let x5 = d.long in
-    let y : length nb.words ≡ 5 + length b.words = length-append d.new b.words ∙ ap (λ q. q + length b.words) x5 in
-    let t = s.sp - 4 * 5 in
-    let z : s.sp - 20 ≡ t = omega arith in
-    let w : word (s.sp + (4294967296 - 20)) ≡ t = omega arith in
+    let pushed = vs ++ b.words in
+    let dl = d.long in
+    let y : length nb.words ≡ n + length b.words = length-append d.new b.words ∙ ap (λ q. q + length b.words) dl in
+    let yp : length pushed ≡ n + length b.words = length-append vs b.words in
+    let t = s.sp - 4 * n in
+    let w : word (s.sp + (4294967296 - 4 * n)) ≡ t = omega arith in
     let m : min s.sp t ≡ t = omega arith in
     let u = store_faults flash t t 0 nb d.free' d.at (omega arith) vs (omega arith) in
     let x = stores_all flash t t 0 nb d.free' d.at (omega arith) vs aw (omega arith) in
-    let p = five d.new b.words (low s 4) (low s 5) (low s 6) (low s 7) s.lr x5 in
-    let k : length pushed ≡ length nb.words = omega arith in
+    let p = put_all d.new b.words vs dl in
+    let k : length pushed ≡ length nb.words = yp ∙ sym y in
     let o = at_length flash t nb pushed k d.at in
     let v = sp_stays flash t (record b { words = pushed }) d.free' o in (
       d.free',
@@ -193,31 +198,31 @@ push_five flash next s b free h l aw =
       o,
     )
 
--- POP {r4-r7, pc}: exactly these registers
-pub pop_five : (flash : List ℕ) (next a : ℕ) (s : Registers) (b : Bank) (free : List ℕ) → At flash s.sp b → 5 ≤ length b.words
-    → AllWords (get_from b.words 0 5) → slice_index b.words 4 ≡ a + 1 → a % 2 ≡ 0
-    → (Bm (b, free) s.sp (effect next s (Pop 240 true)) ≡ Done (record s {
-      r = slice_set
-          (slice_set (slice_set (slice_set s.r 4 (slice_index b.words 0)) 5 (slice_index b.words 1)) 6 (slice_index b.words 2)) 7 (slice_index b.words 3);
-      sp = s.sp + 20;
+-- POP with PC: the words from SP on come into the registers, and it goes to the last of them
+pub pops_words : (flash : List ℕ) (next a : ℕ) (s : Registers) (b : Bank) (free ks : List ℕ) → At flash s.sp b → length ks + 1 ≤ length b.words
+    → AllWords (get_from b.words 0 (length ks + 1)) → slice_index (get_from b.words 0 (length ks + 1)) (length ks) ≡ a + 1 → a % 2 ≡ 0
+    → (Bm (b, free) s.sp (pops next s ks true) ≡ Done (record s {
+      r = filled s.r ks (get_from b.words 0 (length ks + 1));
+      sp = s.sp + 4 * (length ks + 1);
       pc = a;
-    }) (record b { words = drop 5 b.words }, free))
-    × At flash (s.sp + 20) (record b { words = drop 5 b.words })
-unfolding listed listed_from
-pop_five flash next a s b free h l aw g odd =
+    }) (record b { words = drop (length ks + 1) b.words }, free))
+    × At flash (s.sp + 4 * (length ks + 1)) (record b { words = drop (length ks + 1) b.words })
+pops_words flash next a s b free ks h l aw g odd =
     let e = h.sp_is in let i = h.low in let j = h.high in
-    let d = move_up flash s.sp 5 b free h l in
-    let r' = slice_set (slice_set (slice_set (slice_set s.r 4 (slice_index b.words 0)) 5 (slice_index b.words 1)) 6 (slice_index b.words 2)) 7
-    (slice_index b.words 3) in
-    let w : word (s.sp + 20) ≡ s.sp + 20 = omega arith in
-    let m : min s.sp (s.sp + 20) ≡ s.sp = omega arith in
+    let n = length ks + 1 in
+    let d = move_up flash s.sp n b free h l in
+    let ws = get_from b.words 0 n in
+    let t = s.sp + 4 * n in
+    let r' = filled s.r ks ws in
+    let w : word (s.sp + 4 * n) ≡ t = omega arith in
+    let m : min s.sp t ≡ s.sp = omega arith in
     let o : ((a + 1) % 2 == 1) ≡ true = grind arith in
     let z : a + 1 - 1 ≡ a = omega arith in (
-      rw w (executes_loads (b, free) (b, free) (b, free) (record b { words = drop 5 b.words }, free) s.sp (s.sp + 20) (words_from s.sp 5)
-          (λ ws. jumps (record s { r = filled s.r (4 ∷ (5 ∷ (6 ∷ (7 ∷ [])))) ws; sp = s.sp + 20; pc = next }) (slice_index ws 4)) (get_from b.words 0 5)
-          (record s { r = r'; sp = s.sp + 20; pc = a })
-          (in_range (s.sp + 20) b.base (omega arith) (omega arith)) (ap (bank_move (b, free)) m ∙ sp_stays flash s.sp b free h)
-          (load_faults flash s.sp s.sp 0 b free h (omega arith) 5 (omega arith)) (loads_all flash s.sp s.sp 0 b free h (omega arith) 5 aw (omega arith))
+      rw w (executes_loads (b, free) (b, free) (b, free) (record b { words = drop n b.words }, free) s.sp t (words_from s.sp n)
+          (λ ws. jumps (record s { r = filled s.r ks ws; sp = t; pc = next }) (slice_index ws (length ks))) ws
+          (record s { r = r'; sp = t; pc = a })
+          (in_range t b.base (omega arith) (omega arith)) (ap (bank_move (b, free)) m ∙ sp_stays flash s.sp b free h)
+          (load_faults flash s.sp s.sp 0 b free h (omega arith) n (omega arith)) (loads_all flash s.sp s.sp 0 b free h (omega arith) n aw (omega arith))
           (rw g (rw o (rw z refl))) d.0),
       d.1,
     )

@@ -1,11 +1,12 @@
 -- The frames of an activity in a bank, with what stands in registers.
-use Rattle.std.specs.Prelude.{◌≡◌, ◌≢◌, ℕ, ◌+◌, ◌<◌, ◌≤◌, ◌^◌, List, [], ◌∷◌, length, Option, Some, None, slice_get, slice_index}
+use Rattle.std.specs.Prelude.{◌≡◌, ◌≢◌, ℕ, ◌+◌, ◌-◌, ◌<◌, ◌≤◌, ◌^◌, List, [], ◌∷◌, length, Option, Some, None, nat_lt, if◌then◌else◌, slice_get, slice_index}
 use Rattle.flat_ir.specs.declared.ops.Function.{Function}
 use Rattle.flat_ir.specs.declared.ops.Op.{Op}
 use Rattle.flat_ir.specs.Ops.{writes}
 use Rattle.flat_ir.specs.WellFormed.{temporaries}
 use Rattle.flat_ir.specs.Liveness.{IsLiveAt}
 use Rattle.register_assign.specs.declared.places.Place.{Place}
+use Rattle.register_assign.specs.Saving.{saves}
 use Rattle.placed_frames.specs.Places.{Store, own, words, value}
 
 -- a frame of flat code, over whatever values
@@ -14,13 +15,19 @@ pub record Frame (V : Type 0) : Type 0 where
   pub place : ℕ
   pub temps : ℕ → V
 
--- r4 to r7 as the caller of a function has them: its frame at k keeps them
-abbrev pub saved : Function → List ℕ → ℕ → List ℕ
-saved f ws k = slice_index ws (k + own f) ∷ (slice_index ws (k + own f + 1) ∷ (slice_index ws (k + own f + 2) ∷ (slice_index ws (k + own f + 3) ∷ [])))
+-- A register as the caller of a function has it, r4 for i = 0: where the function saves it, its frame at k keeps it, and else the register still does.
+abbrev pub saved_word : ℕ → Function → List ℕ → List ℕ → ℕ → ℕ → ℕ
+saved_word n f kept ws k i = if nat_lt i n then slice_index ws (k + (own f + (4 - n)) + i) else slice_index kept i
 
-abbrev pub saved_at : Option Function → List ℕ → ℕ → List ℕ
-saved_at None ws k = []
-saved_at (Some f) ws k = saved f ws k
+-- r4 to r7 as the caller of a function has them
+abbrev pub saved : Function → (ℕ → Place) → List ℕ → List ℕ → ℕ → List ℕ
+saved f place kept ws k =
+    saved_word (saves f place) f kept ws k 0 ∷ saved_word (saves f place) f kept ws k 1
+    ∷ saved_word (saves f place) f kept ws k 2 ∷ saved_word (saves f place) f kept ws k 3 ∷ []
+
+abbrev pub saved_at : Option Function → (ℕ → Place) → List ℕ → List ℕ → ℕ → List ℕ
+saved_at None place kept ws k = []
+saved_at (Some f) place kept ws k = saved f place kept ws k
 
 abbrev pub words_at : Option Function → ℕ
 words_at None = 0
@@ -64,11 +71,12 @@ module _ {V : Type 0} (Is : V → ℕ → Type 0) (code : List Function) (places
   abbrev pub HasFrames : List (Frame V) → List ℕ → ℕ → Type 0
   HasFrames [] kept k = (k ≡ length ws) × AreWords kept
   HasFrames (f ∷ fs) kept k =
-      HasWaiting (slice_get code f.function) f fs kept k × HasFrames fs (saved_at (slice_get code f.function) ws k) (k + words_at (slice_get code f.function))
+      HasWaiting (slice_get code f.function) f fs kept k
+      × HasFrames fs (saved_at (slice_get code f.function) (places f.function) kept ws k) (k + words_at (slice_get code f.function))
 
 -- the running function and the frames above it
 pub record Running {V : Type 0} (Is : V → ℕ → Type 0) (code : List Function) (places : ℕ → ℕ → Place) (return_to : List (Frame V) → ℕ) (fn : Function)
     (place : ℕ → Place) (need : ℕ → Type 0) (temps : ℕ → V) (fs : List (Frame V)) (s : Store) : Type 0 where
   pub four : length s.kept ≡ 4
   pub frame : HasFrame Is code places return_to s.words fn place need temps fs s.kept 0
-  pub above : HasFrames Is code places return_to s.words fs (saved fn s.words 0) (words fn)
+  pub above : HasFrames Is code places return_to s.words fs (saved fn place s.kept s.words 0) (words fn)

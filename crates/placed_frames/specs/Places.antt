@@ -4,8 +4,8 @@ use Rattle.flat_ir.specs.declared.ops.Function.{Function}
 use Rattle.register_assign.specs.declared.places.Place.{Place}
 use Rattle.register_assign.specs.declared.places.Place.TheVariants.{Reg, Slot, Incoming}
 
--- A frame's words from its lowest up: the outgoing words, the slots, the caller's r4 to r7, the return address. The incoming words are the caller's
--- outgoing words, right above.
+-- A frame's words from its lowest up: the outgoing words, the slots, four words for the caller's registers, the return address. The incoming words are the
+-- caller's outgoing words, right above.
 abbrev pub own : Function → ℕ
 own f = f.outgoing + f.locals + f.operands
 

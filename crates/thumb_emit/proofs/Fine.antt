@@ -77,18 +77,18 @@ made_low f true p w = omega arith
 made_low f false p w = register_low f 0 p (omega arith) w
 
 -- SP moves by one instruction or by two
-move_sp : (b : Bool) (n : ℕ) → nat_lt 127 n ≡ b → n ≤ 136 → AreFine (if b then Plain (AddSpImm 127) ∷ Plain (AddSpImm (n - 127)) ∷ [] else Plain (AddSpImm n) ∷ [])
+move_sp : (b : Bool) (n : ℕ) → nat_lt 127 n ≡ b → n ≤ 140 → AreFine (if b then Plain (AddSpImm 127) ∷ Plain (AddSpImm (n - 127)) ∷ [] else Plain (AddSpImm n) ∷ [])
 move_sp true n e l = let a : n - 127 < 128 = omega arith in search rules
 move_sp false n e l = let a : n < 128 = grind (arith, nat_tests) in search rules
 
-pub raises_fine : (n : ℕ) → n ≤ 136 → AreFine (raises n)
+pub raises_fine : (n : ℕ) → n ≤ 140 → AreFine (raises n)
 raises_fine n = move_sp (nat_lt 127 n) n refl
 
-drop_sp : (b : Bool) (n : ℕ) → nat_lt 127 n ≡ b → n ≤ 136 → AreFine (if b then Plain (SubSpImm 127) ∷ Plain (SubSpImm (n - 127)) ∷ [] else Plain (SubSpImm n) ∷ [])
+drop_sp : (b : Bool) (n : ℕ) → nat_lt 127 n ≡ b → n ≤ 140 → AreFine (if b then Plain (SubSpImm 127) ∷ Plain (SubSpImm (n - 127)) ∷ [] else Plain (SubSpImm n) ∷ [])
 drop_sp true n e l = let a : n - 127 < 128 = omega arith in search rules
 drop_sp false n e l = let a : n < 128 = grind (arith, nat_tests) in search rules
 
-pub lowers_fine : (n : ℕ) → n ≤ 136 → AreFine (lowers n)
+pub lowers_fine : (n : ℕ) → n ≤ 140 → AreFine (lowers n)
 lowers_fine n = drop_sp (nat_lt 127 n) n refl
 
 -- ops' parts

@@ -13,7 +13,7 @@ use Rattle.flat_ir.specs.WellFormed.{GoesBelow}
 use Rattle.register_assign.specs.declared.places.Place.{Place}
 use Rattle.register_assign.specs.declared.places.Place.TheVariants.{Reg, Slot, Incoming}
 use Rattle.register_assign.specs.Unread.{is_unread}
-use Rattle.thumb_emit.specs.Frame.{own, from_instr, to_instr, from_place, register_of, idle_piece, copies, carries, raises, lowers, kept_registers}
+use Rattle.thumb_emit.specs.Frame.{from_instr, to_instr, from_place, register_of, idle_piece, copies, carries, raises, lowers, below_saved, saved_list}
 use Rattle.thumb_emit.specs.Emit.{its_register, bring, made_in, keep, land, passes, loads, op_pieces, unless, unequal, below_unsigned, at_least_unsigned, tests_null, tests_index, finds_item, decides, beside, combines, shifts, divides, loads_field, stores_field, asks, answers, calls_slot, move_pieces, moves_pieces, entry_pieces}
 use Rattle.thumb_emit.proofs.Lists.{if_has, times_append}
 use Rattle.thumb_emit.proofs.Still.{IsStill, Idle, Single, brings_still, keeps_still, lands_still, moves_still}
@@ -233,7 +233,7 @@ module _ (f : Function) where
     op_marks k n (Jump target) w = Away target w.0 (record { stand = λ l d. refl; goes = refl })
     op_marks k n (Branch when target) w = still_marks k n _ _ (brought 0 when) (Away target w.0 (record { stand = λ l d. refl; goes = refl }))
     op_marks k n (Return from) w =
-        let h = bare_before [] [] (raises (own f)) (Plain (PopMany kept_registers true) ∷ []) (raises_bare (own f)) (record { stand = λ l d. refl; goes = refl }) in
+        let h = bare_before [] [] (raises (below_saved f place)) (Plain (PopMany (saved_list f place) true) ∷ []) (raises_bare (below_saved f place)) (record { stand = λ l d. refl; goes = refl }) in
         None (record { stand = h.stand; goes = h.goes })
 
     moved_bare : (p : Place) (t : ℕ) → IsMarked [] [] (move_pieces f place p t)
@@ -247,7 +247,7 @@ module _ (f : Function) where
 
     pub entry_marks : IsMarked ((3 * length f.ops) ∷ []) ((3 * length f.ops) ∷ []) (entry_pieces f place)
     entry_marks =
-        let h = bare_before [] [] (lowers (own f)) (moves_pieces f place 0 f.params) (lowers_bare (own f)) (moves_bare 0 f.params) in
-        let g : IsMarked [] [] (Plain (MovHigh 14 3) ∷ Plain (Push kept_registers true) ∷ lowers (own f) ++ moves_pieces f place 0 f.params) = record { stand = h.stand; goes = h.goes } in
+        let h = bare_before [] [] (lowers (below_saved f place)) (moves_pieces f place 0 f.params) (lowers_bare (below_saved f place)) (moves_bare 0 f.params) in
+        let g : IsMarked [] [] (Plain (MovHigh 14 3) ∷ Plain (Push (saved_list f place) true) ∷ lowers (below_saved f place) ++ moves_pieces f place 0 f.params) = record { stand = h.stand; goes = h.goes } in
         let m = unless_before [] [] at_least_unsigned 102 (3 * length f.ops) _ g in
         record { stand = m.stand; goes = m.goes }

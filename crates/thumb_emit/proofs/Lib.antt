@@ -7,4 +7,5 @@ mod Labels
 mod Once
 mod Within
 mod Naming
+pub mod Saved
 pub mod Laws

@@ -17,7 +17,7 @@ use Rattle.register_assign.specs.declared.places.Place.TheVariants.{Reg, Slot, I
 use Rattle.register_assign.specs.declared.places.Placed.{Placed}
 use Rattle.register_assign.specs.Sound.{place_of}
 use Rattle.register_assign.specs.Unread.{is_unread}
-use Rattle.thumb_emit.specs.Frame.{own, copies, carries, lowers, kept_registers}
+use Rattle.thumb_emit.specs.Frame.{copies, carries, lowers, below_saved, saved_list}
 use Rattle.thumb_emit.specs.Emit.{get, its_register, bring, made_in, keep, land, passes, loads, op_pieces, beside, division, stores_field, tests_null, asks, answers, calls_slot, move_pieces, moves_pieces, entry_pieces, ops_pieces, function_pieces}
 use Rattle.thumb_emit.specs.Names.{name_of, names_of, call_of, calls_of, IsCalledBy}
 use Rattle.thumb_emit.proofs.Lists.{if_has, all_append, named_append, called_append}
@@ -163,7 +163,7 @@ module _ (f : Function) (place : ℕ → Place) where
       (record { names = g.names; calls = g.calls }) (record { names = g.names; calls = g.calls }) in
       mute_of (Ask to service args) _ (mute_append (loads f place 0 args) (asks (is_unread f k) service ++ (land f place k to ∷ [])) (loads_mute 0 args) h) refl
   op_names k (Return from) =
-      if_has (λ xs. IsOf (Return from) (get f place 0 from ∷ xs ++ (Plain (PopMany kept_registers true) ∷ []))) (nat_lt 127 (own f)) _ _
+      if_has (λ xs. IsOf (Return from) (get f place 0 from ∷ xs ++ (Plain (PopMany (saved_list f place) true) ∷ []))) (nat_lt 127 (below_saved f place)) _ _
       (record { names = refl; calls = tt }) (record { names = refl; calls = tt })
 
   move_mute : (p : Place) (t : ℕ) → IsMute (move_pieces f place p t)
@@ -177,9 +177,9 @@ module _ (f : Function) (place : ℕ → Place) where
 
   entry_mute : IsMute (entry_pieces f place)
   entry_mute =
-      let l : IsMute (lowers (own f)) = if_mute (nat_lt 127 (own f)) _ _
+      let l : IsMute (lowers (below_saved f place)) = if_mute (nat_lt 127 (below_saved f place)) _ _
       (record { names = refl; calls = refl }) (record { names = refl; calls = refl }) in
-      let h = mute_append (lowers (own f)) (moves_pieces f place 0 f.params) l (moves_mute 0 f.params) in
+      let h = mute_append (lowers (below_saved f place)) (moves_pieces f place 0 f.params) l (moves_mute 0 f.params) in
       record { names = h.names; calls = h.calls }
 
   ops_named : (k : ℕ) (ops : List Op) → named (ops_pieces f place k ops) ≡ names_of ops

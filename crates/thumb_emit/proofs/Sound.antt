@@ -1,9 +1,9 @@
 -- The pieces of a function are sound, and their numbers are words.
-use Rattle.std.proofs.Common.{FitsSigned, ℕ, zero, suc, ◌+◌, ◌*◌, ◌^◌, ◌<◌, ◌≤◌, ℤ, Bool, true, false, List, [], ◌∷◌, ◌++◌, length, arith, rules}
+use Rattle.std.proofs.Common.{FitsSigned, ℕ, zero, suc, ◌+◌, ◌-◌, ◌*◌, ◌^◌, ◌<◌, ◌≤◌, ℤ, Bool, true, false, List, [], ◌∷◌, ◌++◌, length, arith, rules}
 use Rattle.std.specs.Int.{cast_unsigned, w32}
 use Rattle.std.proofs.Math.Facts.{Fits-of_z}
 use Rattle.std.specs.List.{AllByRecursion}
-use Rattle.thumb_code.specs.declared.instructions.Instr.TheVariants.{CmpImm, LdrImm, StrImm, LdrReg, StrReg, StrSp, Pop as PopMany}
+use Rattle.thumb_code.specs.declared.instructions.Instr.TheVariants.{CmpImm, LdrImm, StrImm, LdrReg, StrReg, StrSp, Push, Pop as PopMany}
 use Rattle.thumb_layout.specs.declared.pieces.Piece.{Piece}
 use Rattle.thumb_layout.specs.declared.pieces.Piece.TheVariants.{Plain, CallTo}
 use Rattle.thumb_layout.specs.Soundness.{IsSoundPiece}
@@ -17,8 +17,10 @@ use Rattle.register_assign.specs.Sound.{IsWithin}
 use Rattle.register_assign.specs.declared.places.Placed.{Placed}
 use Rattle.register_assign.specs.Sound.{place_of}
 use Rattle.register_assign.specs.Unread.{is_unread}
+use Rattle.register_assign.specs.Saving.{saves}
+use Rattle.register_assign.proofs.Laws.{saves_few}
 use Rattle.flat_ir.specs.WellFormed.{temporaries}
-use Rattle.thumb_emit.specs.Frame.{own, words, register_of, copies, raises, lowers, kept_registers}
+use Rattle.thumb_emit.specs.Frame.{words, register_of, copies, raises, lowers, below_saved, saved_list}
 use Rattle.thumb_emit.specs.Ready.{IsReady, HasNumber, HasNumbers}
 use Rattle.thumb_emit.specs.Emit.{get, its_register, bring, made_in, keep, land, passes, loads, op_pieces, tests_null, tests_index, finds_item, unary, binary, loads_field, stores_field, asks, makes_object, makes_array, pops, calls_slot, move_pieces, moves_pieces, entry_pieces, ops_pieces, function_pieces}
 use Rattle.thumb_emit.proofs.Lists.{all_append}
@@ -37,8 +39,23 @@ sound_of : (xs : List Piece) → AreFine xs → AllByRecursion IsSoundPiece xs
 sound_of [] a = tt
 sound_of (x ∷ xs) a = ((a.0).0, sound_of xs a.1)
 
+-- a list of at most four registers from r4 on
+list_small : (n : ℕ) → n ≤ 4 → 2 ^ (4 + n) - 2 ^ 4 < 256
+list_small zero l = omega arith
+list_small (suc zero) l = omega arith
+list_small (suc (suc zero)) l = omega arith
+list_small (suc (suc (suc zero))) l = omega arith
+list_small (suc (suc (suc (suc zero)))) l = omega arith
+list_small (suc (suc (suc (suc (suc n))))) l = absurd (omega arith)
+
+push_fine : (list : ℕ) → list < 256 → IsFine (Plain (Push list true))
+push_fine list l = search rules
+
+pop_fine : (list : ℕ) → list < 256 → IsFine (Plain (PopMany list true))
+pop_fine list l = search rules
+
 -- a function within the measures, each of whose first n temporaries has one of its places
-module _ (f : Function) (place : ℕ → Place) (n : ℕ) (small : IsSmall f) (within : (t : ℕ) → t < n → IsWithin f (place t)) where
+module _ (f : Function) (place : ℕ → Place) (n : ℕ) (small : IsSmall f) (few : saves f place ≤ 4) (within : (t : ℕ) → t < n → IsWithin f (place t)) where
   get_fine : (rd t : ℕ) → rd < 8 → t < n → IsFine (get f place rd t)
   get_fine rd t l h = from_fine f rd (place t) small l (within t h)
 
@@ -66,8 +83,8 @@ module _ (f : Function) (place : ℕ → Place) (n : ℕ) (small : IsSmall f) (w
   loaded_fine k [] l a = tt
   loaded_fine k (t ∷ ts) l a = (get_fine k t (omega arith) a.0, loaded_fine (k + 1) ts (omega arith) a.1)
 
-  own_small : own f ≤ 136
-  own_small = let a = small.locals in let b = small.operands in let c = small.outgoing in omega arith
+  below_small : below_saved f place ≤ 140
+  below_small = let a = small.locals in let b = small.operands in let c = small.outgoing in omega arith
 
   outgoing_small : f.outgoing ≤ 8
   outgoing_small = small.outgoing
@@ -180,7 +197,8 @@ module _ (f : Function) (place : ℕ → Place) (n : ℕ) (small : IsSmall f) (w
       let x : IsFine (Plain (CmpImm (its_register f place 0 when) 0)) = search rules in
       (bring_fine 0 when (omega arith) w.names.0, (x, ((omega arith, tt), tt)))
   op_fine places k (Return from) w h =
-      (get_fine 0 from (omega arith) w.names.0, joined (raises (own f)) (Plain (PopMany kept_registers true) ∷ []) (raises_fine (own f) own_small) (search rules))
+      let pop = pop_fine (saved_list f place) (list_small (saves f place) few) in
+      (get_fine 0 from (omega arith) w.names.0, joined (raises (below_saved f place)) (Plain (PopMany (saved_list f place) true) ∷ []) (raises_fine (below_saved f place) below_small) (pop, tt))
 
   pub ops_fine : (places k : ℕ) (ops : List Op) → AllByRecursion (IsOpWithin n places f.outgoing) ops → AllByRecursion HasNumber ops → AreFine (ops_pieces f place k ops)
   ops_fine places k [] w h = tt
@@ -206,22 +224,23 @@ module _ (f : Function) (place : ℕ → Place) (n : ℕ) (small : IsSmall f) (w
 
   pub entry_fine : f.params ≤ n → AreFine (entry_pieces f place)
   entry_fine h =
-      let a = own_small in
+      let a = below_small in
       let e : 0x20003080 + 4 * words f < 2 ^ 32 = omega arith in
-      let m : AreFine (lowers (own f) ++ moves_pieces f place 0 f.params) = joined (lowers (own f)) (moves_pieces f place 0 f.params) (lowers_fine (own f) own_small) (moves_fine 0 f.params (omega arith) h) in
-      (search rules, (search rules, ((omega arith, e), (search rules, (search rules, (search rules, (search rules, (search rules, (search rules, (search rules, m))))))))))
+      let m : AreFine (lowers (below_saved f place) ++ moves_pieces f place 0 f.params) = joined (lowers (below_saved f place)) (moves_pieces f place 0 f.params) (lowers_fine (below_saved f place) below_small) (moves_fine 0 f.params (omega arith) h) in
+      let push = push_fine (saved_list f place) (list_small (saves f place) few) in
+      (search rules, (search rules, ((omega arith, e), (search rules, (search rules, (search rules, (search rules, (search rules, (search rules, (push, m))))))))))
 
 -- the pieces of a function that is ready
 pub function_fine : (p : Placed) → IsReady p → HasNumbers p.function → AreFine (function_pieces p)
 function_fine p r h =
     let f = p.function in let place = place_of p.places in let s = r.formed in let w = r.sound in
     let small : IsSmall f = record { params = s.params; locals = s.locals; operands = s.operands; outgoing = s.outgoing } in
-    joined (entry_pieces f place) (ops_pieces f place 0 f.ops) (entry_fine f place (temporaries f) small w.within (omega arith))
-    (ops_fine f place (temporaries f) small w.within (length f.ops) 0 f.ops s.ops h)
+    joined (entry_pieces f place) (ops_pieces f place 0 f.ops) (entry_fine f place (temporaries f) small (saves_few f place w.within) w.within (omega arith))
+    (ops_fine f place (temporaries f) small (saves_few f place w.within) w.within (length f.ops) 0 f.ops s.ops h)
 
 pub function_pieces_sound : (p : Placed) → IsReady p → AllByRecursion IsSoundPiece (function_pieces p)
 function_pieces_sound p r =
     let f = p.function in let place = place_of p.places in let s = r.formed in let w = r.sound in
     let small : IsSmall f = record { params = s.params; locals = s.locals; operands = s.operands; outgoing = s.outgoing } in
-    all_append IsSoundPiece (entry_pieces f place) (ops_pieces f place 0 f.ops) (sound_of (entry_pieces f place) (entry_fine f place (temporaries f) small w.within (omega arith)))
-    (ops_sound f place (temporaries f) small w.within (length f.ops) 0 f.ops s.ops)
+    all_append IsSoundPiece (entry_pieces f place) (ops_pieces f place 0 f.ops) (sound_of (entry_pieces f place) (entry_fine f place (temporaries f) small (saves_few f place w.within) w.within (omega arith)))
+    (ops_sound f place (temporaries f) small (saves_few f place w.within) w.within (length f.ops) 0 f.ops s.ops)

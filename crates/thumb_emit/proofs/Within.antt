@@ -13,7 +13,7 @@ use Rattle.register_assign.specs.declared.places.Placed.{Placed}
 use Rattle.register_assign.specs.Sound.{place_of}
 use Rattle.register_assign.specs.Unread.{is_unread}
 use Rattle.register_assign.specs.declared.places.Place.TheVariants.{Reg, Slot, Incoming}
-use Rattle.thumb_emit.specs.Frame.{own, copies, carries, lowers, kept_registers}
+use Rattle.thumb_emit.specs.Frame.{copies, carries, lowers, below_saved, saved_list}
 use Rattle.thumb_emit.specs.Emit.{get, its_register, bring, made_in, keep, land, passes, loads, op_pieces, beside, tests_null, asks, answers, calls_slot, move_pieces, moves_pieces, entry_pieces, ops_pieces, function_pieces}
 use Rattle.thumb_emit.specs.Bounds.{total_cost, op_cost, op_bytes, ops_bytes, entry_cost, entry_bytes}
 use Rattle.thumb_emit.proofs.Lists.{if_has, cost_append, most_append}
@@ -73,7 +73,7 @@ module _ (f : Function) (place : ℕ → Place) where
       let a = cost_append (loads f place 0 args) (asks (is_unread f k) service ++ (land f place k to ∷ [])) in let b = takes_loads 0 args in let d = takes_land k to in
       let c : total_cost (asks (is_unread f k) service ++ (land f place k to ∷ [])) ≤ 6 = if_has (λ xs. total_cost (xs ++ (land f place k to ∷ [])) ≤ 6) (is_unread f k || answers service) _ _ (omega arith) (omega arith) in
       omega (arith, a, b, c)
-  op_takes k (Return from) = if_has (λ xs. total_cost (get f place 0 from ∷ xs ++ (Plain (PopMany kept_registers true) ∷ [])) ≤ 8) (nat_lt 127 (own f)) _ _ (omega arith) (omega arith)
+  op_takes k (Return from) = if_has (λ xs. total_cost (get f place 0 from ∷ xs ++ (Plain (PopMany (saved_list f place) true) ∷ [])) ≤ 8) (nat_lt 127 (below_saved f place)) _ _ (omega arith) (omega arith)
   op_takes k (Const to value) = let x0 = takes_keep k to in omega arith
   op_takes k (Copy to from) = takes_copies (is_unread f k) (place to) (place from)
   op_takes k (GlobalGet to slot) = let x0 = takes_keep k to in omega arith
@@ -100,8 +100,8 @@ module _ (f : Function) (place : ℕ → Place) where
 
   pub entry_takes : f.params ≤ 8 → total_cost (entry_pieces f place) ≤ entry_cost
   entry_takes h =
-      let a = cost_append (lowers (own f)) (moves_pieces f place 0 f.params) in let b = takes_moves 0 f.params in
-      let c : total_cost (lowers (own f)) ≤ 4 = if_has (λ xs. total_cost xs ≤ 4) (nat_lt 127 (own f)) _ _ (omega arith) (omega arith) in
+      let a = cost_append (lowers (below_saved f place)) (moves_pieces f place 0 f.params) in let b = takes_moves 0 f.params in
+      let c : total_cost (lowers (below_saved f place)) ≤ 4 = if_has (λ xs. total_cost xs ≤ 4) (nat_lt 127 (below_saved f place)) _ _ (omega arith) (omega arith) in
       omega (arith, a, b, c)
 
   -- bytes
@@ -156,7 +156,7 @@ module _ (f : Function) (place : ℕ → Place) where
       let a = most_append (loads f place 0 args) (asks (is_unread f k) service ++ (land f place k to ∷ [])) in let b = fills_loads 0 args in let d = fills_land k to in
       let c : total_most (asks (is_unread f k) service ++ (land f place k to ∷ [])) ≤ 6 = if_has (λ xs. total_most (xs ++ (land f place k to ∷ [])) ≤ 6) (is_unread f k || answers service) _ _ (omega arith) (omega arith) in
       omega (arith, a, b, c)
-  op_fills k (Return from) = if_has (λ xs. total_most (get f place 0 from ∷ xs ++ (Plain (PopMany kept_registers true) ∷ [])) ≤ 8) (nat_lt 127 (own f)) _ _ (omega arith) (omega arith)
+  op_fills k (Return from) = if_has (λ xs. total_most (get f place 0 from ∷ xs ++ (Plain (PopMany (saved_list f place) true) ∷ [])) ≤ 8) (nat_lt 127 (below_saved f place)) _ _ (omega arith) (omega arith)
   op_fills k (Const to value) = let x0 = fills_keep k to in omega arith
   op_fills k (Copy to from) = fills_copies (is_unread f k) (place to) (place from)
   op_fills k (GlobalGet to slot) = let x0 = fills_keep k to in omega arith
@@ -183,8 +183,8 @@ module _ (f : Function) (place : ℕ → Place) where
 
   pub entry_fills : f.params ≤ 8 → total_most (entry_pieces f place) ≤ entry_bytes
   entry_fills h =
-      let a = most_append (lowers (own f)) (moves_pieces f place 0 f.params) in let b = fills_moves 0 f.params in
-      let c : total_most (lowers (own f)) ≤ 4 = if_has (λ xs. total_most xs ≤ 4) (nat_lt 127 (own f)) _ _ (omega arith) (omega arith) in
+      let a = most_append (lowers (below_saved f place)) (moves_pieces f place 0 f.params) in let b = fills_moves 0 f.params in
+      let c : total_most (lowers (below_saved f place)) ≤ 4 = if_has (λ xs. total_most xs ≤ 4) (nat_lt 127 (below_saved f place)) _ _ (omega arith) (omega arith) in
       omega (arith, a, b, c)
 
   bytes_of_ops : (k : ℕ) (ops : List Op) → total_most (ops_pieces f place k ops) ≤ ops_bytes ops

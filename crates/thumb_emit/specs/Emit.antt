@@ -16,7 +16,7 @@ use Rattle.register_assign.specs.declared.places.Place.TheVariants.{Reg, Slot, I
 use Rattle.register_assign.specs.declared.places.Placed.{Placed}
 use Rattle.register_assign.specs.Sound.{place_of}
 use Rattle.register_assign.specs.Unread.{is_unread}
-use Rattle.thumb_emit.specs.Frame.{own, words, from_place, to_place, idle_piece, register_of, brings, result_in, keeps, lands, copies, carries, raises, lowers, kept_registers}
+use Rattle.thumb_emit.specs.Frame.{words, from_place, to_place, idle_piece, register_of, brings, result_in, keeps, lands, copies, carries, raises, lowers, below_saved, saved_list}
 
 -- conditions of branches (ARM DDI 0419, table A6-1)
 abbrev pub equal : ℕ
@@ -234,7 +234,7 @@ module _ (f : Function) (place : ℕ → Place) where
   op_pieces k (Ask to service args) = loads 0 args ++ (asks (is_unread f k) service ++ (land k to ∷ []))
   op_pieces k (Jump target) = Go always (3 * target) ∷ []
   op_pieces k (Branch when target) = bring 0 when ∷ Plain (CmpImm (its_register 0 when) 0) ∷ Go unequal (3 * target) ∷ []
-  op_pieces k (Return from) = get 0 from ∷ raises (own f) ++ (Plain (PopMany kept_registers true) ∷ [])
+  op_pieces k (Return from) = get 0 from ∷ raises (below_saved f place) ++ (Plain (PopMany (saved_list f place) true) ∷ [])
 
   -- a parameter that doesn't stay where it comes in is moved to its place
   abbrev pub move_pieces : Place → ℕ → List Piece
@@ -253,7 +253,7 @@ module _ (f : Function) (place : ℕ → Place) where
   entry_pieces =
       Plain (MovHigh 3 14) ∷ Plain (MovHigh 0 13) ∷ Number 1 (0x20003080 + 4 * words f) ∷ Plain (CmpReg 0 1)
       ∷ unless at_least_unsigned 102 (3 * length f.ops)
-      ++ (Plain (MovHigh 14 3) ∷ Plain (Push kept_registers true) ∷ lowers (own f) ++ moves_pieces 0 f.params)
+      ++ (Plain (MovHigh 14 3) ∷ Plain (Push (saved_list f place) true) ∷ lowers (below_saved f place) ++ moves_pieces 0 f.params)
 
   -- the ops from op k on, each behind its label
   abbrev pub ops_pieces : ℕ → List Op → List Piece

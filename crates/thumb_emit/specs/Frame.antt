@@ -1,5 +1,5 @@
 -- A function's frame, and the registers in which its temporaries are read and written.
-use Rattle.std.specs.Prelude.{ℕ, Bool, true, false, ◌+◌, ◌-◌, ◌*◌, List, [], ◌∷◌, length, nat_lt, ◌==◌, if◌then◌else◌}
+use Rattle.std.specs.Prelude.{ℕ, Bool, true, false, ◌+◌, ◌-◌, ◌*◌, ◌^◌, List, [], ◌∷◌, length, nat_lt, ◌==◌, if◌then◌else◌}
 use Rattle.thumb_code.specs.declared.instructions.Instr.{Instr}
 use Rattle.thumb_code.specs.declared.instructions.Instr.TheVariants.{MovHigh, LdrSp, StrSp, AddSpImm, SubSpImm}
 use Rattle.thumb_layout.specs.declared.pieces.Piece.{Piece}
@@ -7,9 +7,10 @@ use Rattle.thumb_layout.specs.declared.pieces.Piece.TheVariants.{Plain, Label}
 use Rattle.flat_ir.specs.declared.ops.Function.{Function}
 use Rattle.register_assign.specs.declared.places.Place.{Place}
 use Rattle.register_assign.specs.declared.places.Place.TheVariants.{Reg, Slot, Incoming}
+use Rattle.register_assign.specs.Saving.{saves}
 
--- A frame's words from the lowest up: the outgoing words, the slots, the caller's r4 to r7, and the return address. The incoming words are
--- the caller's outgoing words, right above.
+-- A frame's words from the lowest up: the outgoing words, the slots, four words for the caller's registers, and the return address. The incoming
+-- words are the caller's outgoing words, right above.
 abbrev pub own : Function → ℕ
 own f = f.outgoing + f.locals + f.operands
 
@@ -84,6 +85,10 @@ raises n = if nat_lt 127 n then Plain (AddSpImm 127) ∷ Plain (AddSpImm (n - 12
 abbrev pub lowers : ℕ → List Piece
 lowers n = if nat_lt 127 n then Plain (SubSpImm 127) ∷ Plain (SubSpImm (n - 127)) ∷ [] else Plain (SubSpImm n) ∷ []
 
--- r4 to r7 in the list of PUSH and POP, beside LR and PC
-abbrev pub kept_registers : ℕ
-kept_registers = 240
+-- The registers that a function saves stand in the highest of the four words. These are the words below them.
+abbrev pub below_saved : Function → (ℕ → Place) → ℕ
+below_saved f place = own f + (4 - saves f place)
+
+-- the registers that a function saves, as the list of PUSH and POP, beside LR and PC: bit 4 for r4
+abbrev pub saved_list : Function → (ℕ → Place) → ℕ
+saved_list f place = 2 ^ (4 + saves f place) - 2 ^ 4

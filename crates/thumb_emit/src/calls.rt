@@ -7,15 +7,12 @@ ghost use Rattle.register_assign.specs.Sound.{place_of};
 ghost use Rattle.thumb_emit.specs.Emit.{passes, loads, answers, asks, calls_slot};
 ghost use Rattle.thumb_emit.specs.Ready.{IsReady, IsOpTold, pieces_of};
 
-use crate::frame::{bring, get, keep, land, made_in, own, raise, register};
+use crate::frame::{below_saved, bring, get, keep, land, made_in, raise, register, saved_list};
 use crate::pieces::{ALWAYS, At, NE, add, load, test_null};
 use register_assign::Placed;
 use sts_base::{NoMemory, Seq};
 use thumb_code::Instr;
 use thumb_layout::{Piece, What};
-
-/// r4 to r7 in the list of PUSH and POP.
-pub(crate) const KEPT_REGISTERS: u8 = 240;
 
 /// Arguments into outgoing words.
 fn pass(out: &mut Seq<Piece>, placed: &Placed, args: &[u32]) -> Result<(), NoMemory>
@@ -212,7 +209,7 @@ pub(crate) fn give(out: &mut Seq<Piece>, placed: &Placed, from: u32) -> Result<(
     ensures { OnOk result (out.new ≡ out.old ++ pieces_of placed.now 0 (o.Return from)) }
 {
     out.push(get(placed, 0, from))?;
-    raise(out, own(placed))?;
-    let list = KEPT_REGISTERS;
+    raise(out, below_saved(placed))?;
+    let list = saved_list(placed);
     out.push(Piece::Plain(Instr::Pop { list, p: true }))
 }

@@ -4,8 +4,9 @@ ghost use Rattle.register_assign.specs.Sound.{place_of, IsWithin};
 ghost use Rattle.thumb_emit.specs.Emit.{move_pieces, moves_pieces};
 ghost use Rattle.thumb_emit.specs.Ready.{IsReady, entry_of, tests_depth};
 
-use crate::calls::KEPT_REGISTERS;
-use crate::frame::{from_place, idle_piece, lower, own, place_of, to_place, words};
+use crate::frame::{
+    below_saved, from_place, idle_piece, lower, place_of, saved_list, to_place, words,
+};
 use crate::pieces::{CS, add, unless};
 use register_assign::{Place, Placed};
 use sts_base::{NoMemory, Seq};
@@ -84,7 +85,7 @@ pub(crate) fn enter(out: &mut Seq<Piece>, placed: &Placed) -> Result<(), NoMemor
     ensures { OnOk result (out.new ≡ out.old ++ entry_of placed.now) }
 {
     test_depth(out, placed, 3 * placed.function.ops.len() as u32)?;
-    let list = KEPT_REGISTERS;
+    let list = saved_list(placed);
     add(
         out,
         &[
@@ -92,6 +93,6 @@ pub(crate) fn enter(out: &mut Seq<Piece>, placed: &Placed) -> Result<(), NoMemor
             Piece::Plain(Instr::Push { list, m: true }),
         ],
     )?;
-    lower(out, own(placed))?;
+    lower(out, below_saved(placed))?;
     move_parameters(out, placed)
 }

@@ -2,7 +2,8 @@
 ghost use Rattle.std.specs.Prelude.{◌≡◌, ◌+◌, ◌*◌, ◌^◌, ◌<◌, ◌≤◌, ◌++◌, length, OnOk};
 ghost use Rattle.flat_ir.specs.WellFormed.{temporaries};
 ghost use Rattle.register_assign.specs.Sound.{IsWithin, place_of};
-ghost use Rattle.thumb_emit.specs.Frame.{own, words, from_place, to_place, idle_piece, register_of, brings, result_in, keeps, lands, carries, raises, lowers};
+ghost use Rattle.register_assign.specs.Saving.{registers_to, registers_of_first, saves};
+ghost use Rattle.thumb_emit.specs.Frame.{own, words, below_saved, saved_list, from_place, to_place, idle_piece, register_of, brings, result_in, keeps, lands, carries, raises, lowers};
 ghost use Rattle.thumb_emit.specs.Ready.{IsReady, IsOpTold, gets, register, brought, result_register, kept, landed};
 
 use crate::pieces::{At, add};
@@ -11,7 +12,7 @@ use sts_base::{NoMemory, Seq};
 use thumb_code::Instr;
 use thumb_layout::Piece;
 
-/// The frame's words below the registers that it keeps.
+/// The outgoing words and the slots.
 pub(crate) fn own(placed: &Placed) -> u32
     requires { IsReady placed.now }
     ensures own { result ≡ own placed.now.function }
@@ -85,6 +86,53 @@ pub(crate) fn get(placed: &Placed, rd: u8, t: u32) -> Piece
     ensures { result ≡ gets placed.now rd t }
 {
     from_place(placed, rd, place_of(placed, t))
+}
+
+/// How many registers there are from r4 up to a place's.
+fn registers_to(place: Place) -> u32
+    ensures { result ≡ registers_to place }
+{
+    match place {
+        Place::Reg(r) => (r as u32).saturating_sub(3),
+        _ => 0,
+    }
+}
+
+/// How many registers the function saves: r4 and those behind it, up to the highest in which a temporary stands.
+fn saves(placed: &Placed) -> u32
+    requires { IsReady placed.now }
+    ensures saves { result ≡ saves placed.now.function (place_of placed.now.places) }
+    ensures few { result ≤ 4 }
+{
+    let function = &placed.function;
+    let mut most = 0;
+    for t in 0..function.params + function.locals + function.operands {
+        most = most.max(registers_to(place_of(placed, t)));
+    }
+    most
+}
+
+/// The frame's words below the registers that the function saves.
+pub(crate) fn below_saved(placed: &Placed) -> u32
+    requires { IsReady placed.now }
+    ensures words { result ≡ below_saved placed.now.function (place_of placed.now.places) }
+    ensures few { result ≤ 140 }
+{
+    own(placed) + (4 - saves(placed))
+}
+
+/// The registers that the function saves, as the list of PUSH and POP.
+pub(crate) fn saved_list(placed: &Placed) -> u8
+    requires { IsReady placed.now }
+    ensures { result ≡ saved_list placed.now.function (place_of placed.now.places) }
+{
+    match saves(placed) {
+        0 => 0b0000_0000,
+        1 => 0b0001_0000,
+        2 => 0b0011_0000,
+        3 => 0b0111_0000,
+        _ => 0b1111_0000,
+    }
 }
 
 /// A piece that takes nothing: a label to which nobody goes.
@@ -178,7 +226,7 @@ pub(crate) fn moved(placed: &Placed, rd: u8, rs: u8) -> Piece
 
 /// SP goes up by so many words.
 pub(crate) fn raise(out: &mut Seq<Piece>, words: u32) -> Result<(), NoMemory>
-    requires { words ≤ 136 }
+    requires { words ≤ 140 }
     ensures { OnOk result (out.new ≡ out.old ++ raises words) }
 {
     if words > 127 {
@@ -198,7 +246,7 @@ pub(crate) fn raise(out: &mut Seq<Piece>, words: u32) -> Result<(), NoMemory>
 
 /// SP goes down by so many words.
 pub(crate) fn lower(out: &mut Seq<Piece>, words: u32) -> Result<(), NoMemory>
-    requires { words ≤ 136 }
+    requires { words ≤ 140 }
     ensures { OnOk result (out.new ≡ out.old ++ lowers words) }
 {
     if words > 127 {

@@ -6,8 +6,11 @@ ghost use Rattle.thumb_layout.specs.Rounds.{total_most, counted};
 ghost use Rattle.thumb_layout.specs.Openings.{called, named};
 ghost use Rattle.flat_ir.specs.declared.ops.Op.{Op};
 ghost use Rattle.flat_ir.specs.declared.ops.Function.{Function};
+ghost use Rattle.flat_ir.specs.WellFormed.{temporaries};
 ghost use Rattle.register_assign.specs.declared.places.Place.{Place};
+ghost use Rattle.register_assign.specs.declared.places.Place.TheVariants as at;
 ghost use Rattle.register_assign.specs.declared.places.Placed.{Placed};
+ghost use Rattle.register_assign.specs.Saving.{saves};
 ghost use Rattle.thumb_emit.specs.Emit.{op_pieces, entry_pieces, function_pieces};
 ghost use Rattle.thumb_emit.specs.Bounds.{total_cost, op_cost, op_bytes, ops_bytes, entry_cost, entry_bytes};
 ghost use Rattle.thumb_emit.specs.Names.{names_of, IsCalledBy};
@@ -36,4 +39,10 @@ pub fn pieces_keep_their_bounds()
     ensures function_bytes { (p : Placed) → p.function.params ≤ 8 → total_most (function_pieces p) ≤ ops_bytes p.function.ops + entry_bytes }
     ensures some { (f : Function) (place : ℕ → Place) (k : ℕ) (op : Op) → 0 < counted (op_pieces f place k op) }
     ensures some_at_entry { (f : Function) (place : ℕ → Place) → 0 < counted (entry_pieces f place) }
+{}
+
+/// A function saves every register in which a temporary of its stands. Where it saves any, some temporary stands in the last of them.
+pub fn saved_registers_reach_to_the_highest_used()
+    ensures each { (f : Function) (place : ℕ → Place) (t r : ℕ) → t < temporaries f → place t ≡ at.Reg r → r < 4 + saves f place }
+    ensures highest { (f : Function) (place : ℕ → Place) (k : ℕ) → saves f place ≡ k + 1 → (t : ℕ) × (t < temporaries f) × (place t ≡ at.Reg (4 + k)) }
 {}

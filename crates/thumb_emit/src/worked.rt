@@ -20,5 +20,5 @@ pub fn rows_of_pieces()
         ≡ p.Label 16 ∷ p.Plain (i.CmpImm 5 0) ∷ p.Go 1 10 ∷ p.Plain (i.MovImm 0 105) ∷ p.Plain (i.Svc 1) ∷ p.Label 10 ∷ p.Plain (i.LdrImm 0 5 3) ∷ p.Label 16 ∷ [] }
     ensures entry { entry_pieces small (place_of small_places)
         ≡ p.Plain (i.MovHigh 3 14) ∷ p.Plain (i.MovHigh 0 13) ∷ p.Number 1 0x200030A8 ∷ p.Plain (i.CmpReg 0 1) ∷ p.Go 2 15 ∷ p.Plain (i.MovImm 0 102) ∷ p.Plain (i.Svc 1) ∷ p.Label 15
-        ∷ p.Plain (i.MovHigh 14 3) ∷ p.Plain (i.Push 240 true) ∷ p.Plain (i.SubSpImm 5) ∷ p.Plain (i.LdrSp 6 11) ∷ p.Label 16 ∷ [] }
+        ∷ p.Plain (i.MovHigh 14 3) ∷ p.Plain (i.Push 112 true) ∷ p.Plain (i.SubSpImm 6) ∷ p.Plain (i.LdrSp 6 11) ∷ p.Label 16 ∷ [] }
 {}
