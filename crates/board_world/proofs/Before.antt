@@ -12,7 +12,8 @@ use Rattle.board_world.specs.Board.{Board, Act, Entry, Down, Up, Raise, Unplug, 
 use Rattle.board_world.specs.Kinds.{Kind, Question, Raises, Plots, Displays, Writes, Sets, Sends, Time, Value, Pressed, answer, showed, wrote, was_set, level, Turn, Goes, Asks, Takes, Pauses, Waits, Spawns, Listens, RaisesNow, Ends, Panics, Faults}
 use Rattle.board_world.specs.Waiting.{chosen, left, least, none, how_many, held_by}
 use Rattle.board_world.specs.Activities.{Activity, World, handlers}
-use Rattle.board_world.specs.World.{lacks_seat, jump, clock_moves, goes_on, ends_with, ends, moved, idle_while, idle_bound, idled, blocks, acted, tick, run}
+use Rattle.board_world.specs.World.{lacks_seat, jump, clock_moves, goes_on, ends_with, ends, moved, idle_while, idle_bound, idled, blocks, acted, tick}
+use Rattle.board_world.specs.Runs.{run}
 use Rattle.board_world.specs.Simulation.{IsSettled}
 use Rattle.board_world.specs.Before.{IsFrom, board_then, then_later, is_jump_before, moves_before, idle_before, idled_before, stepped_before, tick_before, run_before}
 use Rattle.board_world.proofs.Settle.{progress, due}

@@ -7,7 +7,8 @@ use Rattle.board_world.specs.Observations.{Panicked}
 use Rattle.board_world.specs.Board.{Board, over}
 use Rattle.board_world.specs.Kinds.{Kind, Turn, Goes, Asks, Takes, Pauses, Waits, Spawns, Listens, RaisesNow, Ends, Panics, Faults, answer}
 use Rattle.board_world.specs.Activities.{Activity, World}
-use Rattle.board_world.specs.World.{idled, idle_bound, goes_on, stops, acted, stepped, tick, run}
+use Rattle.board_world.specs.World.{idled, idle_bound, goes_on, stops, acted, stepped, tick}
+use Rattle.board_world.specs.Runs.{run}
 use Rattle.board_world.specs.Simulation.{Paired, Kept, Ties, Same, Rest, Alike, Matches, Path, one, always}
 use Rattle.board_world.specs.Trailing.{Comes, Completes, Trails, TrailingSimulation}
 use Rattle.board_world.proofs.Stays.{over_stays, busy_stays}

@@ -10,7 +10,8 @@ use Rattle.board_world.specs.Board.{Board, Entry, Act, Down, Up, Raise, Unplug, 
 use Rattle.board_world.specs.Kinds.{Kind, Turn, Goes, Asks, Takes, Pauses, Waits, Spawns, Listens, RaisesNow, Ends, Panics, Faults, Question, answer, showed, Raises, Plots, Displays, Writes, Sets, Sends, Time, Value, Pressed, was_set, level}
 use Rattle.board_world.specs.Waiting.{least, how_many, none, held_by}
 use Rattle.board_world.specs.Activities.{Activity, World, handlers}
-use Rattle.board_world.specs.World.{moved, clock_moves, idle_while, idle_bound, lacks_seat, blocks, leaves, ends_with, ends, acted, stepped, run}
+use Rattle.board_world.specs.World.{moved, clock_moves, idle_while, idle_bound, lacks_seat, blocks, leaves, ends_with, ends, acted, stepped}
+use Rattle.board_world.specs.Runs.{run}
 use Rattle.board_world.specs.Invariants.{FaultsWithin, Closed, SoundEnd, Extends}
 use Rattle.std.proofs.lemmas.List.{append-nil}
 use Rattle.board_world.proofs.Stays.{if_keeps, run_sum}

@@ -19,11 +19,12 @@ pub use Rattle.board_world.proofs.Pairs.{chosen-append, left-append, length_chos
 pub use Rattle.board_world.proofs.Lift.{used_answer, used_arrive}
 -- simulations: lifted to runs, under arrivals, ending in time
 pub use Rattle.board_world.proofs.Arrive.{lifts, lifts_with}
-pub use Rattle.board_world.proofs.Whole.{ends_in_time, ends_in_time_with}
--- one behind the other, and lagging
+pub use Rattle.board_world.proofs.Whole.{ends_in_time, in_time, implemented_in_time, kept_plainly, PlainlyKept}
+-- a run with arrivals: where nothing arrives, by the list of them, and behind its end
+pub use Rattle.board_world.proofs.ByList.{run_by_list, applied_by_list, over_by_list, with_list, applied_list, since_list, with_nothing, with_over_later, rises_from, acts_over, list_before, list_behind, applied_first}
+-- one behind the other
 pub use Rattle.board_world.proofs.Compose.{Way, way_on, way_step}
 pub use Rattle.board_world.proofs.Compose.{compose, partial_compose}
-pub use Rattle.board_world.proofs.Lag.{up_to_date, onward_lagging, catch_up, partial_catch_up}
 -- what every move of the world keeps of the board
 pub use Rattle.board_world.proofs.Boards.{kept_run, kept_arrive, ends_soundly, extends_run, extends_arrive}
 -- typed activities make no fault, and there a simulation that owes nothing at faults is a whole one

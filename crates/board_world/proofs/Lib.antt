@@ -6,12 +6,13 @@ mod Lift
 mod Compose
 mod Trails
 mod Between
+mod ByList
+mod Late
 mod Arrive
 mod Settle
 mod Before
 mod Onwards
 mod Timely
-mod Lag
 mod Whole
 mod Boards
 mod Sound

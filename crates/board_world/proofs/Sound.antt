@@ -1,22 +1,22 @@
 -- A simulation that owes nothing at faults is a whole one on typed states, and typed runs never end by a fault.
-use Rattle.std.proofs.Common.{◌≡◌, ℕ, ◌+◌, ◌*◌, ◌-◌, ◌≤◌, ◌<◌, true, nat_le, List, [], ◌∷◌, refl, ap, subst, arith}
+use Rattle.std.proofs.Common.{◌≡◌, ℕ, zero, suc, ◌+◌, ◌≤◌, ◌<◌, if◌then◌else◌, ◌==◌, List, [], ◌∷◌, refl, ap, subst, arith}
 use Rattle.board_world.specs.declared.events.Listener.{Listener}
 use Rattle.board_world.specs.Board.{Board, Entry, over, arrive}
 use Rattle.board_world.specs.Kinds.{Kind, Turn, Goes, Asks, Takes, Pauses, Waits, Spawns, Listens, RaisesNow, Ends, Panics, Faults}
 use Rattle.board_world.specs.Activities.{World}
-use Rattle.board_world.specs.World.{start, run}
+use Rattle.board_world.specs.World.{start, tick}
+use Rattle.board_world.specs.Runs.{Arrival, acts, acts_at, run_with, Rises, Keeps}
 use Rattle.board_world.specs.Invariants.{FaultsWithin, SoundEnd}
 use Rattle.board_world.specs.Simulation.{Ties, Onward, Going, Listening, Begins, Matches, Follows, Simulation, Alike, one, always}
 use Rattle.board_world.specs.Composed.{level}
-use Rattle.board_world.specs.Arrivals.{Arrival, acts, Rises, RisesTo, Keeps, run_with}
 use Rattle.board_world.specs.Sound.{NoFault, PartialSimulation, Typing, After, Further, Ready, Stays, Sound, within}
-use Rattle.board_world.specs.Implements.{Implements}
+use Rattle.board_world.specs.Implements.{Implements, boards_from}
 use Rattle.board_world.specs.Trailing.{TrailingSimulation, PartialTrailingSimulation}
 use Rattle.board_world.proofs.Trails.{partial_trails_by_nothing}
 use Rattle.board_world.proofs.Stays.{if_keeps}
 use Rattle.board_world.proofs.Boards.{kept_run, kept_arrive, sound_closed}
 use Rattle.board_world.proofs.Arrive.{lifts_with, trailing_lifts_with}
-use Rattle.board_world.proofs.Whole.{trailing_ends_in_time}
+use Rattle.board_world.proofs.ByList.{rises_from}
 
 pub stays_runs : {A S : Type 0} (I : Typing A S) (used : ℕ) (s : S) (u : Turn A S) → Stays I used s u → NoFault u
 stays_runs I used s (Faults k a) h = h
@@ -129,18 +129,10 @@ starts K L T weight bound sim = begun_alike K L T sim.begins
 -- the whole: the lower run is the upper one, whatever arrives
 pub trailing_sound_lifts : {A S C D : Type 0} (K : Kind A S) (L : Kind C D) (r bound : ℕ) (I : Typing A S) (T : Ties A S C D) → 0 < bound → Sound K I → PartialTrailingSimulation K L T one r (always bound)
     → (f g : ℕ) (s : S) (t : D) → I.Code f → T.Code f g → I.Shared 0 s → T.Shared 0 s t
-    → (until : ℕ) (script : List Entry) (arrivals : List Arrival) → Rises 0 arrivals → (m : ℕ) → Keeps K L bound (start K f s until script) (start L g t until script) arrivals m
+    → (until : ℕ) (script : List Entry) (arrivals : List Arrival) → Rises 0 arrivals → (m : ℕ) → Keeps bound (boards_from K f s until script) (boards_from L g t until script) arrivals m
 trailing_sound_lifts K L r bound I T positive sound sim f g s t code tied shared alike until script arrivals rises m =
     (let whole = trailing_holds K L I T one r (always bound) sound sim in
     trailing_lifts_with K L bound positive (within I T) r whole _ _ (begun_alike K L (within I T) whole.begins f g s t until script (code, tied) (shared, alike)) arrivals rises m)
-
--- and ends in time
-pub trailing_sound_in_time : {A S C D : Type 0} (K : Kind A S) (L : Kind C D) (r bound : ℕ) (I : Typing A S) (T : Ties A S C D) → 0 < bound → Sound K I → PartialTrailingSimulation K L T one r (always bound)
-    → (f g : ℕ) (s : S) (t : D) → I.Code f → T.Code f g → I.Shared 0 s → T.Shared 0 s t
-    → (until : ℕ) (script : List Entry) (n : ℕ) → over (run K n (start K f s until script)).board ≡ true → over (run L (bound * n) (start L g t until script)).board ≡ true
-trailing_sound_in_time K L r bound I T positive sound sim f g s t code tied shared alike until script n ended =
-    (let whole = trailing_holds K L I T one r (always bound) sound sim in
-    trailing_ends_in_time K L bound positive (within I T) r whole _ _ (begun_alike K L (within I T) whole.begins f g s t until script (code, tied) (shared, alike)) n ended)
 
 -- a kind that panics where another makes a fault
 abbrev calmed : {A S : Type 0} → Turn A S → Turn A S
@@ -168,16 +160,17 @@ calm K = record { begin = K.begin; step = λ a s. calmed (K.step a s); depth = K
 
 module _ {A S : Type 0} (K : Kind A S) where
   -- where no turn is a fault no run ends by one, whatever arrives
-  calm_ends : ((a : A) (s : S) → FaultsWithin none (K.step a s)) → (n : ℕ) (rest : List Arrival) (m : ℕ) (w : World A S) → SoundEnd none w.board.end → SoundEnd none (run_with K n rest m w).board.end
-  calm_ends runs n [] m w h = kept_run none (λ b. SoundEnd none b.end) (sound_closed none) K runs (m - n) w h
-  calm_ends runs n (a ∷ rest) m w h =
-      (let u = run K (a.count - n) w in
-      let h' : SoundEnd none u.board.end = kept_run none (λ b. SoundEnd none b.end) (sound_closed none) K runs (a.count - n) w h in
-      let acted : SoundEnd none (acts a.act u).board.end =
-      if_keeps (λ (v : World A S). SoundEnd none v.board.end) (over u.board) u (record u { board = arrive a.act u.board }) h' (kept_arrive none (λ b. SoundEnd none b.end) (sound_closed none) a.act u.board h') in
-      if_keeps (λ (v : World A S). SoundEnd none v.board.end) (nat_le a.count m) (run_with K a.count rest m (acts a.act u)) (run K (m - n) w)
-      (calm_ends runs a.count rest m (acts a.act u) acted)
-      (kept_run none (λ b. SoundEnd none b.end) (sound_closed none) K runs (m - n) w h))
+  calm_acts : (n : ℕ) (rest : List Arrival) (w : World A S) → SoundEnd none w.board.end → SoundEnd none (acts_at n rest w).board.end
+  calm_acts n [] w h = h
+  calm_acts n (a ∷ rest) w h =
+      calm_acts n rest (if a.count == n then acts a.act w else w)
+      (if_keeps (λ (v : World A S). SoundEnd none v.board.end) (a.count == n) (acts a.act w) w
+      (if_keeps (λ (v : World A S). SoundEnd none v.board.end) (over w.board) w (record w { board = arrive a.act w.board }) h (kept_arrive none (λ b. SoundEnd none b.end) (sound_closed none) a.act w.board h)) h)
+
+  calm_ends : ((a : A) (s : S) → FaultsWithin none (K.step a s)) → (rest : List Arrival) (m : ℕ) (w : World A S) → SoundEnd none w.board.end → SoundEnd none (run_with K rest m w).board.end
+  calm_ends runs rest zero w h = calm_acts 0 rest w h
+  calm_ends runs rest (suc m) w h =
+      (let u = run_with K rest m w in calm_acts (suc m) rest (tick K u) (kept_run none (λ b. SoundEnd none b.end) (sound_closed none) K runs 1 u (calm_ends runs rest m w h)))
 
 -- a typed activity and itself
 module _ {A S : Type 0} (K : Kind A S) where
@@ -221,42 +214,36 @@ module _ {A S : Type 0} (K : Kind A S) where
         }
 
     -- no typed run ends by a fault, whatever arrives
-    pub never_faults : Sound K I → (f : ℕ) (s : S) → I.Code f → I.Shared 0 s → (until : ℕ) (script : List Entry) (arrivals : List Arrival) → Rises 0 arrivals → (m : ℕ) → SoundEnd none (run_with K 0 arrivals m (start K f s until script)).board.end
+    pub never_faults : Sound K I → (f : ℕ) (s : S) → I.Code f → I.Shared 0 s → (until : ℕ) (script : List Entry) (arrivals : List Arrival) → Rises 0 arrivals → (m : ℕ) → SoundEnd none (boards_from K f s until script arrivals m).end
     never_faults sound f s code shared until script arrivals rises m =
         (let sim = calm_simulation sound in
         let kept = lifts_with (calm K) K 1 (omega arith) itself sim _ _ (starts (calm K) K itself one (always 1) sim f f s s until script (refl, code) (refl, shared)) arrivals rises m in
         subst (λ (b : Board). SoundEnd none b.end) kept.board
-        (calm_ends (calm K) (λ a t. calm_runs (K.step a t)) 0 kept.places kept.k (start (calm K) f s until script) tt))
-
--- places that rise to k rise
-rises_from : (n : ℕ) (rest : List Arrival) (k : ℕ) → RisesTo n rest k → Rises n rest
-rises_from n [] k h = tt
-rises_from n (a ∷ rest) k h = (h.0, rises_from a.count rest k h.1)
+        (calm_ends (calm K) (λ a t. calm_runs (K.step a t)) kept.places kept.steps (start (calm K) f s until script) tt))
 
 -- so the lower run ends by no fault either
 pub trailing_sound_below : {A S C D : Type 0} (K : Kind A S) (L : Kind C D) (r bound : ℕ) (I : Typing A S) (T : Ties A S C D) → 0 < bound → Sound K I → PartialTrailingSimulation K L T one r (always bound)
     → (f g : ℕ) (s : S) (t : D) → I.Code f → T.Code f g → I.Shared 0 s → T.Shared 0 s t
-    → (until : ℕ) (script : List Entry) (arrivals : List Arrival) → Rises 0 arrivals → (m : ℕ) → SoundEnd none (run_with L 0 arrivals m (start L g t until script)).board.end
+    → (until : ℕ) (script : List Entry) (arrivals : List Arrival) → Rises 0 arrivals → (m : ℕ) → SoundEnd none (boards_from L g t until script arrivals m).end
 trailing_sound_below K L r bound I T positive sound sim f g s t code tied shared alike until script arrivals rises m =
     (let kept = trailing_sound_lifts K L r bound I T positive sound sim f g s t code tied shared alike until script arrivals rises m in
-    subst (λ (b : Board). SoundEnd none b.end) kept.board (never_faults K I sound f s code shared until script kept.places (rises_from 0 kept.places kept.k kept.rises) kept.k))
+    subst (λ (b : Board). SoundEnd none b.end) kept.board (never_faults K I sound f s code shared until script kept.places (rises_from 0 kept.places kept.steps kept.rises) kept.steps))
 
 -- all of it
 pub trailing_implements : {A S C D : Type 0} (K : Kind A S) (L : Kind C D) (r bound : ℕ) (I : Typing A S) (T : Ties A S C D) → 0 < bound → Sound K I → PartialTrailingSimulation K L T one r (always bound)
-    → (f g : ℕ) (s : S) (t : D) → I.Code f → T.Code f g → I.Shared 0 s → T.Shared 0 s t → Implements K L bound f s g t
+    → (f g : ℕ) (s : S) (t : D) → I.Code f → T.Code f g → I.Shared 0 s → T.Shared 0 s t → Implements bound (boards_from K f s) (boards_from L g t)
 trailing_implements K L r bound I T positive sound sim f g s t code tied shared alike =
     record {
       keeps = trailing_sound_lifts K L r bound I T positive sound sim f g s t code tied shared alike;
       no_fault = trailing_sound_below K L r bound I T positive sound sim f g s t code tied shared alike;
-      in_time = trailing_sound_in_time K L r bound I T positive sound sim f g s t code tied shared alike;
     }
 
 -- the same of one that doesn't trail
 pub implements : {A S C D : Type 0} (K : Kind A S) (L : Kind C D) (bound : ℕ) (I : Typing A S) (T : Ties A S C D) → 0 < bound → Sound K I → PartialSimulation K L T one (always bound)
-    → (f g : ℕ) (s : S) (t : D) → I.Code f → T.Code f g → I.Shared 0 s → T.Shared 0 s t → Implements K L bound f s g t
+    → (f g : ℕ) (s : S) (t : D) → I.Code f → T.Code f g → I.Shared 0 s → T.Shared 0 s t → Implements bound (boards_from K f s) (boards_from L g t)
 implements K L bound I T positive sound sim = trailing_implements K L 0 bound I T positive sound (partial_trails_by_nothing K L T one (always bound) sim)
 
 pub sound_below : {A S C D : Type 0} (K : Kind A S) (L : Kind C D) (bound : ℕ) (I : Typing A S) (T : Ties A S C D) → 0 < bound → Sound K I → PartialSimulation K L T one (always bound)
     → (f g : ℕ) (s : S) (t : D) → I.Code f → T.Code f g → I.Shared 0 s → T.Shared 0 s t
-    → (until : ℕ) (script : List Entry) (arrivals : List Arrival) → Rises 0 arrivals → (m : ℕ) → SoundEnd none (run_with L 0 arrivals m (start L g t until script)).board.end
+    → (until : ℕ) (script : List Entry) (arrivals : List Arrival) → Rises 0 arrivals → (m : ℕ) → SoundEnd none (boards_from L g t until script arrivals m).end
 sound_below K L bound I T positive sound sim = trailing_sound_below K L 0 bound I T positive sound (partial_trails_by_nothing K L T one (always bound) sim)

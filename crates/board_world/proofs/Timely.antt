@@ -14,7 +14,8 @@ use Rattle.board_world.specs.Board.{Board, Act, Entry, Down, Up, Raise, Unplug, 
 use Rattle.board_world.specs.Kinds.{Kind, Question, Raises, Plots, Displays, Writes, Sets, Sends, Time, Value, Pressed, answer, showed, Turn, Goes, Asks, Takes, Pauses, Waits, Spawns, Listens, RaisesNow, Ends, Panics, Faults}
 use Rattle.board_world.specs.Waiting.{left, least, none, how_many, held_by}
 use Rattle.board_world.specs.Activities.{Activity, World, handlers}
-use Rattle.board_world.specs.World.{lacks_seat, jump, clock_moves, ends_with, ends, moved, idle_while, idle_bound, idled, blocks, acted, stepped, tick, run}
+use Rattle.board_world.specs.World.{lacks_seat, jump, clock_moves, ends_with, ends, moved, idle_while, idle_bound, idled, blocks, acted, stepped, tick}
+use Rattle.board_world.specs.Runs.{run}
 use Rattle.board_world.specs.Simulation.{IsSettled}
 use Rattle.board_world.specs.Before.{IsFrom, IsRisingFrom, WakeFrom, IsTimely, then_later, is_by_clock, is_jump_before, moves_before, idle_before, stepped_before, tick_before, run_before}
 use Rattle.board_world.proofs.Stays.{if_keeps, over_stays}

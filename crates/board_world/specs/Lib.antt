@@ -16,7 +16,7 @@ pub mod Requests
 pub mod Before
 pub mod Simulation
 pub mod Composed
-pub mod Arrivals
+pub mod Runs
 pub mod Invariants
 pub mod Implements
 pub mod Sound

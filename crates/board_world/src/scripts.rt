@@ -5,7 +5,8 @@ ghost use Rattle.std.specs.List.Sorted.{IsNonDecreasingBy};
 ghost use Rattle.board_world.specs.Board.{Entry};
 ghost use Rattle.board_world.specs.Kinds.{Kind};
 ghost use Rattle.board_world.specs.Activities.{World};
-ghost use Rattle.board_world.specs.World.{run, start};
+ghost use Rattle.board_world.specs.World.{start};
+ghost use Rattle.board_world.specs.Runs.{run};
 ghost use Rattle.board_world.specs.Simulation.{IsSettled};
 ghost use Rattle.board_world.specs.Before.{IsFrom, then_later, is_by_clock, idled_before, run_before};
 

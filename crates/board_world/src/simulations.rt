@@ -4,13 +4,13 @@ ghost use Rattle.std.specs.Prelude.{◌≡◌, ℕ, ◌+◌, ◌*◌, ◌≤◌,
 ghost use Rattle.board_world.specs.Board.{Entry, over};
 ghost use Rattle.board_world.specs.Kinds.{Kind};
 ghost use Rattle.board_world.specs.Activities.{World};
-ghost use Rattle.board_world.specs.World.{run, start};
+ghost use Rattle.board_world.specs.World.{start};
+ghost use Rattle.board_world.specs.Runs.{Arrival, Rises, Keeps, run, run_with, board_with};
 ghost use Rattle.board_world.specs.Simulation.{Simulation, Alike, ties, one, always};
-ghost use Rattle.board_world.specs.Composed.{seen, joined_seen, lagging, LaggingSimulation};
-ghost use Rattle.board_world.specs.Arrivals.{Arrival, Rises, Keeps, run_with};
+ghost use Rattle.board_world.specs.Composed.{seen, joined_seen};
 ghost use Rattle.board_world.specs.Invariants.{SoundEnd};
-ghost use Rattle.board_world.specs.Implements.{Implements};
-ghost use Rattle.board_world.specs.Sound.{NoFault, PartialSimulation, PartialLaggingSimulation, Sound, typing};
+ghost use Rattle.board_world.specs.Implements.{Implements, boards_from};
+ghost use Rattle.board_world.specs.Sound.{NoFault, PartialSimulation, Sound, typing};
 ghost use Rattle.board_world.specs.Trailing.{PartialTrailingSimulation};
 
 /// What ties two kinds of activity: their own states, what they share, and the numbers of their functions.
@@ -34,7 +34,7 @@ pub trait Tied {
 pub fn simulations_lift<T: Tied>()
     ensures { (K : Kind T.Upper T.UpperShared) (L : Kind T.Lower T.LowerShared) (bound : ℕ) (w : World T.Upper T.UpperShared) (v : World T.Lower T.LowerShared)
         → 0 < bound → Simulation K L (ties T.shared T.active T.code) one (always bound) → Alike (ties T.shared T.active T.code) w v
-        → (arrivals : List Arrival) → Rises 0 arrivals → (m : ℕ) → Keeps K L bound w v arrivals m }
+        → (arrivals : List Arrival) → Rises 0 arrivals → (m : ℕ) → Keeps bound (board_with K w) (board_with L v) arrivals m }
 {}
 
 /// A run that ends within s steps has ended below within `bound * s`.
@@ -46,8 +46,8 @@ pub fn simulated_runs_end_in_time<T: Tied>()
 
 /// The same where acts come between two steps, each at its own place in either run.
 pub fn simulated_runs_end_in_time_with_arrivals<A, S, C, D>()
-    ensures { (K : Kind A S) (L : Kind C D) (bound : ℕ) (w : World A S) (v : World C D) (arrivals : List Arrival) (s : ℕ) (kept : Keeps K L bound w v arrivals (bound * s))
-        → over (run_with K 0 kept.places s w).board ≡ true → over (run_with L 0 arrivals (bound * s) v).board ≡ true }
+    ensures { (K : Kind A S) (L : Kind C D) (bound : ℕ) (w : World A S) (v : World C D) (arrivals : List Arrival) (s : ℕ) (kept : Keeps bound (board_with K w) (board_with L v) arrivals (bound * s))
+        → over (run_with K kept.places s w).board ≡ true → over (run_with L arrivals (bound * s) v).board ≡ true }
 {}
 
 /// Three kinds of activity in a chain, where the middle one's shared state is a part of the upper one's.
@@ -87,13 +87,6 @@ pub fn simulations_compose<T: Chained>()
         → Simulation K M (joined_seen T.down T.fine T.active T.code (ties T.lower_shared T.lower_active T.lower_code)) lower_weight bound }
 {}
 
-/// Where an activity has steps of its own still to make, it is enough to follow from those that have made them.
-pub fn lags_are_caught_up<T: Tied>()
-    ensures { (K : Kind T.Upper T.UpperShared) (L : Kind T.Lower T.LowerShared) (weight : T.Lower → T.LowerShared → ℕ) (r : ℕ) (bound : T.Upper → T.UpperShared → ℕ)
-        → LaggingSimulation K L (ties T.shared T.active T.code) weight r bound
-        → Simulation K L (lagging L (ties T.shared T.active T.code) weight r) weight (λ a s. r + bound a s) }
-{}
-
 /// Simulations that owe nothing where the upper kind makes a fault compose in the same way.
 pub fn partial_simulations_compose<T: Chained>()
     ensures { (K : Kind T.Upper T.Shared) (L : Kind T.Middle T.MiddleShared) (M : Kind T.Lower T.LowerShared)
@@ -110,13 +103,6 @@ pub fn trailing_simulations_compose<T: Chained>()
         → PartialTrailingSimulation K M (joined_seen T.down T.fine T.active T.code (ties T.lower_shared T.lower_active T.lower_code)) lower_weight r bound }
 {}
 
-/// And so are their lags caught up.
-pub fn partial_lags_are_caught_up<T: Tied>()
-    ensures { (K : Kind T.Upper T.UpperShared) (L : Kind T.Lower T.LowerShared) (weight : T.Lower → T.LowerShared → ℕ) (r : ℕ) (bound : T.Upper → T.UpperShared → ℕ)
-        → PartialLaggingSimulation K L (ties T.shared T.active T.code) weight r bound
-        → PartialSimulation K L (lagging L (ties T.shared T.active T.code) weight r) weight (λ a s. r + bound a s) }
-{}
-
 /// What is typed of a kind of activity, and what ties it to another.
 pub trait Typed: Tied {
     ghost typed_shared: { ℕ → Self.UpperShared → Type 0 };
@@ -131,7 +117,7 @@ pub fn typed_runs_make_no_fault<T: Typed>()
     ensures { (K : Kind T.Upper T.UpperShared) → Sound K (typing T.typed_shared T.typed T.typed_code)
         → (main : ℕ) (shared : T.UpperShared) → T.typed_code main → T.typed_shared 0 shared
         → (until : ℕ) (script : List Entry) (arrivals : List Arrival) → Rises 0 arrivals → (m : ℕ)
-        → SoundEnd (λ kind address. ⊥) (run_with K 0 arrivals m (start K main shared until script)).board.end }
+        → SoundEnd (λ kind address. ⊥) (run_with K arrivals m (start K main shared until script)).board.end }
 {}
 
 /// There a simulation that owes nothing at faults makes the lower kind implement the upper one.
@@ -139,7 +125,7 @@ pub fn typed_simulations_implement<T: Typed>()
     ensures { (K : Kind T.Upper T.UpperShared) (L : Kind T.Lower T.LowerShared) (bound : ℕ)
         → 0 < bound → Sound K (typing T.typed_shared T.typed T.typed_code) → PartialSimulation K L (ties T.shared T.active T.code) one (always bound)
         → (main entry : ℕ) (shared : T.UpperShared) (below : T.LowerShared) → T.typed_code main → T.code main entry → T.typed_shared 0 shared → T.shared 0 shared below
-        → Implements K L bound main shared entry below }
+        → Implements bound (boards_from K main shared) (boards_from L entry below) }
 {}
 
 /// So does one whose lower activity may trail behind its turns.
@@ -147,7 +133,13 @@ pub fn typed_trailing_simulations_implement<T: Typed>()
     ensures { (K : Kind T.Upper T.UpperShared) (L : Kind T.Lower T.LowerShared) (r bound : ℕ)
         → 0 < bound → Sound K (typing T.typed_shared T.typed T.typed_code) → PartialTrailingSimulation K L (ties T.shared T.active T.code) one r (always bound)
         → (main entry : ℕ) (shared : T.UpperShared) (below : T.LowerShared) → T.typed_code main → T.code main entry → T.typed_shared 0 shared → T.shared 0 shared below
-        → Implements K L bound main shared entry below }
+        → Implements bound (boards_from K main shared) (boards_from L entry below) }
+{}
+
+/// A run that ends in s steps has ended in `bound * s` steps of one that implements it, where nothing arrives.
+pub fn implemented_runs_end_in_time<A, S, C, D>()
+    ensures { (K : Kind A S) (L : Kind C D) (bound main entry : ℕ) (shared : S) (below : D) → Implements bound (boards_from K main shared) (boards_from L entry below)
+        → (until : ℕ) (script : List Entry) (s : ℕ) → over (run K s (start K main shared until script)).board ≡ true → over (run L (bound * s) (start L entry below until script)).board ≡ true }
 {}
 
 /// A simulation within some bound is one within a greater bound, also one that owes nothing at faults. The bound need be

@@ -11,7 +11,7 @@ use Rattle.class_world.specs.Classes.{Member, Class, Played, world_of, Passes, I
 use Rattle.class_world.specs.Implementing.{MemberImplements, class_of, ShowsSame}
 use Rattle.class_world.specs.Lines.{whole_text, cut_text}
 use Rattle.class_steps.specs.Texts.{boards_now, HasWholeText, HasCutText}
-use Rattle.class_meaning.proofs.Runs.{run_above}
+use Rattle.class_world.proofs.Laws.{run_above}
 use Rattle.class_meaning.specs.Meaning.{MeansWhole, MeansCut}
 
 -- lists that are related are as long

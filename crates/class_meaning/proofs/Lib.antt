@@ -1,3 +1,2 @@
-mod Runs
 mod Above
 pub mod Laws

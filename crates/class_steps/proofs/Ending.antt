@@ -11,7 +11,8 @@ use Rattle.board_world.specs.Rules.{clock_move, up_to}
 use Rattle.board_world.specs.Board.{Board, next_entry, over, ended_by}
 use Rattle.board_world.specs.Waiting.{least}
 use Rattle.board_world.specs.Activities.{World}
-use Rattle.board_world.specs.World.{clock_moves, run}
+use Rattle.board_world.specs.World.{clock_moves}
+use Rattle.board_world.specs.Runs.{run}
 use Rattle.board_world.specs.Simulation.{Paired}
 use Rattle.board_world.specs.Before.{is_by_clock, run_before}
 use Rattle.board_world.proofs.Laws.{run_settled}

@@ -21,3 +21,5 @@ pub use Rattle.class_world.proofs.Stepped.{one_passes, stepped_runs}
 pub use Rattle.class_world.proofs.On.{all_ended, ends_or_is_cut}
 -- lines
 pub use Rattle.class_world.proofs.Lines.{lines_same, lines_skip, seen_at_new, seen_at_all}
+-- a class of boards that implement others is run as far
+pub use Rattle.class_world.proofs.Implement.{run_above}

@@ -10,7 +10,8 @@ use Rattle.board_world.specs.Board.{Board, Act, Entry, Down, Up, Raise, Unplug, 
 use Rattle.board_world.specs.Waiting.{least}
 use Rattle.board_world.specs.Kinds.{Kind}
 use Rattle.board_world.specs.Activities.{Activity, World}
-use Rattle.board_world.specs.World.{start, jump, clock_moves, moved, idle_bound, idled, acted, tick, run, stepped}
+use Rattle.board_world.specs.World.{start, jump, clock_moves, moved, idle_bound, idled, acted, tick, stepped}
+use Rattle.board_world.specs.Runs.{run}
 use Rattle.board_world.specs.Simulation.{IsSettled}
 use Rattle.board_world.specs.Before.{IsRisingFrom, is_jump_before, moves_before, then_later, idled_before, stepped_before, run_before}
 use Rattle.board_world.proofs.Laws.{over_stays, first_before, run_on_to, run_settled, idled_first}

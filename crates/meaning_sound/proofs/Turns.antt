@@ -7,7 +7,7 @@ use Rattle.board_world.specs.declared.requests.Request.TheVariants as q
 use Rattle.board_world.specs.Limits.{depth_limit}
 use Rattle.board_world.specs.Observations.{ByteList}
 use Rattle.board_world.specs.Kinds.{Turn, Goes}
-use Rattle.board_world.specs.Requests.{Maker, asked}
+use Rattle.board_world.specs.Requests.{Asker, asked}
 use Rattle.board_world.specs.Simulation.{Paired}
 use Rattle.board_world.specs.Sound.{After, Further, Stays, Sound}
 use Rattle.sts_syntax.specs.declared.typed.Spot.{Spot}
@@ -24,7 +24,7 @@ use Rattle.sts_meaning.specs.Heaps.{popped, Fields, Items, Heap, with_cell, read
 use Rattle.sts_meaning.specs.Services.{requested}
 use Rattle.sts_meaning.specs.Todo.{Todo, Put, Get, Store, Drop, Unary, Apply, Choose, Both, Either, Read, Peek, Write, At, PeekAt, SetAt, Bump, BumpField, BumpAt, Measure, Push, Pop, Open, Append, New, Build, Invoke, Send, Ask, Repeat, Again, Each, Leave, Give, Round, runs}
 use Rattle.sts_meaning.specs.Frames.{Names, Frame, Activity, Starts, Runs, after, with_latest, with_two, with_three, taken, named, with_local, with_param, stored, defaults, as_many, first, answered, round, grown}
-use Rattle.sts_meaning.specs.Steps.{repeating, words, entered, entered_round, method, entering, invoked, ended, begun, at, now, now_with, maker, takes_item, act, step, source, empty}
+use Rattle.sts_meaning.specs.Steps.{repeating, words, entered, entered_round, method, entering, invoked, ended, begun, at, now, now_with, asker, takes_item, act, step, source, empty}
 use Rattle.meaning_sound.specs.Sorts.{Sort, Of, Begins, Exactly, of_types, above, Well, May, Is, IsA, IsRequest, Asks}
 use Rattle.meaning_sound.specs.Fits.{Answers, Given, IsStored, Fits}
 use Rattle.meaning_sound.specs.Kept.{Grows, IsHeap, Holds, AreNamed, GivesThis, IsFrame, Wait, IsActivity, typed}
@@ -165,7 +165,7 @@ module _ (P : TypedProgram) (good : IsWellTyped P) (texts : List ByteList) where
       (subst (λ (g : ℕ). Typed used h (after (there (entry P.functions g)) (λ r. entering P texts h base base (entered_round P texts g) []))) (sym less)
       (there_typed used h (entry P.functions may.0) may.2.0 _ may.2.1 (entering_typed used h base base (entered_round P texts may.0) repeater [] heap (entered_round_is h may.0 may.2) tt))))
 
-  asked_typed : (used : ℕ) (h : Heap) (m : Maker Activity Heap) (r : Request) → IsHeap P used h → IsRequest P r → ((f : ℕ) → May P f → IsActivity P h (m.above f)) → ((n : ℤ) → Further (typed P) used h (m.next n))
+  asked_typed : (used : ℕ) (h : Heap) (m : Asker Activity Heap) (r : Request) → IsHeap P used h → IsRequest P r → ((f : ℕ) → May P f → IsActivity P h (m.above f)) → ((n : ℤ) → Further (typed P) used h (m.next n))
       → ((n : ℤ) → (m.next n).1 ≡ h) → Typed used h (asked m r)
   asked_typed used h m (q.Pause n) heap p above next same = next (pos 0)
   asked_typed used h m (q.Wait e) heap p above next same = next (pos 0)
@@ -335,9 +335,9 @@ module _ (P : TypedProgram) (good : IsWellTyped P) (texts : List ByteList) where
 
     -- a request is made, and the frame goes on with its answer
     request_typed : (answers : Bool) (u : ValueType) (before : List Sort) (rest : List Value) (k : Todo) (r : Request) → IsRequest P r → Answers answers u → Holds P h before rest → Given P (Fits P S k) (Of u) before
-        → Typed used h (asked (maker P texts h f n callers base depth answers rest k) r)
+        → Typed used h (asked (asker P texts h f n callers base depth answers rest k) r)
     request_typed answers u before rest k r p a holds fits =
-        asked_typed used h (maker P texts h f n callers base depth answers rest k) r heap p (λ g may. may)
+        asked_typed used h (asker P texts h f n callers base depth answers rest k) r heap p (λ g may. may)
         (λ z. gives (Of u) (answered answers z) before rest k (answered_is answers u z a) holds fits) (λ z. refl)
 
     act_typed : (k : Todo) (ss : List Sort) (vs : List Value) → Holds P h ss vs → Fits P S k ss → Typed used h (Act k vs)

@@ -1,15 +1,18 @@
--- Runs in which nothing arrives.
-use Rattle.std.proofs.Common.{◌≡◌, ℕ, ◌-◌, ◌+◌, ◌*◌, ◌<◌, false, List, [], ◌∷◌, refl, ap, sym, ◌∙◌, arith}
-use Rattle.board_world.specs.Board.{Board, over}
-use Rattle.board_world.specs.Kinds.{Kind}
+-- Runs of an image in which nothing arrives.
+use Rattle.std.proofs.Common.{◌≡◌, ℕ, List, [], ap, subst}
+use Rattle.board_world.specs.Observations.{ByteList}
+use Rattle.board_world.specs.Board.{Board, Entry}
 use Rattle.board_world.specs.Activities.{World}
-use Rattle.board_world.specs.World.{run}
-use Rattle.board_world.specs.Simulation.{Paired}
-use Rattle.board_world.specs.Arrivals.{Arrival, Placed, Keeps, run_with}
-use Rattle.sts_implements.specs.Images.{LooksLike}
+use Rattle.board_world.specs.Invariants.{SoundEnd}
+use Rattle.board_world.proofs.Laws.{PlainlyKept, kept_plainly, with_nothing}
+use Rattle.sts_syntax.specs.TypedTrees.{TypedProgram}
+use Rattle.sts_meaning.specs.Steps.{source, source_start, source_run}
+use Rattle.bank_model.specs.Fibers.{Fiber, Shared}
+use Rattle.bank_model.specs.BoardMachine.{fibers, bank_start, bank_run}
+use Rattle.sts_implements.specs.Images.{instructions_of_a_step, ImageImplements, LooksLike}
 
-same_boards : (b c : Board) → b ≡ c → LooksLike b c
-same_boards b c e =
+pub looks_like : (b c : Board) → b ≡ c → LooksLike b c
+looks_like b c e =
     record {
       seen = ap (λ (x : Board). x.seen) e;
       unplugged = ap (λ (x : Board). x.unplugged) e;
@@ -21,23 +24,10 @@ same_boards b c e =
       most = ap (λ (x : Board). x.most) e;
     }
 
-none_placed : (bound : ℕ) (places : List Arrival) → Paired (Placed bound) [] places → places ≡ []
-none_placed bound [] p = refl
-none_placed bound (a ∷ rest) p = absurd p
+module _ (P : TypedProgram) (texts : List ByteList) (image : List ℕ) (implements : ImageImplements P texts image) (until : ℕ) (script : List Entry) (free : List ℕ) where
+  pub plainly : (m : ℕ) → PlainlyKept instructions_of_a_step (λ s. (source_run P texts until script s).board) (λ n. (bank_run image until script free n).board) m
+  plainly m = kept_plainly (source P texts) (fibers image) instructions_of_a_step (source_start P texts until script) (bank_start image until script free) m ((implements free).keeps until script [] tt m)
 
-pub plain : {A S : Type 0} (K : Kind A S) (n : ℕ) (w : World A S) → run_with K 0 [] n w ≡ run K n w
-plain K n w = (let same : n - 0 ≡ n = omega arith in ap (λ k. run K k w) same)
-
-module _ {A S C D : Type 0} (K : Kind A S) (L : Kind C D) (bound : ℕ) (w : World A S) (v : World C D) (m : ℕ) (kept : Keeps K L bound w v [] m) where
-  -- the upper run without arrivals
-  pub upper : (run_with K 0 kept.places kept.k w).board ≡ (run K kept.k w).board
-  upper = ap (λ (x : List Arrival). (run_with K 0 x kept.k w).board) (none_placed bound kept.places kept.placed) ∙ ap (λ (x : World A S). x.board) (plain K kept.k w)
-
-  pub same : (run K kept.k w).board ≡ (run L m v).board
-  same = sym upper ∙ kept.board ∙ ap (λ (x : World C D). x.board) (plain L m v)
-
-  pub looks : LooksLike (run K kept.k w).board (run L m v).board
-  looks = same_boards (run K kept.k w).board (run L m v).board same
-
-  pub in_time : over (run L m v).board ≡ false → m < bound * (kept.k + 1)
-  in_time e = kept.at_least (ap (λ (x : World C D). over x.board) (plain L m v) ∙ e)
+  pub plain_faultless : (m : ℕ) → SoundEnd (λ kind address. ⊥) (bank_run image until script free m).board.end
+  plain_faultless m =
+      subst (λ (w : World Fiber Shared). SoundEnd (λ kind address. ⊥) w.board.end) (with_nothing (fibers image) m (bank_start image until script free)) ((implements free).no_fault until script [] tt m)

@@ -3,7 +3,7 @@ use Rattle.std.specs.Prelude.{◌≡◌, ℕ, ◌+◌, ◌*◌, ◌≤◌, ◌<�
 use Rattle.thumb_code.specs.Machine.{main_of}
 use Rattle.board_world.specs.Observations.{ByteList}
 use Rattle.board_world.specs.Board.{Board, Entry, over}
-use Rattle.board_world.specs.Implements.{Implements}
+use Rattle.board_world.specs.Implements.{Implements, boards_from}
 use Rattle.sts_syntax.specs.TypedTrees.{TypedProgram}
 use Rattle.sts_meaning.specs.Steps.{source, empty, source_run}
 use Rattle.bank_model.specs.Fibers.{shared_at_reset}
@@ -17,7 +17,7 @@ instructions_of_a_step = 512
 -- arrives between two instructions: in at most so many instructions for one counted step, and without a fault.
 abbrev pub ImageImplements : TypedProgram → List ByteList → List ℕ → Type 0
 ImageImplements P texts image =
-    (free : List ℕ) → Implements (source P texts) (fibers image) instructions_of_a_step P.main (empty P texts) (main_of image) (shared_at_reset free)
+    (free : List ℕ) → Implements instructions_of_a_step (boards_from (source P texts) P.main (empty P texts)) (boards_from (fibers image) (main_of image) (shared_at_reset free))
 
 -- Two boards look alike from outside: what was seen and unplugged, the clock, the end, and the four counts of statistics.
 pub record LooksLike (b c : Board) : Type 0 where

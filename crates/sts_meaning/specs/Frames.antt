@@ -1,5 +1,6 @@
 -- Activities: frames, their names and pending values, and what goes on with what an operation gives.
 use Rattle.std.specs.Prelude.{ℕ, zero, suc, ℤ, pos, Bool, true, false, List, [], ◌∷◌}
+use Rattle.board_services.specs.declared.numbers.TheConstants.{PAUSE}
 use Rattle.board_world.specs.Observations.{ByteList}
 use Rattle.board_world.specs.Kinds.{Turn, Goes, Takes, Panics, Faults}
 use Rattle.sts_syntax.specs.declared.typed.Spot.{Spot}
@@ -108,6 +109,10 @@ text_of [] n = []
 text_of (bytes ∷ rest) zero = bytes
 text_of (bytes ∷ rest) (suc n) = text_of rest n
 
--- A round of a `forever`: its handler is called, 20 ms pass, and it turns back.
+-- how long a `forever` pauses between two rounds, in milliseconds
+abbrev pub pause_of_forever : ℤ
+pause_of_forever = pos 20
+
+-- A round of a `forever`: its handler is called, the pause passes, and it turns back.
 abbrev pub round : ℕ → Todo
-round f = Invoke f 0 (Drop (Put (Whole (pos 20)) (Ask 2 1 false (Drop (Round f)))))
+round f = Invoke f 0 (Drop (Put (Whole pause_of_forever) (Ask PAUSE 1 false (Drop (Round f)))))

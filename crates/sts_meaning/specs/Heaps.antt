@@ -32,8 +32,7 @@ write_global h g v = then_gives (there (entry h.globals g)) (λ old. Gives (reco
 
 abbrev pub fields_of : {N : Type 0} → Option (CellOf N) → Outcome (ℕ × List Value)
 fields_of (Some (Fields class fields)) = Gives (class, fields)
-fields_of (Some (Items item room items)) = Stuck
-fields_of None = Stuck
+fields_of c = Stuck
 
 -- an object's class and fields; null is a panic
 abbrev pub object_at : {N : Type 0} → HeapOf N → Value → Outcome (ℕ × List Value)
@@ -52,8 +51,7 @@ Row = RowOf ValueType
 
 abbrev pub items_of : {N : Type 0} → Option (CellOf N) → Outcome (RowOf N)
 items_of (Some (Items item room items)) = Gives (record { item = item; room = room; items = items })
-items_of (Some (Fields class fields)) = Stuck
-items_of None = Stuck
+items_of c = Stuck
 
 -- an array; null is a panic
 abbrev pub array_at : {N : Type 0} → HeapOf N → Value → Outcome (RowOf N)

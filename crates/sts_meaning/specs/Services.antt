@@ -1,27 +1,23 @@
 -- What a service of the board asks of the world, by its number and its arguments. Code that was made of a program asks by the same table.
-use Rattle.std.specs.Prelude.{ℕ, zero, suc, ℤ, pos, negsuc, if◌then◌else◌, ◌==◌, List, [], ◌∷◌}
+use Rattle.std.specs.Prelude.{ℕ, zero, suc, ℤ, pos, if◌then◌else◌, ◌==◌, List, [], ◌∷◌}
+use Rattle.board_services.specs.declared.numbers.TheConstants.{PANIC, PAUSE, WAIT, SPAWN, LISTEN, RAISE, TIME, EVENT_VALUE, BUTTON, PLOT, SHOW, WRITE_NUMBER, WRITE_TEXT, WRITE_PIN, SEND, TEXT_GLYPH, NUMBER_GLYPH, LISTEN_IN_MODE, RAISE_NOW}
 use Rattle.board_world.specs.declared.events.Event.{Event}
 use Rattle.board_world.specs.declared.events.Listener.{Listener}
 use Rattle.board_world.specs.declared.requests.Request.{Request}
 use Rattle.board_world.specs.declared.requests.Request.TheVariants.{Pause, Wait, Spawn, Listen, Raise, RaiseNow, Plot, Show, WriteNumber, WriteText, PinWrite, Radio, Time, EventValue, Button, TextGlyph, NumberGlyph, Panic}
 use Rattle.board_world.specs.Modes.{queues_if_busy}
 use Rattle.board_world.specs.Panics.{null_panic}
-use Rattle.sts_meaning.specs.Values.{Value, Whole, Object, Text, Code, Outcome, Gives, Breaks, Stuck, then_gives, whole}
+use Rattle.sts_meaning.specs.Values.{Value, Whole, Text, Code, Outcome, Gives, Breaks, Stuck, then_gives, whole}
 
 -- the number of a text; null is a panic
 abbrev pub text : Value → Outcome ℕ
 text (Text n) = Gives n
 text (Whole (pos zero)) = Breaks null_panic
-text (Whole (pos (suc n))) = Stuck
-text (Whole (negsuc n)) = Stuck
-text (Object n) = Stuck
-text (Code f) = Stuck
+text v = Stuck
 
 abbrev pub code : Value → Outcome ℕ
 code (Code f) = Gives f
-code (Whole n) = Stuck
-code (Object n) = Stuck
-code (Text n) = Stuck
+code v = Stuck
 
 -- the mode of a plot
 abbrev pub mode : Value → Outcome ℕ
@@ -75,23 +71,23 @@ of_listener s v h m =
 -- the request of a service; every other number is none
 abbrev pub requested : ℕ → List Value → Outcome Request
 requested service args =
-    if service == 1 then with_one (of_one Panic) args
-    else if service == 2 then with_one (of_one Pause) args
-    else if service == 3 then with_two (of_event Wait) args
-    else if service == 4 then with_one (λ h. then_gives (code h) (λ f. Gives (Spawn f))) args
-    else if service == 5 then with_three (λ s v h. of_listener s v h (Whole queues_if_busy)) args
-    else if service == 6 then with_two (of_event Raise) args
-    else if service == 7 then with_none Time args
-    else if service == 8 then with_none EventValue args
-    else if service == 9 then with_one (of_one Button) args
-    else if service == 10 then with_three (λ a b m. then_gives (whole a) (λ x. then_gives (whole b) (λ y. then_gives (mode m) (λ m. Gives (Plot x y m))))) args
-    else if service == 11 then with_one (of_one Show) args
-    else if service == 12 then with_one (of_one WriteNumber) args
-    else if service == 13 then with_one (λ a. then_gives (text a) (λ t. Gives (WriteText t))) args
-    else if service == 14 then with_two (of_two PinWrite) args
-    else if service == 15 then with_one (of_one Radio) args
-    else if service == 16 then with_two (λ a i. then_gives (text a) (λ t. then_gives (whole i) (λ i. Gives (TextGlyph t i)))) args
-    else if service == 17 then with_two (of_two NumberGlyph) args
-    else if service == 22 then with_four of_listener args
-    else if service == 23 then with_two (of_event RaiseNow) args
+    if service == PANIC then with_one (of_one Panic) args
+    else if service == PAUSE then with_one (of_one Pause) args
+    else if service == WAIT then with_two (of_event Wait) args
+    else if service == SPAWN then with_one (λ h. then_gives (code h) (λ f. Gives (Spawn f))) args
+    else if service == LISTEN then with_three (λ s v h. of_listener s v h (Whole queues_if_busy)) args
+    else if service == RAISE then with_two (of_event Raise) args
+    else if service == TIME then with_none Time args
+    else if service == EVENT_VALUE then with_none EventValue args
+    else if service == BUTTON then with_one (of_one Button) args
+    else if service == PLOT then with_three (λ a b m. then_gives (whole a) (λ x. then_gives (whole b) (λ y. then_gives (mode m) (λ m. Gives (Plot x y m))))) args
+    else if service == SHOW then with_one (of_one Show) args
+    else if service == WRITE_NUMBER then with_one (of_one WriteNumber) args
+    else if service == WRITE_TEXT then with_one (λ a. then_gives (text a) (λ t. Gives (WriteText t))) args
+    else if service == WRITE_PIN then with_two (of_two PinWrite) args
+    else if service == SEND then with_one (of_one Radio) args
+    else if service == TEXT_GLYPH then with_two (λ a i. then_gives (text a) (λ t. then_gives (whole i) (λ i. Gives (TextGlyph t i)))) args
+    else if service == NUMBER_GLYPH then with_two (of_two NumberGlyph) args
+    else if service == LISTEN_IN_MODE then with_four of_listener args
+    else if service == RAISE_NOW then with_two (of_event RaiseNow) args
     else Stuck

@@ -7,9 +7,10 @@ use Rattle.board_world.specs.Observations.{ByteList}
 use Rattle.board_world.specs.Board.{Entry}
 use Rattle.board_world.specs.Font.{glyph_of}
 use Rattle.board_world.specs.Kinds.{Kind, Turn, Goes, Takes, Ends, Panics}
-use Rattle.board_world.specs.Requests.{Maker, asked}
+use Rattle.board_world.specs.Requests.{Asker, asked}
 use Rattle.board_world.specs.Activities.{World}
-use Rattle.board_world.specs.World.{run, start}
+use Rattle.board_world.specs.World.{start}
+use Rattle.board_world.specs.Runs.{run}
 use Rattle.sts_syntax.specs.TypedTrees.{TypedStatement, TypedRoutine, TypedProgram}
 use Rattle.sts_syntax.specs.Measures.{frame_words, repeating_words, object_words, array_words}
 use Rattle.sts_syntax.specs.TypeRules.{entry}
@@ -50,11 +51,11 @@ module _ (P : TypedProgram) (texts : List ByteList) where
   method h o s = then_gives (object_at h o) (λ c. then_gives (there (entry P.classes c.0)) (λ class. there (entry class.slots s)))
 
   -- where an activity began, and its depth before a call
-  module _ (h : Heap) (base depth : ℕ) where
+  module _ (heap : Heap) (base depth : ℕ) where
     -- a frame begins above those that wait for it; past the greatest depth it is a panic
     abbrev pub entering : Frame → List Frame → Turn Activity Heap
     entering frame waiting =
-        (let deeper = depth + words frame.function in if nat_lt depth_limit deeper then Panics depth_panic else Goes (Runs frame waiting base deeper) h)
+        (let deeper = depth + words frame.function in if nat_lt depth_limit deeper then Panics depth_panic else Goes (Runs frame waiting base deeper) heap)
 
     -- a call
     abbrev pub invoked : ℕ → List Value → List Frame → Turn Activity Heap
@@ -62,8 +63,8 @@ module _ (P : TypedProgram) (texts : List ByteList) where
 
     -- the end of a function: its value goes to the frame that waits for it; behind the last one the activity ends
     abbrev pub ended : ℕ → Value → List Frame → Turn Activity Heap
-    ended f v [] = Ends (λ g. Starts g base) h
-    ended f v (frame ∷ rest) = Goes (Runs (record frame { values = v ∷ frame.values }) rest base (depth - words f)) h
+    ended f v [] = Ends (λ g. Starts g base) heap
+    ended f v (frame ∷ rest) = Goes (Runs (record frame { values = v ∷ frame.values }) rest base (depth - words f)) heap
 
     -- an activity begins
     abbrev pub begun : ℕ → Turn Activity Heap
@@ -72,80 +73,80 @@ module _ (P : TypedProgram) (texts : List ByteList) where
         else after (there (entry P.functions (f - length P.functions))) (λ r. entering (entered_round (f - length P.functions)) [])
 
   -- a frame that runs: its function and names, those that wait for it, and the depths
-  module _ (h : Heap) (f : ℕ) (n : Names) (callers : List Frame) (base depth : ℕ) where
+  module _ (heap : Heap) (function : ℕ) (names : Names) (callers : List Frame) (base depth : ℕ) where
     -- the frame at other values and another rest
     abbrev pub at : List Value → Todo → Frame
-    at vs k = record { function = f; names = n; values = vs; todo = k }
+    at vs k = record { function = function; names = names; values = vs; todo = k }
 
     abbrev pub now : List Value → Todo → Activity
     now vs k = Runs (at vs k) callers base depth
 
     -- the same with other names
     abbrev pub now_with : Names → List Value → Todo → Activity
-    now_with m vs k = Runs (record { function = f; names = m; values = vs; todo = k }) callers base depth
+    now_with m vs k = Runs (record { function = function; names = m; values = vs; todo = k }) callers base depth
 
     -- Whoever asks the board for something goes on with the answer. Values go into arrays by words of their own.
-    abbrev pub maker : Bool → List Value → Todo → Maker Activity Heap
-    maker answers vs k = record {
+    abbrev pub asker : Bool → List Value → Todo → Asker Activity Heap
+    asker answers vs k = record {
       text = text_of texts;
       glyph = glyph_of;
       push = λ array value. stuck;
       above = λ g. Starts g depth;
       again = λ g. Starts g base;
-      next = λ answer. (now (answered answers answer ∷ vs) k, h);
+      next = λ answer. (now (answered answers answer ∷ vs) k, heap);
     }
 
     abbrev pub takes_item : ℕ → TypedStatement → List Value → Todo → Option (ℕ × Value) → Turn Activity Heap
-    takes_item i s vs k None = Goes (now vs k) h
+    takes_item i s vs k None = Goes (now vs k) heap
     takes_item i s vs k (Some x) =
         (let turn = Each i s k in
-        Goes (now_with (with_local i x.1 (with_local (suc (suc i)) (Whole (to_int32 (pos x.0 +ℤ pos 1))) n)) vs (runs (is_maker P.classes f) s k turn turn)) h)
+        Goes (now_with (with_local i x.1 (with_local (suc (suc i)) (Whole (to_int32 (pos x.0 +ℤ pos 1))) names)) vs (runs (is_maker P.classes function) s k turn turn)) heap)
 
     -- one counted step
     abbrev pub act : Todo → List Value → Turn Activity Heap
-    act (Put v k) vs = Goes (now (v ∷ vs) k) h
-    act (Get x k) vs = after (named h n x) (λ v. Goes (now (v ∷ vs) k) h)
-    act (Store x k) vs = with_latest vs (λ v rest. after (stored x v n h) (λ s. Goes (now_with s.0 vs k) s.1))
+    act (Put v k) vs = Goes (now (v ∷ vs) k) heap
+    act (Get x k) vs = after (named heap names x) (λ v. Goes (now (v ∷ vs) k) heap)
+    act (Store x k) vs = with_latest vs (λ v rest. after (stored x v names heap) (λ s. Goes (now_with s.0 vs k) s.1))
     act (Drop k) [] = stuck
     act (Drop k) (v ∷ rest) = act k rest
-    act (Unary op k) vs = with_latest vs (λ v rest. after (negated op v) (λ w. Goes (now (w ∷ rest) k) h))
-    act (Apply op k) vs = with_two vs (λ a b rest. after (applied op a b) (λ v. Goes (now (v ∷ rest) k) h))
-    act (Choose so otherwise) vs = with_latest vs (λ v rest. after (decided v) (λ b. Goes (now rest (if b then so else otherwise)) h))
-    act (Both so otherwise) vs = with_latest vs (λ v rest. after (decided v) (λ b. Goes (if b then now rest so else now vs otherwise) h))
-    act (Either so otherwise) vs = with_latest vs (λ v rest. after (decided v) (λ b. Goes (if b then now vs so else now rest otherwise) h))
-    act (Read i k) vs = with_latest vs (λ o rest. after (read_field h o i) (λ v. Goes (now (v ∷ rest) k) h))
-    act (Peek i k) vs = with_latest vs (λ o rest. after (read_field h o i) (λ v. Goes (now (v ∷ vs) k) h))
-    act (Write i k) vs = with_two vs (λ o v rest. after (write_field h o i v) (λ h'. Goes (now (v ∷ rest) k) h'))
-    act (At k) vs = with_two vs (λ a i rest. after (read_item h a i) (λ v. Goes (now (v ∷ rest) k) h))
-    act (PeekAt k) vs = with_two vs (λ a i rest. after (read_item h a i) (λ v. Goes (now (v ∷ vs) k) h))
-    act (SetAt k) vs = with_three vs (λ a i v rest. after (write_item h a i v) (λ h'. Goes (now (v ∷ rest) k) h'))
+    act (Unary op k) vs = with_latest vs (λ v rest. after (negated op v) (λ w. Goes (now (w ∷ rest) k) heap))
+    act (Apply op k) vs = with_two vs (λ a b rest. after (applied op a b) (λ v. Goes (now (v ∷ rest) k) heap))
+    act (Choose so otherwise) vs = with_latest vs (λ v rest. after (decided v) (λ b. Goes (now rest (if b then so else otherwise)) heap))
+    act (Both so otherwise) vs = with_latest vs (λ v rest. after (decided v) (λ b. Goes (if b then now rest so else now vs otherwise) heap))
+    act (Either so otherwise) vs = with_latest vs (λ v rest. after (decided v) (λ b. Goes (if b then now vs so else now rest otherwise) heap))
+    act (Read i k) vs = with_latest vs (λ o rest. after (read_field heap o i) (λ v. Goes (now (v ∷ rest) k) heap))
+    act (Peek i k) vs = with_latest vs (λ o rest. after (read_field heap o i) (λ v. Goes (now (v ∷ vs) k) heap))
+    act (Write i k) vs = with_two vs (λ o v rest. after (write_field heap o i v) (λ h'. Goes (now (v ∷ rest) k) h'))
+    act (At k) vs = with_two vs (λ a i rest. after (read_item heap a i) (λ v. Goes (now (v ∷ rest) k) heap))
+    act (PeekAt k) vs = with_two vs (λ a i rest. after (read_item heap a i) (λ v. Goes (now (v ∷ vs) k) heap))
+    act (SetAt k) vs = with_three vs (λ a i v rest. after (write_item heap a i v) (λ h'. Goes (now (v ∷ rest) k) h'))
     act (Bump x by late k) vs =
-        after (then_gives (named h n x) (bumped by late)) (λ b. after (stored x b.new n h) (λ s. Goes (now_with s.0 (b.given ∷ vs) k) s.1))
+        after (then_gives (named heap names x) (bumped by late)) (λ b. after (stored x b.new names heap) (λ s. Goes (now_with s.0 (b.given ∷ vs) k) s.1))
     act (BumpField i by late k) vs =
-        with_latest vs (λ o rest. after (then_gives (read_field h o i) (bumped by late)) (λ b. after (write_field h o i b.new) (λ h'. Goes (now (b.given ∷ rest) k) h')))
+        with_latest vs (λ o rest. after (then_gives (read_field heap o i) (bumped by late)) (λ b. after (write_field heap o i b.new) (λ h'. Goes (now (b.given ∷ rest) k) h')))
     act (BumpAt by late k) vs =
-        with_two vs (λ a i rest. after (then_gives (read_item h a i) (bumped by late)) (λ b. after (write_item h a i b.new) (λ h'. Goes (now (b.given ∷ rest) k) h')))
-    act (Measure k) vs = with_latest vs (λ a rest. after (length_at h a) (λ v. Goes (now (v ∷ rest) k) h))
-    act (Push k) vs = with_two vs (λ a v rest. after (pushed h a v) (λ x. grown x.0 x.1 (now (default ∷ rest) k)))
-    act (Pop k) vs = with_latest vs (λ a rest. after (popped h a) (λ x. Goes (now (x.0 ∷ rest) k) x.1))
-    act (Open u room k) vs = Takes (array_words room) (λ at. (now (Object at ∷ vs) k, with_cell at (Items u room []) h))
-    act (Append k) vs = with_two vs (λ a v rest. after (pushed h a v) (λ x. grown x.0 x.1 (now (a ∷ rest) k)))
+        with_two vs (λ a i rest. after (then_gives (read_item heap a i) (bumped by late)) (λ b. after (write_item heap a i b.new) (λ h'. Goes (now (b.given ∷ rest) k) h')))
+    act (Measure k) vs = with_latest vs (λ a rest. after (length_at heap a) (λ v. Goes (now (v ∷ rest) k) heap))
+    act (Push k) vs = with_two vs (λ a v rest. after (pushed heap a v) (λ x. grown x.0 x.1 (now (default ∷ rest) k)))
+    act (Pop k) vs = with_latest vs (λ a rest. after (popped heap a) (λ x. Goes (now (x.0 ∷ rest) k) x.1))
+    act (Open u room k) vs = Takes (array_words room) (λ at. (now (Object at ∷ vs) k, with_cell at (Items u room []) heap))
+    act (Append k) vs = with_two vs (λ a v rest. after (pushed heap a v) (λ x. grown x.0 x.1 (now (a ∷ rest) k)))
     act (New c k) vs =
-        after (there (entry P.classes c)) (λ class. Takes (object_words class) (λ at. (now (Object at ∷ vs) k, with_cell at (Fields c (defaults class.fields)) h)))
+        after (there (entry P.classes c)) (λ class. Takes (object_words class) (λ at. (now (Object at ∷ vs) k, with_cell at (Fields c (defaults class.fields)) heap)))
     act (Build c m k) vs =
-        after (there (entry P.classes c)) (λ class. with_latest vs (λ o rest. after (taken m rest) (λ x. invoked h base depth class.maker (o ∷ x.0) (at x.1 k ∷ callers))))
-    act (Invoke g m k) vs = after (taken m vs) (λ x. invoked h base depth g x.0 (at x.1 k ∷ callers))
+        after (there (entry P.classes c)) (λ class. with_latest vs (λ o rest. after (taken m rest) (λ x. invoked heap base depth class.maker (o ∷ x.0) (at x.1 k ∷ callers))))
+    act (Invoke g m k) vs = after (taken m vs) (λ x. invoked heap base depth g x.0 (at x.1 k ∷ callers))
     act (Send s m k) vs =
-        after (taken m vs) (λ x. after (then_gives (first x.0) (λ o. method h o s)) (λ g. invoked h base depth g x.0 (at x.1 k ∷ callers)))
-    act (Ask service m answers k) vs = after (taken m vs) (λ x. after (requested service x.0) (λ r. asked (maker answers x.1 k) r))
+        after (taken m vs) (λ x. after (then_gives (first x.0) (λ o. method heap o s)) (λ g. invoked heap base depth g x.0 (at x.1 k ∷ callers)))
+    act (Ask service m answers k) vs = after (taken m vs) (λ x. after (requested service x.0) (λ r. asked (asker answers x.1 k) r))
     act (Repeat k) [] = stuck
-    act (Repeat k) (Code g ∷ rest) = asked (maker false rest k) (Spawn (repeating g))
+    act (Repeat k) (Code g ∷ rest) = asked (asker false rest k) (Spawn (repeating g))
     act (Repeat k) (v ∷ rest) = stuck
-    act (Again s k) vs = Goes (now vs (runs (is_maker P.classes f) s k k k)) h
-    act (Each i s k) vs = after (next_item h (n.locals (suc i)) (n.locals (suc (suc i)))) (λ x. takes_item i s vs k x)
-    act (Leave to) vs = Goes (now vs to) h
-    act Give vs = with_latest vs (λ v rest. ended h base depth f v callers)
-    act (Round g) vs = Goes (now vs (round g)) h
+    act (Again s k) vs = Goes (now vs (runs (is_maker P.classes function) s k k k)) heap
+    act (Each i s k) vs = after (next_item heap (names.locals (suc i)) (names.locals (suc (suc i)))) (λ x. takes_item i s vs k x)
+    act (Leave to) vs = Goes (now vs to) heap
+    act Give vs = with_latest vs (λ v rest. ended heap base depth function v callers)
+    act (Round g) vs = Goes (now vs (round g)) heap
     act Amiss vs = stuck
 
   abbrev pub step : Activity → Heap → Turn Activity Heap

@@ -1,7 +1,7 @@
 -- What is left to do in a function, word by word, and how trees become such words.
 use Rattle.std.specs.Prelude.{ℕ, suc, ℤ, Bool, true, false, List, [], ◌∷◌, length, Option, Some, None, zero, pos, negsuc}
 use Rattle.sts_syntax.specs.declared.typed.Spot.{Spot}
-use Rattle.sts_syntax.specs.declared.typed.Spot.TheVariants.{Param, Local, Global}
+use Rattle.sts_syntax.specs.declared.typed.Spot.TheVariants.{Param, Local}
 use Rattle.sts_syntax.specs.declared.typed.Callee.TheVariants as c
 use Rattle.sts_syntax.specs.declared.typed.Callee.{Callee}
 use Rattle.sts_syntax.specs.Types as t
@@ -52,22 +52,12 @@ pub data Todo : Type 0 where
 
 abbrev pub item_of : ValueType → ValueType
 item_of (t.ListOf u) = u
-item_of t.Number = t.Number
-item_of t.Boolean = t.Boolean
-item_of t.Text = t.Text
-item_of t.Nothing = t.Nothing
-item_of (t.Object c) = t.Object c
-item_of t.NullType = t.NullType
+item_of u = u
 
 -- a call of this type gives a value
 abbrev pub gives_value : ValueType → Bool
-gives_value t.Number = true
-gives_value t.Boolean = true
-gives_value t.Text = true
 gives_value t.Nothing = false
-gives_value (t.Object c) = true
-gives_value (t.ListOf u) = true
-gives_value t.NullType = true
+gives_value u = true
 
 -- what a call does, once its arguments are there
 abbrev pub asks : BoardAction → ℕ → Bool → Todo → Todo
@@ -97,11 +87,9 @@ arguments c.Pop each = each
 
 -- `++` adds 1 and `--` -1; there is nothing else of the kind
 abbrev pub by_one : ℤ → Todo → Todo
-by_one (pos zero) k = Amiss
 by_one (pos (suc zero)) k = k
-by_one (pos (suc (suc n))) k = Amiss
 by_one (negsuc zero) k = k
-by_one (negsuc (suc n)) k = Amiss
+by_one n k = Amiss
 
 -- each item goes into the array
 abbrev pub appended : List (Todo → Todo) → Todo → Todo
@@ -144,24 +132,7 @@ abbrev mutual
   reaches (e.Name u x) name field item = name x
   reaches (e.Field u a f) name field item = evals a (field f)
   reaches (e.Item u a i) name field item = evals a (evals i item)
-  reaches (e.Num u n) name field item = Amiss
-  reaches (e.Text u n) name field item = Amiss
-  reaches (e.Truth u b) name field item = Amiss
-  reaches (e.Null u) name field item = Amiss
-  reaches (e.This u) name field item = Amiss
-  reaches (e.Unary u op a) name field item = Amiss
-  reaches (e.Binary u op a b) name field item = Amiss
-  reaches (e.Both u a b) name field item = Amiss
-  reaches (e.Either u a b) name field item = Amiss
-  reaches (e.Choice u test a b) name field item = Amiss
-  reaches (e.Set u op x r) name field item = Amiss
-  reaches (e.Bump u x by late) name field item = Amiss
-  reaches (e.Length u a) name field item = Amiss
-  reaches (e.Call u f args) name field item = Amiss
-  reaches (e.SuperCall u f args) name field item = Amiss
-  reaches (e.Make u class args) name field item = Amiss
-  reaches (e.Items u items) name field item = Amiss
-  reaches (e.Handler u f) name field item = Amiss
+  reaches x name field item = Amiss
 
 -- a declared name is set to the default where it has no initialiser
 abbrev pub initial : Option TypedTree → Todo → Todo
@@ -206,8 +177,7 @@ module _ (maker : Bool) where
         (let turn = steps step (Again (e.For e.omitted test step a) k) in runs_first first b c (tests test (runs a k turn turn) k))
     runs (e.ForOf fixed (Local i) list a) b c k =
         evals list (Store (Local (suc i)) (Drop (Put default (Store (Local (suc (suc i))) (Drop (Each i a k))))))
-    runs (e.ForOf fixed (Param i) list a) b c k = Amiss
-    runs (e.ForOf fixed (Global g) list a) b c k = Amiss
+    runs (e.ForOf fixed x list a) b c k = Amiss
     runs (e.Return None) b c k = bare maker
     runs (e.Return (Some a)) b c k = evals a (returns maker)
     runs e.Break b c k = Leave b

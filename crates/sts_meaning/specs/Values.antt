@@ -2,6 +2,7 @@
 use Rattle.std.specs.Prelude.{ℕ, zero, suc, ◌/◌, ◌%◌, ◌^◌, ℤ, pos, ◌+ℤ◌, ◌-ℤ◌, ◌*ℤ◌, int_lt, int_le, int_rem, Bool, true, false, not, if◌then◌else◌, nat_eq, ◌==◌, List, [], ◌∷◌, Option, Some, None}
 use Rattle.std.specs.Ordering.{int_eq}
 use Rattle.std.specs.Int.{int_wrap, int_bit_and, int_bit_or, int_bit_xor, int_bit_not, int_shl, int_shr, int_wrapping_div, cast_signed, cast_unsigned, w32}
+use Rattle.sts_syntax.specs.declared.operators.TheConstants.{NEGATE, PLUS, NOT, COMPLEMENT, BIT_OR, BIT_XOR, BIT_AND, EQUAL, UNEQUAL, LESS, GREATER, AT_MOST, AT_LEAST, SHIFT_LEFT, SHIFT_RIGHT, SHIFT_RIGHT_UNSIGNED, ADD, SUBTRACT, MULTIPLY, DIVIDE, REMAINDER}
 
 -- A value has a tag: a number, the number of an object or array, of a text, or of a function. Truth values are 1 and 0; null is 0, and
 -- so is what each name, field and item holds before it is set.
@@ -36,9 +37,7 @@ there (Some x) = Gives x
 
 abbrev pub whole : Value → Outcome ℤ
 whole (Whole n) = Gives n
-whole (Object n) = Stuck
-whole (Text n) = Stuck
-whole (Code f) = Stuck
+whole v = Stuck
 
 -- ToInt32 of a whole number (ECMA-262, 7.1.6): modulo 2^32, into -2^31 to 2^31 - 1
 abbrev pub to_int32 : ℤ → ℤ
@@ -58,26 +57,26 @@ remainder x y = if int_eq y (pos 0) then pos 0 else int_rem x y
 -- The operators that take two numbers and give one, by their numbers: on whole numbers without bound, and then ToInt32 (ECMA-262, 6.1.6.1).
 abbrev pub arithmetic : ℕ → ℤ → ℤ → Option ℤ
 arithmetic op x y =
-    if op == 1 then Some (int_bit_or w32 x y)
-    else if op == 2 then Some (int_bit_xor w32 x y)
-    else if op == 3 then Some (int_bit_and w32 x y)
-    else if op == 10 then Some (int_shl w32 x (shift_count y))
-    else if op == 11 then Some (int_shr x (shift_count y))
-    else if op == 12 then Some (cast_signed w32 (cast_unsigned w32 x / 2 ^ shift_count y))
-    else if op == 13 then Some (to_int32 (x +ℤ y))
-    else if op == 14 then Some (to_int32 (x -ℤ y))
-    else if op == 15 then Some (to_int32 (x *ℤ y))
-    else if op == 16 then Some (quotient x y)
-    else if op == 17 then Some (remainder x y)
+    if op == BIT_OR then Some (int_bit_or w32 x y)
+    else if op == BIT_XOR then Some (int_bit_xor w32 x y)
+    else if op == BIT_AND then Some (int_bit_and w32 x y)
+    else if op == SHIFT_LEFT then Some (int_shl w32 x (shift_count y))
+    else if op == SHIFT_RIGHT then Some (int_shr x (shift_count y))
+    else if op == SHIFT_RIGHT_UNSIGNED then Some (cast_signed w32 (cast_unsigned w32 x / 2 ^ shift_count y))
+    else if op == ADD then Some (to_int32 (x +ℤ y))
+    else if op == SUBTRACT then Some (to_int32 (x -ℤ y))
+    else if op == MULTIPLY then Some (to_int32 (x *ℤ y))
+    else if op == DIVIDE then Some (quotient x y)
+    else if op == REMAINDER then Some (remainder x y)
     else None
 
 -- those that put two numbers in order
 abbrev pub order : ℕ → ℤ → ℤ → Option Bool
 order op x y =
-    if op == 6 then Some (int_lt x y)
-    else if op == 7 then Some (int_lt y x)
-    else if op == 8 then Some (int_le x y)
-    else if op == 9 then Some (int_le y x)
+    if op == LESS then Some (int_lt x y)
+    else if op == GREATER then Some (int_lt y x)
+    else if op == AT_MOST then Some (int_le x y)
+    else if op == AT_LEAST then Some (int_le y x)
     else None
 
 -- Whether two values are the same one. Texts are so by number, since tables have no text twice; nothing but null is compared with an
@@ -101,20 +100,20 @@ either_value None None = Stuck
 abbrev pub of_numbers : ℕ → Value → Value → Outcome Value
 of_numbers op a b = then_gives (whole a) (λ x. then_gives (whole b) (λ y. either_value (arithmetic op x y) (order op x y)))
 
--- an operator between two operands: 4 is `==`, 5 is `!=`
+-- an operator between two operands
 abbrev pub applied : ℕ → Value → Value → Outcome Value
 applied op a b =
-    if op == 4 then then_gives (same a b) (λ e. Gives (truth e))
-    else if op == 5 then then_gives (same a b) (λ e. Gives (truth (not e)))
+    if op == EQUAL then then_gives (same a b) (λ e. Gives (truth e))
+    else if op == UNEQUAL then then_gives (same a b) (λ e. Gives (truth (not e)))
     else of_numbers op a b
 
 -- a prefix operator: `-`, `+`, `!`, `~`
 abbrev pub prefixed : ℕ → ℤ → Option Value
 prefixed op x =
-    if op == 1 then Some (Whole (to_int32 (pos 0 -ℤ x)))
-    else if op == 2 then Some (Whole x)
-    else if op == 3 then Some (truth (int_eq x (pos 0)))
-    else if op == 4 then Some (Whole (int_bit_not w32 x))
+    if op == NEGATE then Some (Whole (to_int32 (pos 0 -ℤ x)))
+    else if op == PLUS then Some (Whole x)
+    else if op == NOT then Some (truth (int_eq x (pos 0)))
+    else if op == COMPLEMENT then Some (Whole (int_bit_not w32 x))
     else None
 
 abbrev pub negated : ℕ → Value → Outcome Value

@@ -6,7 +6,7 @@ use Rattle.board_world.specs.Kinds.{Turn, Goes, Asks, Takes, Pauses, Waits, Spaw
 use Rattle.board_world.specs.Requests.{asked}
 use Rattle.board_world.specs.Simulation.{Ties, ties, Follows, Matches, Onward, Going, Begins, one, always}
 use Rattle.board_world.specs.Sound.{NoFault, PartialSimulation, Typing, typing, After, Further, Ready, Stays, Sound}
-use Rattle.world_rows.specs.Clerks.{Task, Ask, Tell, Keep, Recall, Become, Routine, routine_of, begun, Clerk, maker, turn_of, clerks}
+use Rattle.world_rows.specs.Clerks.{Task, Ask, Tell, Keep, Recall, Become, Routine, routine_of, begun, Clerk, clerk_asker, turn_of, clerks}
 use Rattle.world_rows.specs.Careful.{Teller, teller, told, teller_turn, tellers, IsCareful, AreCareful}
 
 -- what is careful stays so where there is an answer
@@ -38,7 +38,7 @@ module _ (program : List Routine) (all : AreCareful program) where
   ready s = record { each = λ i h. careful_routine program i all }
 
   -- behind a request there is an answer
-  request_stays : (request : Request) (used : ℕ) (c : Clerk) (s : ℤ) → IsCareful true c.tasks → Stays careful used s (told true (asked (maker program c s) request))
+  request_stays : (request : Request) (used : ℕ) (c : Clerk) (s : ℤ) → IsCareful true c.tasks → Stays careful used s (told true (asked (clerk_asker program c s) request))
   request_stays (Pause time) used c s h = further used s s true _ h
   request_stays (Wait event) used c s h = further used s s true _ h
   request_stays (Spawn f) used c s h = (tt, further used s s true _ h)

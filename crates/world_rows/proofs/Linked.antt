@@ -6,7 +6,8 @@ use Rattle.board_world.specs.Board.{Entry}
 use Rattle.board_world.specs.Kinds.{Goes}
 use Rattle.board_world.specs.World.{start}
 use Rattle.board_world.specs.Simulation.{Ties, Simulation, Follows, Matches, Onward, Going, Begins, Alike, one, always}
-use Rattle.board_world.specs.Arrivals.{Arrival, Rises, Keeps}
+use Rattle.board_world.specs.Runs.{Arrival, Rises, Keeps}
+use Rattle.board_world.specs.Implements.{boards_from}
 use Rattle.world_rows.specs.Clerks.{Task, Ask, Tell, Keep, Recall, Become, Routine, routine_of, begun, Clerk, turn_of, clerks}
 use Rattle.world_rows.specs.Workers.{Op, Enter, Worker, fetch, at_place, done, does, workers, placed, task_ops, routine_ops, all_ops, address, linked}
 use Rattle.board_world.proofs.Laws.{lifts_with}
@@ -187,7 +188,7 @@ module _ (program : List Routine) (code : List Op) (at : ℕ → ℕ) (here : (f
       }
 
 pub target_does : (program : List Routine) (until : ℕ) (script : List Entry) (arrivals : List Arrival) (m : ℕ) → Rises 0 arrivals
-    → Keeps (clerks program) (workers (linked program)) 3 (start (clerks program) 0 (pos 0) until script) (start (workers (linked program)) (address program 0) (pos 0) until script) arrivals m
+    → Keeps 3 (boards_from (clerks program) 0 (pos 0) until script) (boards_from (workers (linked program)) (address program 0) (pos 0) until script) arrivals m
 target_does program until script arrivals m rises =
     (let here = stands_all (address program) program in
     lifts_with (clerks program) (workers (linked program)) 3 (omega arith) (tied program (linked program) (address program) here) (simulation program (linked program) (address program) here) _ _

@@ -4,10 +4,11 @@ use Rattle.board_world.specs.Kinds.{Kind, Turn, Goes, Asks, Takes, Pauses, Waits
 use Rattle.board_world.specs.Simulation.{Ties, Simulation, Follows, Matches, Onward, Going, Begins, one, always}
 use Rattle.board_world.specs.Board.{Entry}
 use Rattle.board_world.specs.World.{start}
-use Rattle.board_world.specs.Arrivals.{Arrival, Rises, Keeps}
-use Rattle.board_world.specs.Composed.{joined, lagging, LaggingSimulation}
-use Rattle.board_world.proofs.Laws.{compose, catch_up, onward_lagging, up_to_date as no_lag, lifts_with}
-use Rattle.world_rows.specs.Slow.{Slowed, fresh, tired, slowed, slow, Anything, IsItself, IsNumber, its_own, up_to_date}
+use Rattle.board_world.specs.Runs.{Arrival, Rises, Keeps}
+use Rattle.board_world.specs.Implements.{boards_from}
+use Rattle.board_world.specs.Composed.{joined}
+use Rattle.board_world.proofs.Laws.{compose, lifts_with}
+use Rattle.world_rows.specs.Slow.{Slowed, fresh, tired, slowed, slow, Anything, IsItself, IsNumber, its_own}
 
 -- Ties that hold of an activity and its two slow forms, whatever is shared, as long as that is one and the same
 record Easy {A S : Type 0} (T : Ties A S (Slowed A) S) : Type 0 where
@@ -80,9 +81,9 @@ twice K = compose K (slow K) (slow (slow K)) (λ s. s) Anything IsItself IsNumbe
 
 -- so do their worlds, whatever arrives between two steps
 pub twice_runs : {A S : Type 0} (K : Kind A S) (main : ℕ) (shared : S) (until : ℕ) (script : List Entry) (arrivals : List Arrival) (m : ℕ) → Rises 0 arrivals →
-    Keeps K (slow (slow K)) 4 (start K main shared until script) (start (slow (slow K)) main shared until script) arrivals m
+    Keeps 4 (boards_from K main shared until script) (boards_from (slow (slow K)) main shared until script) arrivals m
 twice_runs K main shared until script arrivals m rises =
-    lifts_with K (slow (slow K)) 4 (omega arith) (joined Anything IsItself IsNumber its_own) (twice K) _ _
+    lifts_with K (slow (slow K)) 4 (omega arith) (joined Anything IsItself IsNumber its_own) (twice K) (start K main shared until script) (start (slow (slow K)) main shared until script)
     (record {
       board = refl;
       related = λ _. record {
@@ -91,34 +92,3 @@ twice_runs K main shared until script arrivals m rises =
         rest = record { listeners = tt; sleepers = tt; waiters = tt };
       };
     }) arrivals rises m
-
-module _ {A S : Type 0} (K : Kind A S) where
-  abbrev late : Ties A S (Slowed A) S
-  late = lagging (slow K) up_to_date one 1
-
-  easy_late : Easy late
-  easy_late =
-      record {
-        shared = λ used s. refl;
-        fresh_one = λ s t a. no_lag K (slow K) up_to_date one 1 s t a (fresh a) refl;
-        tired_one = λ s t a. record { steps = 1; cost = 1; few = omega arith; at = fresh a; alone = λ u. (fresh a, u, 0, refl, refl, (refl, refl, refl)); active = refl };
-        onward = λ used s s' t. onward_lagging K (slow K) up_to_date one 1 used s s' t s' (record { shared = refl; others = λ a c h. h });
-        code = λ i. refl;
-        same = λ i j e. e;
-      }
-
-  on_time : (used : ℕ) (s : S) (a : A) → Follows K (slow K) late one 1 used s s a (fresh a) s
-  on_time used s a =
-      record { steps = 0; cost = 0; last = fresh a; memory = s; path = (refl, refl, refl); light = omega arith; match = slowed_matches K late easy_late used s s (K.step a s) }
-
-  lags : LaggingSimulation K (slow K) up_to_date one 1 (always 1)
-  lags =
-      record {
-        begins = λ used s t f g h e. ap (λ i. fresh (K.begin i)) (sym e);
-        follows = λ used s t a c h k.
-            subst (λ (x : Slowed A). Follows K (slow K) late one 1 used s t a x t) (sym k) (subst (λ (u : S). Follows K (slow K) late one 1 used s u a (fresh a) u) h (on_time used s a));
-      }
-
-  -- a silent step that is still to make is caught up
-  pub caught_up : Simulation K (slow K) late one (always 2)
-  caught_up = catch_up K (slow K) up_to_date one 1 (always 1) lags

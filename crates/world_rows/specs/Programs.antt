@@ -3,7 +3,8 @@ use Rattle.std.specs.Prelude.{ℕ, zero, suc, ◌+◌, ℤ, pos, negsuc, List, [
 use Rattle.board_world.specs.declared.requests.Request.TheVariants.{Pause, Wait, Spawn, Listen, Raise, RaiseNow, Plot, Show, WriteNumber, PinWrite, Radio, Time, EventValue, Button, Allocate, Panic}
 use Rattle.board_world.specs.Observations.{ByteList}
 use Rattle.board_world.specs.Board.{Board, Entry, Down, Up, Unplug, event, transcript_of, stats_of}
-use Rattle.board_world.specs.World.{run, start}
+use Rattle.board_world.specs.World.{start}
+use Rattle.board_world.specs.Runs.{run}
 use Rattle.world_rows.specs.Clerks.{Task, Ask, Tell, Keep, Recall, Become, Routine, clerks}
 
 -- the board after n steps of a program on a script

@@ -47,7 +47,3 @@ IsNumber i j = i ≡ j
 
 abbrev pub its_own : {A S : Type 0} → Ties A S (Slowed A) S
 its_own = level Anything IsItself IsNumber
-
--- the same where the silent step isn't due
-abbrev pub up_to_date : {A S : Type 0} → Ties A S (Slowed A) S
-up_to_date = record { Shared = λ used s t. s ≡ t; Active = λ s t a c. c ≡ fresh a; Code = IsNumber }

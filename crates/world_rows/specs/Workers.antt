@@ -2,7 +2,7 @@
 use Rattle.std.specs.Prelude.{ℕ, zero, suc, ◌+◌, ℤ, pos, List, [], ◌∷◌, ◌++◌, length}
 use Rattle.board_world.specs.declared.requests.Request.TheVariants.{Spawn, Listen, WriteNumber, End}
 use Rattle.board_world.specs.Kinds.{Kind, Turn, Goes}
-use Rattle.board_world.specs.Requests.{Maker, asked}
+use Rattle.board_world.specs.Requests.{Asker, asked}
 use Rattle.world_rows.specs.Clerks.{Task, Ask, Tell, Keep, Recall, Become, Routine}
 
 pub data Op : Type 0 where
@@ -28,8 +28,8 @@ at_place place = record { place = place; frame = 0; answer = pos 0 }
 abbrev pub on : Worker → Worker
 on w = record w { place = suc w.place }
 
-abbrev pub worker_maker : Worker → ℤ → Maker Worker ℤ
-worker_maker w shared =
+abbrev pub worker_asker : Worker → ℤ → Asker Worker ℤ
+worker_asker w shared =
     record {
       text = λ n. n ∷ [];
       glyph = λ byte. byte;
@@ -40,8 +40,8 @@ worker_maker w shared =
     }
 
 abbrev pub done : Task → Worker → ℤ → Turn Worker ℤ
-done (Ask request) w shared = asked (worker_maker w shared) request
-done Tell w shared = asked (worker_maker w shared) (WriteNumber w.answer)
+done (Ask request) w shared = asked (worker_asker w shared) request
+done Tell w shared = asked (worker_asker w shared) (WriteNumber w.answer)
 done Keep w shared = Goes (on w) w.answer
 done Recall w shared = Goes (record w { place = suc w.place; answer = shared }) shared
 done (Become place) w shared = Goes (record w { place = place }) shared
@@ -50,7 +50,7 @@ abbrev pub does : Op → Worker → ℤ → Turn Worker ℤ
 does (Enter frame) w shared = Goes (record w { place = suc w.place; frame = frame }) shared
 does Fetch w shared = Goes (on w) shared
 does (Do task) w shared = done task w shared
-does Leave w shared = asked (worker_maker w shared) End
+does Leave w shared = asked (worker_asker w shared) End
 
 abbrev pub workers : List Op → Kind Worker ℤ
 workers code = record { begin = at_place; step = λ w shared. does (fetch code w.place) w shared; depth = λ w. w.frame }

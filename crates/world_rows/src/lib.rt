@@ -12,5 +12,5 @@ pub use rows::{
     rows_of_activities, rows_of_busy_listeners, rows_of_buttons, rows_of_devices, rows_of_limits,
     rows_of_raising_at_once, rows_of_the_clock,
 };
-pub use slow::{slowed_kinds_catch_up, slowed_kinds_compose};
+pub use slow::slowed_kinds_compose;
 pub use workers::operations_do_what_requests_do;
