@@ -5,6 +5,7 @@ use Rattle.thumb_code.specs.RegisterFile.{word}
 use Rattle.thumb_code.specs.Arithmetic.{bit_of, inverted, sum_of, sum_flags, shifted, lsl, lsr, asr}
 use Rattle.thumb_code.specs.Conditions.{holds}
 use Rattle.bank_model.specs.Division.{quotient, remainder}
+use Rattle.sts_syntax.specs.declared.operators.TheConstants.{NEGATE, PLUS, NOT, COMPLEMENT, BIT_OR, BIT_XOR, BIT_AND, EQUAL, UNEQUAL, LESS, GREATER, AT_MOST, AT_LEAST, SHIFT_LEFT, SHIFT_RIGHT, SHIFT_RIGHT_UNSIGNED, ADD, SUBTRACT, MULTIPLY, DIVIDE}
 
 -- 1 where a condition holds behind a comparison of two words, and else 0
 abbrev pub compared : ℕ → ℕ → ℕ → ℕ
@@ -18,30 +19,30 @@ shifted_by flags f v w = (shifted flags f v (bit_and w 31 % 256)).0
 -- `+`, `-`, `*`; `/` and `%`.
 abbrev pub operated : ℕ → ℕ → ℕ → ℕ → ℕ
 operated flags op v w =
-    if op == 1 then bit_or v w
-    else if op == 2 then bit_xor v w
-    else if op == 3 then bit_and v w
-    else if op == 4 then compared 0 v w
-    else if op == 5 then compared 1 v w
-    else if op == 6 then compared 11 v w
-    else if op == 7 then compared 12 v w
-    else if op == 8 then compared 13 v w
-    else if op == 9 then compared 10 v w
-    else if op == 10 then shifted_by flags lsl v w
-    else if op == 11 then shifted_by flags asr v w
-    else if op == 12 then shifted_by flags lsr v w
-    else if op == 13 then sum_of v w 0
-    else if op == 14 then sum_of v (inverted w) 1
-    else if op == 15 then word (v * w)
-    else if op == 16 then cast_unsigned w32 (quotient (cast_signed w32 v) (cast_signed w32 w))
+    if op == BIT_OR then bit_or v w
+    else if op == BIT_XOR then bit_xor v w
+    else if op == BIT_AND then bit_and v w
+    else if op == EQUAL then compared 0 v w
+    else if op == UNEQUAL then compared 1 v w
+    else if op == LESS then compared 11 v w
+    else if op == GREATER then compared 12 v w
+    else if op == AT_MOST then compared 13 v w
+    else if op == AT_LEAST then compared 10 v w
+    else if op == SHIFT_LEFT then shifted_by flags lsl v w
+    else if op == SHIFT_RIGHT then shifted_by flags asr v w
+    else if op == SHIFT_RIGHT_UNSIGNED then shifted_by flags lsr v w
+    else if op == ADD then sum_of v w 0
+    else if op == SUBTRACT then sum_of v (inverted w) 1
+    else if op == MULTIPLY then word (v * w)
+    else if op == DIVIDE then cast_unsigned w32 (quotient (cast_signed w32 v) (cast_signed w32 w))
     else cast_unsigned w32 (remainder (cast_signed w32 v) (cast_signed w32 w))
 
 -- of a prefix operator: `-`, `+`, `!`, `~`, one more, one less
 abbrev pub prefix_word : ℕ → ℕ → ℕ
 prefix_word op v =
-    if op == 1 then sum_of 0 (inverted v) 1
-    else if op == 2 then v
-    else if op == 3 then compared 0 v 0
-    else if op == 4 then inverted v
+    if op == NEGATE then sum_of 0 (inverted v) 1
+    else if op == PLUS then v
+    else if op == NOT then compared 0 v 0
+    else if op == COMPLEMENT then inverted v
     else if op == 5 then sum_of v 1 0
     else sum_of v (inverted 1) 1

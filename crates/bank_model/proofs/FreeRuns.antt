@@ -7,7 +7,8 @@ use Rattle.board_world.specs.Observations.{End, Faulted}
 use Rattle.board_world.specs.Board.{Board, Entry, over}
 use Rattle.board_world.specs.Kinds.{Turn, Goes, Asks, Takes, Pauses, Waits, Spawns, Listens, RaisesNow, Ends, Panics, Faults}
 use Rattle.board_world.specs.Activities.{Activity, World}
-use Rattle.board_world.specs.World.{acted, moved, idle_while, idle_bound, idled, stepped, tick, run, start}
+use Rattle.board_world.specs.World.{acted, moved, idle_while, idle_bound, idled, stepped, tick, start}
+use Rattle.board_world.specs.Runs.{run}
 use Rattle.board_world.proofs.Laws.{over_stays, run_over, run_sum, starts, lifts}
 use Rattle.board_world.specs.Simulation.{one, always}
 use Rattle.bank_model.specs.Fibers.{Fiber, Shared, shared_at_reset}

@@ -1,6 +1,7 @@
 -- All services, for which a fiber asks by SVC with their number.
 use Rattle.std.specs.Prelude.{ℕ, ◌+◌, ◌-◌, ◌%◌, ◌^◌, ◌==◌, nat_lt, ℤ, pos, negsuc, List, if◌then◌else◌}
 use Rattle.std.specs.Int.{cast_signed, cast_unsigned, w32}
+use Rattle.board_services.specs.declared.numbers.TheConstants.{END, PANIC, PAUSE, WAIT, SPAWN, LISTEN, RAISE, TIME, EVENT_VALUE, BUTTON, PLOT, SHOW, WRITE_NUMBER, WRITE_TEXT, WRITE_PIN, SEND, TEXT_GLYPH, NUMBER_GLYPH, ALLOCATE, PUSH, DIVIDE, REMAINDER, LISTEN_IN_MODE, RAISE_NOW}
 use Rattle.thumb_code.specs.Faults.{bad_service, not_thumb}
 use Rattle.thumb_code.specs.RegisterFile.{low, put_low, is_odd}
 use Rattle.board_world.specs.declared.events.Event.{Event}
@@ -85,28 +86,28 @@ pushes at f s =
 -- What a fiber does by asking for the service of a number, at an instruction's address.
 abbrev pub service : List ℕ → ℕ → ℕ → Fiber → Shared → Turn Fiber Shared
 service flash at number f s =
-    if number == 0 then Ends (begins_again flash f) s
-    else if number == 1 then Panics (word_argument f 0 % 256)
-    else if number == 2 then Pauses (argument f 0) f s
-    else if number == 3 then Waits (asked_event f) f s
-    else if number == 4 then with_code at (word_argument f 0) (Spawns (word_argument f 0) f s)
-    else if number == 5 then with_code at (word_argument f 2) (Listens (asked_listener f queues_if_busy) f s)
-    else if number == 6 then tells (Raises (asked_event f)) f s
-    else if number == 7 then asks Time f s
-    else if number == 8 then asks Value f s
-    else if number == 9 then asks (Pressed (argument f 0)) f s
-    else if number == 10 then (if nat_lt (word_argument f 2) 3 then tells (Plots (argument f 0) (argument f 1) (word_argument f 2)) f s else Faults bad_service at)
-    else if number == 11 then tells (Displays (word_argument f 0 % 2 ^ 25)) f s
-    else if number == 12 then tells (Writes (decimal_text (argument f 0))) f s
-    else if number == 13 then with_text flash at f (λ bytes. tells (Writes bytes) f s)
-    else if number == 14 then tells (Sets (argument f 0) (argument f 1)) f s
-    else if number == 15 then tells (Sends (argument f 0)) f s
-    else if number == 16 then with_text flash at f (λ bytes. Goes (answered f (glyph_at bytes (word_argument f 1))) s)
-    else if number == 17 then Goes (answered f (glyph_at (decimal_text (argument f 0)) (word_argument f 1))) s
-    else if number == 18 then allocates at f s
-    else if number == 19 then pushes at f s
-    else if number == 20 then Goes (answered f (quotient (argument f 0) (argument f 1))) s
-    else if number == 21 then Goes (answered f (remainder (argument f 0) (argument f 1))) s
-    else if number == 22 then with_code at (word_argument f 2) (Listens (asked_listener f (argument f 3)) f s)
-    else if number == 23 then RaisesNow (asked_event f) (begins_above flash f) f s
+    if number == END then Ends (begins_again flash f) s
+    else if number == PANIC then Panics (word_argument f 0 % 256)
+    else if number == PAUSE then Pauses (argument f 0) f s
+    else if number == WAIT then Waits (asked_event f) f s
+    else if number == SPAWN then with_code at (word_argument f 0) (Spawns (word_argument f 0) f s)
+    else if number == LISTEN then with_code at (word_argument f 2) (Listens (asked_listener f queues_if_busy) f s)
+    else if number == RAISE then tells (Raises (asked_event f)) f s
+    else if number == TIME then asks Time f s
+    else if number == EVENT_VALUE then asks Value f s
+    else if number == BUTTON then asks (Pressed (argument f 0)) f s
+    else if number == PLOT then (if nat_lt (word_argument f 2) 3 then tells (Plots (argument f 0) (argument f 1) (word_argument f 2)) f s else Faults bad_service at)
+    else if number == SHOW then tells (Displays (word_argument f 0 % 2 ^ 25)) f s
+    else if number == WRITE_NUMBER then tells (Writes (decimal_text (argument f 0))) f s
+    else if number == WRITE_TEXT then with_text flash at f (λ bytes. tells (Writes bytes) f s)
+    else if number == WRITE_PIN then tells (Sets (argument f 0) (argument f 1)) f s
+    else if number == SEND then tells (Sends (argument f 0)) f s
+    else if number == TEXT_GLYPH then with_text flash at f (λ bytes. Goes (answered f (glyph_at bytes (word_argument f 1))) s)
+    else if number == NUMBER_GLYPH then Goes (answered f (glyph_at (decimal_text (argument f 0)) (word_argument f 1))) s
+    else if number == ALLOCATE then allocates at f s
+    else if number == PUSH then pushes at f s
+    else if number == DIVIDE then Goes (answered f (quotient (argument f 0) (argument f 1))) s
+    else if number == REMAINDER then Goes (answered f (remainder (argument f 0) (argument f 1))) s
+    else if number == LISTEN_IN_MODE then with_code at (word_argument f 2) (Listens (asked_listener f (argument f 3)) f s)
+    else if number == RAISE_NOW then RaisesNow (asked_event f) (begins_above flash f) f s
     else Faults bad_service at

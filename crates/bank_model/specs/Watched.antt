@@ -11,7 +11,8 @@ use Rattle.thumb_code.specs.Step.{Fetched, Found, Missed, fetched}
 use Rattle.board_world.specs.Board.{Entry}
 use Rattle.board_world.specs.Kinds.{Kind, Turn, Faults}
 use Rattle.board_world.specs.Activities.{World}
-use Rattle.board_world.specs.World.{run, start}
+use Rattle.board_world.specs.World.{start}
+use Rattle.board_world.specs.Runs.{run}
 use Rattle.bank_model.specs.Bank.{Bank, is_own}
 use Rattle.bank_model.specs.Fibers.{Fiber, Shared, shared_at_reset}
 use Rattle.bank_model.specs.BoardMachine.{memory_of, fiber_turn, fibers}

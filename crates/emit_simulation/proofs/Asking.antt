@@ -32,7 +32,7 @@ use Rattle.sts_meaning.specs.Services.{requested, text, code, mode, event, liste
 use Rattle.sts_meaning.specs.Frames.{after, text_of}
 use Rattle.flat_meaning.specs.Operators.{FlatHeap}
 use Rattle.flat_meaning.specs.Frames.{FlatFrame, Enters, depth_of}
-use Rattle.flat_meaning.specs.Steps.{FlatTurn, maker}
+use Rattle.flat_meaning.specs.Steps.{FlatTurn, flat_asker}
 use Rattle.thumb_emit.specs.InFlash.{Addresses}
 use Rattle.arena_values.proofs.Laws.{signed_low, signed_high, null_is, index_is, negative_is, which, fitting_word, fits_read}
 use Rattle.emit_simulation.specs.Starts.{start}
@@ -215,7 +215,7 @@ module _ (C : FlatCode) (placed : List Placed) (flash : List ℕ) (a : Addresses
 
 abbrev pub Making : (C : FlatCode) (texts : List ByteList) (h : FlatHeap) (f : FlatFrame) (callers : List FlatFrame) (base to : ℕ) (answers : Bool) → Request
     → FlatTurn
-Making C texts h f callers base to answers r = asked (maker C texts h f callers base to answers) r
+Making C texts h f callers base to answers r = asked (flat_asker C texts h f callers base to answers) r
 
 module _ (C : FlatCode) (placed : List Placed) (flash : List ℕ) (a : Addresses) (texts : List ByteList) (image : IsImage C placed flash a texts) (to : ℕ)
     (args : List ℕ) (p : Placed) (f : FlatFrame) (callers : List FlatFrame) (base : ℕ) (c : Fiber)

@@ -24,7 +24,7 @@ use Rattle.sts_meaning.specs.Frames.{after, grown}
 use Rattle.sts_implements.specs.Passes.{trailing_instructions}
 use Rattle.flat_meaning.specs.Operators.{FlatHeap, answers}
 use Rattle.flat_meaning.specs.Frames.{FlatFrame, FlatActivity, Stands, given}
-use Rattle.flat_meaning.specs.Steps.{FlatTurn, maker, asks, with_pair}
+use Rattle.flat_meaning.specs.Steps.{FlatTurn, flat_asker, asks, with_pair}
 use Rattle.thumb_emit.specs.InFlash.{Addresses}
 use Rattle.thumb_emit.specs.Bounds.{op_instructions}
 use Rattle.arena_values.specs.Seen.{PushesAs}
@@ -165,7 +165,7 @@ module _ (C : FlatCode) (placed : List Placed) (flash : List ℕ) (a : Addresses
       → Owed C placed flash a texts (op_instructions (Ask to service args)) used h t (asks C texts h f callers base to service (map f.temps args)) c t
 
   other : (service : ℕ) → service ≢ 19 → asks C texts h f callers base to service (map f.temps args) ≡ after (requested service (map f.temps args))
-      (λ r. asked (maker C texts h f callers base to (answers service)) r)
+      (λ r. asked (flat_asker C texts h f callers base to (answers service)) r)
   other service n = let q = isnt service 19 n in rw q refl
 
   or_else : (service n : ℕ) → Made n → (service ≢ n → Made service) → Made service
@@ -213,7 +213,7 @@ module _ (C : FlatCode) (placed : List Placed) (flash : List ℕ) (a : Addresses
       (serve_22 C placed flash a texts image to args p f callers base c used h t x sh e nf)) (λ n22.
       or_else service 23 (λ e nf. asks_turn C placed flash a texts image to 23 args p f callers base c used h t e x sh _
       (serve_23 C placed flash a texts image to args p f callers base c used h t x sh e nf)) (λ n23.
-      λ e nf. absurd (subst (λ (o : Outcome Request). NoFault (after o (λ r. asked (maker C texts h f callers base to (answers service)) r)))
+      λ e nf. absurd (subst (λ (o : Outcome Request). NoFault (after o (λ r. asked (flat_asker C texts h f callers base to (answers service)) r)))
       (nothing_asked service n1 n2 n3 n4 n5 n6 n7 n8 n9 n10 n11 n12 n13 n14 n15 n16 n17 n22 n23 (map f.temps args))
       (subst (λ (u : FlatTurn). NoFault u) (other service n19) nf))))))))))))))))))))))
 

@@ -1,5 +1,6 @@
 -- What the ops of flat code make of values, beyond what the source's operators do.
 use Rattle.std.specs.Prelude.{◌≡◌, ℕ, zero, suc, pos, negsuc, ◌+ℤ◌, Bool, if◌then◌else◌, ◌==◌, List, [], ◌∷◌}
+use Rattle.board_services.specs.declared.numbers.TheConstants.{TIME, EVENT_VALUE, BUTTON, TEXT_GLYPH, NUMBER_GLYPH}
 use Rattle.sts_syntax.specs.Types.{ValueType}
 use Rattle.sts_syntax.specs.BoardTable.{BoardAction, Service, Library, Repeats}
 use Rattle.sts_syntax.specs.Nodes.{is_among}
@@ -20,7 +21,7 @@ prefixed_by op v =
 
 -- the services that answer with a number; of all others the value is 0
 abbrev pub answering : List ℕ
-answering = 7 ∷ (8 ∷ (9 ∷ (16 ∷ (17 ∷ []))))
+answering = TIME ∷ EVENT_VALUE ∷ BUTTON ∷ TEXT_GLYPH ∷ NUMBER_GLYPH ∷ []
 
 abbrev pub answers : ℕ → Bool
 answers service = is_among answering service

@@ -1,14 +1,16 @@
 -- The step of an activity of flat code, and flat code as a kind of activity.
 use Rattle.std.specs.Prelude.{ℕ, zero, suc, ◌+◌, Bool, if◌then◌else◌, nat_lt, ◌==◌, List, [], ◌∷◌, map, Option, Some, None}
+use Rattle.board_services.specs.declared.numbers.TheConstants.{PUSH}
 use Rattle.board_world.specs.Limits.{depth_limit}
 use Rattle.board_world.specs.Panics.{depth_panic}
 use Rattle.board_world.specs.Observations.{ByteList}
 use Rattle.board_world.specs.Board.{Entry}
 use Rattle.board_world.specs.Font.{glyph_of}
 use Rattle.board_world.specs.Kinds.{Kind, Turn, Goes, Takes, Ends, Panics}
-use Rattle.board_world.specs.Requests.{Maker, asked}
+use Rattle.board_world.specs.Requests.{Asker, asked}
 use Rattle.board_world.specs.Activities.{World}
-use Rattle.board_world.specs.World.{run, start}
+use Rattle.board_world.specs.World.{start}
+use Rattle.board_world.specs.Runs.{run}
 use Rattle.flat_ir.specs.declared.ops.Op.{Op}
 use Rattle.flat_ir.specs.declared.ops.Op.TheVariants.{Const, Copy, Unary, Binary, GlobalGet, GlobalSet, FieldGet, FieldSet, ItemGet, ItemSet, Length, Pop, TextOf, MakeObject, MakeArray, Call, CallSlot, HandlerOf, Ask, Jump, Branch, Return}
 use Rattle.flat_ir.specs.declared.ops.FlatCode.{FlatCode}
@@ -71,8 +73,8 @@ module _ (C : FlatCode) (texts : List ByteList) where
     makes to class zero = stuck
     makes to class (suc n) = Takes (suc n) (λ at. (gives to (Object at), with_cell at (Fields class (zeros n)) h))
 
-    abbrev pub maker : ℕ → Bool → Maker FlatActivity FlatHeap
-    maker to answers = record {
+    abbrev pub flat_asker : ℕ → Bool → Asker FlatActivity FlatHeap
+    flat_asker to answers = record {
       text = text_of texts;
       glyph = glyph_of;
       push = λ array value. stuck;
@@ -84,8 +86,8 @@ module _ (C : FlatCode) (texts : List ByteList) where
     -- service 19 puts a value behind the items of an array; each other asks the world
     abbrev pub asks : ℕ → ℕ → List Value → FlatTurn
     asks to service args =
-        if service == 19 then with_pair args (λ a v. after (pushed h a v) (λ x. grown x.0 x.1 (gives to default)))
-        else after (requested service args) (λ r. asked (maker to (answers service)) r)
+        if service == PUSH then with_pair args (λ a v. after (pushed h a v) (λ x. grown x.0 x.1 (gives to default)))
+        else after (requested service args) (λ r. asked (flat_asker to (answers service)) r)
 
     -- the method in a slot of the first argument's class
     abbrev pub method : ℕ → List Value → Outcome ℕ

@@ -2,6 +2,8 @@
 -- temporary in its own register, or in a scratch register into which it comes first; so with its result. A result that nobody reads stays in r0.
 use Rattle.std.specs.Prelude.{ℕ, zero, suc, ◌+◌, ◌*◌, min, List, [], ◌∷◌, ◌++◌, length, Bool, true, ◌==◌, ◌||◌, nat_lt, if◌then◌else◌}
 use Rattle.std.specs.Int.{cast_unsigned, w32}
+use Rattle.board_services.specs.declared.numbers.TheConstants.{TIME, EVENT_VALUE, BUTTON, TEXT_GLYPH, NUMBER_GLYPH}
+use Rattle.sts_syntax.specs.declared.operators.TheConstants.{NEGATE, PLUS, NOT, COMPLEMENT, BIT_OR, BIT_XOR, BIT_AND, EQUAL, UNEQUAL, LESS, GREATER, AT_MOST, AT_LEAST, SHIFT_LEFT, SHIFT_RIGHT, SHIFT_RIGHT_UNSIGNED, ADD, SUBTRACT, MULTIPLY, DIVIDE}
 use Rattle.thumb_code.specs.declared.instructions.Instr.{Instr}
 use Rattle.thumb_code.specs.declared.instructions.Instr.TheVariants.{MovImm, CmpImm, CmpReg, AddReg, SubReg, AddImm3, SubImm3, AddImm8, SubImm8, And, Eor, Orr, Mul, Mvn, Rsb, LslImm, LslReg, AsrReg, LsrReg, MovHigh, StrSp, LdrSp, StrImm, LdrImm, StrReg, LdrReg, Push, Pop as PopMany, Svc, Blx}
 use Rattle.thumb_layout.specs.declared.pieces.What.TheVariants.{Function as FunctionOf, Text, Class}
@@ -92,35 +94,35 @@ shifts f rd left right instr = Plain (MovImm 2 31) ∷ Plain (And 2 right) ∷ c
 abbrev pub divides : Function → ℕ → ℕ → ℕ → ℕ → List Piece
 divides f rd left right answer = carries f 0 left ∷ carries f 1 right ∷ CallTo division ∷ carries f rd answer ∷ []
 
--- a prefix operator, by its number: `-`, `+`, `!`, `~`, one more, one less
+-- a prefix operator; 5 and 6 are one more and one less
 abbrev pub unary : Function → ℕ → ℕ → ℕ → ℕ → List Piece
 unary f rd from op label =
-    if op == 1 then Plain (Rsb rd from) ∷ []
-    else if op == 2 then Plain (MovHigh rd from) ∷ []
-    else if op == 3 then decides f rd (beside 1 rd from) (CmpImm from 0) equal label
-    else if op == 4 then Plain (Mvn rd from) ∷ []
+    if op == NEGATE then Plain (Rsb rd from) ∷ []
+    else if op == PLUS then Plain (MovHigh rd from) ∷ []
+    else if op == NOT then decides f rd (beside 1 rd from) (CmpImm from 0) equal label
+    else if op == COMPLEMENT then Plain (Mvn rd from) ∷ []
     else if op == 5 then Plain (AddImm3 rd from 1) ∷ []
     else Plain (SubImm3 rd from 1) ∷ []
 
--- an operator, by its number: `|`, `^`, `&`, `==`, `!=`, `<`, `>`, `<=`, `>=`, `<<`, `>>`, `>>>`, `+`, `-`, `*`, `/`, `%`
+-- an operator
 abbrev pub binary : Function → ℕ → ℕ → ℕ → ℕ → ℕ → List Piece
 binary f rd left right op label =
-    if op == 1 then combines f rd left right Orr
-    else if op == 2 then combines f rd left right Eor
-    else if op == 3 then combines f rd left right And
-    else if op == 4 then compares f rd left right equal label
-    else if op == 5 then compares f rd left right unequal label
-    else if op == 6 then compares f rd left right less label
-    else if op == 7 then compares f rd left right greater label
-    else if op == 8 then compares f rd left right at_most label
-    else if op == 9 then compares f rd left right at_least label
-    else if op == 10 then shifts f rd left right LslReg
-    else if op == 11 then shifts f rd left right AsrReg
-    else if op == 12 then shifts f rd left right LsrReg
-    else if op == 13 then Plain (AddReg rd left right) ∷ []
-    else if op == 14 then Plain (SubReg rd left right) ∷ []
-    else if op == 15 then combines f rd left right Mul
-    else if op == 16 then divides f rd left right 0
+    if op == BIT_OR then combines f rd left right Orr
+    else if op == BIT_XOR then combines f rd left right Eor
+    else if op == BIT_AND then combines f rd left right And
+    else if op == EQUAL then compares f rd left right equal label
+    else if op == UNEQUAL then compares f rd left right unequal label
+    else if op == LESS then compares f rd left right less label
+    else if op == GREATER then compares f rd left right greater label
+    else if op == AT_MOST then compares f rd left right at_most label
+    else if op == AT_LEAST then compares f rd left right at_least label
+    else if op == SHIFT_LEFT then shifts f rd left right LslReg
+    else if op == SHIFT_RIGHT then shifts f rd left right AsrReg
+    else if op == SHIFT_RIGHT_UNSIGNED then shifts f rd left right LsrReg
+    else if op == ADD then Plain (AddReg rd left right) ∷ []
+    else if op == SUBTRACT then Plain (SubReg rd left right) ∷ []
+    else if op == MULTIPLY then combines f rd left right Mul
+    else if op == DIVIDE then divides f rd left right 0
     else divides f rd left right 1
 
 -- A field stands behind its object's class. An immediate counts to 31 words; a field past them is found by r2.
@@ -144,7 +146,7 @@ finds_global slot = Number 1 (0x20000000 + 4 * slot)
 
 -- the services that answer in r0; behind each other one r0 becomes 0, unless nobody reads that
 abbrev pub answers : ℕ → Bool
-answers service = service == 7 || service == 8 || service == 9 || service == 16 || service == 17
+answers service = service == TIME || service == EVENT_VALUE || service == BUTTON || service == TEXT_GLYPH || service == NUMBER_GLYPH
 
 abbrev pub asks : Bool → ℕ → List Piece
 asks unread service = if unread || answers service then Plain (Svc service) ∷ [] else Plain (Svc service) ∷ Plain (MovImm 0 0) ∷ []

@@ -9,6 +9,7 @@ ghost use Rattle.thumb_emit.specs.Ready.{IsReady, IsOpTold, pieces_of};
 
 use crate::frame::{below_saved, bring, get, keep, land, made_in, raise, register, saved_list};
 use crate::pieces::{ALWAYS, At, NE, add, load, test_null};
+use board_services::{BUTTON, EVENT_VALUE, NUMBER_GLYPH, TEXT_GLYPH, TIME};
 use register_assign::Placed;
 use sts_base::{NoMemory, Seq};
 use thumb_code::Instr;
@@ -130,7 +131,11 @@ pub(crate) fn handler(
 fn answers(service: u8) -> bool
     ensures { result ≡ answers service }
 {
-    service == 7 || service == 8 || service == 9 || service == 16 || service == 17
+    service == TIME
+        || service == EVENT_VALUE
+        || service == BUTTON
+        || service == TEXT_GLYPH
+        || service == NUMBER_GLYPH
 }
 
 /// Asks for a service of the board.
