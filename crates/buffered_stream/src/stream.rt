@@ -1,11 +1,12 @@
 // A stream, and the bytes for it that are held back.
-ghost use Rattle.std.specs.Prelude.{◌≡◌, ◌≢◌, ◌≤◌, ◌+◌, ◌++◌, ◌⊎◌, [], drop, OnOk, OnErr, IfErr, length};
+ghost use Rattle.std.specs.Prelude.{◌≡◌, ◌≢◌, ◌≤◌, ◌+◌, ◌++◌, ◌⊎◌, [], drop, OnOk, OnErr, IfOk, IfErr, length, vec_capacity, vec_len};
 ghost use Rattle.std.specs.IoError.{error_kind};
 ghost use Rattle.std.specs.Io.KnownBytes.{Appends, Keeps, append_known};
 ghost use Rattle.buffered_stream.specs.Pieces.{AppendsFront, IsSuffix};
+ghost use Rattle.buffered_stream.specs.declared.stream.TheConstants.{ROOM};
 
 use crate::writing::write_front;
-use arrayvec::ArrayVec;
+use std::alloc::{AllocError, Global};
 use std::io;
 use std::io::{ErrorKind, Write};
 
@@ -13,23 +14,26 @@ use std::io::{ErrorKind, Write};
 pub const ROOM: usize = 32_800;
 
 /// A stream, and the bytes that are for it and not yet written. Whoever owns it says when they are written out; before that they are where
-/// there is no room for more. After an error the bytes that weren't written are still held back, and the next call tries them again.
+/// there is no room for more. The room is taken when it is made, and never grows. After an error the bytes that weren't written are still held
+/// back, and the next call tries them again.
 #[derive(Drop)]
 pub struct BufferedStream<W: Write + Drop> {
     writer: W,
-    held: ArrayVec<u8, ROOM>,
+    held: Vec<u8>,
+    ghost reserved: { ROOM ≤ vec_capacity held },
+    ghost within: { vec_len held ≤ ROOM },
 }
 
 impl<W: Write + Drop> BufferedStream<W> {
-    /// The stream, with nothing held back.
-    pub fn new(writer: W) -> BufferedStream<W>
-        ensures writer { result.writer ≡ writer }
-        ensures nothing { result.held.items ≡ [] }
+    /// The stream, with nothing held back. It fails for want of memory alone.
+    pub fn new(alloc: Global, writer: W) -> Result<BufferedStream<W>, AllocError>
+        ensures writer { IfOk result (λ stream. stream.writer ≡ writer) }
+        ensures nothing { IfOk result (λ stream. stream.held.items ≡ []) }
     {
-        BufferedStream {
+        Ok(BufferedStream {
             writer,
-            held: ArrayVec::new(),
-        }
+            held: Vec::with_capacity(alloc, ROOM)?,
+        })
     }
 
     /// Makes room for so many bytes, or has nothing held back where the room is less than that.
@@ -40,7 +44,7 @@ impl<W: Write + Drop> BufferedStream<W> {
         ensures held { OnOk result ((self.new.held.items ≡ self.old.held.items) ⊎ (self.new.held.items ≡ [])) }
         ensures retried { IfErr result (λ error. error_kind error ≢ ErrorKind.Interrupted) }
     {
-        if self.held.remaining_capacity() >= bytes {
+        if ROOM - self.held.len() >= bytes {
             return Ok(());
         }
         self.write_out()
@@ -73,9 +77,12 @@ impl<W: Write + Drop> BufferedStream<W> {
         ensures retried { IfErr result (λ error. error_kind error ≢ ErrorKind.Interrupted) }
     {
         self.make_room(piece.len())?;
-        match self.held.try_extend_from_slice(piece) {
+        if piece.len() > ROOM {
+            return self.write_past(piece);
+        }
+        match self.held.extend_from_slice(piece) {
             Ok(()) => Ok(()),
-            Err(_) => self.write_past(piece),
+            Err(_) => unreachable!(),
         }
     }
 
@@ -87,33 +94,22 @@ impl<W: Write + Drop> BufferedStream<W> {
         ensures retried { IfErr result (λ error. error_kind error ≢ ErrorKind.Interrupted) }
     {
         let (done, result) = write_front(&mut self.writer, self.held.as_slice());
-        forget_front(&mut self.held, done);
+        if done == self.held.len() {
+            self.held.clear();
+        } else {
+            forget_front(&mut self.held, done);
+        }
         result
     }
 }
 
-/// Takes so many bytes away from the front.
-fn forget_front(held: &mut ArrayVec<u8, ROOM>, count: usize)
-    requires { count ≤ length held.now.items }
-    ensures { held.new.items ≡ drop count held.old.items }
-{
-    if count == held.len() {
-        held.clear();
-        return;
-    }
-    keep_behind(held, count);
-}
-
-/// Takes so many bytes away from the front, where a writer took no more: in a function of its own, since the room for the others is made at its beginning.
+/// Takes so many bytes away from the front, where a writer took no more.
 #[cold]
 #[inline(never)]
-fn keep_behind(held: &mut ArrayVec<u8, ROOM>, count: usize)
-    requires { count ≤ length held.now.items }
-    ensures { held.new.items ≡ drop count held.old.items }
+fn forget_front(held: &mut Vec<u8>, count: usize)
+    requires { count ≤ vec_len held.now }
+    ensures items { held.new.items ≡ drop count held.old.items }
+    ensures capacity { vec_capacity held.new ≡ vec_capacity held.old }
 {
-    let mut left = ArrayVec::new();
-    match left.try_extend_from_slice(&held.as_slice()[count..]) {
-        Ok(()) => *held = left,
-        Err(_) => unreachable!(),
-    }
+    drop(held.drain(..count));
 }
