@@ -1,6 +1,6 @@
 -- When arrivals are sound, and what those that were read keep to besides.
 use Rattle.std.specs.Prelude.{◌≤◌, List, length, All, IsTrue}
-use Rattle.board_world.specs.Arrivals.{Rises}
+use Rattle.board_world.specs.Runs.{Rises}
 use Rattle.board_world.specs.Scripts.{IsSoundAct}
 use Rattle.event_script.specs.World.{world_act}
 use Rattle.event_script.specs.Sound.{HasSmallNumbers}

@@ -1,6 +1,6 @@
 -- The arrivals of the board's world that those of a file are.
 use Rattle.std.specs.Prelude.{List, map}
-use Rattle.board_world.specs.Arrivals as world
+use Rattle.board_world.specs.Runs as world
 use Rattle.event_script.specs.World.{world_act}
 use Rattle.arrival_file.specs.declared.arrival.Arrival.{Arrival}
 

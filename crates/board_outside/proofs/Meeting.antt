@@ -11,7 +11,8 @@ use Rattle.board_world.specs.Board.{Board, Entry, Act, Down, Up, Raise, Unplug, 
 use Rattle.board_world.specs.Kinds.{Kind, Turn, Goes, Asks, Takes, Pauses, Waits, Spawns, Listens, RaisesNow, Ends, Panics, Faults, Question, answer, showed, Raises, Plots, Displays, Writes, Sets, Sends, Time, Value, Pressed, was_set, level}
 use Rattle.board_world.specs.Waiting.{least, how_many, none, held_by}
 use Rattle.board_world.specs.Activities.{Activity, World, handlers}
-use Rattle.board_world.specs.World.{moved, clock_moves, idle_while, idle_bound, idled, lacks_seat, blocks, ends_with, ends, acted, stepped, run}
+use Rattle.board_world.specs.World.{moved, clock_moves, idle_while, idle_bound, idled, lacks_seat, blocks, ends_with, ends, acted, stepped}
+use Rattle.board_world.specs.Runs.{run}
 use Rattle.board_world.proofs.Laws.{if_keeps}
 use Rattle.board_outside.specs.Moves.{Move, Seen, Unplugged, seen_of, unplugged_of, HasMet}
 use Rattle.board_outside.proofs.Moving.{seen_of-append, unplugged_of-append}

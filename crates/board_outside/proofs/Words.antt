@@ -3,6 +3,7 @@ use Rattle.std.proofs.Common.{◌≡◌, ℕ, List, [], ◌∷◌, ◌++◌, ◌
 use Rattle.std.proofs.lemmas.List.{append-nil}
 use Rattle.thumb_code.specs.Map.{flash_byte}
 use Rattle.bank_model.specs.Texts.{flash_bytes}
+use Rattle.board_ports.specs.Account.{Account}
 use Rattle.board_ports.specs.History.{PortMove, Word, words_sent, Follows}
 use Rattle.board_ports.specs.Plugged.{Plugged}
 use Rattle.board_outside.specs.Ports.{bytes_sent, serial_port}
@@ -35,6 +36,6 @@ sent-flash-more moves now flash at i =
     append_assoc moves (bytes_sent now (flash_bytes flash i at)) _
     ∙ ap (λ x. moves ++ x) (sym (bytes_sent-append now (flash_bytes flash i at) _) ∙ ap (bytes_sent now) (sym (bytes-one-more flash at i)))
 
-module _ {B : Type 0} (log : B → Option (List (ℕ × ℕ))) (faults : B → ℕ) where
-  pub none-sent : (moves : List PortMove) (start : List (Option B)) (now : Plugged B) → Follows log faults moves start now → Follows log faults (moves ++ []) start now
-  none-sent moves start now f = subst (λ ms. Follows log faults ms start now) (sym (append-nil moves)) f
+module _ {B : Type 0} (account : B → Account) where
+  pub none-sent : (moves : List PortMove) (start : List (Option B)) (now : Plugged B) → Follows account moves start now → Follows account (moves ++ []) start now
+  none-sent moves start now f = subst (λ ms. Follows account ms start now) (sym (append-nil moves)) f

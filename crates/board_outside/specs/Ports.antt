@@ -2,6 +2,7 @@
 use Rattle.std.specs.Prelude.{ℕ, ◌+◌, ◌*◌, List, [], ◌∷◌, ◌++◌, Option}
 use Rattle.std.specs.Int.{cast_unsigned, w32}
 use Rattle.board_world.specs.Observations.{ByteList, Observation, Show, Serial, Pin, Radio}
+use Rattle.board_ports.specs.Account.{Account}
 use Rattle.board_ports.specs.History.{PortMove, Word, Unplug, PlacesAfter, entries_at, unplugged_at}
 use Rattle.board_outside.specs.Moves.{Move, Seen, Unplugged}
 
@@ -36,5 +37,5 @@ port_moves (Seen o ∷ ms) = words_of o ++ port_moves ms
 port_moves (Unplugged port ∷ ms) = Unplug port ∷ port_moves ms
 
 -- What these moves leave of the devices.
-abbrev pub DevicesAfter : {B : Type 0} → (B → Option (List (ℕ × ℕ))) → (B → ℕ) → List Move → List (Option B) → List (Option B) → Type 0
-DevicesAfter log faults moves old new = PlacesAfter log faults (entries_at (port_moves moves)) (unplugged_at (port_moves moves)) old new
+abbrev pub DevicesAfter : {B : Type 0} → (B → Account) → List Move → List (Option B) → List (Option B) → Type 0
+DevicesAfter account moves old new = PlacesAfter account (entries_at (port_moves moves)) (unplugged_at (port_moves moves)) old new

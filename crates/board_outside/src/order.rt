@@ -4,7 +4,7 @@ ghost use Rattle.std.specs.Prelude.{ℕ, List, ◌++◌};
 ghost use Rattle.board_world.specs.Board.{Board};
 ghost use Rattle.board_world.specs.Kinds.{Kind};
 ghost use Rattle.board_world.specs.Activities.{World};
-ghost use Rattle.board_world.specs.World.{run};
+ghost use Rattle.board_world.specs.Runs.{run};
 ghost use Rattle.board_outside.specs.Moves.{Move, HasMet, Meets};
 
 /// What a run has met stands in one order, and what it goes on to meet comes behind it, whatever the kind of activity does.

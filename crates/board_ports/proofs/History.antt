@@ -1,5 +1,5 @@
 -- What a word or an unplug adds to what has become of the devices.
-use Rattle.std.proofs.Common.{◌≡◌, ◌≢◌, ◌<◌, ◌≤◌, ℕ, inl, inr, List, [], ◌∷◌, ◌++◌, Bool, true, false, refl, sym, ap, subst, ◌∙◌, append_assoc, append-nil, arith, eqb, ◌||◌, cond}
+use Rattle.std.proofs.Common.{◌≡◌, ◌≢◌, ◌<◌, ◌≤◌, ◌+◌, ℕ, inl, inr, List, [], ◌∷◌, ◌++◌, length, length-append, Bool, true, false, refl, sym, ap, subst, ◌∙◌, append_assoc, append-nil, arith, eqb, ◌||◌, cond}
 use Rattle.std.specs.Prelude.{Option, Some, None}
 use Rattle.std.proofs.lemmas.List.{flat_map_more}
 use Rattle.std.proofs.lemmas.Grind.{flat_map-append}
@@ -7,9 +7,12 @@ use Rattle.std.proofs.lemmas.List.Folds.{list_any-append}
 use Rattle.std.proofs.lemmas.Bool.Decides.{Decides-eqb}
 use Rattle.std.proofs.Math.Bool.{or-false, or-true}
 use Rattle.sts_base.specs.Faults.{Rose}
-use Rattle.board_ports.specs.Logs.{Logs, LogsFirst, at_moment}
-use Rattle.board_ports.specs.Plugged.{Plugged, device_at, mark_at, OthersStay, Written, Failed, Sends, SendsAt, SendsAll, SendsAllAt, Settles, SettlesAt, SettledAt}
+use Rattle.board_ports.specs.Account.{Account, Received, FailedAmong, Failed}
+use Rattle.board_ports.specs.Counts.{one_more, some_more}
+use Rattle.board_ports.specs.Logs.{Logs, at_moment}
+use Rattle.board_ports.specs.Plugged.{Plugged, device_at, mark_at, OthersStay, Sends, SendsAt, SendsAll, SendsAllAt, Settles, SettlesAt, SettledAt}
 use Rattle.board_ports.specs.History.{PortMove, Word, Unplug, words_sent, entries_of, unplugs, entries_at, unplugged_at, Served, PlaceAfter, PlacesAfter, Taking, PlaceFollows, Follows}
+use Rattle.board_ports.proofs.Writes.{some_more_sum, some_more_within}
 use Rattle.board_ports.specs.declared.sent.Sent.{Sent}
 use Rattle.board_ports.specs.declared.sent.Sent.TheVariants.{Went, Nobody, Lost}
 
@@ -24,150 +27,136 @@ logs_then a b c s t p q had e = q (had ++ s) (p had e) ∙ ap Some (append_assoc
 rose_before : (a b c : ℕ) → a ≤ b → Rose b c → Rose a c
 rose_before a b c h r = omega arith
 
-module _ {B : Type 0} (log : B → Option (List (ℕ × ℕ))) (faults : B → ℕ) where
+-- as many writes more as there are entries more
+writes_then : (entries more : List (ℕ × ℕ)) (w : ℕ) → some_more (length more) (some_more (length entries) w) ≡ some_more (length (entries ++ more)) w
+writes_then entries more w =
+    let both : length (entries ++ more) ≡ length entries + length more = length-append entries more in
+    let turned : length (entries ++ more) ≡ length more + length entries = omega (arith, both) in
+    sym (ap (λ n. some_more n w) turned ∙ some_more_sum (length more) (length entries) w)
+
+module _ {B : Type 0} (account : B → Account) where
+  -- entries behind entries
+  received_then : (entries more : List (ℕ × ℕ)) (old mid new : B) → Received account entries old mid → Received account more mid new → Received account (entries ++ more) old new
+  received_then entries more old mid new r s =
+      record {
+        logged = logs_then (account old).log (account mid).log (account new).log entries more r.logged s.logged;
+        kept = s.kept ∙ r.kept;
+        once = s.once ∙ ap (some_more (length more)) r.once ∙ writes_then entries more (account old).writes;
+      }
+
+  received_failed : (entries more : List (ℕ × ℕ)) (old mid new : B) → Received account entries old mid → FailedAmong account more mid new → FailedAmong account (entries ++ more) old new
+  received_failed entries more old mid new r f =
+      let both : length (entries ++ more) ≡ length entries + length more = length-append entries more in
+      let before : (account mid).writes ≤ (account old).writes + length entries =
+      subst (λ w. w ≤ (account old).writes + length entries) (sym r.once) (some_more_within (length entries) (account old).writes) in
+      record {
+        first = record {
+          given = entries ++ f.first.given;
+          in_order = (f.first.in_order.0, append_assoc entries f.first.given f.first.in_order.0 ∙ ap (λ x. entries ++ x) f.first.in_order.1);
+          logged = logs_then (account old).log (account mid).log (account new).log entries f.first.given r.logged f.first.logged;
+        };
+        later = omega (arith, r.kept, f.later);
+        rose = rose_before (account old).faults (account mid).faults (account new).faults (omega (arith, r.kept)) f.rose;
+        most = omega (arith, both, before, f.most);
+      }
+
   -- a device that has failed gets nothing more
-  taking_marked : (entries more : List (ℕ × ℕ)) (old new : B) → Taking log faults entries true old new → Taking log faults (entries ++ more) true old new
-  taking_marked entries more old new t =
+  failed_then : (entries more : List (ℕ × ℕ)) (old new : B) → FailedAmong account entries old new → FailedAmong account (entries ++ more) old new
+  failed_then entries more old new f =
+      let both : length (entries ++ more) ≡ length entries + length more = length-append entries more in
       record {
-        given = t.given;
-        in_order = (t.in_order.0 ++ more, sym (append_assoc t.given t.in_order.0 more) ∙ ap (λ x. x ++ more) t.in_order.1);
-        logged = t.logged;
-        later = t.later;
-        unmarked = λ e. absurd (cc);
-        marked = t.marked;
+        first = record {
+          given = f.first.given;
+          in_order = (f.first.in_order.0 ++ more, sym (append_assoc f.first.given f.first.in_order.0 more) ∙ ap (λ x. x ++ more) f.first.in_order.1);
+          logged = f.first.logged;
+        };
+        later = f.later;
+        rose = f.rose;
+        most = omega (arith, both, f.most);
       }
 
-  taking_went : (entries : List (ℕ × ℕ)) (entry : ℕ × ℕ) (old mid new : B) → Taking log faults entries false old mid → Written log faults entry mid new → Taking log faults (entries ++ entry ∷ []) false old new
-  taking_went entries entry old mid new t w =
-      let whole = t.unmarked refl in
+  -- a device that failed took none of these entries, and was written to at most once
+  failed_of : (entries : List (ℕ × ℕ)) (old new : B) → (account new).writes ≤ (account old).writes + length entries → Failed account old new → FailedAmong account entries old new
+  failed_of entries old new most f =
       record {
-        given = entries ++ entry ∷ [];
-        in_order = ([], append-nil (entries ++ entry ∷ []));
-        logged = logs_then (log old) (log mid) (log new) entries (entry ∷ []) (subst (λ g. Logs (log old) (log mid) g) whole t.logged) w.logged;
-        later = omega (arith, t.later, w.kept);
-        unmarked = λ _. refl;
-        marked = λ e. absurd (cc);
-      }
-
-  taking_lost : (entries : List (ℕ × ℕ)) (entry : ℕ × ℕ) (old mid new : B) → Taking log faults entries false old mid → Failed log faults mid new → Taking log faults (entries ++ entry ∷ []) true old new
-  taking_lost entries entry old mid new t w =
-      record {
-        given = t.given;
-        in_order = (t.in_order.0 ++ entry ∷ [], sym (append_assoc t.given t.in_order.0 (entry ∷ [])) ∙ ap (λ x. x ++ entry ∷ []) t.in_order.1);
-        logged = λ had h. w.stays ∙ t.logged had h;
-        later = omega (arith, t.later, w.later);
-        unmarked = λ e. absurd (cc);
-        marked = λ _. rose_before (faults old) (faults mid) (faults new) t.later w.rose;
+        first = record { given = []; in_order = (entries, refl); logged = λ had h. f.stays ∙ h ∙ ap Some (sym (append-nil had)) };
+        later = f.later;
+        rose = f.rose;
+        most = most;
       }
 
   -- a word more is sent to a place
-  place_sent : (writes : B → ℕ) (entries : List (ℕ × ℕ)) (entry : ℕ × ℕ) (u : Bool) (old mid : Option B) (mark : Bool) (new : Option B) (mark' : Bool) (sent : Sent)
-      → PlaceFollows log faults entries u mark old mid → Sends log faults writes entry mid mark new mark' sent → PlaceFollows log faults (entries ++ entry ∷ []) u mark' old new
-  place_sent writes entries entry u None mid mark new mark' Nobody k s = s.1 ∙ k
-  place_sent writes entries entry u None None mark new mark' Went k s = absurd s
-  place_sent writes entries entry u None None mark new mark' Lost k s = absurd s
-  place_sent writes entries entry u None (Some mid) mark new mark' Went k s = none_is_not_some mid (sym k)
-  place_sent writes entries entry u None (Some mid) mark new mark' Lost k s = none_is_not_some mid (sym k)
-  place_sent writes entries entry u (Some old) None mark new mark' Went k s = absurd s
-  place_sent writes entries entry u (Some old) None mark new mark' Lost k s = absurd s
-  place_sent writes entries entry u (Some old) None mark None mark' Nobody k s = k
-  place_sent writes entries entry u (Some old) None mark (Some new) mark' Nobody k s = none_is_not_some new (sym s.1)
-  place_sent writes entries entry u (Some old) (Some mid) mark None mark' Nobody k s = none_is_not_some mid s.1
-  place_sent writes entries entry u (Some old) (Some mid) false (Some new) mark' Nobody k s =
+  place_sent : (entries : List (ℕ × ℕ)) (entry : ℕ × ℕ) (u : Bool) (old mid : Option B) (mark : Bool) (new : Option B) (mark' : Bool) (sent : Sent)
+      → PlaceFollows account entries u mark old mid → Sends account entry mid mark new mark' sent → PlaceFollows account (entries ++ entry ∷ []) u mark' old new
+  place_sent entries entry u None mid mark new mark' Nobody k s = s.1 ∙ k
+  place_sent entries entry u None None mark new mark' Went k s = absurd s
+  place_sent entries entry u None None mark new mark' Lost k s = absurd s
+  place_sent entries entry u None (Some mid) mark new mark' Went k s = none_is_not_some mid (sym k)
+  place_sent entries entry u None (Some mid) mark new mark' Lost k s = none_is_not_some mid (sym k)
+  place_sent entries entry u (Some old) None mark new mark' Went k s = absurd s
+  place_sent entries entry u (Some old) None mark new mark' Lost k s = absurd s
+  place_sent entries entry u (Some old) None mark None mark' Nobody k s = k
+  place_sent entries entry u (Some old) None mark (Some new) mark' Nobody k s = none_is_not_some new (sym s.1)
+  place_sent entries entry u (Some old) (Some mid) mark None mark' Nobody k s = none_is_not_some mid s.1
+  place_sent entries entry u (Some old) (Some mid) false (Some new) mark' Nobody k s =
       elim s.0 [ inl h ↦ none_is_not_some mid (sym h) | inr h ↦ absurd (cc) ]
-  place_sent writes entries entry u (Some old) (Some mid) true (Some new) mark' Nobody k s =
-      subst (λ m. PlaceFollows log faults (entries ++ entry ∷ []) u m (Some old) (Some new)) (sym s.2)
-      (subst (λ n. PlaceFollows log faults (entries ++ entry ∷ []) u true (Some old) n) (sym s.1)
-      (k.0, taking_marked entries (entry ∷ []) old mid k.1))
-  place_sent writes entries entry u (Some old) (Some mid) false (Some new) mark' Went k s =
-      subst (λ m. PlaceFollows log faults (entries ++ entry ∷ []) u m (Some old) (Some new)) (sym s.0)
-      (k.0, taking_went entries entry old mid new k.1 s.1)
-  place_sent writes entries entry u (Some old) (Some mid) false (Some new) mark' Lost k s =
-      subst (λ m. PlaceFollows log faults (entries ++ entry ∷ []) u m (Some old) (Some new)) (sym s.0)
-      (k.0, taking_lost entries entry old mid new k.1 s.1)
-  place_sent writes entries entry u (Some old) (Some mid) true (Some new) mark' Went k s = absurd s
-  place_sent writes entries entry u (Some old) (Some mid) true (Some new) mark' Lost k s = absurd s
-  place_sent writes entries entry u (Some old) (Some mid) false None mark' Went k s = absurd s
-  place_sent writes entries entry u (Some old) (Some mid) false None mark' Lost k s = absurd s
-  place_sent writes entries entry u (Some old) (Some mid) true None mark' Went k s = absurd s
-  place_sent writes entries entry u (Some old) (Some mid) true None mark' Lost k s = absurd s
-
-  taking_all : (entries more : List (ℕ × ℕ)) (old mid new : B) → Taking log faults entries false old mid → Logs (log mid) (log new) more → faults new ≡ faults mid → Taking log faults (entries ++ more) false old new
-  taking_all entries more old mid new t logged kept =
-      record {
-        given = entries ++ more;
-        in_order = ([], append-nil (entries ++ more));
-        logged = logs_then (log old) (log mid) (log new) entries more (subst (λ g. Logs (log old) (log mid) g) (t.unmarked refl) t.logged) logged;
-        later = omega (arith, t.later, kept);
-        unmarked = λ _. refl;
-        marked = λ e. absurd (cc);
-      }
-
-  taking_first : (entries more : List (ℕ × ℕ)) (old mid new : B) → Taking log faults entries false old mid → LogsFirst (log mid) (log new) more → faults mid ≤ faults new → Rose (faults mid) (faults new)
-      → Taking log faults (entries ++ more) true old new
-  taking_first entries more old mid new t f later rose =
-      record {
-        given = entries ++ f.given;
-        in_order = (f.in_order.0, append_assoc entries f.given f.in_order.0 ∙ ap (λ x. entries ++ x) f.in_order.1);
-        logged = logs_then (log old) (log mid) (log new) entries f.given (subst (λ g. Logs (log old) (log mid) g) (t.unmarked refl) t.logged) f.logged;
-        later = omega (arith, t.later, later);
-        unmarked = λ e. absurd (cc);
-        marked = λ _. rose_before (faults old) (faults mid) (faults new) t.later rose;
-      }
+  place_sent entries entry u (Some old) (Some mid) true (Some new) mark' Nobody k s =
+      subst (λ m. PlaceFollows account (entries ++ entry ∷ []) u m (Some old) (Some new)) (sym s.2)
+      (subst (λ n. PlaceFollows account (entries ++ entry ∷ []) u true (Some old) n) (sym s.1)
+      (k.0, failed_then entries (entry ∷ []) old mid k.1))
+  place_sent entries entry u (Some old) (Some mid) false (Some new) mark' Went k s =
+      subst (λ m. PlaceFollows account (entries ++ entry ∷ []) u m (Some old) (Some new)) (sym s.0)
+      (k.0, received_then entries (entry ∷ []) old mid new k.1 s.1)
+  place_sent entries entry u (Some old) (Some mid) false (Some new) mark' Lost k s =
+      subst (λ m. PlaceFollows account (entries ++ entry ∷ []) u m (Some old) (Some new)) (sym s.0)
+      (k.0, received_failed entries (entry ∷ []) old mid new k.1 (failed_of (entry ∷ []) mid new (let once : (account new).writes ≡ one_more (account mid).writes = s.2 in omega arith) s.1))
+  place_sent entries entry u (Some old) (Some mid) true (Some new) mark' Went k s = absurd s
+  place_sent entries entry u (Some old) (Some mid) true (Some new) mark' Lost k s = absurd s
+  place_sent entries entry u (Some old) (Some mid) false None mark' Went k s = absurd s
+  place_sent entries entry u (Some old) (Some mid) false None mark' Lost k s = absurd s
+  place_sent entries entry u (Some old) (Some mid) true None mark' Went k s = absurd s
+  place_sent entries entry u (Some old) (Some mid) true None mark' Lost k s = absurd s
 
   -- entries more are sent to a place
-  place_sent_all : (writes : B → ℕ) (entries more : List (ℕ × ℕ)) (u : Bool) (old mid : Option B) (mark : Bool) (new : Option B) (mark' : Bool)
-      → PlaceFollows log faults entries u mark old mid → SendsAll log faults writes more mid mark new mark' → PlaceFollows log faults (entries ++ more) u mark' old new
-  place_sent_all writes entries more u None None mark new mark' k s = s.0
-  place_sent_all writes entries more u None (Some mid) mark new mark' k s = none_is_not_some mid (sym k)
-  place_sent_all writes entries more u (Some old) None mark new mark' k s =
-      subst (λ n. PlaceFollows log faults (entries ++ more) u mark' (Some old) n) (sym s.0) k
-  place_sent_all writes entries more u (Some old) (Some mid) true new mark' k s =
-      subst (λ m. PlaceFollows log faults (entries ++ more) u m (Some old) new) (sym s.1)
-      (subst (λ n. PlaceFollows log faults (entries ++ more) u true (Some old) n) (sym s.0)
-      (k.0, taking_marked entries more old mid k.1))
-  place_sent_all writes entries more u (Some old) (Some mid) false (Some new) false k s = (k.0, taking_all entries more old mid new k.1 s.0 s.1)
-  place_sent_all writes entries more u (Some old) (Some mid) false (Some new) true k s = (k.0, taking_first entries more old mid new k.1 s.0 s.1 s.2)
-  place_sent_all writes entries more u (Some old) (Some mid) false None mark' k s = absurd s
+  place_sent_all : (entries more : List (ℕ × ℕ)) (u : Bool) (old mid : Option B) (mark : Bool) (new : Option B) (mark' : Bool)
+      → PlaceFollows account entries u mark old mid → SendsAll account more mid mark new mark' → PlaceFollows account (entries ++ more) u mark' old new
+  place_sent_all entries more u None None mark new mark' k s = s.0
+  place_sent_all entries more u None (Some mid) mark new mark' k s = none_is_not_some mid (sym k)
+  place_sent_all entries more u (Some old) None mark new mark' k s =
+      subst (λ n. PlaceFollows account (entries ++ more) u mark' (Some old) n) (sym s.0) k
+  place_sent_all entries more u (Some old) (Some mid) true new mark' k s =
+      subst (λ m. PlaceFollows account (entries ++ more) u m (Some old) new) (sym s.1)
+      (subst (λ n. PlaceFollows account (entries ++ more) u true (Some old) n) (sym s.0)
+      (k.0, failed_then entries more old mid k.1))
+  place_sent_all entries more u (Some old) (Some mid) false (Some new) false k s = (k.0, received_then entries more old mid new k.1 s)
+  place_sent_all entries more u (Some old) (Some mid) false (Some new) true k s = (k.0, received_failed entries more old mid new k.1 s.0)
+  place_sent_all entries more u (Some old) (Some mid) false None mark' k s = absurd s
 
-  taking_settled : (entries : List (ℕ × ℕ)) (old mid new : B) → Taking log faults entries false old mid → log new ≡ log mid → faults mid ≤ faults new → Taking log faults entries false old new
-  taking_settled entries old mid new t same h =
-      record {
-        given = t.given;
-        in_order = t.in_order;
-        logged = λ had e. same ∙ t.logged had e;
-        later = omega (arith, t.later, h);
-        unmarked = t.unmarked;
-        marked = λ e. absurd (cc);
-      }
+  -- a device settled, or failed to
+  settled_then : (entries : List (ℕ × ℕ)) (old mid new : B) → Received account entries old mid → (account new).log ≡ (account mid).log → (account new).faults ≡ (account mid).faults
+      → (account new).writes ≡ (account mid).writes → Received account entries old new
+  settled_then entries old mid new r l f w = record { logged = λ had h. l ∙ r.logged had h; kept = f ∙ r.kept; once = w ∙ r.once }
 
-  taking_failed : (entries : List (ℕ × ℕ)) (old mid new : B) → Taking log faults entries false old mid → Failed log faults mid new → Taking log faults entries true old new
-  taking_failed entries old mid new t w =
-      record {
-        given = t.given;
-        in_order = t.in_order;
-        logged = λ had h. w.stays ∙ t.logged had h;
-        later = omega (arith, t.later, w.later);
-        unmarked = λ e. absurd (cc);
-        marked = λ _. rose_before (faults old) (faults mid) (faults new) t.later w.rose;
-      }
+  settled_failed : (entries : List (ℕ × ℕ)) (old mid new : B) → Received account entries old mid → (account new).writes ≡ (account mid).writes → Failed account mid new → FailedAmong account entries old new
+  settled_failed entries old mid new r w f =
+      subst (λ es. FailedAmong account es old new) (append-nil entries) (received_failed entries [] old mid new r (failed_of [] mid new (omega (arith, w)) f))
 
   -- a place settles
   place_settled : (settled : B → Type 0) (entries : List (ℕ × ℕ)) (u : Bool) (old mid : Option B) (mark : Bool) (new : Option B) (mark' : Bool)
-      → PlaceFollows log faults entries u mark old mid → Settles settled log faults mid mark new mark' → PlaceFollows log faults entries u mark' old new
+      → PlaceFollows account entries u mark old mid → Settles settled account mid mark new mark' → PlaceFollows account entries u mark' old new
   place_settled settled entries u None None mark new mark' k s = s.0
   place_settled settled entries u None (Some mid) mark new mark' k s = none_is_not_some mid (sym k)
   place_settled settled entries u (Some old) None mark new mark' k s =
-      subst (λ n. PlaceFollows log faults entries u mark' (Some old) n) (sym s.0) k
+      subst (λ n. PlaceFollows account entries u mark' (Some old) n) (sym s.0) k
   place_settled settled entries u (Some old) (Some mid) true new mark' k s =
-      subst (λ m. PlaceFollows log faults entries u m (Some old) new) (sym s.1)
-      (subst (λ n. PlaceFollows log faults entries u true (Some old) n) (sym s.0) k)
-  place_settled settled entries u (Some old) (Some mid) false (Some new) false k s = (k.0, taking_settled entries old mid new k.1 s.1 s.2)
-  place_settled settled entries u (Some old) (Some mid) false (Some new) true k s = (k.0, taking_failed entries old mid new k.1 s)
+      subst (λ m. PlaceFollows account entries u m (Some old) new) (sym s.1)
+      (subst (λ n. PlaceFollows account entries u true (Some old) n) (sym s.0) k)
+  place_settled settled entries u (Some old) (Some mid) false (Some new) false k s = (k.0, settled_then entries old mid new k.1 s.1 s.2 s.3)
+  place_settled settled entries u (Some old) (Some mid) false (Some new) true k s = (k.0, settled_failed entries old mid new k.1 s.1 s.0)
   place_settled settled entries u (Some old) (Some mid) false None mark' k s = absurd s
 
   -- a place is unplugged
-  place_unplugged : (entries : List (ℕ × ℕ)) (u mark mark' : Bool) (old mid new : Option B) → new ≡ None → PlaceFollows log faults entries true mark' old new
+  place_unplugged : (entries : List (ℕ × ℕ)) (u mark mark' : Bool) (old mid new : Option B) → new ≡ None → PlaceFollows account entries true mark' old new
   place_unplugged entries u mark mark' None mid new e = e
   place_unplugged entries u mark mark' (Some old) mid None e = refl
   place_unplugged entries u mark mark' (Some old) mid (Some new) e = none_is_not_some new (sym e)
@@ -247,60 +236,60 @@ by_port P p here there k =
     ] in
     pick (eqb p k) refl
 
-module _ {B : Type 0} (log : B → Option (List (ℕ × ℕ))) (faults : B → ℕ) where
+module _ {B : Type 0} (account : B → Account) where
   -- a place of equal parts
   place_as : (es es' : List (ℕ × ℕ)) (u u' m m' : Bool) (old new new' : Option B) → es' ≡ es → u' ≡ u → m' ≡ m → new' ≡ new
-      → PlaceFollows log faults es u m old new → PlaceFollows log faults es' u' m' old new'
+      → PlaceFollows account es u m old new → PlaceFollows account es' u' m' old new'
   place_as es es' u u' m m' old new new' e f g h k =
-      subst (λ x. PlaceFollows log faults x u' m' old new') (sym e)
-      (subst (λ x. PlaceFollows log faults es x m' old new') (sym f)
-      (subst (λ x. PlaceFollows log faults es u x old new') (sym g)
-      (subst (λ x. PlaceFollows log faults es u m old x) (sym h) k)))
+      subst (λ x. PlaceFollows account x u' m' old new') (sym e)
+      (subst (λ x. PlaceFollows account es x m' old new') (sym f)
+      (subst (λ x. PlaceFollows account es u x old new') (sym g)
+      (subst (λ x. PlaceFollows account es u m old x) (sym h) k)))
 
   -- a word more was sent
-  pub follows_word : (writes : B → ℕ) (moves : List PortMove) (start : List (Option B)) (old new : Plugged B) (port at word : ℕ) (sent : Sent)
-      → port < 4 → SendsAt log faults writes (at, word) port old new sent → OthersStay port old new → Follows log faults moves start old
-      → Follows log faults (moves ++ Word port at word ∷ []) start new
-  follows_word writes moves start old new port at word sent small s others f =
+  pub follows_word : (moves : List PortMove) (start : List (Option B)) (old new : Plugged B) (port at word : ℕ) (sent : Sent)
+      → port < 4 → SendsAt account (at, word) port old new sent → OthersStay port old new → Follows account moves start old
+      → Follows account (moves ++ Word port at word ∷ []) start new
+  follows_word moves start old new port at word sent small s others f =
       let more = moves ++ Word port at word ∷ [] in
       record {
         same_length = others.same_length ∙ f.same_length;
         above = λ k h. others.places k (λ e. absurd (omega arith)) ∙ f.above k h;
-        ports = by_port (λ k. k < 4 → PlaceFollows log faults (entries_at more k) (unplugged_at more k) (mark_at new.marks k) (device_at start k) (device_at new.places k)) port
+        ports = by_port (λ k. k < 4 → PlaceFollows account (entries_at more k) (unplugged_at more k) (mark_at new.marks k) (device_at start k) (device_at new.places k)) port
             (λ h. place_as _ _ _ _ _ _ _ _ _ (entries_here moves port at word) (unplugged_by_word moves port at word port) refl refl
-            (place_sent log faults writes (entries_at moves port) (at, word) (unplugged_at moves port) (device_at start port) (device_at old.places port) (mark_at old.marks port) (device_at new.places port) (mark_at new.marks port) sent (f.ports port h) s))
+            (place_sent account (entries_at moves port) (at, word) (unplugged_at moves port) (device_at start port) (device_at old.places port) (mark_at old.marks port) (device_at new.places port) (mark_at new.marks port) sent (f.ports port h) s))
             (λ k apart h. place_as _ _ _ _ _ _ _ _ _ (entries_there moves port at word k apart) (unplugged_by_word moves port at word k) (others.marks k apart) (others.places k apart) (f.ports k h));
       }
 
   -- a word for each byte was sent
-  pub follows_bytes : (writes : B → ℕ) (moves : List PortMove) (start : List (Option B)) (old new : Plugged B) (port now : ℕ) (bytes : List ℕ)
-      → port < 4 → SendsAllAt log faults writes (at_moment now bytes) port old new → OthersStay port old new → Follows log faults moves start old
-      → Follows log faults (moves ++ words_sent port now bytes) start new
-  follows_bytes writes moves start old new port now bytes small s others f =
+  pub follows_bytes : (moves : List PortMove) (start : List (Option B)) (old new : Plugged B) (port now : ℕ) (bytes : List ℕ)
+      → port < 4 → SendsAllAt account (at_moment now bytes) port old new → OthersStay port old new → Follows account moves start old
+      → Follows account (moves ++ words_sent port now bytes) start new
+  follows_bytes moves start old new port now bytes small s others f =
       let more = moves ++ words_sent port now bytes in
       record {
         same_length = others.same_length ∙ f.same_length;
         above = λ k h. others.places k (λ e. absurd (omega arith)) ∙ f.above k h;
-        ports = by_port (λ k. k < 4 → PlaceFollows log faults (entries_at more k) (unplugged_at more k) (mark_at new.marks k) (device_at start k) (device_at new.places k)) port
+        ports = by_port (λ k. k < 4 → PlaceFollows account (entries_at more k) (unplugged_at more k) (mark_at new.marks k) (device_at start k) (device_at new.places k)) port
             (λ h. place_as _ _ _ _ _ _ _ _ _ (entries_of_bytes moves port now bytes) (unplugged_by_bytes moves port now bytes port) refl refl
-            (place_sent_all log faults writes (entries_at moves port) (at_moment now bytes) (unplugged_at moves port) (device_at start port) (device_at old.places port) (mark_at old.marks port) (device_at new.places port) (mark_at new.marks port) (f.ports port h) s))
+            (place_sent_all account (entries_at moves port) (at_moment now bytes) (unplugged_at moves port) (device_at start port) (device_at old.places port) (mark_at old.marks port) (device_at new.places port) (mark_at new.marks port) (f.ports port h) s))
             (λ k apart h. place_as _ _ _ _ _ _ _ _ _ (entries_beside_bytes moves port now bytes k apart) (unplugged_by_bytes moves port now bytes k) (others.marks k apart) (others.places k apart) (f.ports k h));
       }
 
   -- a port's device has settled
   pub follows_settle : (settled : B → Type 0) (moves : List PortMove) (start : List (Option B)) (old new : Plugged B) (port : ℕ)
-      → port < 4 → SettlesAt settled log faults port old new → OthersStay port old new → Follows log faults moves start old → Follows log faults moves start new
+      → port < 4 → SettlesAt settled account port old new → OthersStay port old new → Follows account moves start old → Follows account moves start new
   follows_settle settled moves start old new port small s others f =
       record {
         same_length = others.same_length ∙ f.same_length;
         above = λ k h. others.places k (λ e. absurd (omega arith)) ∙ f.above k h;
-        ports = by_port (λ k. k < 4 → PlaceFollows log faults (entries_at moves k) (unplugged_at moves k) (mark_at new.marks k) (device_at start k) (device_at new.places k)) port
-            (λ h. place_settled log faults settled (entries_at moves port) (unplugged_at moves port) (device_at start port) (device_at old.places port) (mark_at old.marks port) (device_at new.places port) (mark_at new.marks port) (f.ports port h) s)
+        ports = by_port (λ k. k < 4 → PlaceFollows account (entries_at moves k) (unplugged_at moves k) (mark_at new.marks k) (device_at start k) (device_at new.places k)) port
+            (λ h. place_settled account settled (entries_at moves port) (unplugged_at moves port) (device_at start port) (device_at old.places port) (mark_at old.marks port) (device_at new.places port) (mark_at new.marks port) (f.ports port h) s)
             (λ k apart h. place_as _ _ _ _ _ _ _ _ _ refl refl (others.marks k apart) (others.places k apart) (f.ports k h));
       }
 
   -- what has settled holds nothing back
-  place_holds : (settled : B → Type 0) (old : Option B) (mark : Bool) (new : Option B) (mark' : Bool) → Settles settled log faults old mark new mark'
+  place_holds : (settled : B → Type 0) (old : Option B) (mark : Bool) (new : Option B) (mark' : Bool) → Settles settled account old mark new mark'
       → (b : B) → new ≡ Some b → mark' ≡ false → settled b
   place_holds settled None mark new mark' s b e m = none_is_not_some b (sym s.0 ∙ e)
   place_holds settled (Some old) true new mark' s b e m = absurd (cc)
@@ -308,57 +297,57 @@ module _ {B : Type 0} (log : B → Option (List (ℕ × ℕ))) (faults : B → �
   place_holds settled (Some old) false (Some new) true s b e m = absurd (cc)
   place_holds settled (Some old) false None mark' s b e m = absurd s
 
-  pub settles_settled : (settled : B → Type 0) (old new : Plugged B) (port : ℕ) → SettlesAt settled log faults port old new → SettledAt settled port new
+  pub settles_settled : (settled : B → Type 0) (old new : Plugged B) (port : ℕ) → SettlesAt settled account port old new → SettledAt settled port new
   settles_settled settled old new port s b e m = place_holds settled (device_at old.places port) (mark_at old.marks port) (device_at new.places port) (mark_at new.marks port) s b e m
 
   -- a port was unplugged
   pub follows_unplug : (moves : List PortMove) (start : List (Option B)) (old new : Plugged B) (port : ℕ)
-      → port < 4 → device_at new.places port ≡ None → OthersStay port old new → Follows log faults moves start old
-      → Follows log faults (moves ++ Unplug port ∷ []) start new
+      → port < 4 → device_at new.places port ≡ None → OthersStay port old new → Follows account moves start old
+      → Follows account (moves ++ Unplug port ∷ []) start new
   follows_unplug moves start old new port small gone others f =
       let more = moves ++ Unplug port ∷ [] in
       record {
         same_length = others.same_length ∙ f.same_length;
         above = λ k h. others.places k (λ e. absurd (omega arith)) ∙ f.above k h;
-        ports = by_port (λ k. k < 4 → PlaceFollows log faults (entries_at more k) (unplugged_at more k) (mark_at new.marks k) (device_at start k) (device_at new.places k)) port
-            (λ h. subst (λ u. PlaceFollows log faults (entries_at more port) u (mark_at new.marks port) (device_at start port) (device_at new.places port)) (sym (unplugged_here moves port))
-            (place_unplugged log faults _ true false _ (device_at start port) None _ gone))
+        ports = by_port (λ k. k < 4 → PlaceFollows account (entries_at more k) (unplugged_at more k) (mark_at new.marks k) (device_at start k) (device_at new.places k)) port
+            (λ h. subst (λ u. PlaceFollows account (entries_at more port) u (mark_at new.marks port) (device_at start port) (device_at new.places port)) (sym (unplugged_here moves port))
+            (place_unplugged account _ true false _ (device_at start port) None _ gone))
             (λ k apart h. place_as _ _ _ _ _ _ _ _ _ (entries_by_unplug moves port k) (unplugged_there moves port k apart) (others.marks k apart) (others.places k apart) (f.ports k h));
       }
 
-  at_first : (mark : Bool) (place : Option B) → mark ≡ false → PlaceFollows log faults [] false mark place place
+  at_first : (mark : Bool) (place : Option B) → mark ≡ false → PlaceFollows account [] false mark place place
   at_first mark None e = refl
   at_first mark (Some b) e =
-      (refl, record { given = []; in_order = ([], refl); logged = λ had h. h ∙ ap Some (sym (append-nil had)); later = omega arith; unmarked = λ _. refl; marked = λ h. absurd (cc) })
+      subst (λ m. PlaceFollows account [] false m (Some b) (Some b)) (sym e) (refl, record { logged = λ had h. h ∙ ap Some (sym (append-nil had)); kept = refl; once = refl })
 
   -- before any move
-  pub follows_first : (now : Plugged B) → ((k : ℕ) → mark_at now.marks k ≡ false) → Follows log faults [] now.places now
+  pub follows_first : (now : Plugged B) → ((k : ℕ) → mark_at now.marks k ≡ false) → Follows account [] now.places now
   follows_first now unmarked = record { same_length = refl; above = λ k h. refl; ports = λ k h. at_first _ _ (unmarked k) }
 
-  served : (entries : List (ℕ × ℕ)) (mark : Bool) (old new : B) → Taking log faults entries mark old new → Served log faults entries old new
-  served entries false old new t = record { given = t.given; in_order = t.in_order; logged = t.logged; later = t.later; all = inl (t.unmarked refl) }
-  served entries true old new t = record { given = t.given; in_order = t.in_order; logged = t.logged; later = t.later; all = inr (t.marked refl) }
+  served : (entries : List (ℕ × ℕ)) (mark : Bool) (old new : B) → Taking account entries mark old new → Served account entries old new
+  served entries false old new t = inl t
+  served entries true old new t = inr t
 
-  place_after : (entries : List (ℕ × ℕ)) (u mark : Bool) (old new : Option B) → PlaceFollows log faults entries u mark old new → PlaceAfter log faults entries u old new
+  place_after : (entries : List (ℕ × ℕ)) (u mark : Bool) (old new : Option B) → PlaceFollows account entries u mark old new → PlaceAfter account entries u old new
   place_after entries u mark None new k = k
   place_after entries u mark (Some old) None k = k
   place_after entries u mark (Some old) (Some new) k = (k.0, served entries mark old new k.1)
 
   -- what the moves leave, without the marks
-  pub places_after : (moves : List PortMove) (start : List (Option B)) (now : Plugged B) → Follows log faults moves start now
-      → PlacesAfter log faults (entries_at moves) (unplugged_at moves) start now.places
+  pub places_after : (moves : List PortMove) (start : List (Option B)) (now : Plugged B) → Follows account moves start now
+      → PlacesAfter account (entries_at moves) (unplugged_at moves) start now.places
   places_after moves start now f =
       record { same_length = f.same_length; above = f.above; ports = λ k h. place_after _ _ _ _ _ (f.ports k h) }
 
   -- entries and unplugs that are told otherwise
   pub places_as : (entries entries' : ℕ → List (ℕ × ℕ)) (unplugged unplugged' : ℕ → Bool) (old new : List (Option B))
       → ((k : ℕ) → entries' k ≡ entries k) → ((k : ℕ) → unplugged' k ≡ unplugged k)
-      → PlacesAfter log faults entries unplugged old new → PlacesAfter log faults entries' unplugged' old new
+      → PlacesAfter account entries unplugged old new → PlacesAfter account entries' unplugged' old new
   places_as entries entries' unplugged unplugged' old new e u p =
       record {
         same_length = p.same_length;
         above = p.above;
         ports = λ k h.
-            subst (λ es. PlaceAfter log faults es (unplugged' k) (device_at old k) (device_at new k)) (sym (e k))
-            (subst (λ b. PlaceAfter log faults (entries k) b (device_at old k) (device_at new k)) (sym (u k)) (p.ports k h));
+            subst (λ es. PlaceAfter account es (unplugged' k) (device_at old k) (device_at new k)) (sym (e k))
+            (subst (λ b. PlaceAfter account (entries k) b (device_at old k) (device_at new k)) (sym (u k)) (p.ports k h));
       }

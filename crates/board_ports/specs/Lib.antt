@@ -1,4 +1,5 @@
 pub mod Counts
 pub mod Logs
+pub mod Account
 pub mod Plugged
 pub mod History

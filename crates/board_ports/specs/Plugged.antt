@@ -1,9 +1,8 @@
 -- The devices in their places, and what a word does to the place that it is sent to.
 use Rattle.std.specs.Prelude.{◌≡◌, ◌≢◌, ◌≤◌, ◌∷◌, [], ◌⊎◌, ℕ, List, length, Bool, true, false, Option, Some, None, slice_index_or, refl}
 use Rattle.std.specs.Coded.{Coded, code_by, coded×, coded_list, coded_option, coded_bool}
-use Rattle.sts_base.specs.Faults.{Rose}
+use Rattle.board_ports.specs.Account.{Account, Received, FailedAmong, Failed}
 use Rattle.board_ports.specs.Counts.{one_more, some_more}
-use Rattle.board_ports.specs.Logs.{Logs, LogsFirst}
 use Rattle.board_ports.specs.declared.sent.Sent.{Sent}
 use Rattle.board_ports.specs.declared.sent.Sent.TheVariants.{Went, Nobody, Lost}
 
@@ -33,60 +32,48 @@ pub record OthersStay {B : Type 0} (port : ℕ) (old new : Plugged B) : Type 0 w
   pub marks : (k : ℕ) → k ≢ port → mark_at new.marks k ≡ mark_at old.marks k
   pub same_length : length new.places ≡ length old.places
 
--- a device took a word at a moment: where it tells a log, the pair is its last entry now; it had no fault
-pub record Written {B : Type 0} (log : B → Option (List (ℕ × ℕ))) (faults : B → ℕ) (entry : ℕ × ℕ) (old new : B) : Type 0 where
-  pub logged : Logs (log old) (log new) (entry ∷ [])
-  pub kept : faults new ≡ faults old
-
--- a device failed to take a word: its log stayed, and its count of faults rose
-pub record Failed {B : Type 0} (log : B → Option (List (ℕ × ℕ))) (faults : B → ℕ) (old new : B) : Type 0 where
-  pub stays : log new ≡ log old
-  pub later : faults old ≤ faults new
-  pub rose : Rose (faults old) (faults new)
-
 -- What becomes of a word that is sent to a port, of the device there and of the port's mark, by the answer. Nobody:
 -- there is no device, or the mark stands, and nothing changes. Went: the device took it. Lost: the device failed,
 -- stays in its place, and is marked. Each device but where Nobody is answered was written to once.
-abbrev pub Sends : {B : Type 0} → (B → Option (List (ℕ × ℕ))) → (B → ℕ) → (B → ℕ) → ℕ × ℕ → Option B → Bool → Option B → Bool → Sent → Type 0
-Sends log faults writes entry old mark new mark' Nobody = ((old ≡ None) ⊎ (mark ≡ true)) × (new ≡ old) × (mark' ≡ mark)
-Sends log faults writes entry (Some old) false (Some new) mark' Went = (mark' ≡ false) × Written log faults entry old new × (writes new ≡ one_more (writes old))
-Sends log faults writes entry (Some old) false (Some new) mark' Lost = (mark' ≡ true) × Failed log faults old new × (writes new ≡ one_more (writes old))
-Sends log faults writes entry old mark new mark' _ = ⊥
+abbrev pub Sends : {B : Type 0} → (B → Account) → ℕ × ℕ → Option B → Bool → Option B → Bool → Sent → Type 0
+Sends account entry old mark new mark' Nobody = ((old ≡ None) ⊎ (mark ≡ true)) × (new ≡ old) × (mark' ≡ mark)
+Sends account entry (Some old) false (Some new) mark' Went = (mark' ≡ false) × Received account (entry ∷ []) old new
+Sends account entry (Some old) false (Some new) mark' Lost = (mark' ≡ true) × Failed account old new × ((account new).writes ≡ one_more (account old).writes)
+Sends account entry old mark new mark' _ = ⊥
 
 -- the same of all that is plugged in, before and after
-abbrev pub SendsAt : {B : Type 0} → (B → Option (List (ℕ × ℕ))) → (B → ℕ) → (B → ℕ) → ℕ × ℕ → ℕ → Plugged B → Plugged B → Sent → Type 0
-SendsAt log faults writes entry port old new sent =
-    Sends log faults writes entry (device_at old.places port) (mark_at old.marks port) (device_at new.places port) (mark_at new.marks port) sent
+abbrev pub SendsAt : {B : Type 0} → (B → Account) → ℕ × ℕ → ℕ → Plugged B → Plugged B → Sent → Type 0
+SendsAt account entry port old new sent =
+    Sends account entry (device_at old.places port) (mark_at old.marks port) (device_at new.places port) (mark_at new.marks port) sent
 
 -- What becomes of a place whose device is sent these entries, one behind the other. A place without a device and one with a mark stay as they
 -- are. The device took them all, and was written to so often; or it took the first of them, failed, was written to at most so often, and is marked.
-abbrev pub SendsAll : {B : Type 0} → (B → Option (List (ℕ × ℕ))) → (B → ℕ) → (B → ℕ) → List (ℕ × ℕ) → Option B → Bool → Option B → Bool → Type 0
-SendsAll log faults writes entries None mark new mark' = (new ≡ None) × (mark' ≡ mark)
-SendsAll log faults writes entries (Some old) true new mark' = (new ≡ Some old) × (mark' ≡ true)
-SendsAll log faults writes entries (Some old) false (Some new) false =
-    Logs (log old) (log new) entries × (faults new ≡ faults old) × (writes new ≡ some_more (length entries) (writes old))
-SendsAll log faults writes entries (Some old) false (Some new) true =
-    LogsFirst (log old) (log new) entries × (faults old ≤ faults new) × Rose (faults old) (faults new) × (writes new ≤ some_more (length entries) (writes old))
-SendsAll log faults writes entries (Some old) false None mark' = ⊥
+abbrev pub SendsAll : {B : Type 0} → (B → Account) → List (ℕ × ℕ) → Option B → Bool → Option B → Bool → Type 0
+SendsAll account entries None mark new mark' = (new ≡ None) × (mark' ≡ mark)
+SendsAll account entries (Some old) true new mark' = (new ≡ Some old) × (mark' ≡ true)
+SendsAll account entries (Some old) false (Some new) false = Received account entries old new
+SendsAll account entries (Some old) false (Some new) true = FailedAmong account entries old new × ((account new).writes ≤ some_more (length entries) (account old).writes)
+SendsAll account entries (Some old) false None mark' = ⊥
 
 -- the same of all that is plugged in, before and after
-abbrev pub SendsAllAt : {B : Type 0} → (B → Option (List (ℕ × ℕ))) → (B → ℕ) → (B → ℕ) → List (ℕ × ℕ) → ℕ → Plugged B → Plugged B → Type 0
-SendsAllAt log faults writes entries port old new =
-    SendsAll log faults writes entries (device_at old.places port) (mark_at old.marks port) (device_at new.places port) (mark_at new.marks port)
+abbrev pub SendsAllAt : {B : Type 0} → (B → Account) → List (ℕ × ℕ) → ℕ → Plugged B → Plugged B → Type 0
+SendsAllAt account entries port old new =
+    SendsAll account entries (device_at old.places port) (mark_at old.marks port) (device_at new.places port) (mark_at new.marks port)
 
 -- What becomes of a place whose device hears that its words have all been sent. A place without a device and one with a mark stay as they are.
--- The device holds none back any more, or it failed and is marked.
-abbrev pub Settles : {B : Type 0} → (B → Type 0) → (B → Option (List (ℕ × ℕ))) → (B → ℕ) → Option B → Bool → Option B → Bool → Type 0
-Settles settled log faults None mark new mark' = (new ≡ None) × (mark' ≡ mark)
-Settles settled log faults (Some old) true new mark' = (new ≡ Some old) × (mark' ≡ true)
-Settles settled log faults (Some old) false (Some new) false = settled new × (log new ≡ log old) × (faults old ≤ faults new)
-Settles settled log faults (Some old) false (Some new) true = Failed log faults old new
-Settles settled log faults (Some old) false None mark' = ⊥
+-- The device holds none back any more and had no fault, or it failed and is marked. It wasn't written to.
+abbrev pub Settles : {B : Type 0} → (B → Type 0) → (B → Account) → Option B → Bool → Option B → Bool → Type 0
+Settles settled account None mark new mark' = (new ≡ None) × (mark' ≡ mark)
+Settles settled account (Some old) true new mark' = (new ≡ Some old) × (mark' ≡ true)
+Settles settled account (Some old) false (Some new) false =
+    settled new × ((account new).log ≡ (account old).log) × ((account new).faults ≡ (account old).faults) × ((account new).writes ≡ (account old).writes)
+Settles settled account (Some old) false (Some new) true = Failed account old new × ((account new).writes ≡ (account old).writes)
+Settles settled account (Some old) false None mark' = ⊥
 
 -- the same of all that is plugged in, before and after
-abbrev pub SettlesAt : {B : Type 0} → (B → Type 0) → (B → Option (List (ℕ × ℕ))) → (B → ℕ) → ℕ → Plugged B → Plugged B → Type 0
-SettlesAt settled log faults port old new =
-    Settles settled log faults (device_at old.places port) (mark_at old.marks port) (device_at new.places port) (mark_at new.marks port)
+abbrev pub SettlesAt : {B : Type 0} → (B → Type 0) → (B → Account) → ℕ → Plugged B → Plugged B → Type 0
+SettlesAt settled account port old new =
+    Settles settled account (device_at old.places port) (mark_at old.marks port) (device_at new.places port) (mark_at new.marks port)
 
 -- The device at the port, if one stands there without a mark, holds no word back.
 abbrev pub SettledAt : {B : Type 0} → (B → Type 0) → ℕ → Plugged B → Type 0

@@ -1,5 +1,5 @@
 // A device that writes its words to a stream, as raw bytes.
-ghost use Rattle.std.specs.Prelude.{◌≡◌, ◌≤◌, ◌∷◌, [], ◌↔◌, ◌%◌, None, true, IsOk, OnOk, OnErr, length};
+ghost use Rattle.std.specs.Prelude.{◌≡◌, ◌≤◌, ◌∷◌, [], ◌↔◌, ◌%◌, None, true, IsOk, OnOk, OnErr, IfOk, length};
 ghost use Rattle.std.specs.Bool.{OnTrue, OnFalse};
 ghost use Rattle.std.specs.Io.KnownBytes.{Appends, Keeps, append_known};
 ghost use Rattle.sts_base.specs.Faults.{Rose};
@@ -8,8 +8,10 @@ ghost use Rattle.buffered_stream.specs.Pieces.{AppendsFront};
 
 use crate::Device;
 use buffered_stream::BufferedStream;
+use std::alloc::Global;
 use std::io;
 use std::io::Write;
+use sts_base::NoMemory;
 
 /// A device that writes each word's low byte to a stream, such as standard error, and tells no log. At the serial port a
 /// word is a byte, so the stream gets the raw serial bytes. Bytes are held back until the device settles, or no room is left. A write that
@@ -22,17 +24,20 @@ pub struct EchoDevice<W: Write + Drop> {
 }
 
 impl<W: Write + Drop> EchoDevice<W> {
-    /// The device, without faults, with nothing held back.
-    pub fn new(writer: W) -> EchoDevice<W>
-        ensures writer { result.stream.writer ≡ writer }
-        ensures nothing { result.stream.held.items ≡ [] }
-        ensures faults { result.faults ≡ 0 }
-        ensures writes { result.writes ≡ 0 }
+    /// The device, without faults, with nothing held back. The memory for what it holds back is taken here.
+    pub fn new(alloc: Global, writer: W) -> Result<EchoDevice<W>, NoMemory>
+        ensures writer { IfOk result (λ device. device.stream.writer ≡ writer) }
+        ensures nothing { IfOk result (λ device. device.stream.held.items ≡ []) }
+        ensures faults { IfOk result (λ device. device.faults ≡ 0) }
+        ensures writes { IfOk result (λ device. device.writes ≡ 0) }
     {
-        EchoDevice {
-            stream: BufferedStream::new(writer),
-            faults: 0,
-            writes: 0,
+        match BufferedStream::new(alloc, writer) {
+            Ok(stream) => Ok(EchoDevice {
+                stream,
+                faults: 0,
+                writes: 0,
+            }),
+            Err(_) => Err(NoMemory),
         }
     }
 
@@ -56,11 +61,7 @@ impl<W: Write + Drop> EchoDevice<W> {
 }
 
 impl<W: Write + Drop> Device for EchoDevice<W> {
-    ghost log = { λ device. None };
-
-    ghost faults = { λ device. device.faults };
-
-    ghost writes = { λ device. device.writes };
+    ghost account = { λ device. record { log = None; faults = device.faults; writes = device.writes } };
 
     ghost settled = { λ device. device.stream.held.items ≡ [] };
 

@@ -46,11 +46,7 @@ impl MemoryDevice {
 }
 
 impl Device for MemoryDevice {
-    ghost log = { λ device. Some device.log.items };
-
-    ghost faults = { λ device. device.faults };
-
-    ghost writes = { λ device. device.calls };
+    ghost account = { λ device. record { log = Some device.log.items; faults = device.faults; writes = device.calls } };
 
     fn logged(&self, at: usize) -> Option<(u32, u32)>
         ensures { result ≡ slice_get self.now.log.items at }

@@ -27,7 +27,7 @@ impl<D> Model for Plugs<D> {
 
 /// Sends a word to the device in a place, unless the place's mark stands.
 fn deliver<D: Device>(place: &mut Option<D>, mark: &mut bool, now: u32, word: u32) -> Sent
-    ensures { Sends D.log D.faults D.writes (now, word) place.old mark.old place.new mark.new result }
+    ensures { Sends D.account (now, word) place.old mark.old place.new mark.new result }
 {
     if *mark {
         return Sent::Nobody;
@@ -47,7 +47,7 @@ fn deliver<D: Device>(place: &mut Option<D>, mark: &mut bool, now: u32, word: u3
 
 /// Sends bytes to the device in a place, a word for each until one fails, unless the place's mark stands.
 fn deliver_bytes<D: Device>(place: &mut Option<D>, mark: &mut bool, now: u32, bytes: &[u8])
-    ensures { SendsAll D.log D.faults D.writes (at_moment now bytes.now) place.old mark.old place.new mark.new }
+    ensures { SendsAll D.account (at_moment now bytes.now) place.old mark.old place.new mark.new }
 {
     match place {
         Some(device) if !*mark => *mark = !device.write_bytes(now, bytes),
@@ -57,7 +57,7 @@ fn deliver_bytes<D: Device>(place: &mut Option<D>, mark: &mut bool, now: u32, by
 
 /// Lets the device in a place hear that its words have all been sent, unless the place's mark stands.
 fn settle_place<D: Device>(place: &mut Option<D>, mark: &mut bool)
-    ensures { Settles D.settled D.log D.faults place.old mark.old place.new mark.new }
+    ensures { Settles D.settled D.account place.old mark.old place.new mark.new }
 {
     match place {
         Some(device) if !*mark => *mark = !device.settle(),
@@ -74,7 +74,7 @@ impl<D: Device> Plugs<D> {
     pub fn new(places: Vec<Option<D>>) -> Plugs<D>
         ensures places { result.places ≡ places.items }
         ensures unmarked { (k : ℕ) → mark_at result.marks k ≡ false }
-        ensures begins { Follows D.log D.faults [] places.items result }
+        ensures begins { Follows D.account [] places.items result }
     {
         Plugs {
             places,
@@ -86,8 +86,8 @@ impl<D: Device> Plugs<D> {
     pub fn into_places(self) -> Vec<Option<D>>
         ensures places { result.items ≡ self.places }
         ensures after { (moves : List PortMove) (start : List (Option D))
-            → Follows D.log D.faults moves start self
-            → PlacesAfter D.log D.faults (entries_at moves) (unplugged_at moves) start result.items }
+            → Follows D.account moves start self
+            → PlacesAfter D.account (entries_at moves) (unplugged_at moves) start result.items }
     {
         let Plugs { places, marks: _ } = self;
         places
@@ -98,13 +98,13 @@ impl<D: Device> Plugs<D> {
     /// rose in this call; it stays in its place, and the port is marked. Other ports are untouched.
     pub fn send(&mut self, port: usize, now: u32, word: u32) -> Sent
         requires { port < 4 }
-        ensures sends { SendsAt D.log D.faults D.writes (now, word) port self.old self.new result }
+        ensures sends { SendsAt D.account (now, word) port self.old self.new result }
         ensures nobody { (result ≡ Sent.Nobody)
             ↔ ((device_at self.old.places port ≡ None) ⊎ (mark_at self.old.marks port ≡ true)) }
         ensures others { OthersStay port self.old self.new }
         ensures follows { (moves : List PortMove) (start : List (Option D))
-            → Follows D.log D.faults moves start self.old
-            → Follows D.log D.faults (moves ++ Word port now word ∷ []) start self.new }
+            → Follows D.account moves start self.old
+            → Follows D.account (moves ++ Word port now word ∷ []) start self.new }
     {
         if port >= self.places.len() {
             return Sent::Nobody;
@@ -116,11 +116,11 @@ impl<D: Device> Plugs<D> {
     /// behind it are sent to nobody. Other ports are untouched.
     pub fn send_bytes(&mut self, port: usize, now: u32, bytes: &[u8])
         requires { port < 4 }
-        ensures sends { SendsAllAt D.log D.faults D.writes (at_moment now bytes.now) port self.old self.new }
+        ensures sends { SendsAllAt D.account (at_moment now bytes.now) port self.old self.new }
         ensures others { OthersStay port self.old self.new }
         ensures follows { (moves : List PortMove) (start : List (Option D))
-            → Follows D.log D.faults moves start self.old
-            → Follows D.log D.faults (moves ++ words_sent port now bytes.now) start self.new }
+            → Follows D.account moves start self.old
+            → Follows D.account (moves ++ words_sent port now bytes.now) start self.new }
     {
         if port >= self.places.len() {
             return;
@@ -132,12 +132,12 @@ impl<D: Device> Plugs<D> {
     /// of faults rose in this call, and the port is marked. Other ports are untouched.
     pub fn settle(&mut self, port: usize)
         requires { port < 4 }
-        ensures settles { SettlesAt D.settled D.log D.faults port self.old self.new }
+        ensures settles { SettlesAt D.settled D.account port self.old self.new }
         ensures settled { SettledAt D.settled port self.new }
         ensures others { OthersStay port self.old self.new }
         ensures follows { (moves : List PortMove) (start : List (Option D))
-            → Follows D.log D.faults moves start self.old
-            → Follows D.log D.faults moves start self.new }
+            → Follows D.account moves start self.old
+            → Follows D.account moves start self.new }
     {
         if port >= self.places.len() {
             return;
@@ -152,8 +152,8 @@ impl<D: Device> Plugs<D> {
         ensures marks { self.new.marks ≡ self.old.marks }
         ensures others { OthersStay port self.old self.new }
         ensures follows { (moves : List PortMove) (start : List (Option D))
-            → Follows D.log D.faults moves start self.old
-            → Follows D.log D.faults (moves ++ Unplug port ∷ []) start self.new }
+            → Follows D.account moves start self.old
+            → Follows D.account (moves ++ Unplug port ∷ []) start self.new }
     {
         if port < self.places.len() {
             self.places[port] = None;

@@ -20,11 +20,7 @@ impl SureDevice {
 }
 
 impl Device for SureDevice {
-    ghost log = { λ device. None };
-
-    ghost faults = { λ device. 0 };
-
-    ghost writes = { λ device. device.writes };
+    ghost account = { λ device. record { log = None; faults = 0; writes = device.writes } };
 
     fn logged(&self, _at: usize) -> Option<(u32, u32)>
         ensures untold { result ≡ None }

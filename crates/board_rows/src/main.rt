@@ -59,7 +59,7 @@ fn obey<K: Sink>(alloc: Global, line: &str, out: &mut K) -> anyhow::Result<()> {
 
 fn main(rt: HostRuntime) -> anyhow::Result<()> {
     let alloc = rt.alloc();
-    let mut out = StdSink::new(io::writer(&rt));
+    let mut out = StdSink::new(alloc, io::writer(&rt)).map_err(|_| anyhow!("no memory"))?;
     for line in BufReader::new(alloc, rt.reader())?.lines(alloc) {
         obey(alloc, line?.as_str(), &mut out)?;
     }

@@ -19,10 +19,11 @@ use Rattle.board_run.specs.Proceeding.{led_lines, first_sent}
 use Rattle.board_run.specs.Gone.{HasGone, IsPassed, EndsBy, Went}
 use Rattle.board_run.specs.View.{end_of}
 use Rattle.board_run.proofs.Leading.{into_part}
+use Rattle.board_ports.specs.Account.{Account}
 
-module _ {B : Type 0} (log : B → Option (List (ℕ × ℕ))) (faults : B → ℕ) (lead : ByteList) (moment budget used : ℕ) (old new : Board B) (s t : Option (List ℕ)) where
+module _ {B : Type 0} (account : B → Account) (lead : ByteList) (moment budget used : ℕ) (old new : Board B) (s t : Option (List ℕ)) where
   -- the same with a text behind
-  closed : (u : Option (List ℕ)) (text : ByteList) → HasGone log faults lead [] moment used old new s t [] → Took t u text → HasGone log faults lead [] moment used old new s u text
+  closed : (u : Option (List ℕ)) (text : ByteList) → HasGone account lead [] moment used old new s t [] → Took t u text → HasGone account lead [] moment used old new s u text
   closed u text g took = record {
     moves = g.moves;
     goes = g.goes;
@@ -36,7 +37,7 @@ module _ {B : Type 0} (log : B → Option (List (ℕ × ℕ))) (faults : B → �
   }
 
   -- what was noted before is let go first
-  pub from_none : (numbers : List ℤ) → numbers ≡ [] → HasGone log faults lead numbers moment used (record old { sent = numbers }) new s t [] → HasGone log faults lead [] moment used old new s t []
+  pub from_none : (numbers : List ℤ) → numbers ≡ [] → HasGone account lead numbers moment used (record old { sent = numbers }) new s t [] → HasGone account lead [] moment used old new s t []
   from_none numbers e g = record {
     moves = g.moves;
     goes = g.goes;
@@ -49,27 +50,27 @@ module _ {B : Type 0} (log : B → Option (List (ℕ × ℕ))) (faults : B → �
     script = g.script;
   }
 
-  pub went_ended : (u : Option (List ℕ)) (fs mid fs' : ℕ) (stop : Stop) → new.engine.end ≡ Some stop → HasGone log faults lead [] moment used old new s t [] → IsPassed moment used budget new → fs ≤ mid
+  pub went_ended : (u : Option (List ℕ)) (fs mid fs' : ℕ) (stop : Stop) → new.engine.end ≡ Some stop → HasGone account lead [] moment used old new s t [] → IsPassed moment used budget new → fs ≤ mid
       → (put : Result (Unit {0}) PutFailed) → Puts t u mid fs' (lead ++ closing_line new.engine.clock (Some (end_of stop))) put → (answer : End) → answer ≡ answer_of put (Some stop)
-      → Went log faults lead moment budget old new s u fs fs' (Ended answer)
-  went_ended u fs mid fs' stop ended g p later put puts answer is = subst (λ a. Went log faults lead moment budget old new s u fs fs' (Ended a)) (sym is) (by_put put puts)
+      → Went account lead moment budget old new s u fs fs' (Ended answer)
+  went_ended u fs mid fs' stop ended g p later put puts answer is = subst (λ a. Went account lead moment budget old new s u fs fs' (Ended a)) (sym is) (by_put put puts)
     where
       at_moment : lead ++ closing_line new.engine.clock (Some (end_of stop)) ≡ lead ++ closing_line moment (Some (end_of stop))
       at_moment = ap (λ c. lead ++ closing_line c (Some (end_of stop))) g.clock
 
-      ends : Took t u (lead ++ closing_line new.engine.clock (Some (end_of stop))) → EndsBy log faults lead moment budget stop old new s u
+      ends : Took t u (lead ++ closing_line new.engine.clock (Some (end_of stop))) → EndsBy account lead moment budget stop old new s u
       ends took = record { used = used; within = p.within; ended = ended; gone = closed u (lead ++ closing_line moment (Some (end_of stop))) g (subst (Took t u) at_moment took) }
 
       sound : is_by_clock (Some (end_of stop)) ≡ false
       sound = ap (λ o. is_by_clock (option_map end_of o)) (sym ended) ∙ p.sound
 
-      by_stop : (x : Stop) → x ≡ stop → Took t u (lead ++ closing_line new.engine.clock (Some (end_of stop))) → Went log faults lead moment budget old new s u fs fs' (Ended (told (Some x)))
+      by_stop : (x : Stop) → x ≡ stop → Took t u (lead ++ closing_line new.engine.clock (Some (end_of stop))) → Went account lead moment budget old new s u fs fs' (Ended (told (Some x)))
       by_stop Quiet e took = absurd (let c : true ≡ false = ap (λ y. is_by_clock (Some (end_of y))) e ∙ sound in cc)
       by_stop Script e took = absurd (let c : true ≡ false = ap (λ y. is_by_clock (Some (end_of y))) e ∙ sound in cc)
-      by_stop (Panic code) e took = subst (λ y. EndsBy log faults lead moment budget y old new s u) (sym e) (ends took)
-      by_stop (Fault fault address) e took = subst (λ y. EndsBy log faults lead moment budget y old new s u) (sym e) (ends took)
+      by_stop (Panic code) e took = subst (λ y. EndsBy account lead moment budget y old new s u) (sym e) (ends took)
+      by_stop (Fault fault address) e took = subst (λ y. EndsBy account lead moment budget y old new s u) (sym e) (ends took)
 
-      by_put : (put : Result (Unit {0}) PutFailed) → Puts t u mid fs' (lead ++ closing_line new.engine.clock (Some (end_of stop))) put → Went log faults lead moment budget old new s u fs fs' (Ended (answer_of put (Some stop)))
+      by_put : (put : Result (Unit {0}) PutFailed) → Puts t u mid fs' (lead ++ closing_line new.engine.clock (Some (end_of stop))) put → Went account lead moment budget old new s u fs fs' (Ended (answer_of put (Some stop)))
       by_put (Ok x) q = by_stop stop refl q.took
       by_put (Err x) q = (
         inr (record {

@@ -10,6 +10,7 @@ use Rattle.event_script.specs.World.{world_act, world_entries}
 use Rattle.event_script.specs.declared.script.Act.{Act}
 use Rattle.event_script.specs.declared.script.Act.TheVariants.{Down, Up, Raise, Unplug}
 use Rattle.event_script.specs.declared.script.Entry.{Entry}
+use Rattle.board_ports.specs.Account.{Account}
 use Rattle.board_ports.specs.Plugged.{Plugged}
 use Rattle.board_ports.specs.History.{PortMove, Follows}
 use Rattle.board_run.specs.declared.engine.Engine.{Engine}
@@ -42,7 +43,7 @@ acted_twice bus bus' s s' ms ns b silent =
     append_assoc b.unplugged _ _ ∙ ap (λ l. b.unplugged ++ l) (ap (λ k. unplugged_of (length b.seen) ms ++ unplugged_of k ns) (sym count) ∙ sym (unplugged_of-append (length b.seen) ms ns)) in
     ap (λ (l : List (ℕ × ℕ)). record b { queue = bus'.queue; a_since = s'.a_since; b_since = s'.b_since; unplugged = l }) same
 
-module _ {B : Type 0} (log : B → Option (List (ℕ × ℕ))) (faults : B → ℕ) (old : Engine) (plugged : Plugged B) where
+module _ {B : Type 0} (account : B → Account) (old : Engine) (plugged : Plugged B) where
   -- The entries from where it stood up to a place did so.
   pub record Arriving (mid : Engine) (plugged' : Plugged B) : Type 0 where
     pub moves : List Move
@@ -50,7 +51,7 @@ module _ {B : Type 0} (log : B → Option (List (ℕ × ℕ))) (faults : B → �
     pub board : (b : Board) → HasButtons old.clock old.buttons old.bus b
         → arrive_all old.clock (world_entries (drop old.next old.script.entries)) b ≡ arrive_all old.clock (world_entries (drop mid.next old.script.entries)) (acted_on mid.bus mid.buttons moves b)
     pub listeners : mid.bus.listeners ≡ old.bus.listeners
-    pub ports : (before : List PortMove) (start : List (Option B)) → Follows log faults before start plugged → Follows log faults (before ++ port_moves moves) start plugged'
+    pub ports : (before : List PortMove) (start : List (Option B)) → Follows account before start plugged → Follows account (before ++ port_moves moves) start plugged'
 
   pub arriving_start : Arriving old plugged
   arriving_start = record {
@@ -58,7 +59,7 @@ module _ {B : Type 0} (log : B → Option (List (ℕ × ℕ))) (faults : B → �
     silent = refl;
     board = λ b h. ap (λ (x : Board). arrive_all old.clock (world_entries (drop old.next old.script.entries)) x) (untouched b h);
     listeners = refl;
-    ports = λ before start f. subst (λ l. Follows log faults l start plugged) (sym (append-nil before)) f;
+    ports = λ before start f. subst (λ l. Follows account l start plugged) (sym (append-nil before)) f;
   }
     where
       untouched : (b : Board) → HasButtons old.clock old.buttons old.bus b → b ≡ acted_on old.bus old.buttons [] b
@@ -68,7 +69,7 @@ module _ {B : Type 0} (log : B → Option (List (ℕ × ℕ))) (faults : B → �
           same b q a c u p r s t = rw (sym p, sym r, sym s, sym t) refl
 
   pub arriving_more : (mid new : Engine) (plugged' plugged'' : Plugged B) (e : Entry) → Arriving mid plugged' → slice_get old.script.entries mid.next ≡ Some e → e.at ≡ old.clock
-      → Applied log faults e.act old.clock mid.buttons new.buttons mid.bus new.bus plugged' plugged'' → new.next ≡ suc mid.next → Arriving new plugged''
+      → Applied account e.act old.clock mid.buttons new.buttons mid.bus new.bus plugged' plugged'' → new.next ≡ suc mid.next → Arriving new plugged''
   arriving_more mid new plugged' plugged'' e h get at applied next = record {
     moves = h.moves ++ unplugs_of e.act;
     silent = seen_of-append h.moves (unplugs_of e.act) ∙ rw (h.silent, unplugs_silent e.act) refl;
@@ -82,19 +83,19 @@ module _ {B : Type 0} (log : B → Option (List (ℕ × ℕ))) (faults : B → �
         ∙ ap (λ z. arrive_all old.clock (world_entries (drop (suc mid.next) old.script.entries)) z) (applied.board y has ∙ acted_twice mid.bus new.bus mid.buttons new.buttons h.moves (unplugs_of e.act) b h.silent)
         ∙ ap (λ k. arrive_all old.clock (world_entries (drop k old.script.entries)) (acted_on new.bus new.buttons (h.moves ++ unplugs_of e.act) b)) (sym next);
     listeners = applied.listeners ∙ h.listeners;
-    ports = λ before start f. subst (λ l. Follows log faults l start plugged'') (append_assoc before (port_moves h.moves) (port_moves (unplugs_of e.act)) ∙ ap (λ l. before ++ l) (sym (port_moves-append h.moves (unplugs_of e.act))))
+    ports = λ before start f. subst (λ l. Follows account l start plugged'') (append_assoc before (port_moves h.moves) (port_moves (unplugs_of e.act)) ∙ ap (λ l. before ++ l) (sym (port_moves-append h.moves (unplugs_of e.act))))
         (applied.ports (before ++ port_moves h.moves) start (h.ports before start f));
   }
 
   done : (mid : Engine) (plugged' : Plugged B) (h : Arriving mid plugged') → ((y : Board) → arrive_all old.clock (world_entries (drop mid.next old.script.entries)) y ≡ record y { script = world_entries (drop mid.next old.script.entries) })
-      → Arrived log faults old mid plugged plugged'
+      → Arrived account old mid plugged plugged'
   done mid plugged' h stays = record { moves = h.moves; silent = h.silent; board = λ b x. h.board b x ∙ stays (acted_on mid.bus mid.buttons h.moves b); listeners = h.listeners; ports = h.ports }
 
-  pub arriving_none : (mid : Engine) (plugged' : Plugged B) → Arriving mid plugged' → slice_get old.script.entries mid.next ≡ None → Arrived log faults old mid plugged plugged'
+  pub arriving_none : (mid : Engine) (plugged' : Plugged B) → Arriving mid plugged' → slice_get old.script.entries mid.next ≡ None → Arrived account old mid plugged plugged'
   arriving_none mid plugged' h get = done mid plugged' h (λ y. (let e = drop_none old.script.entries mid.next get in
       ap (λ es. arrive_all old.clock (world_entries es) y) e ∙ ap (λ es. record y { script = world_entries es }) (sym e)))
 
-  pub arriving_later : (mid : Engine) (plugged' : Plugged B) (e : Entry) → Arriving mid plugged' → slice_get old.script.entries mid.next ≡ Some e → e.at ≢ old.clock → Arrived log faults old mid plugged plugged'
+  pub arriving_later : (mid : Engine) (plugged' : Plugged B) (e : Entry) → Arriving mid plugged' → slice_get old.script.entries mid.next ≡ Some e → e.at ≢ old.clock → Arrived account old mid plugged plugged'
   arriving_later mid plugged' e h get at = done mid plugged' h (λ y.
       let d = drop_at old.script.entries mid.next e get in
       let later : (e.at == old.clock) ≡ false = grind (arith, nat_tests, at) in
@@ -109,13 +110,13 @@ module _ {B : Type 0} (log : B → Option (List (ℕ × ℕ))) (faults : B → �
       × (old.next ≤ mid.next) × (mid.next ≤ length old.script.entries) × (length mid.bus.queue + 2 * old.next ≤ length old.bus.queue + 2 * mid.next) × (count ≡ length old.script.entries)
 
   pub kept_on : (count : ℕ) (mid : Engine) (plugged' plugged'' : Plugged B) (bus : BusState) (buttons : Since) (e : Entry) → Kept count mid plugged' → mid.next < count → Some e ≡ slice_get mid.script.entries mid.next → e.at ≡ mid.clock
-      → Applied log faults e.act mid.clock mid.buttons buttons mid.bus bus plugged' plugged'' → length bus.queue ≤ length mid.bus.queue + 2 → Kept count (record mid { bus = bus; buttons = buttons; next = mid.next + 1 }) plugged''
+      → Applied account e.act mid.clock mid.buttons buttons mid.bus bus plugged' plugged'' → length bus.queue ≤ length mid.bus.queue + 2 → Kept count (record mid { bus = bus; buttons = buttons; next = mid.next + 1 }) plugged''
   kept_on count mid plugged' plugged'' bus buttons e k l get at applied grows =
       let clock = ap (λ (x : Engine). x.clock) k.1 in
       let found : slice_get old.script.entries mid.next ≡ Some e = sym (get ∙ ap (λ (x : Engine). slice_get x.script.entries mid.next) k.1) in
       let new : Engine = record mid { bus = bus; buttons = buttons; next = mid.next + 1 } in
       let next : mid.next + 1 ≡ suc mid.next = omega arith in (
-        arriving_more mid new plugged' plugged'' e k.0 found (at ∙ clock) (subst (λ t. Applied log faults e.act t mid.buttons buttons mid.bus bus plugged' plugged'') clock applied) next,
+        arriving_more mid new plugged' plugged'' e k.0 found (at ∙ clock) (subst (λ t. Applied account e.act t mid.buttons buttons mid.bus bus plugged' plugged'') clock applied) next,
         ap (λ (x : Engine). record x { bus = bus; buttons = buttons; next = mid.next + 1 }) k.1,
         (let a = k.2 in omega (arith, a)),
         (let a = k.5 in omega (arith, a, l)),

@@ -22,6 +22,7 @@ use Rattle.fiber_queues.proofs.Laws.{least-keyed}
 use Rattle.fiber_runtime.specs.State.{State}
 use Rattle.event_script.specs.World.{world_act, world_entries}
 use Rattle.event_script.specs.declared.script.Entry.{Entry}
+use Rattle.board_ports.specs.Account.{Account}
 use Rattle.board_ports.specs.Plugged.{Plugged}
 use Rattle.board_ports.specs.History.{Follows}
 use Rattle.board_run.specs.Ports.{Idles}
@@ -97,12 +98,12 @@ module _ (e : Engine) (empty : IsEmpty (state_of e)) (going : e.end ≡ None) (q
       let l : n + 0 < n + 1 = omega arith in
       subst (λ k. n + 0 < n + k) (sym one) l
 
-  module _ {B : Type 0} (log : B → Option (List (ℕ × ℕ))) (faults : B → ℕ) (plugged plugged' : Plugged B) (t : ℕ) (says : clock_says e ≡ Jump t) (within : e.next ≤ length e.script.entries) where
+  module _ {B : Type 0} (account : B → Account) (plugged plugged' : Plugged B) (t : ℕ) (says : clock_says e ≡ Jump t) (within : e.next ≤ length e.script.entries) where
     -- the engine at the moment
     abbrev pub at_moment : Engine
     at_moment = record e { clock = t; runtime = record e.runtime { lists = due_woken t e.runtime.lists } }
 
-    module _ (new : Engine) (stays : new ≡ record at_moment { bus = new.bus; buttons = new.buttons; next = new.next }) (a : Arrived log faults at_moment new plugged plugged') where
+    module _ (new : Engine) (stays : new ≡ record at_moment { bus = new.bus; buttons = new.buttons; next = new.next }) (a : Arrived account at_moment new plugged plugged') where
       abbrev pub settled : Engine
       settled = record at_moment { bus = new.bus; buttons = new.buttons; next = new.next }
 
@@ -145,28 +146,28 @@ module _ (e : Engine) (empty : IsEmpty (state_of e)) (going : e.end ≡ None) (q
 pub says_so : (e : Engine) (move : Idle) (a b : Option ℕ) → move ≡ clock_move a b e.script.end → a ≡ least e.runtime.lists.sleepers → b ≡ next_entry (world_entries (drop e.next e.script.entries)) → clock_says e ≡ move
 says_so e move a b m p q = sym (m ∙ ap (λ x. clock_move x b e.script.end) p ∙ ap (λ x. clock_move (least e.runtime.lists.sleepers) x e.script.end) q)
 
-pub still_idles : {B : Type 0} (log : B → Option (List (ℕ × ℕ))) (faults : B → ℕ) (old new : BoardState) (p : Plugged B) → ((image : List ℕ) → Comes image 0 [] old new) → Idles log faults old new p p
-still_idles log faults old new p comes = record { moves = []; silent = refl; comes = λ image. comes image None; ports = λ before start f. subst (λ l. Follows log faults l start p) (sym (append-nil before)) f }
+pub still_idles : {B : Type 0} (account : B → Account) (old new : BoardState) (p : Plugged B) → ((image : List ℕ) → Comes image 0 [] old new) → Idles account old new p p
+still_idles account old new p comes = record { moves = []; silent = refl; comes = λ image. comes image None; ports = λ before start f. subst (λ l. Follows account l start p) (sym (append-nil before)) f }
 
 -- the clock ends the run, and no device is touched
-pub ended_idles : {B : Type 0} (log : B → Option (List (ℕ × ℕ))) (faults : B → ℕ) (old new : BoardState) (p : Plugged B) → ((image : List ℕ) → ComesTo None image 0 [] old new) → Idles log faults old new p p
-ended_idles log faults old new p comes = record { moves = []; silent = refl; comes = comes; ports = λ before start f. subst (λ l. Follows log faults l start p) (sym (append-nil before)) f }
+pub ended_idles : {B : Type 0} (account : B → Account) (old new : BoardState) (p : Plugged B) → ((image : List ℕ) → ComesTo None image 0 [] old new) → Idles account old new p p
+ended_idles account old new p comes = record { moves = []; silent = refl; comes = comes; ports = λ before start f. subst (λ l. Follows account l start p) (sym (append-nil before)) f }
 
-pub jump_idles : {B : Type 0} (log : B → Option (List (ℕ × ℕ))) (faults : B → ℕ) (e : Engine) (empty : IsEmpty (state_of e)) (going : e.end ≡ None) (quiet : e.bus.queue ≡ []) (p p' : Plugged B) (t : ℕ) (says : clock_says e ≡ Jump t) (within : e.next ≤ length e.script.entries)
+pub jump_idles : {B : Type 0} (account : B → Account) (e : Engine) (empty : IsEmpty (state_of e)) (going : e.end ≡ None) (quiet : e.bus.queue ≡ []) (p p' : Plugged B) (t : ℕ) (says : clock_says e ≡ Jump t) (within : e.next ≤ length e.script.entries)
     (r : State) (woke : r ≡ record e.runtime { lists = due_woken t e.runtime.lists }) (new : Engine) → new ≡ record e { clock = t; runtime = r; bus = new.bus; buttons = new.buttons; next = new.next }
-    → Arrived log faults (record e { clock = t; runtime = r }) new p p' → Idles log faults (state_of e) (state_of new) p p'
-jump_idles log faults e empty going quiet p p' t says within r woke new =
-    subst (λ (x : State). new ≡ record e { clock = t; runtime = x; bus = new.bus; buttons = new.buttons; next = new.next } → Arrived log faults (record e { clock = t; runtime = x }) new p p' → Idles log faults (state_of e) (state_of new) p p') (sym woke)
-    (λ stays a. record { moves = a.moves; silent = a.silent; comes = comes_jump e empty going quiet log faults p p' t says within new stays a; ports = a.ports })
+    → Arrived account (record e { clock = t; runtime = r }) new p p' → Idles account (state_of e) (state_of new) p p'
+jump_idles account e empty going quiet p p' t says within r woke new =
+    subst (λ (x : State). new ≡ record e { clock = t; runtime = x; bus = new.bus; buttons = new.buttons; next = new.next } → Arrived account (record e { clock = t; runtime = x }) new p p' → Idles account (state_of e) (state_of new) p p') (sym woke)
+    (λ stays a. record { moves = a.moves; silent = a.silent; comes = comes_jump e empty going quiet account p p' t says within new stays a; ports = a.ports })
 
-pub jump_fewer : {B : Type 0} (log : B → Option (List (ℕ × ℕ))) (faults : B → ℕ) (e : Engine) (empty : IsEmpty (state_of e)) (going : e.end ≡ None) (quiet : e.bus.queue ≡ []) (p p' : Plugged B) (t : ℕ) (says : clock_says e ≡ Jump t) (within : e.next ≤ length e.script.entries)
+pub jump_fewer : {B : Type 0} (account : B → Account) (e : Engine) (empty : IsEmpty (state_of e)) (going : e.end ≡ None) (quiet : e.bus.queue ≡ []) (p p' : Plugged B) (t : ℕ) (says : clock_says e ≡ Jump t) (within : e.next ≤ length e.script.entries)
     (r : State) (woke : r ≡ record e.runtime { lists = due_woken t e.runtime.lists }) (new : Engine) → new ≡ record e { clock = t; runtime = r; bus = new.bus; buttons = new.buttons; next = new.next }
-    → Arrived log faults (record e { clock = t; runtime = r }) new p p' → new.next ≤ length e.script.entries → e.next ≤ new.next → length new.bus.queue + 2 * e.next ≤ length e.bus.queue + 2 * new.next
+    → Arrived account (record e { clock = t; runtime = r }) new p p' → new.next ≤ length e.script.entries → e.next ≤ new.next → length new.bus.queue + 2 * e.next ≤ length e.bus.queue + 2 * new.next
     → (next_entry (world_entries (drop e.next e.script.entries)) ≡ Some t → e.next < new.next) → moves_left (state_of new) < moves_left (state_of e)
-jump_fewer log faults e empty going quiet p p' t says within r woke new =
-    subst (λ (x : State). new ≡ record e { clock = t; runtime = x; bus = new.bus; buttons = new.buttons; next = new.next } → Arrived log faults (record e { clock = t; runtime = x }) new p p' → new.next ≤ length e.script.entries → e.next ≤ new.next
+jump_fewer account e empty going quiet p p' t says within r woke new =
+    subst (λ (x : State). new ≡ record e { clock = t; runtime = x; bus = new.bus; buttons = new.buttons; next = new.next } → Arrived account (record e { clock = t; runtime = x }) new p p' → new.next ≤ length e.script.entries → e.next ≤ new.next
     → length new.bus.queue + 2 * e.next ≤ length e.bus.queue + 2 * new.next → (next_entry (world_entries (drop e.next e.script.entries)) ≡ Some t → e.next < new.next) → moves_left (state_of new) < moves_left (state_of e)) (sym woke)
-    (λ stays a. fewer_jump e empty going quiet log faults p p' t says within new stays a)
+    (λ stays a. fewer_jump e empty going quiet account p p' t says within new stays a)
 
 pub moment_early : (e : Engine) (t : ℕ) → clock_says e ≡ Jump t → e.script.end ≤ end_limit → t ≤ end_limit
 moment_early e t says l = (let s = (jump_soonest (least e.runtime.lists.sleepers) (next_entry (world_entries (drop e.next e.script.entries))) e.script.end t says).2 in omega (arith, s, l))

@@ -8,11 +8,13 @@ use Rattle.board_world.specs.Limits.{end_limit}
 use Rattle.board_world.specs.Transcript.{line, lines}
 use Rattle.board_world.specs.Board.{over}
 use Rattle.board_world.specs.Activities.{Activity, World}
-use Rattle.board_world.specs.World.{idled, run}
+use Rattle.board_world.specs.World.{idled}
+use Rattle.board_world.specs.Runs.{run}
 use Rattle.bank_model.specs.Fibers.{Fiber, Shared}
 use Rattle.bank_model.specs.BoardMachine.{fibers}
 use Rattle.tool_io.specs.Putting.{Took, TookPart}
 use Rattle.tool_io.proofs.Laws.{took-nothing, took-then}
+use Rattle.board_ports.specs.Account.{Account}
 use Rattle.board_ports.specs.Plugged.{Plugged}
 use Rattle.board_ports.specs.History.{Follows}
 use Rattle.board_outside.specs.declared.sight.Sight.{Sight}
@@ -94,13 +96,13 @@ on_err (Err x) p = p
 pub none_yet : (o : Option Stop) → o ≡ None → option_map end_of o ≡ None
 none_yet o e = ap (option_map end_of) e
 
-module _ {B : Type 0} (log : B → Option (List (ℕ × ℕ))) (faults : B → ℕ) where
-  pub ports_then : (ms ns : List Move) (p q r : Plugged B) → PortsMeet log faults ms p q → PortsMeet log faults ns q r → PortsMeet log faults (ms ++ ns) p r
+module _ {B : Type 0} (account : B → Account) where
+  pub ports_then : (ms ns : List Move) (p q r : Plugged B) → PortsMeet account ms p q → PortsMeet account ns q r → PortsMeet account (ms ++ ns) p r
   ports_then ms ns p q r f g before start h =
-      subst (λ l. Follows log faults l start r) (append_assoc before (port_moves ms) (port_moves ns) ∙ ap (λ l. before ++ l) (sym (port_moves-append ms ns)))
+      subst (λ l. Follows account l start r) (append_assoc before (port_moves ms) (port_moves ns) ∙ ap (λ l. before ++ l) (sym (port_moves-append ms ns)))
       (g (before ++ port_moves ms) start (f before start h))
 
-  pub advances_then : (n m : ℕ) (a b c : Engine) (p q r : Plugged B) (s t u : Option (List ℕ)) → Advances log faults n a b p q s t → Advances log faults m b c q r t u → Advances log faults (m + n) a c p r s u
+  pub advances_then : (n m : ℕ) (a b c : Engine) (p q r : Plugged B) (s t u : Option (List ℕ)) → Advances account n a b p q s t → Advances account m b c q r t u → Advances account (m + n) a c p r s u
   advances_then n m a b c p q r s t u f g = record {
     moves = f.moves ++ g.moves;
     executes = λ image. executes_then image n m f.moves g.moves (state_of a) (state_of b) (state_of c) (f.executes image) (g.executes image);
@@ -113,7 +115,7 @@ module _ {B : Type 0} (log : B → Option (List (ℕ × ℕ))) (faults : B → �
     told = λ had e. (let r = q.told (had ++ x) (p.told had e) in (r.0, r.1, r.2 ∙ ap Some (append_assoc had x (y ++ r.0) ∙ ap (λ l. had ++ l) (sym (append_assoc x y r.0)))));
   }
 
-  pub fails_then : (n most all : ℕ) (a b : Engine) (p q r : Plugged B) (s t u : Option (List ℕ)) → Advances log faults n a b p q s t → Fails log faults most b q r t u → most + n ≤ all → Fails log faults all a p r s u
+  pub fails_then : (n most all : ℕ) (a b : Engine) (p q r : Plugged B) (s t u : Option (List ℕ)) → Advances account n a b p q s t → Fails account most b q r t u → most + n ≤ all → Fails account all a p r s u
   fails_then n most all a b p q r s t u f g l = record {
     count = g.count + n;
     within = (let w = g.within in omega (arith, w, l));
@@ -128,18 +130,18 @@ module _ {B : Type 0} (log : B → Option (List (ℕ × ℕ))) (faults : B → �
   }
 
   -- nothing was done yet
-  pub advances_none : (e : Engine) (p : Plugged B) (s : Option (List ℕ)) → Advances log faults 0 e e p p s s
+  pub advances_none : (e : Engine) (p : Plugged B) (s : Option (List ℕ)) → Advances account 0 e e p p s s
   advances_none e p s = record {
     moves = [];
     executes = λ image start n used met r.
         (let count : n ≡ 0 + n = omega arith in
         ([], subst (λ k. Reaches None image start k (used ++ []) (met ++ []) (state_of e)) count (subst (λ us. Reaches None image start n us (met ++ []) (state_of e)) (sym (append-nil used)) (subst (λ ms. Reaches None image start n used ms (state_of e)) (sym (append-nil met)) r)), λ rest j l h. absurd (omega (arith, l, h))));
-    ports = λ before start f. subst (λ ms. Follows log faults ms start p) (sym (append-nil before)) f;
+    ports = λ before start f. subst (λ ms. Follows account ms start p) (sym (append-nil before)) f;
     written = took-nothing s;
   }
 
   -- idle moves show nothing
-  pub advances_idle : (a b : Engine) (p q : Plugged B) (s : Option (List ℕ)) → Idles log faults (state_of a) (state_of b) p q → Advances log faults 0 a b p q s s
+  pub advances_idle : (a b : Engine) (p q : Plugged B) (s : Option (List ℕ)) → Idles account (state_of a) (state_of b) p q → Advances account 0 a b p q s s
   advances_idle a b p q s i = record {
     moves = i.moves;
     executes = λ image. executes_none image i.moves (state_of a) (state_of b) (i.comes image);
@@ -149,7 +151,7 @@ module _ {B : Type 0} (log : B → Option (List (ℕ × ℕ))) (faults : B → �
 
   -- an instruction with its line and its words
   pub advances_one : (a b : Engine) (p q : Plugged B) (s t : Option (List ℕ)) (moves : List Move) → a.end ≡ None → IsSome a.runtime.running → ((image : List ℕ) → Comes image 1 moves (state_of a) (state_of b))
-      → PortsMeet log faults moves p q → Took s t (lines (seen_of moves)) → Advances log faults 1 a b p q s t
+      → PortsMeet account moves p q → Took s t (lines (seen_of moves)) → Advances account 1 a b p q s t
   advances_one a b p q s t moves going runs comes ports took = record {
     moves = moves;
     executes = λ image. executes_one image moves (state_of a) (state_of b) (none_yet a.end going) runs (comes image None);
@@ -160,7 +162,7 @@ module _ {B : Type 0} (log : B → Option (List (ℕ × ℕ))) (faults : B → �
   -- an instruction whose line was cut
   pub fails_one : (a b : Engine) (p q : Plugged B) (s t : Option (List ℕ)) (flash : List ℕ) (now : ℕ) (sight : Sight) → a.end ≡ None → IsSome a.runtime.running
       → ((image : List ℕ) → Comes image 1 (moves_of flash now sight) (state_of a) (state_of b)) → IsSeen flash now sight → q ≡ p → TookPart s t (lines (seen_of (moves_of flash now sight)))
-      → Fails log faults 1 a p q s t
+      → Fails account 1 a p q s t
   fails_one a b p q s t flash now sight going runs comes seen same part =
       let o = seen.0 in
       record {
@@ -170,7 +172,7 @@ module _ {B : Type 0} (log : B → Option (List (ℕ × ℕ))) (faults : B → �
         last = o;
         at = state_of b;
         executes = λ image. executes_one image (Seen o ∷ []) (state_of a) (state_of b) (none_yet a.end going) runs (subst (λ ms. ComesTo None image 1 ms (state_of a) (state_of b)) seen.1 (comes image None));
-        ports = λ before start f. subst (λ ms. Follows log faults ms start q) (sym (append-nil before)) (subst (λ x. Follows log faults before start x) (sym same) f);
+        ports = λ before start f. subst (λ ms. Follows account ms start q) (sym (append-nil before)) (subst (λ x. Follows account before start x) (sym same) f);
         written = record { told = λ had e. (let l : TookPart s t (line o ++ []) = subst (λ ms. TookPart s t (lines (seen_of ms))) seen.1 part in let r = l.told had e in (r.0, subst (IsPrefix r.0) (append-nil (line o)) r.1, r.2)) };
       }
 
@@ -213,33 +215,33 @@ whole_after n a b c first second w s f g script within counts early =
       words = (let x = s.words in let y = w.words in let z = ap (λ (k : Counts). k.words) counts in omega (arith, x, y, z));
     }
 
-module _ {B : Type 0} (log : B → Option (List (ℕ × ℕ))) (faults : B → ℕ) (a mid : Engine) (sight : Sight) (shown : IsShown (state_of a))
+module _ {B : Type 0} (account : B → Account) (a mid : Engine) (sight : Sight) (shown : IsShown (state_of a))
     (comes : (image : List ℕ) → Comes image 1 (moves_of a.runtime.machine.memory.flash a.clock sight) (state_of a) (state_of mid)) where
   pub same_flash : mid.runtime.machine.memory.flash ≡ a.runtime.machine.memory.flash
   same_flash = flash_kept 1 (moves_of a.runtime.machine.memory.flash a.clock sight) (state_of a) (state_of mid) shown (λ image. comes image None)
 
   -- a whole step: an instruction, its line, its words, and the idle moves behind it
   pub step_goes : (told new : Engine) (p q r : Plugged B) (s t : Option (List ℕ)) → a.end ≡ None → IsSome a.runtime.running → told ≡ mid
-      → PortsMeet log faults (moves_of mid.runtime.machine.memory.flash a.clock sight) p q → Took s t (lines (seen_of (moves_of mid.runtime.machine.memory.flash a.clock sight)))
-      → Idles log faults (state_of told) (state_of new) q r → Advances log faults 1 a new p r s t
+      → PortsMeet account (moves_of mid.runtime.machine.memory.flash a.clock sight) p q → Took s t (lines (seen_of (moves_of mid.runtime.machine.memory.flash a.clock sight)))
+      → Idles account (state_of told) (state_of new) q r → Advances account 1 a new p r s t
   step_goes told new p q r s t going runs same ports took idles =
       let moves = moves_of a.runtime.machine.memory.flash a.clock sight in
-      let one = advances_one log faults a mid p q s t moves going runs comes
-      (subst (λ f. PortsMeet log faults (moves_of f a.clock sight) p q) same_flash ports)
+      let one = advances_one account a mid p q s t moves going runs comes
+      (subst (λ f. PortsMeet account (moves_of f a.clock sight) p q) same_flash ports)
       (subst (λ f. Took s t (lines (seen_of (moves_of f a.clock sight)))) same_flash took) in
-      let rest = advances_idle log faults mid new q r t (subst (λ (x : Engine). Idles log faults (state_of x) (state_of new) q r) same idles) in
-      advances_then log faults 1 0 a mid new p q r s t t one rest
+      let rest = advances_idle account mid new q r t (subst (λ (x : Engine). Idles account (state_of x) (state_of new) q r) same idles) in
+      advances_then account 1 0 a mid new p q r s t t one rest
 
   pub step_fails : (p q : Plugged B) (s t : Option (List ℕ)) → a.end ≡ None → IsSome a.runtime.running → IsSeen mid.runtime.machine.memory.flash a.clock sight → q ≡ p
-      → TookPart s t (lines (seen_of (moves_of mid.runtime.machine.memory.flash a.clock sight))) → Fails log faults 1 a p q s t
+      → TookPart s t (lines (seen_of (moves_of mid.runtime.machine.memory.flash a.clock sight))) → Fails account 1 a p q s t
   step_fails p q s t going runs seen same part =
-      fails_one log faults a mid p q s t a.runtime.machine.memory.flash a.clock sight going runs comes
+      fails_one account a mid p q s t a.runtime.machine.memory.flash a.clock sight going runs comes
       (subst (λ f. IsSeen f a.clock sight) same_flash seen) same (subst (λ f. TookPart s t (lines (seen_of (moves_of f a.clock sight)))) same_flash part)
 
-  pub step_whole : (n : ℕ) (told new : Engine) (p q : Plugged B) → IsWhole a n → Steps a mid → told ≡ mid → Idles log faults (state_of told) (state_of new) p q
+  pub step_whole : (n : ℕ) (told new : Engine) (p q : Plugged B) → IsWhole a n → Steps a mid → told ≡ mid → Idles account (state_of told) (state_of new) p q
       → new.script ≡ told.script → new.next ≤ length told.script.entries → new.counts ≡ told.counts → (told.clock ≤ end_limit → new.clock ≤ end_limit) → IsWhole new (n + 1)
   step_whole n told new p q w s same idles script within counts early =
-      let i : Idles log faults (state_of mid) (state_of new) p q = subst (λ (x : Engine). Idles log faults (state_of x) (state_of new) p q) same idles in
+      let i : Idles account (state_of mid) (state_of new) p q = subst (λ (x : Engine). Idles account (state_of x) (state_of new) p q) same idles in
       whole_after n a mid new (moves_of a.runtime.machine.memory.flash a.clock sight) i.moves w s comes i.comes
       (script ∙ ap (λ (x : Engine). x.script) same) (subst (λ (x : Engine). new.next ≤ length x.script.entries) same within) (counts ∙ ap (λ (x : Engine). x.counts) same)
       (subst (λ (x : Engine). x.clock ≤ end_limit → new.clock ≤ end_limit) same early)

@@ -8,13 +8,15 @@ use Rattle.board_world.specs.Transcript.{lines, closing_line}
 use Rattle.board_world.specs.Board.{Board, over, transcript_of}
 use Rattle.board_world.specs.Kinds.{Kind}
 use Rattle.board_world.specs.Activities.{World}
-use Rattle.board_world.specs.World.{idled, idle_while, idle_bound, run}
+use Rattle.board_world.specs.World.{idled, idle_while, idle_bound}
+use Rattle.board_world.specs.Runs.{run}
 use Rattle.board_world.proofs.Laws.{busy_stays, over_stays, run_over, run_sum}
 use Rattle.bank_model.specs.Fibers.{Fiber, Shared}
 use Rattle.bank_model.specs.BoardMachine.{fibers, bank_start}
 use Rattle.tool_io.specs.Putting.{Took, TookPart, Puts}
 use Rattle.tool_io.specs.declared.sink.PutFailed.{PutFailed}
 use Rattle.tool_io.proofs.Laws.{took-then, rose-before}
+use Rattle.board_ports.specs.Account.{Account}
 use Rattle.board_ports.specs.Plugged.{Plugged}
 use Rattle.board_ports.specs.History.{Follows}
 use Rattle.board_ports.proofs.Laws.{places_after}
@@ -82,8 +84,8 @@ settled_stays image e w s h = by_end e.end refl
         ap (λ l. idle_while K (idle_bound w.board) l w) first ∙ busy_stays K (idle_bound w.board) _ _ w
     by_end (Some stop) q = over_stays K (idle_bound w.board) w.ready w (ap (λ (p : Board). is_some p.end) h.board ∙ ap (λ (o : Option Stop). is_some (option_map end_of o)) q)
 
-module _ {B : Type 0} (log : B → Option (List (ℕ × ℕ))) (faults : B → ℕ) (image : List ℕ) (script : Script) (budget : ℕ) (first : Engine) (m : IsMounted image script first)
-    (places : List (Option B)) (plugged : Plugged B) (f : Follows log faults [] places plugged) where
+module _ {B : Type 0} (account : B → Account) (image : List ℕ) (script : Script) (budget : ℕ) (first : Engine) (m : IsMounted image script first)
+    (places : List (Option B)) (plugged : Plugged B) (f : Follows account [] places plugged) where
   abbrev begin : List ℕ → World Fiber Shared
   begin free = bank_start image script.end (world_entries script.entries) free
 
@@ -96,11 +98,11 @@ module _ {B : Type 0} (log : B → Option (List (ℕ × ℕ))) (faults : B → �
   none_added : (n : ℕ) → n + 0 ≡ n
   none_added n = omega arith
 
-  ports_after : (moves : List Move) (p : Plugged B) → PortsMeet log faults moves plugged p → DevicesAfter log faults moves places p.places
-  ports_after moves p meet = places_after log faults (port_moves moves) places p (meet [] places f)
+  ports_after : (moves : List Move) (p : Plugged B) → PortsMeet account moves plugged p → DevicesAfter account moves places p.places
+  ports_after moves p meet = places_after account (port_moves moves) places p (meet [] places f)
 
   -- the worlds that are shown, and that the run wasn't over before
-  module _ (n : ℕ) (e : Engine) (p : Plugged B) (s t : Option (List ℕ)) (a : Advances log faults n first e plugged p s t) (settled : IsSettled e) where
+  module _ (n : ℕ) (e : Engine) (p : Plugged B) (s t : Option (List ℕ)) (a : Advances account n first e plugged p s t) (settled : IsSettled e) where
     reached : (used : List ℕ) × Reaches None image begin (n + 0) used a.moves (state_of e) × ((rest : List ℕ) (j : ℕ) → 0 ≤ j → j < n + 0 → over (run (fibers image) j (idled (fibers image) (begin (used ++ rest)))).board ≡ false)
     reached = a.executes image begin 0 [] [] begins
 
@@ -143,7 +145,7 @@ module _ {B : Type 0} (log : B → Option (List (ℕ × ℕ))) (faults : B → �
 
     -- the closing line was taken
     ran_whole : (u : Option (List ℕ)) → n ≤ budget → (n ≡ budget) ⊎ IsSome e.end → Took t u (closing_line e.clock (option_map end_of e.end))
-        → HasRun log faults image script budget e n s u places p.places (option_map end_of e.end)
+        → HasRun account image script budget e n s u places p.places (option_map end_of e.end)
     ran_whole u within done took = record {
       used = reached.0;
       moves = a.moves;
@@ -156,7 +158,7 @@ module _ {B : Type 0} (log : B → Option (List (ℕ × ℕ))) (faults : B → �
     }
 
     -- the closing line was cut
-    ran_cut : (u : Option (List ℕ)) → n ≤ budget → (n ≡ budget) ⊎ IsSome e.end → TookPart t u (closing_line e.clock (option_map end_of e.end)) → IsCut log faults image script budget s u places p.places
+    ran_cut : (u : Option (List ℕ)) → n ≤ budget → (n ≡ budget) ⊎ IsSome e.end → TookPart t u (closing_line e.clock (option_map end_of e.end)) → IsCut account image script budget s u places p.places
     ran_cut u within done part = record {
       free = reached.0 ++ [];
       executed = n;
@@ -182,22 +184,22 @@ module _ {B : Type 0} (log : B → Option (List (ℕ × ℕ))) (faults : B → �
 
     -- how the call ends behind the closing line
     pub finished : (u : Option (List ℕ)) (fs mid fs' : ℕ) (answer : End) → n ≤ budget → (n ≡ budget) ⊎ IsSome e.end → fs ≤ mid → Finishes t u mid fs' e answer
-        → Ran log faults image script budget e n s u fs fs' places p.places answer
-    finished u fs mid fs' answer within done later fin = subst (Ran log faults image script budget e n s u fs fs' places p.places) (sym fin.2) (by_put fin.0 fin.1)
+        → Ran account image script budget e n s u fs fs' places p.places answer
+    finished u fs mid fs' answer within done later fin = subst (Ran account image script budget e n s u fs fs' places p.places) (sym fin.2) (by_put fin.0 fin.1)
       where
-        whole : (o : Option Stop) → e.end ≡ o → Took t u (closing_line e.clock (option_map end_of e.end)) → Ran log faults image script budget e n s u fs fs' places p.places (told o)
-        whole None q took = subst (λ o. HasRun log faults image script budget e n s u places p.places (option_map end_of o)) q (ran_whole u within done took)
-        whole (Some StopQuiet) q took = subst (λ o. HasRun log faults image script budget e n s u places p.places (option_map end_of o)) q (ran_whole u within done took)
-        whole (Some StopScript) q took = subst (λ o. HasRun log faults image script budget e n s u places p.places (option_map end_of o)) q (ran_whole u within done took)
-        whole (Some (StopPanic code)) q took = subst (λ o. HasRun log faults image script budget e n s u places p.places (option_map end_of o)) q (ran_whole u within done took)
-        whole (Some (StopFault fault address)) q took = subst (λ o. HasRun log faults image script budget e n s u places p.places (option_map end_of o)) q (ran_whole u within done took)
+        whole : (o : Option Stop) → e.end ≡ o → Took t u (closing_line e.clock (option_map end_of e.end)) → Ran account image script budget e n s u fs fs' places p.places (told o)
+        whole None q took = subst (λ o. HasRun account image script budget e n s u places p.places (option_map end_of o)) q (ran_whole u within done took)
+        whole (Some StopQuiet) q took = subst (λ o. HasRun account image script budget e n s u places p.places (option_map end_of o)) q (ran_whole u within done took)
+        whole (Some StopScript) q took = subst (λ o. HasRun account image script budget e n s u places p.places (option_map end_of o)) q (ran_whole u within done took)
+        whole (Some (StopPanic code)) q took = subst (λ o. HasRun account image script budget e n s u places p.places (option_map end_of o)) q (ran_whole u within done took)
+        whole (Some (StopFault fault address)) q took = subst (λ o. HasRun account image script budget e n s u places p.places (option_map end_of o)) q (ran_whole u within done took)
 
-        by_put : (put : Result (Unit {0}) PutFailed) → Puts t u mid fs' (closing_line e.clock (option_map end_of e.end)) put → Ran log faults image script budget e n s u fs fs' places p.places (answer_of put e.end)
+        by_put : (put : Result (Unit {0}) PutFailed) → Puts t u mid fs' (closing_line e.clock (option_map end_of e.end)) put → Ran account image script budget e n s u fs fs' places p.places (answer_of put e.end)
         by_put (Ok x) puts = whole e.end refl puts.took
         by_put (Err x) puts = (ran_cut u within done puts.part, rose-before fs mid fs' later puts.failed)
 
   -- the line of an observation was cut: the run goes on to meet more, whatever the sink does
-  pub fails_cut : (p : Plugged B) (s u : Option (List ℕ)) → Fails log faults budget first plugged p s u → IsCut log faults image script budget s u places p.places
+  pub fails_cut : (p : Plugged B) (s u : Option (List ℕ)) → Fails account budget first plugged p s u → IsCut account image script budget s u places p.places
   fails_cut p s u g =
       let K = fibers image in
       let x = g.executes image begin 0 [] [] begins in

@@ -11,6 +11,7 @@ use Rattle.bank_model.specs.Fibers.{Fiber, Shared}
 use Rattle.board_drivers.specs.Buttons.{HasButtons}
 use Rattle.message_bus.specs.BusState.{BusState, queued}
 use Rattle.event_script.specs.World.{world_entries}
+use Rattle.board_ports.specs.Account.{Account}
 use Rattle.board_ports.specs.Plugged.{Plugged}
 use Rattle.board_outside.specs.Moves.{Meets}
 use Rattle.board_run.specs.declared.engine.Engine.{Engine}
@@ -46,9 +47,9 @@ at_moment e t = record e { clock = t; runtime = record e.runtime { lists = due_w
 abbrev pub settled : Engine → ℕ → Engine → Engine
 settled e t new = record (at_moment e t) { bus = new.bus; buttons = new.buttons; next = new.next }
 
-module _ {B : Type 0} (log : B → Option (List (ℕ × ℕ))) (faults : B → ℕ) (e : Engine) (plugged plugged' : Plugged B) (t : ℕ) (events : List Event)
+module _ {B : Type 0} (account : B → Account) (e : Engine) (plugged plugged' : Plugged B) (t : ℕ) (events : List Event)
     (rising : IsRisingFrom t (world_entries (drop e.next e.script.entries)))
-    (new : Engine) (stays : new ≡ record (at_moment e t) { bus = new.bus; buttons = new.buttons; next = new.next }) (a : Arrived log faults (at_moment e t) new plugged plugged') where
+    (new : Engine) (stays : new ≡ record (at_moment e t) { bus = new.bus; buttons = new.buttons; next = new.next }) (a : Arrived account (at_moment e t) new plugged plugged') where
   abbrev mid : Engine
   mid = settled e t new
 
@@ -83,21 +84,21 @@ module _ {B : Type 0} (log : B → Option (List (ℕ × ℕ))) (faults : B → �
       let meets : Meets a.moves w.board X = record { seen = sym (append-nil w.board.seen) ∙ ap (λ l. w.board.seen ++ l) (sym a.silent); unplugged = refl } in
       (subst (λ (x : Board). Represents image (state_of with_events) (record (jump t w) { board = x })) (sym all) shown, subst (λ (x : Board). Meets a.moves w.board x) (sym all) meets)
 
-  pub came : CameTo log faults t events e with_events plugged plugged'
+  pub came : CameTo account t events e with_events plugged plugged'
   came = record { moves = a.moves; silent = a.silent; shows = came_shows; ports = a.ports }
 
 -- the same behind the calls that the engine makes
-pub came_by : {B : Type 0} (log : B → Option (List (ℕ × ℕ))) (faults : B → ℕ) (e : Engine) (p p' : Plugged B) (t : ℕ) (events : List Event) → IsRisingFrom t (world_entries (drop e.next e.script.entries))
+pub came_by : {B : Type 0} (account : B → Account) (e : Engine) (p p' : Plugged B) (t : ℕ) (events : List Event) → IsRisingFrom t (world_entries (drop e.next e.script.entries))
     → (r : State) → r ≡ record e.runtime { lists = due_woken t e.runtime.lists } → (new : Engine) → new ≡ record e { clock = t; runtime = r; bus = new.bus; buttons = new.buttons; next = new.next }
-    → Arrived log faults (record e { clock = t; runtime = r }) new p p' → (bus : BusState) → bus ≡ record new.bus { queue = queued_all events new.bus.queue } → CameTo log faults t events e (record new { bus = bus }) p p'
-came_by log faults e p p' t events rising r woke new =
-    subst (λ (x : State). new ≡ record e { clock = t; runtime = x; bus = new.bus; buttons = new.buttons; next = new.next } → Arrived log faults (record e { clock = t; runtime = x }) new p p' → (bus : BusState) → bus ≡ record new.bus { queue = queued_all events new.bus.queue } → CameTo log faults t events e (record new { bus = bus }) p p') (sym woke)
+    → Arrived account (record e { clock = t; runtime = r }) new p p' → (bus : BusState) → bus ≡ record new.bus { queue = queued_all events new.bus.queue } → CameTo account t events e (record new { bus = bus }) p p'
+came_by account e p p' t events rising r woke new =
+    subst (λ (x : State). new ≡ record e { clock = t; runtime = x; bus = new.bus; buttons = new.buttons; next = new.next } → Arrived account (record e { clock = t; runtime = x }) new p p' → (bus : BusState) → bus ≡ record new.bus { queue = queued_all events new.bus.queue } → CameTo account t events e (record new { bus = bus }) p p') (sym woke)
     (λ stays a bus is.
-    let c = came log faults e p p' t events rising new stays a in
-    subst (λ (b : BusState). CameTo log faults t events e (record new { bus = b }) p p') (sym is)
-    (subst (λ (x : Engine). CameTo log faults t events e (record x { bus = record new.bus { queue = queued_all events new.bus.queue } }) p p') (sym stays) c))
+    let c = came account e p p' t events rising new stays a in
+    subst (λ (b : BusState). CameTo account t events e (record new { bus = b }) p p') (sym is)
+    (subst (λ (x : Engine). CameTo account t events e (record x { bus = record new.bus { queue = queued_all events new.bus.queue } }) p p') (sym stays) c))
 
-module _ {B : Type 0} (log : B → Option (List (ℕ × ℕ))) (faults : B → ℕ) (e new : Engine) (p p' : Plugged B) (t : ℕ) (events : List Event) (c : CameTo log faults t events e new p p') where
+module _ {B : Type 0} (account : B → Account) (e new : Engine) (p p' : Plugged B) (t : ℕ) (events : List Event) (c : CameTo account t events e new p p') where
   pub came_shown : IsShown (state_of e) → IsShown (state_of new)
   came_shown s =
       let h = (c.shows e.runtime.machine.memory.flash s.world s.shows).0 in

@@ -6,13 +6,14 @@ use Rattle.thumb_code.specs.Map.{flash_end}
 use Rattle.std.specs.Option.{option_map}
 use Rattle.board_world.specs.Limits.{end_limit}
 use Rattle.board_world.specs.Board.{Board, over, arrive}
-use Rattle.board_world.specs.Arrivals.{acts}
+use Rattle.board_world.specs.Runs.{acts}
 use Rattle.board_drivers.specs.Buttons.{Since, HasButtons}
 use Rattle.message_bus.specs.BusState.{BusState}
 use Rattle.event_script.specs.Sound.{IsSound}
 use Rattle.event_script.specs.World.{world_act}
 use Rattle.event_script.specs.declared.script.Act.{Act}
 use Rattle.event_script.specs.declared.script.Act.TheVariants.{Down, Up, Raise, Unplug}
+use Rattle.board_ports.specs.Account.{Account}
 use Rattle.board_ports.specs.Plugged.{Plugged}
 use Rattle.board_ports.specs.History.{Follows}
 use Rattle.board_outside.specs.Ports.{port_moves}
@@ -35,10 +36,10 @@ no_unplug (Up button) m = refl
 no_unplug (Raise event) m = refl
 no_unplug (Unplug port) m = absurd m
 
-pub ports_arrived : {B : Type 0} (log : B → Option (List (ℕ × ℕ))) (faults : B → ℕ) (act : Act) (now : ℕ) (since since' : Since) (bus bus' : BusState) (plugged plugged' : Plugged B)
-    → MayArrive (world_act act) → Applied log faults act now since since' bus bus' plugged plugged' → PortsMeet log faults [] plugged plugged'
-ports_arrived log faults act now since since' bus bus' plugged plugged' m a before start f =
-    subst (λ ms. Follows log faults (before ++ port_moves ms) start plugged') (no_unplug act m) (a.ports before start f)
+pub ports_arrived : {B : Type 0} (account : B → Account) (act : Act) (now : ℕ) (since since' : Since) (bus bus' : BusState) (plugged plugged' : Plugged B)
+    → MayArrive (world_act act) → Applied account act now since since' bus bus' plugged plugged' → PortsMeet account [] plugged plugged'
+ports_arrived account act now since since' bus bus' plugged plugged' m a before start f =
+    subst (λ ms. Follows account (before ++ port_moves ms) start plugged') (no_unplug act m) (a.ports before start f)
 
 pub whole_arrived : (old new : Engine) (n : ℕ) (act : Act) → IsWhole old n → new ≡ record old { bus = new.bus; buttons = new.buttons } → Arrives (world_act act) (state_of old) (state_of new) → IsWhole new n
 whole_arrived old new n act w e a =
@@ -56,9 +57,9 @@ whole_arrived old new n act w e a =
     }
 
 -- The board shows what the act makes of each world.
-pub arrives_now : {B : Type 0} (log : B → Option (List (ℕ × ℕ))) (faults : B → ℕ) (old : Engine) (bus : BusState) (buttons : Since) (act : Act) (plugged plugged' : Plugged B) → MayArrive (world_act act) → old.end ≡ None
-    → Applied log faults act old.clock old.buttons buttons old.bus bus plugged plugged' → Arrives (world_act act) (state_of old) (state_of (record old { bus = bus; buttons = buttons }))
-arrives_now log faults old bus buttons act plugged plugged' m going a image w h =
+pub arrives_now : {B : Type 0} (account : B → Account) (old : Engine) (bus : BusState) (buttons : Since) (act : Act) (plugged plugged' : Plugged B) → MayArrive (world_act act) → old.end ≡ None
+    → Applied account act old.clock old.buttons buttons old.bus bus plugged plugged' → Arrives (world_act act) (state_of old) (state_of (record old { bus = bus; buttons = buttons }))
+arrives_now account old bus buttons act plugged plugged' m going a image w h =
     let new : Engine = record old { bus = bus; buttons = buttons } in
     let has : HasButtons old.clock old.buttons old.bus w.board = record { moment = ap (λ (p : Board). p.clock) h.board; button_a = ap (λ (p : Board). p.a_since) h.board; button_b = ap (λ (p : Board). p.b_since) h.board; events = h.hears.queue } in
     let is : arrive (world_act act) w.board ≡ record w.board { queue = bus.queue; a_since = buttons.a_since; b_since = buttons.b_since } =

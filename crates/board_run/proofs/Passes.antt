@@ -42,6 +42,7 @@ use Rattle.board_run.proofs.Proceeding.{makes_then, makes_none, led_lines-append
 use Rattle.board_run.proofs.AtMoment.{Known, known_through}
 use Rattle.board_run.proofs.Through.{rising_left, first_any}
 use Rattle.board_run.proofs.FirstMoment.{leads_early, leads_idle, leads_on, first_sees, sees_on, shows_mid, worlds}
+use Rattle.board_ports.specs.Account.{Account}
 
 -- on a board on which nobody was left to go on, nobody begins
 pub none_begins : (old new : Engine) → IsShown (state_of old) → IsResting old → ((image : List ℕ) → Comes image 0 [] (state_of old) (state_of new)) → IsSome new.runtime.running → ⊥
@@ -83,7 +84,7 @@ mounted_busy image0 script e m image w h =
 mounted_stands : (image0 : List ℕ) (script : Script) (free : List ℕ) → IsStanding 0 script.end (world_entries script.entries) (bank_start image0 script.end (world_entries script.entries) free)
 mounted_stands image0 script free = record { clock_is = refl; until_is = refl; script_is = refl; goes = refl; later = tt }
 
-module _ {B : Type 0} (log : B → Option (List (ℕ × ℕ))) (faults : B → ℕ) (lead : ByteList) (old there : Board B) (image0 : List ℕ) (script : Script) (mounted : IsMounted image0 script old.engine)
+module _ {B : Type 0} (account : B → Account) (lead : ByteList) (old there : Board B) (image0 : List ℕ) (script : Script) (mounted : IsMounted image0 script old.engine)
     (begun : (image : List ℕ) → Comes image 0 [] (state_of old.engine) (state_of there.engine)) (plugs : there.plugs ≡ old.plugs) (kept : there.kept ≡ old.kept) (sent : there.sent ≡ old.sent)
     (count : there.instructions ≡ old.instructions) (clock : there.engine.clock ≡ old.engine.clock) (same_script : there.engine.script ≡ old.engine.script) where
   makes_on : (image : List ℕ) (n : ℕ) (more : List Move) (new : BoardState) → Makes image n more (state_of there.engine) new → Makes image n more (state_of old.engine) new
@@ -101,7 +102,7 @@ module _ {B : Type 0} (log : B → Option (List (ℕ × ℕ))) (faults : B → �
   at_first : old.engine.clock ≡ 0
   at_first = sym (ap (λ (p : WorldBoard). p.clock) (mounted.begins []).board)
 
-  module _ (most n : ℕ) (mid : Board B) (s t : Option (List ℕ)) (q : HasProceeded log faults lead n most there mid s t) (stayed : IsStayed mid.engine) (whole : IsWhole mid.engine mid.instructions) where
+  module _ (most n : ℕ) (mid : Board B) (s t : Option (List ℕ)) (q : HasProceeded account lead n most there mid s t) (stayed : IsStayed mid.engine) (whole : IsWhole mid.engine mid.instructions) where
     makes : (image : List ℕ) → MakesTo (Some 0) image n q.proceeds.moves (state_of old.engine) (state_of mid.engine)
     makes image = makes_on image n q.proceeds.moves (state_of mid.engine) (q.proceeds.makes image) (Some 0)
 
@@ -124,11 +125,11 @@ module _ {B : Type 0} (log : B → Option (List (ℕ × ℕ))) (faults : B → �
         omega (arith, there'))
 
     -- nothing comes at once
-    pub first_gone : GoesOnOrIdle 0 mid → HasGone log faults lead old.sent 0 n old mid s t []
+    pub first_gone : GoesOnOrIdle 0 mid → HasGone account lead old.sent 0 n old mid s t []
     first_gone g = record {
       moves = q.proceeds.moves;
       goes = λ image at met shows. subst (λ l. LeadsTo image 0 n old.kept l (met ++ q.proceeds.moves) at (state_of mid.engine)) (sym same_kept) (by_case g image at met shows);
-      ports = subst (λ p. PortsMeet log faults q.proceeds.moves p mid.plugs) plugs q.proceeds.ports;
+      ports = subst (λ p. PortsMeet account q.proceeds.moves p mid.plugs) plugs q.proceeds.ports;
       sent = q.proceeds.sent ∙ ap (λ ns. first_sent ns (seen_of q.proceeds.moves)) sent;
       written = subst (λ l. Took s t l) (sym (append-nil (led_lines lead (seen_of q.proceeds.moves)))) q.proceeds.written;
       counted = q.counted ∙ ap (λ k. k + n) count;
@@ -155,7 +156,7 @@ module _ {B : Type 0} (log : B → Option (List (ℕ × ℕ))) (faults : B → �
         by_case e (inr x) = inr x
 
     -- the moment's events come behind main
-    pub then_gone : (k : ℕ) (new : Board B) (u : Option (List ℕ)) → IsResting mid.engine → HasGone log faults lead mid.sent 0 k mid new t u [] → HasGone log faults lead old.sent 0 (k + n) old new s u []
+    pub then_gone : (k : ℕ) (new : Board B) (u : Option (List ℕ)) → IsResting mid.engine → HasGone account lead mid.sent 0 k mid new t u [] → HasGone account lead old.sent 0 (k + n) old new s u []
     then_gone k new u r g = record {
       moves = q.proceeds.moves ++ g.moves;
       goes = λ image at met shows.
@@ -164,7 +165,7 @@ module _ {B : Type 0} (log : B → Option (List (ℕ × ℕ))) (faults : B → �
           let l' = subst (λ es. LeadsTo image 0 k es new.kept ((met ++ q.proceeds.moves) ++ g.moves) (worlds image old.kept old.engine mid.engine n q.proceeds.moves (busy image) rising at met shows (makes image) stayed) (state_of new.engine)) same_kept l in
           subst (λ ms. LeadsTo image 0 (k + n) old.kept new.kept ms at (state_of new.engine)) (append_assoc met q.proceeds.moves g.moves)
           (leads_on image old.kept old.engine mid.engine n q.proceeds.moves (busy image) rising at met shows (makes image) stayed r k new.kept ((met ++ q.proceeds.moves) ++ g.moves) (state_of new.engine) l');
-      ports = ports_then log faults q.proceeds.moves g.moves old.plugs mid.plugs new.plugs (subst (λ p. PortsMeet log faults q.proceeds.moves p mid.plugs) plugs q.proceeds.ports) g.ports;
+      ports = ports_then account q.proceeds.moves g.moves old.plugs mid.plugs new.plugs (subst (λ p. PortsMeet account q.proceeds.moves p mid.plugs) plugs q.proceeds.ports) g.ports;
       sent = g.sent ∙ ap (λ ns. first_sent ns (seen_of g.moves)) (q.proceeds.sent ∙ ap (λ ns. first_sent ns (seen_of q.proceeds.moves)) sent)
           ∙ sym (first_sent-append old.sent (seen_of q.proceeds.moves) (seen_of g.moves)) ∙ ap (first_sent old.sent) (sym (seen_of-append q.proceeds.moves g.moves));
       written = subst (λ l. Took s u l) (by_lines (seen_of q.proceeds.moves) (seen_of g.moves) ∙ ap (λ os. led_lines lead os ++ []) (sym (seen_of-append q.proceeds.moves g.moves))) (took-then _ _ q.proceeds.written g.written);
@@ -188,7 +189,7 @@ module _ {B : Type 0} (log : B → Option (List (ℕ × ℕ))) (faults : B → �
         by_rest (inl x) = inl (x.0, (let a = q.within in let b : k ≡ most - n = x.1 in omega (arith, a, b)))
         by_rest (inr x) = inr x
 
-    pub then_cut : (new : Board B) (u : Option (List ℕ)) → IsResting mid.engine → IsCutShort log faults lead 0 (most - n) mid new t u → IsCutShort log faults lead 0 most old new s u
+    pub then_cut : (new : Board B) (u : Option (List ℕ)) → IsResting mid.engine → IsCutShort account lead 0 (most - n) mid new t u → IsCutShort account lead 0 most old new s u
     then_cut new u r g = record {
       used = g.used + n;
       within = (let a = q.within in let b = g.within in omega (arith, a, b));
@@ -200,13 +201,13 @@ module _ {B : Type 0} (log : B → Option (List (ℕ × ℕ))) (faults : B → �
           let l = subst (λ es. Sees image 0 g.used es (seen_of g.done ++ g.last ∷ []) ws) same_kept (g.sees image ws (met ++ q.proceeds.moves) m) in
           subst (λ os. Sees image 0 (g.used + n) old.kept os at) (sym (append_assoc (seen_of q.proceeds.moves) (seen_of g.done) (g.last ∷ [])) ∙ ap (λ os. os ++ g.last ∷ []) (sym (seen_of-append q.proceeds.moves g.done)))
           (sees_on image old.kept old.engine mid.engine n q.proceeds.moves (busy image) rising at met shows (makes image) stayed r g.used (seen_of g.done ++ g.last ∷ []) l);
-      ports = ports_then log faults q.proceeds.moves g.done old.plugs mid.plugs new.plugs (subst (λ p. PortsMeet log faults q.proceeds.moves p mid.plugs) plugs q.proceeds.ports) g.ports;
+      ports = ports_then account q.proceeds.moves g.done old.plugs mid.plugs new.plugs (subst (λ p. PortsMeet account q.proceeds.moves p mid.plugs) plugs q.proceeds.ports) g.ports;
       written = subst (λ l. TookInto s u l (lead ++ line g.last)) (sym (led_lines-append lead (seen_of q.proceeds.moves) (seen_of g.done)) ∙ ap (led_lines lead) (sym (seen_of-append q.proceeds.moves g.done)))
-          (into_then log faults (led_lines lead (seen_of q.proceeds.moves)) (led_lines lead (seen_of g.done)) (lead ++ line g.last) q.proceeds.written g.written);
+          (into_then account (led_lines lead (seen_of q.proceeds.moves)) (led_lines lead (seen_of g.done)) (lead ++ line g.last) q.proceeds.written g.written);
     }
 
   -- the sink failed before main was left
-  pub first_cut : (most : ℕ) (new : Board B) (s u : Option (List ℕ)) → Stops log faults lead most there new s u → IsCutShort log faults lead 0 most old new s u
+  pub first_cut : (most : ℕ) (new : Board B) (s u : Option (List ℕ)) → Stops account lead most there new s u → IsCutShort account lead 0 most old new s u
   first_cut most new s u g = record {
     used = g.count;
     within = g.within;
@@ -214,7 +215,7 @@ module _ {B : Type 0} (log : B → Option (List (ℕ × ℕ))) (faults : B → �
     last = g.last;
     sees = λ image at met shows. subst (λ os. Sees image 0 g.count old.kept os at) (seen_of-append g.done (Seen g.last ∷ []))
         (first_sees image old.kept old.engine old.engine g.count (g.done ++ Seen g.last ∷ []) (busy image) rising at met shows g.at (makes_on image g.count (g.done ++ Seen g.last ∷ []) g.at (g.makes image) (Some 0)));
-    ports = subst (λ p. PortsMeet log faults g.done p new.plugs) plugs g.ports;
+    ports = subst (λ p. PortsMeet account g.done p new.plugs) plugs g.ports;
     written = g.written;
   }
 

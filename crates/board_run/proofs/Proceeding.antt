@@ -7,6 +7,7 @@ use Rattle.board_world.specs.Observations.{ByteList, Observation, Show, Serial, 
 use Rattle.board_world.specs.Transcript.{line}
 use Rattle.tool_io.specs.Putting.{Took, TookPart}
 use Rattle.tool_io.proofs.Laws.{took-then, took-nothing}
+use Rattle.board_ports.specs.Account.{Account}
 use Rattle.board_ports.specs.History.{Follows}
 use Rattle.board_outside.specs.declared.sight.Sight.{Sight}
 use Rattle.board_outside.specs.Moves.{Move, Seen, seen_of}
@@ -108,26 +109,26 @@ module _ {B : Type 0} where
     next = ap (λ (x : Engine). x.next) stays ∙ ap (λ (x : Engine). x.next) same ∙ s.next;
   }
 
-module _ {B : Type 0} (log : B → Option (List (ℕ × ℕ))) (faults : B → ℕ) (lead : ByteList) where
-  pub proceeds_none : (b : Board B) (s : Option (List ℕ)) → Proceeds log faults lead 0 b b s s
+module _ {B : Type 0} (account : B → Account) (lead : ByteList) where
+  pub proceeds_none : (b : Board B) (s : Option (List ℕ)) → Proceeds account lead 0 b b s s
   proceeds_none b s = record {
     moves = [];
     makes = λ image bound. makes_none bound image [] (state_of b.engine) (state_of b.engine) (stutters image (state_of b.engine) (state_of b.engine) refl (λ w h. h) bound);
-    ports = λ before start f. subst (λ ms. Follows log faults ms start b.plugs) (sym (append-nil before)) f;
+    ports = λ before start f. subst (λ ms. Follows account ms start b.plugs) (sym (append-nil before)) f;
     sent = refl;
     written = took-nothing s;
   }
 
-  pub proceeds_then : (n m : ℕ) (a b c : Board B) (s t u : Option (List ℕ)) → Proceeds log faults lead n a b s t → Proceeds log faults lead m b c t u → Proceeds log faults lead (m + n) a c s u
+  pub proceeds_then : (n m : ℕ) (a b c : Board B) (s t u : Option (List ℕ)) → Proceeds account lead n a b s t → Proceeds account lead m b c t u → Proceeds account lead (m + n) a c s u
   proceeds_then n m a b c s t u f g = record {
     moves = f.moves ++ g.moves;
     makes = λ image bound. makes_then bound image n m f.moves g.moves (state_of a.engine) (state_of b.engine) (state_of c.engine) (f.makes image bound) (g.makes image bound);
-    ports = ports_then log faults f.moves g.moves a.plugs b.plugs c.plugs f.ports g.ports;
+    ports = ports_then account f.moves g.moves a.plugs b.plugs c.plugs f.ports g.ports;
     sent = g.sent ∙ ap (λ ns. first_sent ns (seen_of g.moves)) f.sent ∙ sym (first_sent-append a.sent (seen_of f.moves) (seen_of g.moves)) ∙ ap (first_sent a.sent) (sym (seen_of-append f.moves g.moves));
     written = subst (λ l. Took s u l) (sym (led_lines-append lead (seen_of f.moves) (seen_of g.moves)) ∙ ap (led_lines lead) (sym (seen_of-append f.moves g.moves))) (took-then _ _ f.written g.written);
   }
 
-  pub stops_then : (n most all : ℕ) (a b c : Board B) (s t u : Option (List ℕ)) → Proceeds log faults lead n a b s t → Stops log faults lead most b c t u → most + n ≤ all → Stops log faults lead all a c s u
+  pub stops_then : (n most all : ℕ) (a b c : Board B) (s t u : Option (List ℕ)) → Proceeds account lead n a b s t → Stops account lead most b c t u → most + n ≤ all → Stops account lead all a c s u
   stops_then n most all a b c s t u f g l = record {
     count = g.count + n;
     within = (let w = g.within in omega (arith, w, l));
@@ -136,22 +137,22 @@ module _ {B : Type 0} (log : B → Option (List (ℕ × ℕ))) (faults : B → �
     at = g.at;
     makes = λ image bound. subst (λ ms. MakesTo bound image (g.count + n) ms (state_of a.engine) g.at) (sym (append_assoc f.moves g.done (Seen g.last ∷ [])))
         (makes_then bound image n g.count f.moves (g.done ++ Seen g.last ∷ []) (state_of a.engine) (state_of b.engine) g.at (f.makes image bound) (g.makes image bound));
-    ports = ports_then log faults f.moves g.done a.plugs b.plugs c.plugs f.ports g.ports;
+    ports = ports_then account f.moves g.done a.plugs b.plugs c.plugs f.ports g.ports;
     written = subst (λ l. TookInto s u l (lead ++ line g.last)) (sym (led_lines-append lead (seen_of f.moves) (seen_of g.done)) ∙ ap (led_lines lead) (sym (seen_of-append f.moves g.done)))
-        (into_then log faults (led_lines lead (seen_of f.moves)) (led_lines lead (seen_of g.done)) (lead ++ line g.last) f.written g.written);
+        (into_then account (led_lines lead (seen_of f.moves)) (led_lines lead (seen_of g.done)) (lead ++ line g.last) f.written g.written);
   }
 
   module _ (old : Board B) (mid : Engine) (sight : Sight) (shown : IsShown (state_of old.engine))
       (comes : (image : List ℕ) → Comes image 1 (moves_of old.engine.runtime.machine.memory.flash old.engine.clock sight) (state_of old.engine) (state_of mid)) where
     flash_same : mid.runtime.machine.memory.flash ≡ old.engine.runtime.machine.memory.flash
-    flash_same = same_flash log faults old.engine mid sight shown comes
+    flash_same = same_flash account old.engine mid sight shown comes
 
     -- an instruction, its line, its words, and what follows while the clock stands
     pub step_proceeds : (told : Engine) (new : Board B) (s t : Option (List ℕ)) → old.engine.end ≡ None → IsSome old.engine.runtime.running → told ≡ mid
-        → PortsMeet log faults (moves_of mid.runtime.machine.memory.flash old.engine.clock sight) old.plugs new.plugs
+        → PortsMeet account (moves_of mid.runtime.machine.memory.flash old.engine.clock sight) old.plugs new.plugs
         → Took s t (led_lines lead (seen_of (moves_of mid.runtime.machine.memory.flash old.engine.clock sight)))
         → ((flash : List ℕ) (now : ℕ) → new.sent ≡ first_sent old.sent (seen_of (moves_of flash now sight)))
-        → ((image : List ℕ) → Comes image 0 [] (state_of told) (state_of new.engine)) → Proceeds log faults lead 1 old new s t
+        → ((image : List ℕ) → Comes image 0 [] (state_of told) (state_of new.engine)) → Proceeds account lead 1 old new s t
     step_proceeds told new s t going runs same ports took sent stay =
         let a = old.engine in
         let moves = moves_of a.runtime.machine.memory.flash a.clock sight in
@@ -161,13 +162,13 @@ module _ {B : Type 0} (log : B → Option (List (ℕ × ℕ))) (faults : B → �
           makes = λ image bound. makes_one bound image moves (state_of a) (state_of new.engine) (none_yet a.end going) runs (subst (λ k. ComesTo bound image k moves (state_of a) (state_of new.engine)) count
               (subst (λ ms. ComesTo bound image (0 + 1) ms (state_of a) (state_of new.engine)) (append-nil moves)
               (comes_then bound image 1 0 moves [] (state_of a) (state_of mid) (state_of new.engine) (comes image bound) (subst (λ (x : Engine). ComesTo bound image 0 [] (state_of x) (state_of new.engine)) same (stay image bound)))));
-          ports = subst (λ f. PortsMeet log faults (moves_of f a.clock sight) old.plugs new.plugs) flash_same ports;
+          ports = subst (λ f. PortsMeet account (moves_of f a.clock sight) old.plugs new.plugs) flash_same ports;
           sent = sent a.runtime.machine.memory.flash a.clock;
           written = subst (λ f. Took s t (led_lines lead (seen_of (moves_of f a.clock sight)))) flash_same took;
         }
 
     pub step_stops : (new : Board B) (s t : Option (List ℕ)) → old.engine.end ≡ None → IsSome old.engine.runtime.running → IsSeen mid.runtime.machine.memory.flash old.engine.clock sight → new.plugs ≡ old.plugs
-        → TookPart s t (led_lines lead (seen_of (moves_of mid.runtime.machine.memory.flash old.engine.clock sight))) → Stops log faults lead 1 old new s t
+        → TookPart s t (led_lines lead (seen_of (moves_of mid.runtime.machine.memory.flash old.engine.clock sight))) → Stops account lead 1 old new s t
     step_stops new s t going runs seen same part =
         let a = old.engine in
         let seen' = subst (λ f. IsSeen f a.clock sight) flash_same seen in
@@ -180,7 +181,7 @@ module _ {B : Type 0} (log : B → Option (List (ℕ × ℕ))) (faults : B → �
           last = o;
           at = state_of mid;
           makes = λ image bound. makes_one bound image (Seen o ∷ []) (state_of a) (state_of mid) (none_yet a.end going) runs (subst (λ ms. ComesTo bound image 1 ms (state_of a) (state_of mid)) seen'.1 (comes image bound));
-          ports = λ before start f. subst (λ ms. Follows log faults ms start new.plugs) (sym (append-nil before)) (subst (λ x. Follows log faults before start x) (sym same) f);
+          ports = λ before start f. subst (λ ms. Follows account ms start new.plugs) (sym (append-nil before)) (subst (λ x. Follows account before start x) (sym same) f);
           written = record {
             told = λ had e.
                 (let l : TookPart s t ((lead ++ line o) ++ []) = subst (λ ms. TookPart s t (led_lines lead (seen_of ms))) seen'.1 part' in

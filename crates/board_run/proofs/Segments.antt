@@ -3,7 +3,8 @@ use Rattle.std.proofs.Common.{◌≡◌, ℕ, ◌+◌, ◌-◌, ◌≤◌, Bool,
 use Rattle.board_world.specs.Board.{Board, over}
 use Rattle.board_world.specs.Kinds.{Kind}
 use Rattle.board_world.specs.Activities.{Activity, World}
-use Rattle.board_world.specs.World.{idled, idle_while, idle_bound, run}
+use Rattle.board_world.specs.World.{idled, idle_while, idle_bound}
+use Rattle.board_world.specs.Runs.{run}
 use Rattle.board_world.proofs.Laws.{busy_stays, run_over, run_sum}
 use Rattle.bank_model.specs.Fibers.{Fiber, Shared}
 use Rattle.bank_model.specs.BoardMachine.{fibers}

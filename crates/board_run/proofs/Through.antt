@@ -44,6 +44,7 @@ use Rattle.board_run.proofs.Executing.{ports_then}
 use Rattle.board_run.proofs.Proceeding.{makes_then, makes_none}
 use Rattle.board_run.proofs.Raises.{nobody_ready}
 use Rattle.board_run.proofs.AtMoment.{stayed_rests, none_up_to, Known, known_late, known_through}
+use Rattle.board_ports.specs.Account.{Account}
 
 module _ (image : List ℕ) (t : ℕ) (events : List Event) (old there : Engine) (first : List Move) (resting : IsResting old) (due : IsDueAt t events old)
     (arrives : (w : World Fiber Shared) → Represents image (state_of old) w → Represents image (state_of there) (jump t (with_kept t events w)) × Meets first w.board (jump t (with_kept t events w)).board)
@@ -171,15 +172,15 @@ passed t n most b within done stayed sound late none = record { within = within;
     by_stay e (inl runs) = inl (runs, by_done e runs done)
     by_stay e (inr r) = inr (record { resting = record { goes = e; empty = r.0; quiet = r.1 }; later = late; none = none })
 
-module _ {B : Type 0} (log : B → Option (List (ℕ × ℕ))) (faults : B → ℕ) (lead : ByteList) (t : ℕ) (old there : Board B) (came : Engine) (whole : IsWhole old.engine old.instructions) (resting : IsResting old.engine)
-    (due : IsDueAt t old.kept old.engine) (c : CameTo log faults t old.kept old.engine came old.plugs there.plugs) (stay : (image : List ℕ) → Comes image 0 [] (state_of came) (state_of there.engine))
+module _ {B : Type 0} (account : B → Account) (lead : ByteList) (t : ℕ) (old there : Board B) (came : Engine) (whole : IsWhole old.engine old.instructions) (resting : IsResting old.engine)
+    (due : IsDueAt t old.kept old.engine) (c : CameTo account t old.kept old.engine came old.plugs there.plugs) (stay : (image : List ℕ) → Comes image 0 [] (state_of came) (state_of there.engine))
     (none : there.kept ≡ []) (sent : there.sent ≡ old.sent) where
   makes_on : (image : List ℕ) (n : ℕ) (more : List Move) (new : BoardState) → Makes image n more (state_of there.engine) new → Makes image n more (state_of came) new
   makes_on image n more new q bound =
       (let count : n + 0 ≡ n = omega arith in
       subst (λ k. MakesTo bound image k more (state_of came) new) count (makes_then bound image 0 n [] more (state_of came) (state_of there.engine) new (makes_none bound image [] (state_of came) (state_of there.engine) (stay image bound)) (q bound)))
 
-  module _ (most n : ℕ) (new : Board B) (s u : Option (List ℕ)) (q : HasProceeded log faults lead n most there new s u) (stayed : IsStayed new.engine) where
+  module _ (most n : ℕ) (new : Board B) (s u : Option (List ℕ)) (q : HasProceeded account lead n most there new s u) (stayed : IsStayed new.engine) where
     known : Known t (jump t (with_kept t old.kept whole.shown.world)).board.script new.engine
     known =
         let w = whole.shown.world in
@@ -196,7 +197,7 @@ module _ {B : Type 0} (log : B → Option (List (ℕ × ℕ))) (faults : B → �
         let rising : IsRisingFrom t w.board.script = subst (IsRisingFrom t) (sym own) (due_rising t old.kept old.engine due whole.script) in
         known_late t _ new.engine known (jump_rising t (with_kept t old.kept w) (rising_kept t old.kept w.board.script rising))
 
-    pub through_gone : IsWhole new.engine new.instructions → there.engine.clock ≡ t → there.engine.script ≡ old.engine.script → there.instructions ≡ old.instructions → HasGone log faults lead old.sent t n old new s u []
+    pub through_gone : IsWhole new.engine new.instructions → there.engine.clock ≡ t → there.engine.script ≡ old.engine.script → there.instructions ≡ old.instructions → HasGone account lead old.sent t n old new s u []
     through_gone after clock script count =
         let all = c.moves ++ q.proceeds.moves in
         let seen : seen_of all ≡ seen_of q.proceeds.moves = seen_of-append c.moves q.proceeds.moves ∙ ap (λ l. l ++ seen_of q.proceeds.moves) c.silent in
@@ -204,7 +205,7 @@ module _ {B : Type 0} (log : B → Option (List (ℕ × ℕ))) (faults : B → �
           moves = all;
           goes = λ image at met shows. subst (λ l. LeadsTo image t n old.kept l (met ++ all) at (state_of new.engine)) (sym (q.stands.kept ∙ none))
               (leads image t old.kept old.engine came c.moves resting due (c.shows image) at met shows n q.proceeds.moves new.engine (makes_on image n q.proceeds.moves (state_of new.engine) (q.proceeds.makes image) (Some (t + 1))) stayed late);
-          ports = ports_then log faults c.moves q.proceeds.moves old.plugs there.plugs new.plugs c.ports q.proceeds.ports;
+          ports = ports_then account c.moves q.proceeds.moves old.plugs there.plugs new.plugs c.ports q.proceeds.ports;
           sent = q.proceeds.sent ∙ ap (λ ns. first_sent ns (seen_of q.proceeds.moves)) sent ∙ ap (first_sent old.sent) (sym seen);
           written = subst (λ l. Took s u l) (ap (led_lines lead) (sym seen) ∙ sym (append-nil (led_lines lead (seen_of all)))) q.proceeds.written;
           counted = q.counted ∙ ap (λ k. k + n) count;
@@ -216,7 +217,7 @@ module _ {B : Type 0} (log : B → Option (List (ℕ × ℕ))) (faults : B → �
     pub through_passed : IsPassed t n most new
     through_passed = passed t n most new q.within q.done stayed known.sound late (q.stands.kept ∙ none)
 
-  pub through_cut : (most : ℕ) (new : Board B) (s u : Option (List ℕ)) → Stops log faults lead most there new s u → IsCutShort log faults lead t most old new s u
+  pub through_cut : (most : ℕ) (new : Board B) (s u : Option (List ℕ)) → Stops account lead most there new s u → IsCutShort account lead t most old new s u
   through_cut most new s u g =
       let seen : seen_of (c.moves ++ g.done) ≡ seen_of g.done = seen_of-append c.moves g.done ∙ ap (λ l. l ++ seen_of g.done) c.silent in
       record {
@@ -226,6 +227,6 @@ module _ {B : Type 0} (log : B → Option (List (ℕ × ℕ))) (faults : B → �
         last = g.last;
         sees = λ image at met shows. subst (λ os. Sees image t g.count old.kept os at) (seen_of-append g.done (Seen g.last ∷ []) ∙ ap (λ os. os ++ g.last ∷ []) (sym seen))
             (sees image t old.kept old.engine came c.moves resting due (c.shows image) at met shows g.count (g.done ++ Seen g.last ∷ []) g.at (makes_on image g.count (g.done ++ Seen g.last ∷ []) g.at (g.makes image) (Some (t + 1))) c.silent);
-        ports = ports_then log faults c.moves g.done old.plugs there.plugs new.plugs c.ports g.ports;
+        ports = ports_then account c.moves g.done old.plugs there.plugs new.plugs c.ports g.ports;
         written = subst (λ l. TookInto s u l (lead ++ line g.last)) (ap (led_lines lead) (sym seen)) g.written;
       }

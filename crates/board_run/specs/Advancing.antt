@@ -5,11 +5,13 @@ use Rattle.board_world.specs.Observations.{Observation}
 use Rattle.board_world.specs.Transcript.{line, lines}
 use Rattle.board_world.specs.Board.{over}
 use Rattle.board_world.specs.Activities.{World}
-use Rattle.board_world.specs.World.{idled, run}
+use Rattle.board_world.specs.World.{idled}
+use Rattle.board_world.specs.Runs.{run}
 use Rattle.thumb_code.specs.Map.{flash_end}
 use Rattle.bank_model.specs.Fibers.{Fiber, Shared}
 use Rattle.bank_model.specs.BoardMachine.{fibers}
 use Rattle.tool_io.specs.Putting.{Took}
+use Rattle.board_ports.specs.Account.{Account}
 use Rattle.board_ports.specs.Plugged.{Plugged}
 use Rattle.board_ports.specs.History.{PortMove, Follows}
 use Rattle.event_script.specs.Sound.{IsSound}
@@ -29,26 +31,26 @@ Executes image more moves old new =
     × ((rest : List ℕ) (j : ℕ) → n ≤ j → j < more + n → over (run (fibers image) j (idled (fibers image) (start ((used ++ further) ++ rest)))).board ≡ false)
 
 -- The devices that were plugged in have met these moves more.
-abbrev pub PortsMeet : {B : Type 0} → (B → Option (List (ℕ × ℕ))) → (B → ℕ) → List Move → Plugged B → Plugged B → Type 0
-PortsMeet {B} log faults moves plugged plugged' =
-    (before : List PortMove) (start : List (Option B)) → Follows log faults before start plugged → Follows log faults (before ++ port_moves moves) start plugged'
+abbrev pub PortsMeet : {B : Type 0} → (B → Account) → List Move → Plugged B → Plugged B → Type 0
+PortsMeet {B} account moves plugged plugged' =
+    (before : List PortMove) (start : List (Option B)) → Follows account before start plugged → Follows account (before ++ port_moves moves) start plugged'
 
 -- A board executed so many instructions; the sink took the lines of what they met, and the devices have met it.
-pub record Advances {B : Type 0} (log : B → Option (List (ℕ × ℕ))) (faults : B → ℕ) (count : ℕ) (old new : Engine) (plugged plugged' : Plugged B) (taken taken' : Option (List ℕ)) : Type 0 where
+pub record Advances {B : Type 0} (account : B → Account) (count : ℕ) (old new : Engine) (plugged plugged' : Plugged B) (taken taken' : Option (List ℕ)) : Type 0 where
   pub moves : List Move
   pub executes : (image : List ℕ) → Executes image count moves (state_of old) (state_of new)
-  pub ports : PortsMeet log faults moves plugged plugged'
+  pub ports : PortsMeet account moves plugged plugged'
   pub written : Took taken taken' (lines (seen_of moves))
 
 -- The sink failed in the line of what the last instruction showed, before any word of it was sent.
-pub record Fails {B : Type 0} (log : B → Option (List (ℕ × ℕ))) (faults : B → ℕ) (most : ℕ) (old : Engine) (plugged plugged' : Plugged B) (taken taken' : Option (List ℕ)) : Type 0 where
+pub record Fails {B : Type 0} (account : B → Account) (most : ℕ) (old : Engine) (plugged plugged' : Plugged B) (taken taken' : Option (List ℕ)) : Type 0 where
   pub count : ℕ
   pub within : count ≤ most
   pub done : List Move
   pub last : Observation
   pub at : BoardState
   pub executes : (image : List ℕ) → Executes image count (done ++ Seen last ∷ []) (state_of old) at
-  pub ports : PortsMeet log faults done plugged plugged'
+  pub ports : PortsMeet account done plugged plugged'
   pub written : TookInto taken taken' (lines (seen_of done)) (line last)
 
 -- What a board rests on between two calls, n instructions from its start: it shows some world, its script is sound, its clock is within the
@@ -69,9 +71,9 @@ abbrev pub IsSettled : Engine → Type 0
 IsSettled e = e.end ≡ None → IsSome e.runtime.running
 
 -- A board executed this number of instructions: as many as it might, or the run is over.
-pub record HasExecuted {B : Type 0} (log : B → Option (List (ℕ × ℕ))) (faults : B → ℕ) (count most : ℕ) (old new : Engine) (plugged plugged' : Plugged B)
+pub record HasExecuted {B : Type 0} (account : B → Account) (count most : ℕ) (old new : Engine) (plugged plugged' : Plugged B)
     (taken taken' : Option (List ℕ)) (expected instructions : ℕ) : Type 0 where
-  pub advances : Advances log faults count old new plugged plugged' taken taken'
+  pub advances : Advances account count old new plugged plugged' taken taken'
   pub within : count ≤ most
   pub done : (count ≡ most) ⊎ IsSome new.end
   pub counted : instructions ≡ expected

@@ -6,6 +6,7 @@ use Rattle.message_bus.specs.BusState.{BusState}
 use Rattle.event_script.specs.World.{world_act, world_entries}
 use Rattle.event_script.specs.declared.script.Act.{Act}
 use Rattle.event_script.specs.declared.script.Act.TheVariants.{Down, Up, Raise, Unplug as Unplugging}
+use Rattle.board_ports.specs.Account.{Account}
 use Rattle.board_ports.specs.Plugged.{Plugged}
 use Rattle.board_ports.specs.History.{PortMove, Follows}
 use Rattle.board_run.specs.declared.engine.Engine.{Engine}
@@ -24,16 +25,16 @@ abbrev pub acted_on : BusState → Since → List Move → Board → Board
 acted_on bus s moves b = record b { queue = bus.queue; a_since = s.a_since; b_since = s.b_since; unplugged = b.unplugged ++ unplugged_of (length b.seen) moves }
 
 -- An act did to the bus, the buttons and the devices what it does to each board that has these.
-pub record Applied {B : Type 0} (log : B → Option (List (ℕ × ℕ))) (faults : B → ℕ) (act : Act) (now : ℕ) (since since' : Since) (bus bus' : BusState) (plugged plugged' : Plugged B) : Type 0 where
+pub record Applied {B : Type 0} (account : B → Account) (act : Act) (now : ℕ) (since since' : Since) (bus bus' : BusState) (plugged plugged' : Plugged B) : Type 0 where
   pub board : (b : Board) → HasButtons now since bus b → arrive (world_act act) b ≡ acted_on bus' since' (unplugs_of act) b
   pub listeners : bus'.listeners ≡ bus.listeners
-  pub ports : (before : List PortMove) (start : List (Option B)) → Follows log faults before start plugged → Follows log faults (before ++ port_moves (unplugs_of act)) start plugged'
+  pub ports : (before : List PortMove) (start : List (Option B)) → Follows account before start plugged → Follows account (before ++ port_moves (unplugs_of act)) start plugged'
 
 -- The entries of the present moment did so, and those that are left come later.
-pub record Arrived {B : Type 0} (log : B → Option (List (ℕ × ℕ))) (faults : B → ℕ) (old new : Engine) (plugged plugged' : Plugged B) : Type 0 where
+pub record Arrived {B : Type 0} (account : B → Account) (old new : Engine) (plugged plugged' : Plugged B) : Type 0 where
   pub moves : List Move
   pub silent : seen_of moves ≡ []
   pub board : (b : Board) → HasButtons old.clock old.buttons old.bus b
       → arrive_all old.clock (world_entries (drop old.next old.script.entries)) b ≡ record (acted_on new.bus new.buttons moves b) { script = world_entries (drop new.next old.script.entries) }
   pub listeners : new.bus.listeners ≡ old.bus.listeners
-  pub ports : (before : List PortMove) (start : List (Option B)) → Follows log faults before start plugged → Follows log faults (before ++ port_moves moves) start plugged'
+  pub ports : (before : List PortMove) (start : List (Option B)) → Follows account before start plugged → Follows account (before ++ port_moves moves) start plugged'

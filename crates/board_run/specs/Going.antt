@@ -14,6 +14,7 @@ use Rattle.class_world.specs.Hearing.{with_heard, raised_at}
 use Rattle.class_world.specs.Keeping.{with_kept, moment_run}
 use Rattle.message_bus.specs.BusState.{queued}
 use Rattle.event_script.specs.World.{world_entries}
+use Rattle.board_ports.specs.Account.{Account}
 use Rattle.board_ports.specs.Plugged.{Plugged}
 use Rattle.board_outside.specs.Moves.{Move, HasMet, Meets, seen_of}
 use Rattle.board_run.specs.declared.engine.Engine.{Engine}
@@ -46,12 +47,12 @@ pub record IsResting (e : Engine) : Type 0 where
   pub quiet : e.bus.queue ≡ []
 
 -- The clock came to a moment, with these events.
-pub record CameTo {B : Type 0} (log : B → Option (List (ℕ × ℕ))) (faults : B → ℕ) (t : ℕ) (events : List Event) (old new : Engine) (plugged plugged' : Plugged B) : Type 0 where
+pub record CameTo {B : Type 0} (account : B → Account) (t : ℕ) (events : List Event) (old new : Engine) (plugged plugged' : Plugged B) : Type 0 where
   pub moves : List Move
   pub silent : seen_of moves ≡ []
   pub shows : (image : List ℕ) (w : World Fiber Shared) → Represents image (state_of old) w
       → Represents image (state_of new) (jump t (with_kept t events w)) × Meets moves w.board (jump t (with_kept t events w)).board
-  pub ports : PortsMeet log faults moves plugged plugged'
+  pub ports : PortsMeet account moves plugged plugged'
 
 -- The board shows these worlds, whatever free words follow, and they have met these moves.
 pub record Shows (image : List ℕ) (b : BoardState) (at : List ℕ → World Fiber Shared) (moves : List Move) : Type 0 where

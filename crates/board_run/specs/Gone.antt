@@ -24,6 +24,7 @@ use Rattle.board_run.specs.Proceeding.{led_lines, first_sent}
 use Rattle.board_run.specs.Going.{next_moment, IsDueAt, IsResting, Shows, Goes, Sees}
 use Rattle.board_run.specs.Ran.{IsMounted}
 use Rattle.board_run.specs.View.{state_of, end_of}
+use Rattle.board_ports.specs.Account.{Account}
 
 -- Which moments a board may go through: on a board as it was mounted moment 0, with an instruction at least; and else the next moment at
 -- which something comes, an event that is kept among it, where nobody is left to go on before.
@@ -32,10 +33,10 @@ MayGo moment budget kept e = ((image : List ℕ) × (script : EventScript) × Is
 
 -- A board went through a moment in so many instructions: the sink took the lines of what they met, and then this text, and the
 -- numbers that were sent stand behind these.
-pub record HasGone {B : Type 0} (log : B → Option (List (ℕ × ℕ))) (faults : B → ℕ) (lead : ByteList) (numbers : List ℤ) (moment used : ℕ) (old new : Board B) (taken taken' : Option (List ℕ)) (behind : ByteList) : Type 0 where
+pub record HasGone {B : Type 0} (account : B → Account) (lead : ByteList) (numbers : List ℤ) (moment used : ℕ) (old new : Board B) (taken taken' : Option (List ℕ)) (behind : ByteList) : Type 0 where
   pub moves : List Move
   pub goes : (image : List ℕ) → Goes image moment used old.kept new.kept moves (state_of old.engine) (state_of new.engine)
-  pub ports : PortsMeet log faults moves old.plugs new.plugs
+  pub ports : PortsMeet account moves old.plugs new.plugs
   pub sent : new.sent ≡ first_sent numbers (seen_of moves)
   pub written : Took taken taken' (led_lines lead (seen_of moves) ++ behind)
   pub counted : new.instructions ≡ old.instructions + used
@@ -61,40 +62,40 @@ pub record IsPassed {B : Type 0} (moment used budget : ℕ) (b : Board B) : Type
   pub rests : b.engine.end ≡ None → (IsSome b.engine.runtime.running × (used ≡ budget)) ⊎ IsIdle moment b
 
 -- The run has ended so, and the sink took the closing line behind the others.
-pub record EndsBy {B : Type 0} (log : B → Option (List (ℕ × ℕ))) (faults : B → ℕ) (lead : ByteList) (moment budget : ℕ) (stop : Stop) (old new : Board B) (taken taken' : Option (List ℕ)) : Type 0 where
+pub record EndsBy {B : Type 0} (account : B → Account) (lead : ByteList) (moment budget : ℕ) (stop : Stop) (old new : Board B) (taken taken' : Option (List ℕ)) : Type 0 where
   pub used : ℕ
   pub within : used ≤ budget
   pub ended : new.engine.end ≡ Some stop
-  pub gone : HasGone log faults lead [] moment used old new taken taken' (lead ++ closing_line moment (Some (end_of stop)))
+  pub gone : HasGone account lead [] moment used old new taken taken' (lead ++ closing_line moment (Some (end_of stop)))
 
 -- The sink failed in the line of an observation: those before were taken whole, and the devices have met what they show.
-pub record IsCutShort {B : Type 0} (log : B → Option (List (ℕ × ℕ))) (faults : B → ℕ) (lead : ByteList) (moment budget : ℕ) (old new : Board B) (taken taken' : Option (List ℕ)) : Type 0 where
+pub record IsCutShort {B : Type 0} (account : B → Account) (lead : ByteList) (moment budget : ℕ) (old new : Board B) (taken taken' : Option (List ℕ)) : Type 0 where
   pub used : ℕ
   pub within : used ≤ budget
   pub done : List Move
   pub last : Observation
   pub sees : (image : List ℕ) (at : List ℕ → World Fiber Shared) (met : List Move) → Shows image (state_of old.engine) at met → Sees image moment used old.kept (seen_of done ++ last ∷ []) at
-  pub ports : PortsMeet log faults done old.plugs new.plugs
+  pub ports : PortsMeet account done old.plugs new.plugs
   pub written : TookInto taken taken' (led_lines lead (seen_of done)) (lead ++ line last)
 
 -- It failed in the closing line.
-pub record IsCutLast {B : Type 0} (log : B → Option (List (ℕ × ℕ))) (faults : B → ℕ) (lead : ByteList) (moment budget : ℕ) (old new : Board B) (taken taken' : Option (List ℕ)) : Type 0 where
+pub record IsCutLast {B : Type 0} (account : B → Account) (lead : ByteList) (moment budget : ℕ) (old new : Board B) (taken taken' : Option (List ℕ)) : Type 0 where
   pub used : ℕ
   pub within : used ≤ budget
   pub stop : Stop
   pub ended : new.engine.end ≡ Some stop
   pub taken_before : Option (List ℕ)
-  pub gone : HasGone log faults lead [] moment used old new taken taken_before []
+  pub gone : HasGone account lead [] moment used old new taken taken_before []
   pub written : TookInto taken_before taken' [] (lead ++ closing_line moment (Some (end_of stop)))
 
 -- What a call that went through a moment answered.
-abbrev pub Went : {B : Type 0} → (B → Option (List (ℕ × ℕ))) → (B → ℕ) → ByteList → (moment budget : ℕ) → Board B → Board B → Option (List ℕ) → Option (List ℕ) → ℕ → ℕ → Gone → Type 0
-Went log faults lead moment budget old new taken taken' fs fs' (Idle used) = (used ≤ budget) × HasGone log faults lead [] moment used old new taken taken' [] × IsIdle moment new
-Went log faults lead moment budget old new taken taken' fs fs' (Ended Budget) =
-    HasGone log faults lead [] moment budget old new taken taken' [] × (new.engine.end ≡ None) × IsSome new.engine.runtime.running
-Went log faults lead moment budget old new taken taken' fs fs' (Ended (Panic code)) = EndsBy log faults lead moment budget (StopPanic code) old new taken taken'
-Went log faults lead moment budget old new taken taken' fs fs' (Ended (Fault fault address)) = EndsBy log faults lead moment budget (StopFault fault address) old new taken taken'
-Went log faults lead moment budget old new taken taken' fs fs' (Ended SinkFault) =
-    (IsCutShort log faults lead moment budget old new taken taken' ⊎ IsCutLast log faults lead moment budget old new taken taken') × Rose fs fs'
-Went log faults lead moment budget old new taken taken' fs fs' (Ended Quiet) = ⊥
-Went log faults lead moment budget old new taken taken' fs fs' (Ended Script) = ⊥
+abbrev pub Went : {B : Type 0} → (B → Account) → ByteList → (moment budget : ℕ) → Board B → Board B → Option (List ℕ) → Option (List ℕ) → ℕ → ℕ → Gone → Type 0
+Went account lead moment budget old new taken taken' fs fs' (Idle used) = (used ≤ budget) × HasGone account lead [] moment used old new taken taken' [] × IsIdle moment new
+Went account lead moment budget old new taken taken' fs fs' (Ended Budget) =
+    HasGone account lead [] moment budget old new taken taken' [] × (new.engine.end ≡ None) × IsSome new.engine.runtime.running
+Went account lead moment budget old new taken taken' fs fs' (Ended (Panic code)) = EndsBy account lead moment budget (StopPanic code) old new taken taken'
+Went account lead moment budget old new taken taken' fs fs' (Ended (Fault fault address)) = EndsBy account lead moment budget (StopFault fault address) old new taken taken'
+Went account lead moment budget old new taken taken' fs fs' (Ended SinkFault) =
+    (IsCutShort account lead moment budget old new taken taken' ⊎ IsCutLast account lead moment budget old new taken taken') × Rose fs fs'
+Went account lead moment budget old new taken taken' fs fs' (Ended Quiet) = ⊥
+Went account lead moment budget old new taken taken' fs fs' (Ended Script) = ⊥

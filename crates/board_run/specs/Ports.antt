@@ -1,5 +1,6 @@
 -- Idle moves, at the ports.
 use Rattle.std.specs.Prelude.{◌≡◌, ℕ, List, [], ◌++◌, Option, None}
+use Rattle.board_ports.specs.Account.{Account}
 use Rattle.board_ports.specs.Plugged.{Plugged}
 use Rattle.board_ports.specs.History.{PortMove, Follows}
 use Rattle.board_outside.specs.Moves.{Move, seen_of}
@@ -8,8 +9,8 @@ use Rattle.board_run.specs.Represents.{BoardState}
 use Rattle.board_run.specs.Run.{ComesTo}
 
 -- Idle moves unplug, and show nothing.
-pub record Idles {B : Type 0} (log : B → Option (List (ℕ × ℕ))) (faults : B → ℕ) (old new : BoardState) (plugged plugged' : Plugged B) : Type 0 where
+pub record Idles {B : Type 0} (account : B → Account) (old new : BoardState) (plugged plugged' : Plugged B) : Type 0 where
   pub moves : List Move
   pub silent : seen_of moves ≡ []
   pub comes : (image : List ℕ) → ComesTo None image 0 moves old new
-  pub ports : (before : List PortMove) (start : List (Option B)) → Follows log faults before start plugged → Follows log faults (before ++ port_moves moves) start plugged'
+  pub ports : (before : List PortMove) (start : List (Option B)) → Follows account before start plugged → Follows account (before ++ port_moves moves) start plugged'

@@ -18,6 +18,7 @@ use Rattle.board_run.specs.Run.{idled_to, run_to, Reaches}
 use Rattle.board_run.specs.Idling.{IsEmpty}
 use Rattle.board_run.specs.Advancing.{PortsMeet}
 use Rattle.board_run.specs.View.{state_of}
+use Rattle.board_ports.specs.Account.{Account}
 
 -- the lines of what was seen, with this lead before each
 abbrev pub led_lines : ByteList → List Observation → ByteList
@@ -58,22 +59,22 @@ Makes image more moves old new = (bound : Option ℕ) → MakesTo bound image mo
 
 -- The board came so many instructions further while the clock stood; the sink took the lines of what they met, the devices have met it, and
 -- the first numbers that were sent are kept.
-pub record Proceeds {B : Type 0} (log : B → Option (List (ℕ × ℕ))) (faults : B → ℕ) (lead : ByteList) (count : ℕ) (old new : Board B) (taken taken' : Option (List ℕ)) : Type 0 where
+pub record Proceeds {B : Type 0} (account : B → Account) (lead : ByteList) (count : ℕ) (old new : Board B) (taken taken' : Option (List ℕ)) : Type 0 where
   pub moves : List Move
   pub makes : (image : List ℕ) → Makes image count moves (state_of old.engine) (state_of new.engine)
-  pub ports : PortsMeet log faults moves old.plugs new.plugs
+  pub ports : PortsMeet account moves old.plugs new.plugs
   pub sent : new.sent ≡ first_sent old.sent (seen_of moves)
   pub written : Took taken taken' (led_lines lead (seen_of moves))
 
 -- The sink failed in the line of what the last instruction showed, before any word of it was sent.
-pub record Stops {B : Type 0} (log : B → Option (List (ℕ × ℕ))) (faults : B → ℕ) (lead : ByteList) (most : ℕ) (old new : Board B) (taken taken' : Option (List ℕ)) : Type 0 where
+pub record Stops {B : Type 0} (account : B → Account) (lead : ByteList) (most : ℕ) (old new : Board B) (taken taken' : Option (List ℕ)) : Type 0 where
   pub count : ℕ
   pub within : count ≤ most
   pub done : List Move
   pub last : Observation
   pub at : BoardState
   pub makes : (image : List ℕ) → Makes image count (done ++ Seen last ∷ []) (state_of old.engine) at
-  pub ports : PortsMeet log faults done old.plugs new.plugs
+  pub ports : PortsMeet account done old.plugs new.plugs
   pub written : TookInto taken taken' (led_lines lead (seen_of done)) (lead ++ line last)
 
 -- Somebody runs, or nobody is left to go on and no event is queued; or the run is over.
@@ -88,8 +89,8 @@ pub record Stands {B : Type 0} (old new : Board B) : Type 0 where
   pub next : new.engine.next ≡ old.engine.next
 
 -- A board made this number of instructions: as many as it might, or nobody is left to go on now.
-pub record HasProceeded {B : Type 0} (log : B → Option (List (ℕ × ℕ))) (faults : B → ℕ) (lead : ByteList) (count most : ℕ) (old new : Board B) (taken taken' : Option (List ℕ)) : Type 0 where
-  pub proceeds : Proceeds log faults lead count old new taken taken'
+pub record HasProceeded {B : Type 0} (account : B → Account) (lead : ByteList) (count most : ℕ) (old new : Board B) (taken taken' : Option (List ℕ)) : Type 0 where
+  pub proceeds : Proceeds account lead count old new taken taken'
   pub within : count ≤ most
   pub done : (count ≡ most) ⊎ (new.engine.runtime.running ≡ None ⊎ IsSome new.engine.end)
   pub counted : new.instructions ≡ old.instructions + count

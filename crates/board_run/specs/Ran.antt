@@ -24,6 +24,7 @@ use Rattle.board_run.specs.declared.end.Stop.TheVariants.{Quiet as StopQuiet, Sc
 use Rattle.board_run.specs.Represents.{Represents}
 use Rattle.board_run.specs.Advancing.{IsWhole}
 use Rattle.board_run.specs.View.{state_of, end_of}
+use Rattle.board_ports.specs.Account.{Account}
 
 -- the bank machine's world after so many instructions of an image, on a script, with these free words
 abbrev pub world_after : List ℕ → EventScript → List ℕ → ℕ → World Fiber Shared
@@ -42,7 +43,7 @@ pub record IsExecuted (at : ℕ → World Fiber Shared) (budget executed : ℕ) 
 
 -- After the instructions executed the board shows the bank machine's world, whatever stands behind the free words that were used; the sink has
 -- taken the transcript of that world, the devices have met what it has met, and the run ended so, or not yet.
-pub record HasRun {B : Type 0} (log : B → Option (List (ℕ × ℕ))) (faults : B → ℕ) (image : List ℕ) (script : EventScript) (budget : ℕ) (e : Engine) (executed : ℕ)
+pub record HasRun {B : Type 0} (account : B → Account) (image : List ℕ) (script : EventScript) (budget : ℕ) (e : Engine) (executed : ℕ)
     (taken taken' : Option (List ℕ)) (places places' : List (Option B)) (end : Option RunEnd) : Type 0 where
   pub used : List ℕ
   pub moves : List Move
@@ -51,17 +52,17 @@ pub record HasRun {B : Type 0} (log : B → Option (List (ℕ × ℕ))) (faults 
   pub met : (rest : List ℕ) → HasMet moves (world_after image script (used ++ rest) executed).board
   pub ended : (rest : List ℕ) → (world_after image script (used ++ rest) executed).board.end ≡ end
   pub written : (rest : List ℕ) → Took taken taken' (transcript_of (world_after image script (used ++ rest) executed).board)
-  pub devices : DevicesAfter log faults moves places places'
+  pub devices : DevicesAfter account moves places places'
 
 -- The sink stopped the run: one cut of what it meets within the budget is where the sink and the devices stand.
-pub record IsCut {B : Type 0} (log : B → Option (List (ℕ × ℕ))) (faults : B → ℕ) (image : List ℕ) (script : EventScript) (budget : ℕ)
+pub record IsCut {B : Type 0} (account : B → Account) (image : List ℕ) (script : EventScript) (budget : ℕ)
     (taken taken' : Option (List ℕ)) (places places' : List (Option B)) : Type 0 where
   pub free : List ℕ
   pub executed : ℕ
   pub moves : List Move
   pub is_executed : IsExecuted (world_after image script free) budget executed
   pub met : HasMet moves (world_after image script free executed).board
-  pub stopped : (let b : Board = (world_after image script free executed).board in Stopped log faults [] moves (closing_line b.clock b.end) taken taken' places places')
+  pub stopped : (let b : Board = (world_after image script free executed).board in Stopped account [] moves (closing_line b.clock b.end) taken taken' places places')
 
 -- the answer that tells how a run ended by itself, or that its budget ended first
 abbrev pub told : Option Stop → End
@@ -81,12 +82,17 @@ abbrev pub Finishes : Option (List ℕ) → Option (List ℕ) → ℕ → ℕ �
 Finishes taken taken' fs fs' e answer =
     (put : Result (Unit {0}) PutFailed) × Puts taken taken' fs fs' (closing_line e.clock (option_map end_of e.end)) put × (answer ≡ answer_of put e.end)
 
--- What a call that ran a board answered.
-abbrev pub Ran : {B : Type 0} → (B → Option (List (ℕ × ℕ))) → (B → ℕ) → List ℕ → EventScript → ℕ → Engine → ℕ
+-- How a run ended that its sink didn't stop; nothing where its budget ended first.
+abbrev pub end_told : End → Option RunEnd
+end_told Quiet = Some Quietly
+end_told Script = Some By_script
+end_told (Panic code) = Some (Panicked code)
+end_told (Fault fault address) = Some (Faulted (number_of fault) address)
+end_told Budget = None
+end_told SinkFault = None
+
+-- What a call that ran a board answered: that the sink stopped it, where the count of its faults rose, or how the run ended.
+abbrev pub Ran : {B : Type 0} → (B → Account) → List ℕ → EventScript → ℕ → Engine → ℕ
     → Option (List ℕ) → Option (List ℕ) → ℕ → ℕ → List (Option B) → List (Option B) → End → Type 0
-Ran log faults image script budget e executed taken taken' fs fs' places places' Quiet = HasRun log faults image script budget e executed taken taken' places places' (Some Quietly)
-Ran log faults image script budget e executed taken taken' fs fs' places places' Script = HasRun log faults image script budget e executed taken taken' places places' (Some By_script)
-Ran log faults image script budget e executed taken taken' fs fs' places places' (Panic code) = HasRun log faults image script budget e executed taken taken' places places' (Some (Panicked code))
-Ran log faults image script budget e executed taken taken' fs fs' places places' (Fault fault address) = HasRun log faults image script budget e executed taken taken' places places' (Some (Faulted (number_of fault) address))
-Ran log faults image script budget e executed taken taken' fs fs' places places' Budget = HasRun log faults image script budget e executed taken taken' places places' None
-Ran log faults image script budget e executed taken taken' fs fs' places places' SinkFault = IsCut log faults image script budget taken taken' places places' × Rose fs fs'
+Ran account image script budget e executed taken taken' fs fs' places places' SinkFault = IsCut account image script budget taken taken' places places' × Rose fs fs'
+Ran account image script budget e executed taken taken' fs fs' places places' answer = HasRun account image script budget e executed taken taken' places places' (end_told answer)

@@ -2,7 +2,8 @@
 use Rattle.std.specs.Prelude.{◌≡◌, ℕ, ◌+◌, List, ◌++◌, Option, Some, None}
 use Rattle.board_world.specs.Activities.{World}
 use Rattle.board_world.specs.Kinds.{Kind}
-use Rattle.board_world.specs.World.{idled, run}
+use Rattle.board_world.specs.World.{idled}
+use Rattle.board_world.specs.Runs.{run}
 use Rattle.board_world.specs.Before.{idled_before, run_before}
 use Rattle.bank_model.specs.Fibers.{Fiber, Shared}
 use Rattle.bank_model.specs.BoardMachine.{fibers}

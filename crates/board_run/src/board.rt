@@ -130,7 +130,7 @@ pub fn tell<K: Sink, D: Device>(
     requires bytes { All (λ b. b < 256) engine.old.runtime.machine.memory.flash }
     ensures puts { Puts (K.taken out.old) (K.taken out.new) (K.faults out.old) (K.faults out.new)
         (lines (seen_of (moves_of engine.old.runtime.machine.memory.flash now sight))) result }
-    ensures sends { OnOk result (PortsMeet D.log D.faults (moves_of engine.old.runtime.machine.memory.flash now sight) plugs.old plugs.new) }
+    ensures sends { OnOk result (PortsMeet D.account (moves_of engine.old.runtime.machine.memory.flash now sight) plugs.old plugs.new) }
     ensures stays { OnErr result (plugs.new ≡ plugs.old) }
     ensures seen { OnErr result (IsSeen engine.old.runtime.machine.memory.flash now sight) }
     ensures same { engine.new ≡ engine.old }
@@ -153,7 +153,7 @@ impl<D: Device> Board<D> {
         requires size { vec_len image ≤ flash_end }
         requires script { IsSound script }
         ensures mounted { IfOk result (λ board. IsMounted image.items script board.engine) }
-        ensures plugged { IfOk result (λ board. (board.plugs.places ≡ places.items) × Follows D.log D.faults [] places.items board.plugs) }
+        ensures plugged { IfOk result (λ board. (board.plugs.places ≡ places.items) × Follows D.account [] places.items board.plugs) }
         ensures counted { IfOk result (λ board. board.instructions ≡ 0) }
         ensures switched { IfOk result (λ board. board.engine.switch ≡ 0) }
         ensures none { IfOk result (λ board. (board.kept ≡ []) × (board.sent ≡ [])) }
@@ -179,11 +179,11 @@ impl<D: Device> Board<D> {
         requires settled { IsSettled self.old.engine }
         requires going { self.old.engine.end ≡ None }
         requires early { self.old.instructions < 2 ^ 50 }
-        ensures goes { OnOk result (Advances D.log D.faults 1 self.old.engine self.new.engine self.old.plugs self.new.plugs (K.taken out.old) (K.taken out.new)) }
+        ensures goes { OnOk result (Advances D.account 1 self.old.engine self.new.engine self.old.plugs self.new.plugs (K.taken out.old) (K.taken out.new)) }
         ensures whole { OnOk result (IsWhole self.new.engine self.new.instructions) }
         ensures settled { OnOk result (IsSettled self.new.engine) }
         ensures counted { self.new.instructions ≡ self.old.instructions + 1 }
-        ensures cut { OnErr result (Fails D.log D.faults 1 self.old.engine self.old.plugs self.new.plugs (K.taken out.old) (K.taken out.new)) }
+        ensures cut { OnErr result (Fails D.account 1 self.old.engine self.old.plugs self.new.plugs (K.taken out.old) (K.taken out.new)) }
         ensures later { K.faults out.old ≤ K.faults out.new }
         ensures failed { OnErr result (Rose (K.faults out.old) (K.faults out.new)) }
     {
@@ -204,10 +204,10 @@ impl<D: Device> Board<D> {
         requires whole { IsWhole self.old.engine self.old.instructions }
         requires settled { IsSettled self.old.engine }
         requires early { self.old.instructions < 2 ^ 49 }
-        ensures goes { OnOk result ((count : ℕ) × HasExecuted D.log D.faults count most self.old.engine self.new.engine self.old.plugs self.new.plugs (K.taken out.old) (K.taken out.new) (self.old.instructions + count) self.new.instructions) }
+        ensures goes { OnOk result ((count : ℕ) × HasExecuted D.account count most self.old.engine self.new.engine self.old.plugs self.new.plugs (K.taken out.old) (K.taken out.new) (self.old.instructions + count) self.new.instructions) }
         ensures settled { OnOk result (IsSettled self.new.engine) }
         ensures whole { OnOk result (IsWhole self.new.engine self.new.instructions) }
-        ensures cut { OnErr result (Fails D.log D.faults most self.old.engine self.old.plugs self.new.plugs (K.taken out.old) (K.taken out.new)) }
+        ensures cut { OnErr result (Fails D.account most self.old.engine self.old.plugs self.new.plugs (K.taken out.old) (K.taken out.new)) }
         ensures few { self.new.instructions ≤ self.old.instructions + most }
         ensures later { K.faults out.old ≤ K.faults out.new }
         ensures failed { OnErr result (Rose (K.faults out.old) (K.faults out.new)) }
@@ -242,8 +242,8 @@ impl<D: Device> Board<D> {
         requires counted { self.old.instructions ≡ 0 }
         requires least { 1 ≤ budget }
         requires most { budget ≤ 2147483648 }
-        ensures ran { (image : List ℕ) (script : EventScript) (places : List (Option D)) → IsMounted image script self.old.engine → Follows D.log D.faults [] places self.old.plugs
-            → Ran D.log D.faults image script budget self.new.engine self.new.instructions (K.taken out.old) (K.taken out.new) (K.faults out.old) (K.faults out.new) places self.new.plugs.places result }
+        ensures ran { (image : List ℕ) (script : EventScript) (places : List (Option D)) → IsMounted image script self.old.engine → Follows D.account [] places self.old.plugs
+            → Ran D.account image script budget self.new.engine self.new.instructions (K.taken out.old) (K.taken out.new) (K.faults out.old) (K.faults out.new) places self.new.plugs.places result }
         ensures counted { self.new.instructions ≤ budget }
         ensures later { K.faults out.old ≤ K.faults out.new }
     {

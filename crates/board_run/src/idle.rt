@@ -33,7 +33,7 @@ pub(crate) fn apply<D: Device>(
     plugs: &mut Plugs<D>,
 )
     requires { IsSoundAct (world_act act) }
-    ensures applied { Applied D.log D.faults act now buttons.old buttons.new bus.old bus.new plugs.old plugs.new }
+    ensures applied { Applied D.account act now buttons.old buttons.new bus.old bus.new plugs.old plugs.new }
     ensures grows { length bus.new.queue ≤ length bus.old.queue + 2 }
 {
     match act {
@@ -96,7 +96,7 @@ impl Engine {
         requires quiet { self.old.bus.queue ≡ [] }
         requires script { IsSound self.old.script }
         requires within { self.old.next ≤ length self.old.script.entries }
-        ensures idles { Idles D.log D.faults (state_of self.old) (state_of self.new) plugs.old plugs.new }
+        ensures idles { Idles D.account (state_of self.old) (state_of self.new) plugs.old plugs.new }
         ensures script { self.new.script ≡ self.old.script }
         ensures within { self.new.next ≤ length self.old.script.entries }
         ensures counts { self.new.counts ≡ self.old.counts }
@@ -124,7 +124,7 @@ impl Engine {
         requires going { self.old.end ≡ None }
         requires script { IsSound self.old.script }
         requires within { self.old.next ≤ length self.old.script.entries }
-        ensures idles { Idles D.log D.faults (state_of self.old) (state_of self.new) plugs.old plugs.new }
+        ensures idles { Idles D.account (state_of self.old) (state_of self.new) plugs.old plugs.new }
         ensures script { self.new.script ≡ self.old.script }
         ensures within { self.new.next ≤ length self.old.script.entries }
         ensures counts { self.new.counts ≡ self.old.counts }
@@ -141,7 +141,7 @@ impl Engine {
         requires acts { All (λ e. IsSoundAct (world_act e.act)) self.old.script.entries }
         requires within { self.old.next ≤ length self.old.script.entries }
         requires rising { IsRisingFrom moment (world_entries (drop self.old.next self.old.script.entries)) }
-        ensures came { CameTo D.log D.faults moment events.now self.old self.new plugs.old plugs.new }
+        ensures came { CameTo D.account moment events.now self.old self.new plugs.old plugs.new }
         ensures script { self.new.script ≡ self.old.script }
         ensures counts { self.new.counts ≡ self.old.counts }
         ensures end { self.new.end ≡ self.old.end }
@@ -160,7 +160,7 @@ impl Engine {
         requires shown { IsShown (state_of self.old) }
         requires script { IsSound self.old.script }
         requires within { self.old.next ≤ length self.old.script.entries }
-        ensures idles { Idles D.log D.faults (state_of self.old) (state_of self.new) plugs.old plugs.new }
+        ensures idles { Idles D.account (state_of self.old) (state_of self.new) plugs.old plugs.new }
         ensures settled { self.new.end ≡ None → IsSome self.new.runtime.running }
         ensures script { self.new.script ≡ self.old.script }
         ensures within { self.new.next ≤ length self.old.script.entries }
@@ -177,7 +177,7 @@ impl Engine {
         requires shown { IsShown (state_of self.old) }
         requires script { IsSound self.old.script }
         requires within { self.old.next ≤ length self.old.script.entries }
-        ensures idles { Idles D.log D.faults (state_of self.old) (state_of self.new) plugs.old plugs.new }
+        ensures idles { Idles D.account (state_of self.old) (state_of self.new) plugs.old plugs.new }
         ensures settled { self.new.end ≡ None → IsSome self.new.runtime.running }
         ensures script { self.new.script ≡ self.old.script }
         ensures within { self.new.next ≤ length self.old.script.entries }
@@ -196,7 +196,7 @@ impl Engine {
     fn arrive<D: Device>(&mut self, plugs: &mut Plugs<D>)
         requires acts { All (λ e. IsSoundAct (world_act e.act)) self.old.script.entries }
         requires within { self.old.next ≤ length self.old.script.entries }
-        ensures arrived { Arrived D.log D.faults self.old self.new plugs.old plugs.new }
+        ensures arrived { Arrived D.account self.old self.new plugs.old plugs.new }
         ensures stays { self.new ≡ record self.old { bus = self.new.bus; buttons = self.new.buttons; next = self.new.next } }
         ensures later { (self.old.next ≤ self.new.next) × (self.new.next ≤ length self.old.script.entries) }
         ensures grows { length self.new.bus.queue + 2 * self.old.next ≤ length self.old.bus.queue + 2 * self.new.next }

@@ -67,7 +67,7 @@ fn tell_behind<K: Sink, D: Device>(
     requires bytes { All (λ b. b < 256) engine.old.runtime.machine.memory.flash }
     ensures puts { Puts (K.taken out.old) (K.taken out.new) (K.faults out.old) (K.faults out.new)
         (led_lines lead.now (seen_of (moves_of engine.old.runtime.machine.memory.flash now sight))) result }
-    ensures sends { OnOk result (PortsMeet D.log D.faults (moves_of engine.old.runtime.machine.memory.flash now sight) plugs.old plugs.new) }
+    ensures sends { OnOk result (PortsMeet D.account (moves_of engine.old.runtime.machine.memory.flash now sight) plugs.old plugs.new) }
     ensures stays { OnErr result (plugs.new ≡ plugs.old) }
     ensures same { engine.new ≡ engine.old }
 {
@@ -91,7 +91,7 @@ fn tell_led<K: Sink, D: Device>(
     requires bytes { All (λ b. b < 256) engine.old.runtime.machine.memory.flash }
     ensures puts { Puts (K.taken out.old) (K.taken out.new) (K.faults out.old) (K.faults out.new)
         (led_lines lead.now (seen_of (moves_of engine.old.runtime.machine.memory.flash now sight))) result }
-    ensures sends { OnOk result (PortsMeet D.log D.faults (moves_of engine.old.runtime.machine.memory.flash now sight) plugs.old plugs.new) }
+    ensures sends { OnOk result (PortsMeet D.account (moves_of engine.old.runtime.machine.memory.flash now sight) plugs.old plugs.new) }
     ensures stays { OnErr result (plugs.new ≡ plugs.old) }
     ensures seen { OnErr result (IsSeen engine.old.runtime.machine.memory.flash now sight) }
     ensures same { engine.new ≡ engine.old }
@@ -177,12 +177,12 @@ impl<D: Device> Board<D> {
         requires runs { IsSome self.old.engine.runtime.running }
         requires going { self.old.engine.end ≡ None }
         requires early { self.old.instructions < 2 ^ 50 }
-        ensures goes { OnOk result (Proceeds D.log D.faults lead.now 1 self.old self.new (K.taken out.old) (K.taken out.new)) }
+        ensures goes { OnOk result (Proceeds D.account lead.now 1 self.old self.new (K.taken out.old) (K.taken out.new)) }
         ensures whole { OnOk result (IsWhole self.new.engine self.new.instructions) }
         ensures stayed { OnOk result (IsStayed self.new.engine) }
         ensures stands { OnOk result (Stands self.old self.new) }
         ensures counted { self.new.instructions ≡ self.old.instructions + 1 }
-        ensures cut { OnErr result (Stops D.log D.faults lead.now 1 self.old self.new (K.taken out.old) (K.taken out.new)) }
+        ensures cut { OnErr result (Stops D.account lead.now 1 self.old self.new (K.taken out.old) (K.taken out.new)) }
         ensures later { K.faults out.old ≤ K.faults out.new }
         ensures failed { OnErr result (Rose (K.faults out.old) (K.faults out.new)) }
     {
@@ -204,10 +204,10 @@ impl<D: Device> Board<D> {
         requires whole { IsWhole self.old.engine self.old.instructions }
         requires stayed { IsStayed self.old.engine }
         requires early { self.old.instructions + most < 2 ^ 50 }
-        ensures goes { OnOk result ((count : ℕ) × HasProceeded D.log D.faults lead.now count most self.old self.new (K.taken out.old) (K.taken out.new)) }
+        ensures goes { OnOk result ((count : ℕ) × HasProceeded D.account lead.now count most self.old self.new (K.taken out.old) (K.taken out.new)) }
         ensures whole { OnOk result (IsWhole self.new.engine self.new.instructions) }
         ensures stayed { OnOk result (IsStayed self.new.engine) }
-        ensures cut { OnErr result (Stops D.log D.faults lead.now most self.old self.new (K.taken out.old) (K.taken out.new)) }
+        ensures cut { OnErr result (Stops D.account lead.now most self.old self.new (K.taken out.old) (K.taken out.new)) }
         ensures later { K.faults out.old ≤ K.faults out.new }
         ensures failed { OnErr result (Rose (K.faults out.old) (K.faults out.new)) }
     {
@@ -233,8 +233,8 @@ impl<D: Device> Board<D> {
         requires resting { IsResting self.old.engine }
         requires due { IsDueAt moment self.old.kept self.old.engine }
         requires early { self.old.instructions + most < 2 ^ 50 }
-        ensures goes { OnOk result ((count : ℕ) × HasGone D.log D.faults lead.now self.old.sent moment count self.old self.new (K.taken out.old) (K.taken out.new) [] × IsPassed moment count most self.new) }
-        ensures cut { OnErr result (IsCutShort D.log D.faults lead.now moment most self.old self.new (K.taken out.old) (K.taken out.new)) }
+        ensures goes { OnOk result ((count : ℕ) × HasGone D.account lead.now self.old.sent moment count self.old self.new (K.taken out.old) (K.taken out.new) [] × IsPassed moment count most self.new) }
+        ensures cut { OnErr result (IsCutShort D.account lead.now moment most self.old self.new (K.taken out.old) (K.taken out.new)) }
         ensures later { K.faults out.old ≤ K.faults out.new }
         ensures failed { OnErr result (Rose (K.faults out.old) (K.faults out.new)) }
     {
@@ -271,8 +271,8 @@ impl<D: Device> Board<D> {
         requires whole { IsWhole self.old.engine self.old.instructions }
         requires may { MayGo moment most self.old.kept self.old.engine }
         requires early { self.old.instructions + most < 2 ^ 50 }
-        ensures goes { OnOk result ((count : ℕ) × HasGone D.log D.faults lead.now self.old.sent moment count self.old self.new (K.taken out.old) (K.taken out.new) [] × IsPassed moment count most self.new) }
-        ensures cut { OnErr result (IsCutShort D.log D.faults lead.now moment most self.old self.new (K.taken out.old) (K.taken out.new)) }
+        ensures goes { OnOk result ((count : ℕ) × HasGone D.account lead.now self.old.sent moment count self.old self.new (K.taken out.old) (K.taken out.new) [] × IsPassed moment count most self.new) }
+        ensures cut { OnErr result (IsCutShort D.account lead.now moment most self.old self.new (K.taken out.old) (K.taken out.new)) }
         ensures later { K.faults out.old ≤ K.faults out.new }
         ensures failed { OnErr result (Rose (K.faults out.old) (K.faults out.new)) }
     {
@@ -335,7 +335,7 @@ impl<D: Device> Board<D> {
         requires may { MayGo moment budget self.old.kept self.old.engine }
         requires early { self.old.instructions < 2 ^ 49 }
         requires most { budget ≤ 2147483648 }
-        ensures went { Went D.log D.faults lead.now moment budget self.old self.new (K.taken out.old) (K.taken out.new) (K.faults out.old) (K.faults out.new) result }
+        ensures went { Went D.account lead.now moment budget self.old self.new (K.taken out.old) (K.taken out.new) (K.faults out.old) (K.faults out.new) result }
         ensures later { K.faults out.old ≤ K.faults out.new }
     {
         self.sent.clear();
@@ -358,7 +358,7 @@ impl<D: Device> Board<D> {
         requires may { MayGo moment budget self.old.kept self.old.engine }
         requires early { self.old.instructions < 2 ^ 49 }
         requires most { budget ≤ 2147483648 }
-        ensures went { Went D.log D.faults [] moment budget self.old self.new (K.taken out.old) (K.taken out.new) (K.faults out.old) (K.faults out.new) result }
+        ensures went { Went D.account [] moment budget self.old self.new (K.taken out.old) (K.taken out.new) (K.faults out.old) (K.faults out.new) result }
         ensures later { K.faults out.old ≤ K.faults out.new }
     {
         self.go_led(moment, budget, b"", out)

@@ -31,7 +31,7 @@ impl<D: Device> Board<D> {
         requires going { self.old.engine.end ≡ None }
         requires early { self.old.instructions < 2 ^ 49 }
         requires some { 1 ≤ instructions }
-        ensures parted { Parted D.log D.faults instructions self.old.engine self.new.engine self.old.plugs self.new.plugs (K.taken out.old) (K.taken out.new)
+        ensures parted { Parted D.account instructions self.old.engine self.new.engine self.old.plugs self.new.plugs (K.taken out.old) (K.taken out.new)
             (K.faults out.old) (K.faults out.new) self.old.instructions self.new.instructions result }
         ensures whole { IfNone result (IsWhole self.new.engine self.new.instructions) }
         ensures settled { IfNone result (IsSettled self.new.engine) }
@@ -60,7 +60,7 @@ impl<D: Device> Board<D> {
         requires stays_plugged { MayArrive (world_act act) }
         ensures arrives { Arrives (world_act act) (state_of self.old.engine) (state_of self.new.engine) }
         ensures stays { self.new.engine ≡ record self.old.engine { bus = self.new.engine.bus; buttons = self.new.engine.buttons } }
-        ensures ports { PortsMeet D.log D.faults [] self.old.plugs self.new.plugs }
+        ensures ports { PortsMeet D.account [] self.old.plugs self.new.plugs }
         ensures whole { IsWhole self.new.engine self.new.instructions }
         ensures settled { IsSettled self.new.engine }
         ensures counted { self.new.instructions ≡ self.old.instructions }

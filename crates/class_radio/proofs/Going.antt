@@ -4,6 +4,7 @@ use Rattle.std.proofs.lemmas.Bool.Decides.{nat_tests}
 use Rattle.std.specs.Prelude.{IfSome, codes}
 use Rattle.std.specs.Option.{option_map}
 use Rattle.std.specs.List.{AllByRecursion}
+use Rattle.board_ports.specs.Account.{Account}
 use Rattle.board_ports.specs.declared.sure.SureDevice.{SureDevice}
 use Rattle.board_world.specs.Observations.{ByteList, Observation}
 use Rattle.board_world.specs.Transcript.{line, closing_line, count_text}
@@ -60,8 +61,8 @@ part_into a b c whole next h k = record {
 }
 
 module _ (number budget : ℕ) (setup : Setup) (script : List Entry) (t : ℕ) (used : List ℕ) (seen : List Observation) (p : Player) (may : MayGoOn number budget setup script t used seen p)
-    (log : SureDevice → Option (List (ℕ × ℕ))) (faults : SureDevice → ℕ) (k : ℕ) (new : Player) (taken taken' : Option (List ℕ)) (behind : ByteList)
-    (g : HasGone log faults p.lead [] t k p.board new.board taken taken' behind) where
+    (account : SureDevice → Account) (k : ℕ) (new : Player) (taken taken' : Option (List ℕ)) (behind : ByteList)
+    (g : HasGone account p.lead [] t k p.board new.board taken taken' behind) where
   abbrev C : Course setup script t used seen p
   C = ways number budget setup script t used seen p may
 
@@ -323,7 +324,7 @@ module _ (number budget : ℕ) (setup : Setup) (script : List Entry) (t : ℕ) (
 
 -- The sink failed in the line of an observation.
 module _ (number budget : ℕ) (setup : Setup) (script : List Entry) (t : ℕ) (used : List ℕ) (seen : List Observation) (p : Player) (may : MayGoOn number budget setup script t used seen p)
-    (log : SureDevice → Option (List (ℕ × ℕ))) (faults : SureDevice → ℕ) (new : Board SureDevice) (taken taken' : Option (List ℕ)) (g : IsCutShort log faults p.lead t p.left p.board new taken taken') where
+    (account : SureDevice → Account) (new : Board SureDevice) (taken taken' : Option (List ℕ)) (g : IsCutShort account p.lead t p.left p.board new taken taken') where
   abbrev Co : Course setup script t used seen p
   Co = ways number budget setup script t used seen p may
 
@@ -428,28 +429,28 @@ module _ (number budget : ℕ) (setup : Setup) (script : List Entry) (t : ℕ) (
 
 -- whatever became of its board, it is so
 pub stepped_by : (number budget : ℕ) (setup : Setup) (script : List Entry) (t : ℕ) (used : List ℕ) (seen : List Observation) (p : Player) (may : MayGoOn number budget setup script t used seen p)
-    (log : SureDevice → Option (List (ℕ × ℕ))) (faults : SureDevice → ℕ) (board : Board SureDevice) (taken taken' : Option (List ℕ)) (fs fs' : ℕ) (gone : Gone)
-    → Went log faults p.lead t p.left p.board board taken taken' fs fs' gone → PlayedOn number budget setup script t seen (noting gone (record p { board = board })) taken taken' fs fs' (step_told gone)
-stepped_by number budget setup script t used seen p may log faults board taken taken' fs fs' (Idle n) h =
-    went_idle number budget setup script t used seen p may log faults n (noting (Idle n) (record p { board = board })) taken taken' [] h.1 h.2 h.0 refl refl (let low : n ≤ p.left = h.0 in omega (arith, low)) refl refl
-stepped_by number budget setup script t used seen p may log faults board taken taken' fs fs' (Ended (Panic code)) h =
-    went_stopped number budget setup script t used seen p may log faults h.used (noting (Ended (Panic code)) (record p { board = board })) taken taken' (p.lead ++ closing_line t (Some (end_of (StopPanic code)))) h.gone (StopPanic code) h.ended h.within refl refl refl refl
-stepped_by number budget setup script t used seen p may log faults board taken taken' fs fs' (Ended (Fault fault address)) h =
-    went_stopped number budget setup script t used seen p may log faults h.used (noting (Ended (Fault fault address)) (record p { board = board })) taken taken' (p.lead ++ closing_line t (Some (end_of (StopFault fault address)))) h.gone (StopFault fault address) h.ended h.within refl refl refl refl
-stepped_by number budget setup script t used seen p may log faults board taken taken' fs fs' (Ended Budget) h =
-    went_cut number budget setup script t used seen p may log faults p.left (record p { board = board }) taken taken' [] h.0 h.1 h.2 refl refl
-stepped_by number budget setup script t used seen p may log faults board taken taken' fs fs' (Ended SinkFault) h = (by_where h.0, h.1)
+    (account : SureDevice → Account) (board : Board SureDevice) (taken taken' : Option (List ℕ)) (fs fs' : ℕ) (gone : Gone)
+    → Went account p.lead t p.left p.board board taken taken' fs fs' gone → PlayedOn number budget setup script t seen (noting gone (record p { board = board })) taken taken' fs fs' (step_told gone)
+stepped_by number budget setup script t used seen p may account board taken taken' fs fs' (Idle n) h =
+    went_idle number budget setup script t used seen p may account n (noting (Idle n) (record p { board = board })) taken taken' [] h.1 h.2 h.0 refl refl (let low : n ≤ p.left = h.0 in omega (arith, low)) refl refl
+stepped_by number budget setup script t used seen p may account board taken taken' fs fs' (Ended (Panic code)) h =
+    went_stopped number budget setup script t used seen p may account h.used (noting (Ended (Panic code)) (record p { board = board })) taken taken' (p.lead ++ closing_line t (Some (end_of (StopPanic code)))) h.gone (StopPanic code) h.ended h.within refl refl refl refl
+stepped_by number budget setup script t used seen p may account board taken taken' fs fs' (Ended (Fault fault address)) h =
+    went_stopped number budget setup script t used seen p may account h.used (noting (Ended (Fault fault address)) (record p { board = board })) taken taken' (p.lead ++ closing_line t (Some (end_of (StopFault fault address)))) h.gone (StopFault fault address) h.ended h.within refl refl refl refl
+stepped_by number budget setup script t used seen p may account board taken taken' fs fs' (Ended Budget) h =
+    went_cut number budget setup script t used seen p may account p.left (record p { board = board }) taken taken' [] h.0 h.1 h.2 refl refl
+stepped_by number budget setup script t used seen p may account board taken taken' fs fs' (Ended SinkFault) h = (by_where h.0, h.1)
   where
-    by_where : IsCutShort log faults p.lead t p.left p.board board taken taken' ⊎ IsCutLast log faults p.lead t p.left p.board board taken taken' → WasBroken number budget setup script t seen taken taken'
-    by_where (inl g) = broke_short number budget setup script t used seen p may log faults board taken taken' g
-    by_where (inr h) = broke_last number budget setup script t used seen p may log faults h.used (record p { board = board }) taken h.taken_before [] h.gone h.stop h.ended h.within refl taken' h.written
-stepped_by number budget setup script t used seen p may log faults board taken taken' fs fs' (Ended Quiet) h = absurd h
-stepped_by number budget setup script t used seen p may log faults board taken taken' fs fs' (Ended Script) h = absurd h
+    by_where : IsCutShort account p.lead t p.left p.board board taken taken' ⊎ IsCutLast account p.lead t p.left p.board board taken taken' → WasBroken number budget setup script t seen taken taken'
+    by_where (inl g) = broke_short number budget setup script t used seen p may account board taken taken' g
+    by_where (inr h) = broke_last number budget setup script t used seen p may account h.used (record p { board = board }) taken h.taken_before [] h.gone h.stop h.ended h.within refl taken' h.written
+stepped_by number budget setup script t used seen p may account board taken taken' fs fs' (Ended Quiet) h = absurd h
+stepped_by number budget setup script t used seen p may account board taken taken' fs fs' (Ended Script) h = absurd h
 
-pub taken_by : (lead : ByteList) (t left : ℕ) (log : SureDevice → Option (List (ℕ × ℕ))) (faults : SureDevice → ℕ) (old board : Board SureDevice) (taken taken' : Option (List ℕ)) (fs fs' : ℕ) (gone : Gone)
-    → Went log faults lead t left old board taken taken' fs fs' gone → IsTaken left gone
-taken_by lead t left log faults old board taken taken' fs fs' (Idle n) h = h.0
-taken_by lead t left log faults old board taken taken' fs fs' (Ended end) h = tt
+pub taken_by : (lead : ByteList) (t left : ℕ) (account : SureDevice → Account) (old board : Board SureDevice) (taken taken' : Option (List ℕ)) (fs fs' : ℕ) (gone : Gone)
+    → Went account lead t left old board taken taken' fs fs' gone → IsTaken left gone
+taken_by lead t left account old board taken taken' fs fs' (Idle n) h = h.0
+taken_by lead t left account old board taken taken' fs fs' (Ended end) h = tt
 
 pub noting_lead : (gone : Gone) (p : Player) → (noting gone p).lead ≡ p.lead
 noting_lead (Idle used) p = refl

@@ -7,13 +7,15 @@ use Rattle.board_world.specs.Observations.{End as RunEnd, Observation}
 use Rattle.board_world.specs.Transcript.{line, lines, closing_line}
 use Rattle.board_world.specs.Board.{Board, over, transcript_of}
 use Rattle.board_world.specs.Activities.{World}
-use Rattle.board_world.specs.World.{idled, run}
-use Rattle.board_world.specs.Arrivals.{Arrival, run_with}
+use Rattle.board_world.specs.World.{idled}
+use Rattle.board_world.specs.Runs.{Arrival, run}
+use Rattle.board_world.proofs.Laws.{run_by_list}
 use Rattle.bank_model.specs.Fibers.{Fiber, Shared}
 use Rattle.bank_model.specs.BoardMachine.{fibers, bank_start}
 use Rattle.tool_io.specs.Putting.{Took, TookPart, Puts}
 use Rattle.tool_io.specs.declared.sink.PutFailed.{PutFailed}
 use Rattle.tool_io.proofs.Laws.{took-then, rose-before}
+use Rattle.board_ports.specs.Account.{Account}
 use Rattle.board_ports.specs.Plugged.{Plugged}
 use Rattle.board_ports.specs.History.{Follows}
 use Rattle.board_ports.proofs.Laws.{places_after}
@@ -36,7 +38,7 @@ use Rattle.board_run.proofs.Laws.{ports_then, into_then}
 use Rattle.irq_arrival.specs.Along.{world_with, NoneBefore, AllMay, Along}
 use Rattle.irq_arrival.specs.RanOn.{HasRunOn, IsCutOn, RanOn}
 use Rattle.irq_arrival.specs.Underway.{Underway}
-use Rattle.irq_arrival.proofs.Joins.{shows}
+use Rattle.irq_arrival.proofs.Joins.{shows, listed}
 use Rattle.irq_arrival.proofs.Courses.{with_moved}
 use Rattle.irq_arrival.proofs.Meets.{with_meets}
 use Rattle.irq_arrival.proofs.Counted.{least_executed, with_ended}
@@ -45,8 +47,8 @@ is_over : (o : Option Stop) → IsSome o → is_some (option_map end_of o) ≡ t
 is_over (Some x) q = refl
 is_over None q = absurd (let c : false ≡ true = q in cc)
 
-module _ {B : Type 0} (log : B → Option (List (ℕ × ℕ))) (faults : B → ℕ) (arrivals left : List Arrival) (first e : Engine) (plugged p : Plugged B) (taken t : Option (List ℕ)) (n : ℕ)
-    (h : Underway log faults arrivals first e plugged p taken t left n) (budget : ℕ) (image : List ℕ) (script : Script) (m : IsMounted image script first) (places : List (Option B)) (f : Follows log faults [] places plugged) where
+module _ {B : Type 0} (account : B → Account) (arrivals left : List Arrival) (first e : Engine) (plugged p : Plugged B) (taken t : Option (List ℕ)) (n : ℕ)
+    (h : Underway account arrivals first e plugged p taken t left n) (budget : ℕ) (image : List ℕ) (script : Script) (m : IsMounted image script first) (places : List (Option B)) (f : Follows account [] places plugged) where
   abbrev course : List ℕ → ℕ → World Fiber Shared
   course = world_with image script.end (world_entries script.entries) arrivals
 
@@ -56,8 +58,8 @@ module _ {B : Type 0} (log : B → Option (List (ℕ × ℕ))) (faults : B → �
   abbrev along : Along image course left n used h.moves (state_of e)
   along = (h.along image script m).1
 
-  devices_after : (moves : List Move) (q : Plugged B) → PortsMeet log faults moves plugged q → DevicesAfter log faults moves places q.places
-  devices_after moves q meet = places_after log faults (port_moves moves) places q (meet [] places f)
+  devices_after : (moves : List Move) (q : Plugged B) → PortsMeet account moves plugged q → DevicesAfter account moves places q.places
+  devices_after moves q meet = places_after account (port_moves moves) places q (meet [] places f)
 
   -- nothing arrives any more at this moment, or the run is over
   module _ (d : IsSome e.end ⊎ NoneBefore (n + 1) left) where
@@ -91,7 +93,7 @@ module _ {B : Type 0} (log : B → Option (List (ℕ × ℕ))) (faults : B → �
 
     -- the closing line was taken
     ran_whole : (u : Option (List ℕ)) → n ≤ budget → (n ≡ budget) ⊎ IsSome e.end → Took t u (closing_line e.clock (option_map end_of e.end))
-        → HasRunOn log faults image course budget (state_of e) n taken u places p.places (option_map end_of e.end)
+        → HasRunOn account image course budget (state_of e) n taken u places p.places (option_map end_of e.end)
     ran_whole u within done took = record {
       used = used;
       moves = h.moves;
@@ -104,7 +106,7 @@ module _ {B : Type 0} (log : B → Option (List (ℕ × ℕ))) (faults : B → �
     }
 
     -- the closing line was cut
-    ran_cut : (u : Option (List ℕ)) → n ≤ budget → (n ≡ budget) ⊎ IsSome e.end → TookPart t u (closing_line e.clock (option_map end_of e.end)) → IsCutOn log faults course budget taken u places p.places
+    ran_cut : (u : Option (List ℕ)) → n ≤ budget → (n ≡ budget) ⊎ IsSome e.end → TookPart t u (closing_line e.clock (option_map end_of e.end)) → IsCutOn account course budget taken u places p.places
     ran_cut u within done part = record {
       free = used ++ [];
       executed = n;
@@ -129,22 +131,22 @@ module _ {B : Type 0} (log : B → Option (List (ℕ × ℕ))) (faults : B → �
     }
 
     pub finished : (u : Option (List ℕ)) (fs mid fs' : ℕ) (answer : End) → n ≤ budget → (n ≡ budget) ⊎ IsSome e.end → fs ≤ mid → Finishes t u mid fs' e answer
-        → RanOn log faults image course budget (state_of e) n taken u fs fs' places p.places answer
-    finished u fs mid fs' answer within done later fin = subst (RanOn log faults image course budget (state_of e) n taken u fs fs' places p.places) (sym fin.2) (by_put fin.0 fin.1)
+        → RanOn account image course budget (state_of e) n taken u fs fs' places p.places answer
+    finished u fs mid fs' answer within done later fin = subst (RanOn account image course budget (state_of e) n taken u fs fs' places p.places) (sym fin.2) (by_put fin.0 fin.1)
       where
-        whole : (o : Option Stop) → e.end ≡ o → Took t u (closing_line e.clock (option_map end_of e.end)) → RanOn log faults image course budget (state_of e) n taken u fs fs' places p.places (told o)
-        whole None q took = subst (λ o. HasRunOn log faults image course budget (state_of e) n taken u places p.places (option_map end_of o)) q (ran_whole u within done took)
-        whole (Some StopQuiet) q took = subst (λ o. HasRunOn log faults image course budget (state_of e) n taken u places p.places (option_map end_of o)) q (ran_whole u within done took)
-        whole (Some StopScript) q took = subst (λ o. HasRunOn log faults image course budget (state_of e) n taken u places p.places (option_map end_of o)) q (ran_whole u within done took)
-        whole (Some (StopPanic code)) q took = subst (λ o. HasRunOn log faults image course budget (state_of e) n taken u places p.places (option_map end_of o)) q (ran_whole u within done took)
-        whole (Some (StopFault fault address)) q took = subst (λ o. HasRunOn log faults image course budget (state_of e) n taken u places p.places (option_map end_of o)) q (ran_whole u within done took)
+        whole : (o : Option Stop) → e.end ≡ o → Took t u (closing_line e.clock (option_map end_of e.end)) → RanOn account image course budget (state_of e) n taken u fs fs' places p.places (told o)
+        whole None q took = subst (λ o. HasRunOn account image course budget (state_of e) n taken u places p.places (option_map end_of o)) q (ran_whole u within done took)
+        whole (Some StopQuiet) q took = subst (λ o. HasRunOn account image course budget (state_of e) n taken u places p.places (option_map end_of o)) q (ran_whole u within done took)
+        whole (Some StopScript) q took = subst (λ o. HasRunOn account image course budget (state_of e) n taken u places p.places (option_map end_of o)) q (ran_whole u within done took)
+        whole (Some (StopPanic code)) q took = subst (λ o. HasRunOn account image course budget (state_of e) n taken u places p.places (option_map end_of o)) q (ran_whole u within done took)
+        whole (Some (StopFault fault address)) q took = subst (λ o. HasRunOn account image course budget (state_of e) n taken u places p.places (option_map end_of o)) q (ran_whole u within done took)
 
-        by_put : (put : Result (Unit {0}) PutFailed) → Puts t u mid fs' (closing_line e.clock (option_map end_of e.end)) put → RanOn log faults image course budget (state_of e) n taken u fs fs' places p.places (answer_of put e.end)
+        by_put : (put : Result (Unit {0}) PutFailed) → Puts t u mid fs' (closing_line e.clock (option_map end_of e.end)) put → RanOn account image course budget (state_of e) n taken u fs fs' places p.places (answer_of put e.end)
         by_put (Ok x) puts = whole e.end refl puts.took
         by_put (Err x) puts = (ran_cut u within done puts.part, rose-before fs mid fs' later puts.failed)
 
   -- The line of an observation was cut: the run goes on to meet more, whatever the sink does.
-  module _ (most : ℕ) (q : Plugged B) (u : Option (List ℕ)) (g : Fails log faults most e p q t u) (inside : n + most ≤ budget) (none : NoneBefore (n + most) left) (may : AllMay left) where
+  module _ (most : ℕ) (q : Plugged B) (u : Option (List ℕ)) (g : Fails account most e p q t u) (inside : n + most ≤ budget) (none : NoneBefore (n + most) left) (may : AllMay left) where
     before_last : (l : List Arrival) → NoneBefore (n + most) l → NoneBefore (n + g.count) l
     before_last [] b = tt
     before_last (a ∷ rest) b = (let w = g.within in omega (arith, w, b))
@@ -159,7 +161,7 @@ module _ {B : Type 0} (log : B → Option (List (ℕ × ℕ))) (faults : B → �
     abbrev words : List ℕ
     words = (g.executes image along.at 0 [] h.moves from_here).0 ++ []
 
-    pub fails_cut : IsCutOn log faults course budget taken u places q.places
+    pub fails_cut : IsCutOn account course budget taken u places q.places
     fails_cut =
         let z : g.count + 0 ≡ g.count = omega arith in
         let v : World Fiber Shared = run (fibers image) g.count (along.at words) in
@@ -168,13 +170,13 @@ module _ {B : Type 0} (log : B → Option (List (ℕ × ℕ))) (faults : B → �
         let here : idled (fibers image) (reached.at []) ≡ v = reached.settles [] ∙ (ap (run (fibers image) (g.count + 0)) (along.still words) ∙ ap (λ k. run (fibers image) k (along.at words)) z) in
         let more = with_meets (fibers image) left (n + g.count) budget v (met ++ idle.0) may (subst (λ (w : World Fiber Shared). HasMet (met ++ idle.0) w.board) here idle.1) in
         let count : n + g.count ≤ budget = (let w = g.within in omega (arith, w, inside)) in
-        let onward : run_with (fibers image) (n + g.count) left budget v ≡ course (used ++ words) budget =
-        sym (with_moved (fibers image) left n g.count budget (along.at words) (before_last left none) count) ∙ along.onward words budget (omega (arith, count)) in
+        let onward : run_by_list (fibers image) (n + g.count) left budget v ≡ course (used ++ words) budget =
+        sym (with_moved (fibers image) left n g.count budget (along.at words) (before_last left none) count) ∙ listed image course left n used h.moves (state_of e) along words budget (omega (arith, count)) in
         let executed = least_executed (course (used ++ words)) budget in
         let last : course (used ++ words) budget ≡ course (used ++ words) executed.0 =
         elim executed.1.done [
           | inl same ↦ ap (course (used ++ words)) (sym same)
-          | inr o ↦ with_ended (fibers image) arrivals 0 executed.0 budget (bank_start image script.end (world_entries script.entries) (used ++ words)) executed.1.within o
+          | inr o ↦ with_ended (fibers image) arrivals executed.0 budget (bank_start image script.end (world_entries script.entries) (used ++ words)) executed.1.within o
         ] in
         record {
           free = used ++ words;
@@ -188,8 +190,8 @@ module _ {B : Type 0} (log : B → Option (List (ℕ × ℕ))) (faults : B → �
             split = split h.moves g.done g.last idle.0 more.0;
             due = tt;
             written = subst (λ l. TookInto taken u l (line g.last)) (sym (lines-append (seen_of h.moves) (seen_of g.done)) ∙ ap lines (sym (seen_of-append h.moves g.done)))
-                (into_then log faults (lines (seen_of h.moves)) (lines (seen_of g.done)) (line g.last) h.written g.written);
-            devices = devices_after (h.moves ++ g.done) q (ports_then log faults h.moves g.done plugged p q h.ports g.ports);
+                (into_then account (lines (seen_of h.moves)) (lines (seen_of g.done)) (line g.last) h.written g.written);
+            devices = devices_after (h.moves ++ g.done) q (ports_then account h.moves g.done plugged p q h.ports g.ports);
           };
         }
       where

@@ -3,7 +3,7 @@ use Rattle.std.proofs.Common.{◌≡◌, ℕ, List, [], ◌++◌, Option, Some, 
 use Rattle.board_world.specs.Observations.{ByteList, End as RunEnd, Faulted}
 use Rattle.board_world.specs.Transcript.{lines, closing_line}
 use Rattle.board_world.specs.Board.{Board, transcript_of}
-use Rattle.board_world.specs.Arrivals.{Arrival, Rises}
+use Rattle.board_world.specs.Runs.{Arrival, Rises}
 use Rattle.board_world.specs.Invariants.{SoundEnd}
 use Rattle.tool_io.specs.Putting.{Took}
 use Rattle.event_script.specs.World.{world_entries}
@@ -20,12 +20,13 @@ use Rattle.irq_arrival.specs.RanOn.{HasRunOn, IsCutOn, RanOn}
 use Rattle.irq_arrival.specs.ImageRuns.{world_at, RunsToAt, RunsImageAt}
 use Rattle.irq_arrival.specs.SourceRuns.{source_at, MeetsAt, RunsSourceTo, CutsSource, RunsSourceAt}
 use Rattle.irq_arrival.proofs.Reaching.{reaches, faultless}
+use Rattle.board_ports.specs.Account.{Account}
 
-module _ {B : Type 0} (log : B → Option (List (ℕ × ℕ))) (faults : B → ℕ) (image : List ℕ) (script : EventScript) (arrivals : List Arrival) (budget : ℕ)
+module _ {B : Type 0} (account : B → Account) (image : List ℕ) (script : EventScript) (arrivals : List Arrival) (budget : ℕ)
     (taken taken' : Option (List ℕ)) (fs fs' : ℕ) (places places' : List (Option B)) where
   -- a board's run along the worlds of an image's run
   module _ (b : BoardState) (executed : ℕ) where
-    runs_to : (end : Option RunEnd) → HasRunOn log faults image (world_at image script arrivals) budget b executed taken taken' places places' end → RunsToAt log faults image script arrivals budget taken taken' places places' end
+    runs_to : (end : Option RunEnd) → HasRunOn account image (world_at image script arrivals) budget b executed taken taken' places places' end → RunsToAt account image script arrivals budget taken taken' places places' end
     runs_to end h = record {
       free = h.used ++ [];
       executed = executed;
@@ -37,7 +38,7 @@ module _ {B : Type 0} (log : B → Option (List (ℕ × ℕ))) (faults : B → �
       devices = h.devices;
     }
 
-    pub runs_image : (end : End) → RanOn log faults image (world_at image script arrivals) budget b executed taken taken' fs fs' places places' end → RunsImageAt log faults image script arrivals budget taken taken' fs fs' places places' end
+    pub runs_image : (end : End) → RanOn account image (world_at image script arrivals) budget b executed taken taken' fs fs' places places' end → RunsImageAt account image script arrivals budget taken taken' fs fs' places places' end
     runs_image Quiet h = runs_to _ h
     runs_image Script h = runs_to _ h
     runs_image (Panic code) h = runs_to _ h
@@ -71,7 +72,7 @@ module _ {B : Type 0} (log : B → Option (List (ℕ × ℕ))) (faults : B → �
     text_alike : (b c : Board) → LooksLike b c → transcript_of c ≡ transcript_of b
     text_alike b c l = ap (λ os. lines os ++ closing_line c.clock c.end) (sym l.seen) ∙ ap (λ t. lines b.seen ++ t) (closing_alike b c l)
 
-    source_to : (end : Option RunEnd) → RunsToAt log faults image script arrivals budget taken taken' places places' end → RunsSourceTo log faults P texts image script arrivals budget taken taken' places places' end
+    source_to : (end : Option RunEnd) → RunsToAt account image script arrivals budget taken taken' places places' end → RunsSourceTo account P texts image script arrivals budget taken taken' places places' end
     unfolding meets
     source_to end r =
         let m = meets r.free r.executed r.moves r.is_executed r.met in
@@ -82,17 +83,17 @@ module _ {B : Type 0} (log : B → Option (List (ℕ × ℕ))) (faults : B → �
           devices = r.devices;
         }
 
-    source_cut : IsCutOn log faults (world_at image script arrivals) budget taken taken' places places' → CutsSource log faults P texts image script arrivals budget taken taken' places places'
+    source_cut : IsCutOn account (world_at image script arrivals) budget taken taken' places places' → CutsSource account P texts image script arrivals budget taken taken' places places'
     unfolding meets
     source_cut c =
         let m = meets c.free c.executed c.moves c.is_executed c.met in
-        record { meets = m.0; stopped = subst (λ t. Stopped log faults [] c.moves t taken taken' places places') (closing_alike _ _ m.1) c.stopped }
+        record { meets = m.0; stopped = subst (λ t. Stopped account [] c.moves t taken taken' places places') (closing_alike _ _ m.1) c.stopped }
 
-    never : (kind address : ℕ) → RunsToAt log faults image script arrivals budget taken taken' places places' (Some (Faulted kind address)) → ⊥
+    never : (kind address : ℕ) → RunsToAt account image script arrivals budget taken taken' places places' (Some (Faulted kind address)) → ⊥
     never kind address r =
         subst (λ (e : Option RunEnd). SoundEnd (λ kind address. ⊥) e) r.ended (faultless P texts image implements script.end (world_entries script.entries) arrivals rises r.free r.executed)
 
-    pub runs_source : (end : End) → RunsImageAt log faults image script arrivals budget taken taken' fs fs' places places' end → RunsSourceAt log faults P texts image script arrivals budget taken taken' fs fs' places places' end
+    pub runs_source : (end : End) → RunsImageAt account image script arrivals budget taken taken' fs fs' places places' end → RunsSourceAt account P texts image script arrivals budget taken taken' fs fs' places places' end
     runs_source Quiet r = source_to _ r
     runs_source Script r = source_to _ r
     runs_source (Panic code) r = source_to _ r

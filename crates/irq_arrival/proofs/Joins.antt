@@ -5,9 +5,9 @@ use Rattle.board_world.specs.Board.{Act, Down, Up, Raise, Unplug, Board, Entry, 
 use Rattle.board_world.specs.declared.events.Event.{Event}
 use Rattle.board_world.specs.Kinds.{Kind}
 use Rattle.board_world.specs.Activities.{World}
-use Rattle.board_world.specs.World.{idle_bound, run}
-use Rattle.board_world.specs.Arrivals.{Arrival, acts, Rises, run_with}
-use Rattle.board_world.proofs.Laws.{busy_stays}
+use Rattle.board_world.specs.World.{idle_bound}
+use Rattle.board_world.specs.Runs.{Arrival, acts, Rises, run}
+use Rattle.board_world.proofs.Laws.{busy_stays, run_by_list, with_list}
 use Rattle.bank_model.specs.Fibers.{Fiber, Shared}
 use Rattle.bank_model.specs.BoardMachine.{fibers, bank_start}
 use Rattle.board_outside.specs.Moves.{Move, HasMet}
@@ -16,7 +16,7 @@ use Rattle.board_run.specs.Run.{Reaches}
 use Rattle.board_run.specs.Advancing.{Executes}
 use Rattle.irq_arrival.specs.Along.{world_with, NoneBefore, Along, IsStill}
 use Rattle.board_run.specs.Parting.{MayArrive, Arrives}
-use Rattle.irq_arrival.proofs.Courses.{with_moved, with_before, with_now, with_here, with_over}
+use Rattle.irq_arrival.proofs.Courses.{with_moved, with_before, with_now, with_here, with_over, onward_list}
 
 pub begins : (image : List ℕ) (until : ℕ) (script : List Entry) (arrivals : List Arrival) (b : BoardState) → Rises 0 arrivals
     → ((free : List ℕ) → Represents image b (bank_start image until script free)) → Along image (world_with image until script arrivals) arrivals 0 [] [] b
@@ -27,13 +27,18 @@ begins image until script arrivals b r shown = record {
   met = λ rest. record { seen = refl; unplugged = refl };
   still = λ rest. busy_stays (fibers image) (idle_bound (bank_start image until script rest).board) _ [] (bank_start image until script rest);
   rises = r;
-  onward = λ rest m l. refl;
+  onward = λ rest m l. onward_list (fibers image) arrivals 0 m (bank_start image until script rest) r l ∙ sym (with_list (fibers image) m arrivals (bank_start image until script rest) r);
   before = λ rest j l. absurd (omega (arith, l));
 }
 
 rises_later : (left : List Arrival) (n m : ℕ) → Rises n left → NoneBefore m left → Rises m left
 rises_later [] n m r b = tt
 rises_later (a ∷ rest) n m r b = (b, r.1)
+
+-- what is left arrives by the list
+pub listed : (image : List ℕ) (course : List ℕ → ℕ → World Fiber Shared) (left : List Arrival) (n : ℕ) (used : List ℕ) (met : List Move) (b : BoardState)
+    → (h : Along image course left n used met b) → (rest : List ℕ) (m : ℕ) → n ≤ m → run_by_list (fibers image) n left m (h.at rest) ≡ course (used ++ rest) m
+listed image course left n used met b h rest m l = sym (onward_list (fibers image) left n m (h.at rest) h.rises l) ∙ h.onward rest m l
 
 module _ (image : List ℕ) (course : List ℕ → ℕ → World Fiber Shared) (left : List Arrival) (n count : ℕ) (used : List ℕ) (met moves : List Move) (b c : BoardState) (h : Along image course left n used met b) (x : Executes image count moves b c) (still : IsStill image c) (none : NoneBefore (n + count) left) where
   K : Kind Fiber Shared
@@ -65,9 +70,10 @@ module _ (image : List ℕ) (course : List ℕ → ℕ → World Fiber Shared) (
       still = λ rest. still (reached.at rest) (reached.shows rest);
       rises = rises_later left n (n + count) h.rises none;
       onward = λ rest m l.
-          ap (λ w. run_with (fibers image) (n + count) left m w) (at_is rest)
+          onward_list (fibers image) left (n + count) m (reached.at rest) (rises_later left n (n + count) h.rises none) l
+          ∙ (ap (λ w. run_by_list (fibers image) (n + count) left m w) (at_is rest)
           ∙ (sym (with_moved (fibers image) left n count m (h.at (further ++ rest)) none l)
-          ∙ (h.onward (further ++ rest) m (omega arith) ∙ ap (λ ws. course ws m) (sym (append_assoc used further rest))));
+          ∙ (listed image course left n used met b h (further ++ rest) m (omega arith) ∙ ap (λ ws. course ws m) (sym (append_assoc used further rest)))));
       before = λ rest j l. by_test rest j l (nat_lt j n) refl;
     },
   )
@@ -77,7 +83,7 @@ module _ (image : List ℕ) (course : List ℕ → ℕ → World Fiber Shared) (
       by_test rest j l false e =
           let m : n ≤ j = grind (arith, nat_tests) in
           ap (λ ws. over (course ws j).board) (append_assoc used further rest)
-          ∙ (ap (λ (w : World Fiber Shared). over w.board) (sym (h.onward (further ++ rest) j m) ∙ with_before (fibers image) left n count j (h.at (further ++ rest)) none m l)
+          ∙ (ap (λ (w : World Fiber Shared). over w.board) (sym (listed image course left n used met b h (further ++ rest) j m) ∙ with_before (fibers image) left n count j (h.at (further ++ rest)) none m l)
           ∙ (ap (λ w. over (run (fibers image) (j - n) w).board) (sym (h.still (further ++ rest)))
           ∙ (x h.at 0 [] met from_here).2 rest (j - n) (omega arith) (omega arith)))
 
@@ -126,7 +132,9 @@ arrives image course a left n used met b c h e m going x still = record {
   met = λ rest. acts_met a.act met (h.at rest) m (going_on rest) (h.met rest);
   still = λ rest. still (acts a.act (h.at rest)) (x image (h.at rest) (h.shows rest));
   rises = subst (λ i. Rises i left) e h.rises.1;
-  onward = λ rest j l. sym (with_now (fibers image) a left n j (h.at rest) e l) ∙ h.onward rest j l;
+  onward = λ rest j l.
+      onward_list (fibers image) left n j (acts a.act (h.at rest)) (subst (λ i. Rises i left) e h.rises.1) l
+      ∙ (sym (with_now (fibers image) a left n j (h.at rest) e l) ∙ listed image course (a ∷ left) n used met b h rest j l);
   before = h.before;
 }
   where
@@ -137,10 +145,10 @@ pub shows : (image : List ℕ) (course : List ℕ → ℕ → World Fiber Shared
     → (h : Along image course left n used met b) → ((rest : List ℕ) → over (h.at rest).board ≡ true) ⊎ NoneBefore (n + 1) left
     → (rest : List ℕ) → Represents image b (course (used ++ rest) n) × HasMet met (course (used ++ rest) n).board
 shows image course left n used met b h d rest =
-    let e : course (used ++ rest) n ≡ h.at rest = sym (h.onward rest n (omega arith)) ∙ here in
+    let e : course (used ++ rest) n ≡ h.at rest = sym (listed image course left n used met b h rest n (omega arith)) ∙ here in
     (subst (Represents image b) (sym e) (h.shows rest), subst (λ (w : World Fiber Shared). HasMet met w.board) (sym e) (h.met rest))
   where
-    here : run_with (fibers image) n left n (h.at rest) ≡ h.at rest
+    here : run_by_list (fibers image) n left n (h.at rest) ≡ h.at rest
     here = elim d [
       | inl o ↦ with_over (fibers image) left n (h.at rest) h.rises (o rest)
       | inr none ↦ with_here (fibers image) left n (h.at rest) none

@@ -2,7 +2,7 @@
 use Rattle.std.proofs.Common.{◌≡◌, ℕ, suc, ◌+◌, ◌<◌, ◌≤◌, List, [], ◌∷◌, length, drop, get_or, true, false, All, ap, ◌∙◌, arith, drop-cons}
 use Rattle.std.specs.Prelude.{IsTrue}
 use Rattle.std.proofs.lemmas.List.Elements.{All-head, All-tail}
-use Rattle.board_world.specs.Arrivals.{Arrival as WorldArrival, Rises}
+use Rattle.board_world.specs.Runs.{Arrival as WorldArrival, Rises}
 use Rattle.event_script.specs.World.{world_act}
 use Rattle.event_script.specs.declared.script.Act.{Act}
 use Rattle.event_script.specs.declared.script.Act.TheVariants.{Down, Up, Raise, Unplug}

@@ -4,12 +4,13 @@ use Rattle.std.specs.Prelude.{Result}
 use Rattle.std.specs.Option.{option_map}
 use Rattle.board_world.specs.Board.{Board}
 use Rattle.board_world.specs.Transcript.{closing_line}
-use Rattle.board_world.specs.Arrivals.{Arrival}
+use Rattle.board_world.specs.Runs.{Arrival}
 use Rattle.tool_io.specs.Putting.{Puts}
 use Rattle.tool_io.specs.declared.sink.PutFailed.{PutFailed}
 use Rattle.tool_io.proofs.Laws.{rose-before}
 use Rattle.event_script.specs.World.{world_entries}
 use Rattle.event_script.specs.declared.script.Script.{Script}
+use Rattle.board_ports.specs.Account.{Account}
 use Rattle.board_ports.specs.Plugged.{Plugged}
 use Rattle.board_run.specs.declared.engine.Engine.{Engine}
 use Rattle.board_run.specs.declared.end.End.{End}
@@ -42,11 +43,11 @@ none_sooner n m (a ∷ rest) l b = omega arith
 pub mounted_goes : (image : List ℕ) (script : Script) (e : Engine) → IsMounted image script e → e.end ≡ None
 mounted_goes image script e m = none_is e.end (sym (ap (λ (b : Board). b.end) (m.begins []).board))
 
-module _ {B : Type 0} (log : B → Option (List (ℕ × ℕ))) (faults : B → ℕ) where
+module _ {B : Type 0} (account : B → Account) where
   pub stands_begins : (xs : List FileArrival) (budget : ℕ) (image : List ℕ) (script : Script) (first : Engine) (plugged : Plugged B) (taken : Option (List ℕ)) (instructions : ℕ) → IsSound xs → IsMounted image script first → instructions ≡ 0
-      → Stands log faults (world_arrivals xs) budget first first plugged plugged taken taken (world_arrivals xs) 0 instructions
+      → Stands account (world_arrivals xs) budget first first plugged plugged taken taken (world_arrivals xs) 0 instructions
   stands_begins xs budget image script first plugged taken instructions s m z = record {
-    underway = underway_begins log faults (world_arrivals xs) first plugged taken (rises_below 0 1 (world_arrivals xs) (omega arith) s.order);
+    underway = underway_begins account (world_arrivals xs) first plugged taken (rises_below 0 1 (world_arrivals xs) (omega arith) s.order);
     whole = m.whole;
     counted = z;
     going = mounted_goes image script first m;
@@ -57,48 +58,48 @@ module _ {B : Type 0} (log : B → Option (List (ℕ × ℕ))) (faults : B → �
   }
 
   module _ (arrivals : List Arrival) (budget : ℕ) (first e : Engine) (plugged p : Plugged B) (taken t : Option (List ℕ)) (left : List Arrival) (n instructions : ℕ)
-      (s : Stands log faults arrivals budget first e plugged p taken t left n instructions) where
+      (s : Stands account arrivals budget first e plugged p taken t left n instructions) where
     -- a part that nothing is left to go on behind
     pub stands_stops : (to : ℕ) (f : Engine) (q : Plugged B) (u : Option (List ℕ)) (fs mid fs' new : ℕ) (answer : End) → n ≤ to → to ≤ budget → NoneBefore to left → fs ≤ mid
-        → Parted log faults (to - n) e f p q t u mid fs' instructions new (Some answer) → RanWith log faults arrivals budget first f new plugged q taken u fs fs' answer
+        → Parted account (to - n) e f p q t u mid fs' instructions new (Some answer) → RanWith account arrivals budget first f new plugged q taken u fs fs' answer
     stands_stops to f q u fs mid fs' new answer l b none later (inl x) = λ image script places m follows.
         let h = x.executed in
         let within : n + x.count ≤ to = (let w = h.within in omega (arith, w, l)) in
-        let on = underway_goes log faults arrivals first plugged taken left n x.count e f p q t x.mid s.underway h.advances (some_settled f x.ended) (none_sooner (n + x.count) to left within none) in
+        let on = underway_goes account arrivals first plugged taken left n x.count e f p q t x.mid s.underway h.advances (some_settled f x.ended) (none_sooner (n + x.count) to left within none) in
         let count : n + x.count ≡ new = (let c = h.counted in let d = s.counted in omega (arith, c, d)) in
         let less : fs ≤ x.fault = (let k = x.later in omega (arith, k, later)) in
-        subst (λ k. RanOn log faults image (world_with image script.end (world_entries script.entries) arrivals) budget (state_of f) k taken u fs fs' places q.places answer) count
-        (finished log faults arrivals left first f plugged q taken x.mid (n + x.count) on budget image script m places follows (inl x.ended) u fs x.fault fs' answer (omega arith) (inr x.ended) less x.finishes)
+        subst (λ k. RanOn account image (world_with image script.end (world_entries script.entries) arrivals) budget (state_of f) k taken u fs fs' places q.places answer) count
+        (finished account arrivals left first f plugged q taken x.mid (n + x.count) on budget image script m places follows (inl x.ended) u fs x.fault fs' answer (omega arith) (inr x.ended) less x.finishes)
     stands_stops to f q u fs mid fs' new answer l b none later (inr x) = λ image script places m follows.
         let whole : n + (to - n) ≡ to = omega arith in
-        subst (RanOn log faults image (world_with image script.end (world_entries script.entries) arrivals) budget (state_of f) new taken u fs fs' places q.places) (sym x.1) (
-          fails_cut log faults arrivals left first e plugged p taken t n s.underway budget image script m places follows (to - n) q u x.0 (omega arith) (subst (λ k. NoneBefore k left) (sym whole) none) s.may,
+        subst (RanOn account image (world_with image script.end (world_entries script.entries) arrivals) budget (state_of f) new taken u fs fs' places q.places) (sym x.1) (
+          fails_cut account arrivals left first e plugged p taken t n s.underway budget image script m places follows (to - n) q u x.0 (omega arith) (subst (λ k. NoneBefore k left) (sym whole) none) s.may,
           rose-before fs mid fs' later x.2,
         )
 
     -- a part that goes on
     pub stands_goes : (to : ℕ) (f : Engine) (q : Plugged B) (u : Option (List ℕ)) (mid fs' new : ℕ) → n ≤ to → NoneBefore to left → IsSettled f
-        → Parted log faults (to - n) e f p q t u mid fs' instructions new None → Underway log faults arrivals first f plugged q taken u left to × (new ≡ to) × (f.end ≡ None)
+        → Parted account (to - n) e f p q t u mid fs' instructions new None → Underway account arrivals first f plugged q taken u left to × (new ≡ to) × (f.end ≡ None)
     stands_goes to f q u mid fs' new l none settled x =
         let whole : n + (to - n) ≡ to = omega arith in (
-          subst (Underway log faults arrivals first f plugged q taken u left) whole
-              (underway_goes log faults arrivals first plugged taken left n (to - n) e f p q t u s.underway x.0.advances settled (subst (λ k. NoneBefore k left) (sym whole) none)),
+          subst (Underway account arrivals first f plugged q taken u left) whole
+              (underway_goes account arrivals first plugged taken left n (to - n) e f p q t u s.underway x.0.advances settled (subst (λ k. NoneBefore k left) (sym whole) none)),
           (let c = x.0.counted in let d = s.counted in omega (arith, c, d, l)),
           x.1,
         )
 
   -- an act behind a part
   pub stands_takes : (arrivals : List Arrival) (budget : ℕ) (first e f g : Engine) (plugged p q r : Plugged B) (taken t u : Option (List ℕ)) (a : Arrival) (left : List Arrival) (n instructions mid fs' new last : ℕ)
-      → Stands log faults arrivals budget first e plugged p taken t (a ∷ left) n instructions → Parted log faults (a.count - n) e f p q t u mid fs' instructions new None → IsSettled f → a.count ≤ budget
-      → Arrives a.act (state_of f) (state_of g) → g.end ≡ f.end → PortsMeet log faults [] q r → IsWhole g last → IsSettled g → last ≡ new
-      → Stands log faults arrivals budget first g plugged r taken u left a.count last
+      → Stands account arrivals budget first e plugged p taken t (a ∷ left) n instructions → Parted account (a.count - n) e f p q t u mid fs' instructions new None → IsSettled f → a.count ≤ budget
+      → Arrives a.act (state_of f) (state_of g) → g.end ≡ f.end → PortsMeet account [] q r → IsWhole g last → IsSettled g → last ≡ new
+      → Stands account arrivals budget first g plugged r taken u left a.count last
   stands_takes arrivals budget first e f g plugged p q r taken t u a left n instructions mid fs' new last s x settled within acted ends ports whole still same =
       let l : n ≤ a.count = s.rises.0 in
       let none : a.count ≤ a.count = omega arith in
       let on = stands_goes arrivals budget first e plugged p taken t (a ∷ left) n instructions s a.count f q u mid fs' new l none settled x in
       let counted : last ≡ a.count = same ∙ on.1 in
       record {
-        underway = underway_takes log faults arrivals first plugged taken a left a.count f g q r u on.0 refl s.may.0 on.2 acted ports still;
+        underway = underway_takes account arrivals first plugged taken a left a.count f g q r u on.0 refl s.may.0 on.2 acted ports still;
         whole = subst (IsWhole g) counted whole;
         counted = counted;
         going = ends ∙ on.2;
@@ -110,10 +111,10 @@ module _ {B : Type 0} (log : B → Option (List (ℕ × ℕ))) (faults : B → �
 
   -- the closing line where the budget ends the run
   pub stands_finishes : (arrivals : List Arrival) (budget : ℕ) (first e f : Engine) (plugged p q : Plugged B) (taken t u v : Option (List ℕ)) (left : List Arrival) (n instructions mid fs' new fs fs0 : ℕ) (put : Result (Unit {0}) PutFailed)
-      → Stands log faults arrivals budget first e plugged p taken t left n instructions → Parted log faults (budget - n) e f p q t u mid fs' instructions new None → IsSettled f → NoneBefore (budget + 1) left
-      → fs0 ≤ fs' → Puts u v fs' fs (closing_line f.clock None) put → RanWith log faults arrivals budget first f new plugged q taken v fs0 fs (answer_of put None)
+      → Stands account arrivals budget first e plugged p taken t left n instructions → Parted account (budget - n) e f p q t u mid fs' instructions new None → IsSettled f → NoneBefore (budget + 1) left
+      → fs0 ≤ fs' → Puts u v fs' fs (closing_line f.clock None) put → RanWith account arrivals budget first f new plugged q taken v fs0 fs (answer_of put None)
   stands_finishes arrivals budget first e f plugged p q taken t u v left n instructions mid fs' new fs fs0 put s x settled none later puts = λ image script places m follows.
       let on = stands_goes arrivals budget first e plugged p taken t left n instructions s budget f q u mid fs' new s.within (none_sooner budget (budget + 1) left (omega arith) none) settled x in
-      subst (λ k. RanOn log faults image (world_with image script.end (world_entries script.entries) arrivals) budget (state_of f) k taken v fs0 fs places q.places (answer_of put None)) (sym on.1)
-      (finished log faults arrivals left first f plugged q taken u budget on.0 budget image script m places follows (inr none) v fs0 fs' fs (answer_of put None) (omega arith) (inl refl) later
+      subst (λ k. RanOn account image (world_with image script.end (world_entries script.entries) arrivals) budget (state_of f) k taken v fs0 fs places q.places (answer_of put None)) (sym on.1)
+      (finished account arrivals left first f plugged q taken u budget on.0 budget image script m places follows (inr none) v fs0 fs' fs (answer_of put None) (omega arith) (inl refl) later
       (put, subst (λ o. Puts u v fs' fs (closing_line f.clock (option_map end_of o)) put) (sym on.2) puts, ap (answer_of put) (sym on.2)))

@@ -1,9 +1,9 @@
 -- A board in the course of a run with arrivals.
-use Rattle.std.specs.Prelude.{◌≡◌, ℕ, ◌<◌, ◌≤◌, List, [], ◌∷◌, ◌++◌, None, false}
+use Rattle.std.specs.Prelude.{◌≡◌, ℕ, ◌-◌, ◌<◌, ◌≤◌, List, [], ◌∷◌, ◌++◌, None, false}
 use Rattle.board_world.specs.Board.{Entry, over}
 use Rattle.board_world.specs.Activities.{World}
 use Rattle.board_world.specs.World.{idled}
-use Rattle.board_world.specs.Arrivals.{Arrival, Rises, run_with}
+use Rattle.board_world.specs.Runs.{Arrival, Rises, run_with, since}
 use Rattle.bank_model.specs.Fibers.{Fiber, Shared}
 use Rattle.bank_model.specs.BoardMachine.{fibers, bank_start}
 use Rattle.board_outside.specs.Moves.{Move, HasMet}
@@ -12,7 +12,7 @@ use Rattle.board_run.specs.Parting.{MayArrive}
 
 -- the bank machine's world after so many instructions of an image, on a script and with these arrivals, with these free words
 abbrev pub world_with : List ℕ → ℕ → List Entry → List Arrival → List ℕ → ℕ → World Fiber Shared
-world_with image until script arrivals free n = run_with (fibers image) 0 arrivals n (bank_start image until script free)
+world_with image until script arrivals free n = run_with (fibers image) arrivals n (bank_start image until script free)
 
 -- nothing arrives before a moment
 abbrev pub NoneBefore : ℕ → List Arrival → Type 0
@@ -33,7 +33,7 @@ pub record Along (image : List ℕ) (course : List ℕ → ℕ → World Fiber S
   pub met : (rest : List ℕ) → HasMet moves (at rest).board
   pub still : (rest : List ℕ) → idled (fibers image) (at rest) ≡ at rest
   pub rises : Rises n left
-  pub onward : (rest : List ℕ) (m : ℕ) → n ≤ m → run_with (fibers image) n left m (at rest) ≡ course (used ++ rest) m
+  pub onward : (rest : List ℕ) (m : ℕ) → n ≤ m → run_with (fibers image) (since n left) (m - n) (at rest) ≡ course (used ++ rest) m
   pub before : (rest : List ℕ) (j : ℕ) → j < n → over (course (used ++ rest) j).board ≡ false
 
 -- where the board shows a world, that world makes no idle move

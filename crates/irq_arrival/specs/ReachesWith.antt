@@ -4,7 +4,7 @@ use Rattle.board_world.specs.Observations.{ByteList}
 use Rattle.board_world.specs.Board.{Entry, over}
 use Rattle.board_world.specs.Activities.{World}
 use Rattle.board_world.specs.Simulation.{Paired}
-use Rattle.board_world.specs.Arrivals.{Arrival, RisesTo, Placed, run_with, applied}
+use Rattle.board_world.specs.Runs.{Arrival, RisesTo, Placed, run_with, applied}
 use Rattle.bank_model.specs.BoardMachine.{fibers, bank_start}
 use Rattle.sts_syntax.specs.TypedTrees.{TypedProgram}
 use Rattle.sts_meaning.specs.Frames.{Activity}
@@ -16,7 +16,7 @@ use Rattle.irq_arrival.specs.Along.{world_with}
 
 -- the world of a program's source after so many counted steps, on a script and with these arrivals
 abbrev pub source_with : TypedProgram → List ByteList → ℕ → List Entry → List Arrival → ℕ → World Activity Heap
-source_with P texts until script places steps = run_with (source P texts) 0 places steps (source_start P texts until script)
+source_with P texts until script places steps = run_with (source P texts) places steps (source_start P texts until script)
 
 -- For these free words the run of an image with arrivals looks, after the instructions executed within a budget, like its program's source after
 -- these counted steps, where each arrival that was applied comes at a step of the source's own, near its instruction: those steps don't fall, and
@@ -25,8 +25,8 @@ source_with P texts until script places steps = run_with (source P texts) 0 plac
 pub record ReachesWith (P : TypedProgram) (texts : List ByteList) (image : List ℕ) (until : ℕ) (script : List Entry) (arrivals : List Arrival) (budget : ℕ) (free : List ℕ) (executed steps : ℕ) (places : List Arrival) : Type 0 where
   pub is_executed : IsExecuted (world_with image until script arrivals free) budget executed
   pub rises : RisesTo 0 places steps
-  pub placed : Paired (Placed instructions_of_a_step) (applied (fibers image) 0 arrivals executed (bank_start image until script free)) places
-  pub are_first : applied (fibers image) 0 arrivals executed (bank_start image until script free) ≡ take (length places) arrivals
+  pub placed : Paired (Placed instructions_of_a_step) (applied (λ n. (world_with image until script arrivals free n).board) arrivals executed) places
+  pub are_first : applied (λ n. (world_with image until script arrivals free n).board) arrivals executed ≡ take (length places) arrivals
   pub alike : LooksLike (source_with P texts until script places steps).board (world_with image until script arrivals free executed).board
   pub at_most : steps ≤ budget
   pub at_least : (n : ℕ) → instructions_of_a_step * n ≤ budget → (n ≤ steps) ⊎ (over (source_with P texts until script places steps).board ≡ true)

@@ -1,11 +1,11 @@
 -- The run of a program's source with arrivals, as its image ran.
-use Rattle.std.specs.Prelude.{◌≡◌, ℕ, List, [], Option, Some, None}
+use Rattle.std.specs.Prelude.{◌≡◌, ℕ, List, [], Option}
 use Rattle.sts_base.specs.Faults.{Rose}
-use Rattle.board_world.specs.Observations.{ByteList, End as RunEnd, Quietly, By_script, Panicked}
+use Rattle.board_world.specs.Observations.{ByteList, End as RunEnd}
 use Rattle.board_world.specs.Transcript.{closing_line}
 use Rattle.board_world.specs.Board.{Board, transcript_of}
 use Rattle.board_world.specs.Activities.{World}
-use Rattle.board_world.specs.Arrivals.{Arrival}
+use Rattle.board_world.specs.Runs.{Arrival}
 use Rattle.board_world.specs.Invariants.{SoundEnd}
 use Rattle.sts_syntax.specs.TypedTrees.{TypedProgram}
 use Rattle.sts_meaning.specs.Frames.{Activity}
@@ -17,8 +17,10 @@ use Rattle.board_outside.specs.Moves.{Move, HasMet}
 use Rattle.board_outside.specs.Ports.{DevicesAfter}
 use Rattle.board_outside.specs.Cuts.{Stopped}
 use Rattle.board_run.specs.declared.end.End.{End}
-use Rattle.board_run.specs.declared.end.End.TheVariants.{Quiet, Script, Panic, Budget, Fault, SinkFault}
+use Rattle.board_run.specs.declared.end.End.TheVariants.{Fault, SinkFault}
+use Rattle.board_run.specs.Ran.{end_told}
 use Rattle.irq_arrival.specs.ReachesWith.{source_with, ReachesWith}
+use Rattle.board_ports.specs.Account.{Account}
 
 -- the world of a program's source after so many counted steps, on a script and with arrivals at these
 abbrev pub source_at : TypedProgram → List ByteList → EventScript → List Arrival → ℕ → World Activity Heap
@@ -37,25 +39,22 @@ pub record MeetsAt (P : TypedProgram) (texts : List ByteList) (image : List ℕ)
   pub faultless : SoundEnd (λ kind address. ⊥) (source_at P texts script places steps).board.end
 
 -- The source has ended so, or not yet; its transcript was taken, and the devices met what it met.
-pub record RunsSourceTo {B : Type 0} (log : B → Option (List (ℕ × ℕ))) (faults : B → ℕ) (P : TypedProgram) (texts : List ByteList) (image : List ℕ) (script : EventScript) (arrivals : List Arrival) (budget : ℕ)
+pub record RunsSourceTo {B : Type 0} (account : B → Account) (P : TypedProgram) (texts : List ByteList) (image : List ℕ) (script : EventScript) (arrivals : List Arrival) (budget : ℕ)
     (taken taken' : Option (List ℕ)) (places places' : List (Option B)) (end : Option RunEnd) : Type 0 where
   pub meets : MeetsAt P texts image script arrivals budget
   pub ended : (source_at P texts script meets.places meets.steps).board.end ≡ end
   pub written : Took taken taken' (transcript_of (source_at P texts script meets.places meets.steps).board)
-  pub devices : DevicesAfter log faults meets.moves places places'
+  pub devices : DevicesAfter account meets.moves places places'
 
 -- The sink stopped the run: one cut of what the source meets is where the sink and the devices stand.
-pub record CutsSource {B : Type 0} (log : B → Option (List (ℕ × ℕ))) (faults : B → ℕ) (P : TypedProgram) (texts : List ByteList) (image : List ℕ) (script : EventScript) (arrivals : List Arrival) (budget : ℕ)
+pub record CutsSource {B : Type 0} (account : B → Account) (P : TypedProgram) (texts : List ByteList) (image : List ℕ) (script : EventScript) (arrivals : List Arrival) (budget : ℕ)
     (taken taken' : Option (List ℕ)) (places places' : List (Option B)) : Type 0 where
   pub meets : MeetsAt P texts image script arrivals budget
-  pub stopped : (let b : Board = (source_at P texts script meets.places meets.steps).board in Stopped log faults [] meets.moves (closing_line b.clock b.end) taken taken' places places')
+  pub stopped : (let b : Board = (source_at P texts script meets.places meets.steps).board in Stopped account [] meets.moves (closing_line b.clock b.end) taken taken' places places')
 
 -- What a call that ran such an image answered; never a fault.
-abbrev pub RunsSourceAt : {B : Type 0} → (B → Option (List (ℕ × ℕ))) → (B → ℕ) → TypedProgram → List ByteList → List ℕ → EventScript → List Arrival → ℕ
+abbrev pub RunsSourceAt : {B : Type 0} → (B → Account) → TypedProgram → List ByteList → List ℕ → EventScript → List Arrival → ℕ
     → Option (List ℕ) → Option (List ℕ) → ℕ → ℕ → List (Option B) → List (Option B) → End → Type 0
-RunsSourceAt log faults P texts image script arrivals budget taken taken' fs fs' places places' Quiet = RunsSourceTo log faults P texts image script arrivals budget taken taken' places places' (Some Quietly)
-RunsSourceAt log faults P texts image script arrivals budget taken taken' fs fs' places places' Script = RunsSourceTo log faults P texts image script arrivals budget taken taken' places places' (Some By_script)
-RunsSourceAt log faults P texts image script arrivals budget taken taken' fs fs' places places' (Panic code) = RunsSourceTo log faults P texts image script arrivals budget taken taken' places places' (Some (Panicked code))
-RunsSourceAt log faults P texts image script arrivals budget taken taken' fs fs' places places' (Fault fault address) = ⊥
-RunsSourceAt log faults P texts image script arrivals budget taken taken' fs fs' places places' Budget = RunsSourceTo log faults P texts image script arrivals budget taken taken' places places' None
-RunsSourceAt log faults P texts image script arrivals budget taken taken' fs fs' places places' SinkFault = CutsSource log faults P texts image script arrivals budget taken taken' places places' × Rose fs fs'
+RunsSourceAt account P texts image script arrivals budget taken taken' fs fs' places places' SinkFault = CutsSource account P texts image script arrivals budget taken taken' places places' × Rose fs fs'
+RunsSourceAt account P texts image script arrivals budget taken taken' fs fs' places places' (Fault fault address) = ⊥
+RunsSourceAt account P texts image script arrivals budget taken taken' fs fs' places places' answer = RunsSourceTo account P texts image script arrivals budget taken taken' places places' (end_told answer)

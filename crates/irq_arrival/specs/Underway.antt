@@ -1,10 +1,11 @@
 -- A mounted board in the course of its run with arrivals.
 use Rattle.std.specs.Prelude.{◌≡◌, ◌≤◌, ◌⊎◌, ℕ, List, Option, None}
 use Rattle.board_world.specs.Transcript.{lines}
-use Rattle.board_world.specs.Arrivals.{Arrival, Rises}
+use Rattle.board_world.specs.Runs.{Arrival, Rises}
 use Rattle.tool_io.specs.Putting.{Took}
 use Rattle.event_script.specs.World.{world_entries}
 use Rattle.event_script.specs.declared.script.Script.{Script as EventScript}
+use Rattle.board_ports.specs.Account.{Account}
 use Rattle.board_ports.specs.Plugged.{Plugged}
 use Rattle.board_outside.specs.Moves.{Move, seen_of}
 use Rattle.board_run.specs.declared.engine.Engine.{Engine}
@@ -15,16 +16,16 @@ use Rattle.irq_arrival.specs.Along.{world_with, NoneBefore, AllMay, Along}
 
 -- A board that began as the first engine has executed n instructions, and these arrivals are left: for each image and script that it was mounted with
 -- it is in the course of that run; the sink has taken the lines of what was met, and the devices have met it.
-pub record Underway {B : Type 0} (log : B → Option (List (ℕ × ℕ))) (faults : B → ℕ) (arrivals : List Arrival) (first e : Engine) (plugged plugged' : Plugged B) (taken taken' : Option (List ℕ)) (left : List Arrival) (n : ℕ) : Type 0 where
+pub record Underway {B : Type 0} (account : B → Account) (arrivals : List Arrival) (first e : Engine) (plugged plugged' : Plugged B) (taken taken' : Option (List ℕ)) (left : List Arrival) (n : ℕ) : Type 0 where
   pub moves : List Move
   pub along : (image : List ℕ) (script : EventScript) → IsMounted image script first
       → (used : List ℕ) × Along image (world_with image script.end (world_entries script.entries) arrivals) left n used moves (state_of e)
-  pub ports : PortsMeet log faults moves plugged plugged'
+  pub ports : PortsMeet account moves plugged plugged'
   pub written : Took taken taken' (lines (seen_of moves))
 
 -- Such a board may go on: its run isn't over, nothing that is left arrives before now or at no instruction, and somebody runs as soon as a part was run.
-pub record Stands {B : Type 0} (log : B → Option (List (ℕ × ℕ))) (faults : B → ℕ) (arrivals : List Arrival) (budget : ℕ) (first e : Engine) (plugged plugged' : Plugged B) (taken taken' : Option (List ℕ)) (left : List Arrival) (n instructions : ℕ) : Type 0 where
-  pub underway : Underway log faults arrivals first e plugged plugged' taken taken' left n
+pub record Stands {B : Type 0} (account : B → Account) (arrivals : List Arrival) (budget : ℕ) (first e : Engine) (plugged plugged' : Plugged B) (taken taken' : Option (List ℕ)) (left : List Arrival) (n instructions : ℕ) : Type 0 where
+  pub underway : Underway account arrivals first e plugged plugged' taken taken' left n
   pub whole : IsWhole e n
   pub counted : instructions ≡ n
   pub going : e.end ≡ None

@@ -42,10 +42,10 @@ pub fn run_image_at<K: Sink, D: Device>(
     requires arrivals { IsSound arrivals.now }
     requires least { 1 ≤ budget }
     requires most { budget ≤ 2147483648 }
-    ensures ran { IfOk result (λ end. RunsImageAt D.log D.faults image.items script (world_arrivals arrivals.now) budget (K.taken out.old) (K.taken out.new)
+    ensures ran { IfOk result (λ end. RunsImageAt D.account image.items script (world_arrivals arrivals.now) budget (K.taken out.old) (K.taken out.new)
         (K.faults out.old) (K.faults out.new) places.old.items places.new.items end) }
     ensures source { (P : TypedProgram) (texts : List ByteList) → ImageImplements P texts image.items
-        → IfOk result (λ end. RunsSourceAt D.log D.faults P texts image.items script (world_arrivals arrivals.now) budget (K.taken out.old) (K.taken out.new)
+        → IfOk result (λ end. RunsSourceAt D.account P texts image.items script (world_arrivals arrivals.now) budget (K.taken out.old) (K.taken out.new)
         (K.faults out.old) (K.faults out.new) places.old.items places.new.items end) }
     ensures nothing { OnErr result (Took (K.taken out.old) (K.taken out.new) []) }
     ensures unchanged { OnErr result (places.new.items ≡ places.old.items) }

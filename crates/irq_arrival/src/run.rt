@@ -1,6 +1,6 @@
 //! A mounted board's run with arrivals.
 ghost use Rattle.std.specs.Prelude.{◌≡◌, ◌+◌, ◌-◌, ◌<◌, ◌≤◌, ◌⊎◌, ◌^◌, ℕ, List, None, IfOk, IfErr, IfNone, drop};
-ghost use Rattle.board_world.specs.Arrivals.{Arrival as WorldArrival};
+ghost use Rattle.board_world.specs.Runs.{Arrival as WorldArrival};
 ghost use Rattle.event_script.specs.declared.script.Script.{Script as EventScript};
 ghost use Rattle.arrival_file.specs.World.{world_arrivals};
 ghost use Rattle.arrival_file.specs.Sound.{IsSound};
@@ -30,7 +30,7 @@ fn run_up_to<D: Device, K: Sink>(
     requires going { board.old.engine.end ≡ None }
     requires early { board.old.instructions < 2 ^ 49 }
     requires onward { done ≤ to }
-    ensures parted { Parted D.log D.faults (to - done) board.old.engine board.new.engine board.old.plugs board.new.plugs (K.taken out.old) (K.taken out.new)
+    ensures parted { Parted D.account (to - done) board.old.engine board.new.engine board.old.plugs board.new.plugs (K.taken out.old) (K.taken out.new)
         (K.faults out.old) (K.faults out.new) board.old.instructions board.new.instructions result }
     ensures whole { IfNone result (IsWhole board.new.engine board.new.instructions) }
     ensures settled { IfNone result (IsSettled board.new.engine) }
@@ -56,8 +56,8 @@ fn serve_arrivals<D: Device, K: Sink>(
     requires sound { IsSound arrivals.now }
     requires most { budget ≤ 2147483648 }
     ensures served { IfOk result (λ done. (left : List WorldArrival) × NoneBefore (budget + 1) left
-        × Stands D.log D.faults (world_arrivals arrivals.now) budget board.old.engine board.new.engine board.old.plugs board.new.plugs (K.taken out.old) (K.taken out.new) left done board.new.instructions) }
-    ensures ended { IfErr result (RanWith D.log D.faults (world_arrivals arrivals.now) budget board.old.engine board.new.engine board.new.instructions
+        × Stands D.account (world_arrivals arrivals.now) budget board.old.engine board.new.engine board.old.plugs board.new.plugs (K.taken out.old) (K.taken out.new) left done board.new.instructions) }
+    ensures ended { IfErr result (RanWith D.account (world_arrivals arrivals.now) budget board.old.engine board.new.engine board.new.instructions
         board.old.plugs board.new.plugs (K.taken out.old) (K.taken out.new) (K.faults out.old) (K.faults out.new)) }
     ensures later { K.faults out.old ≤ K.faults out.new }
 {
@@ -95,7 +95,7 @@ pub fn run_arrivals<D: Device, K: Sink>(
     requires sound { IsSound arrivals.now }
     requires least { 1 ≤ budget }
     requires most { budget ≤ 2147483648 }
-    ensures ran { RanWith D.log D.faults (world_arrivals arrivals.now) budget board.old.engine board.new.engine board.new.instructions
+    ensures ran { RanWith D.account (world_arrivals arrivals.now) budget board.old.engine board.new.engine board.new.instructions
         board.old.plugs board.new.plugs (K.taken out.old) (K.taken out.new) (K.faults out.old) (K.faults out.new) result }
     ensures later { K.faults out.old ≤ K.faults out.new }
 {

@@ -2,7 +2,7 @@
 ghost use Rattle.std.specs.Prelude.{ℕ, List};
 ghost use Rattle.board_world.specs.Observations.{ByteList};
 ghost use Rattle.board_world.specs.Board.{Entry};
-ghost use Rattle.board_world.specs.Arrivals.{Arrival, Rises};
+ghost use Rattle.board_world.specs.Runs.{Arrival, Rises};
 ghost use Rattle.board_world.specs.Invariants.{SoundEnd};
 ghost use Rattle.board_run.specs.Ran.{IsExecuted};
 ghost use Rattle.sts_syntax.specs.TypedTrees.{TypedProgram};

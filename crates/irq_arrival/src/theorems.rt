@@ -2,7 +2,7 @@
 ghost use Rattle.std.specs.Prelude.{◌≡◌, ℕ, ◌+◌, ◌<◌, ◌≤◌, ◌⊎◌, ◌++◌, ◌∷◌, List, [], Some, None, true, false, length, slice_get};
 ghost use Rattle.board_world.specs.Board.{Act, Entry, over};
 ghost use Rattle.board_world.specs.Activities.{World};
-ghost use Rattle.board_world.specs.Arrivals.{Arrival, Rises, applied};
+ghost use Rattle.board_world.specs.Runs.{Arrival, Rises, applied};
 ghost use Rattle.bank_model.specs.Fibers.{Fiber, Shared};
 ghost use Rattle.bank_model.specs.BoardMachine.{fibers, bank_start};
 ghost use Rattle.board_outside.specs.Moves.{Move, HasMet};
@@ -32,6 +32,6 @@ pub fn parts_are_one_run()
 pub fn arrivals_are_applied()
     ensures applies { (image : List ℕ) (until : ℕ) (script : List Entry) (arrivals : List Arrival) (free : List ℕ) (budget executed i : ℕ) (a : Arrival)
         → Rises 0 arrivals → IsExecuted (world_with image until script arrivals free) budget executed → slice_get arrivals i ≡ Some a → a.count < budget
-        → (i < length (applied (fibers image) 0 arrivals executed (bank_start image until script free))) ⊎ ((over (world_with image until script arrivals free executed).board ≡ true) × (executed ≤ a.count)) }
+        → (i < length (applied (λ n. (world_with image until script arrivals free n).board) arrivals executed)) ⊎ ((over (world_with image until script arrivals free executed).board ≡ true) × (executed ≤ a.count)) }
     ensures executes { (image : List ℕ) (until : ℕ) (script : List Entry) (arrivals : List Arrival) (free : List ℕ) (budget : ℕ) → (executed : ℕ) × IsExecuted (world_with image until script arrivals free) budget executed }
 {}

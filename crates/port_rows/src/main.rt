@@ -11,5 +11,5 @@ fn main(rt: HostRuntime) -> io::Result<()> {
     let alloc = rt.alloc();
     let out = &mut rt.stdout();
     places::show(alloc, out)?;
-    streams::show(out)
+    streams::show(alloc, out)
 }

@@ -7,5 +7,5 @@ use Rattle.board_outside.proofs.sending.send_each.Given as goal
 
 -- the bytes so far have been sent
 abbrev pub invariant-loop-i : goal.invariant-loop-i
-invariant-loop-i g l = (moves : List PortMove) (start : List (Option g.row.D.Denot)) → Follows g.D.Device.log g.D.Device.faults moves start l.initial.plugs
-    → Follows g.D.Device.log g.D.Device.faults (moves ++ bytes_sent l.fn.now (flash_bytes l.fn.machine.memory.flash l.i l.fn.at)) start l.plugs
+invariant-loop-i g l = (moves : List PortMove) (start : List (Option g.row.D.Denot)) → Follows g.D.Device.account moves start l.initial.plugs
+    → Follows g.D.Device.account (moves ++ bytes_sent l.fn.now (flash_bytes l.fn.machine.memory.flash l.i l.fn.at)) start l.plugs

@@ -9,6 +9,6 @@ use Rattle.board_outside.proofs.showing.send_number.Goals as goal
 
 pub returns-clause-sends : goal.returns-clause-sends
 returns-clause-sends g c = λ moves start f.
-    subst (λ ms. Follows g.D.Device.log g.D.Device.faults (moves ++ ms) start c.send_bytes.new.plugs)
+    subst (λ ms. Follows g.D.Device.account (moves ++ ms) start c.send_bytes.new.plugs)
     (ap (bytes_sent c.args.now) (c.as_bytes.ensures.value ∙ c.format.ensures.text ∙ ap signed_decimal (to_z-of_z w32 c.args.number c.ranges.number)) ∙ sym (append-nil (bytes_sent c.args.now (signed_decimal c.args.number))))
     (c.send_bytes.ensures.sends moves start f)

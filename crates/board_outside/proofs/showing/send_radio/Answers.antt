@@ -6,5 +6,5 @@ use Rattle.board_outside.proofs.showing.send_radio.Goals as goal
 
 pub returns-clause-sends : goal.returns-clause-sends
 returns-clause-sends g c = λ moves start f.
-    subst (λ w. Follows g.D.Device.log g.D.Device.faults (moves ++ Word 3 c.args.now w ∷ []) start c.send_word.new.plugs) (c.cast_unsigned.ensures ∙ ap (cast_unsigned w32) (to_z-of_z w32 c.args.number c.ranges.number))
+    subst (λ w. Follows g.D.Device.account (moves ++ Word 3 c.args.now w ∷ []) start c.send_word.new.plugs) (c.cast_unsigned.ensures ∙ ap (cast_unsigned w32) (to_z-of_z w32 c.args.number c.ranges.number))
     (c.send_word.ensures.sends moves start f)

@@ -9,10 +9,10 @@ returns-else-to-done-clause-parted g c =
     let p = c.args.board.now.plugs in
     let t = g.K.Sink.taken c.args.out.now in
     let none : c.args.to - c.args.done ≡ 0 = omega arith in
-    let zero : HasExecuted g.D.Device.log g.D.Device.faults 0 0 e e p p t t (c.args.board.now.instructions + 0) c.args.board.now.instructions = record {
-      advances = advances_none g.D.Device.log g.D.Device.faults e p t;
+    let zero : HasExecuted g.D.Device.account 0 0 e e p p t t (c.args.board.now.instructions + 0) c.args.board.now.instructions = record {
+      advances = advances_none g.D.Device.account e p t;
       within = omega arith;
       done = inl refl;
       counted = omega arith;
     } in
-    (subst (λ k. HasExecuted g.D.Device.log g.D.Device.faults k k e e p p t t (c.args.board.now.instructions + k) c.args.board.now.instructions) (sym none) zero, c.requires.going)
+    (subst (λ k. HasExecuted g.D.Device.account k k e e p p t t (c.args.board.now.instructions + k) c.args.board.now.instructions) (sym none) zero, c.requires.going)

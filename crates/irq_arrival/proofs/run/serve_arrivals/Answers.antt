@@ -1,5 +1,5 @@
 use Rattle.std.proofs.Common.{◌+◌, ◌≤◌, ◌∷◌, List, drop, get_or, subst, ap, arith}
-use Rattle.board_world.specs.Arrivals.{Arrival as WorldArrival}
+use Rattle.board_world.specs.Runs.{Arrival as WorldArrival}
 use Rattle.event_script.specs.declared.script.Act.TheVariants.{Down}
 use Rattle.arrival_file.specs.World.{world_arrivals}
 use Rattle.board_run.specs.declared.engine.Engine.{Engine}
@@ -10,7 +10,7 @@ use Rattle.irq_arrival.proofs.run.serve_arrivals.Goals as goal
 
 pub loop-arrival-init : goal.loop-arrival-init
 loop-arrival-init g c = (
-  stands_begins g.D.Device.log g.D.Device.faults c.args.arrivals.now c.args.budget c.requires.fresh.0 c.requires.fresh.1 c.args.board.now.engine c.args.board.now.plugs (g.K.Sink.taken c.args.out.now) c.args.board.now.instructions
+  stands_begins g.D.Device.account c.args.arrivals.now c.args.budget c.requires.fresh.0 c.requires.fresh.1 c.args.board.now.engine c.args.board.now.plugs (g.K.Sink.taken c.args.out.now) c.args.board.now.instructions
       c.requires.sound c.requires.fresh.2 c.requires.counted,
   omega arith,
 )
@@ -21,10 +21,10 @@ returns-in-Some-clause-ended g c =
     let i = c.loop-arrival.arrival-index in
     let x = get_or xs i (record { after = 0; act = Down 0 }) in
     let rest = world_arrivals (drop (i + 1) xs) in
-    let s = subst (λ (l : List WorldArrival). Stands g.D.Device.log g.D.Device.faults (world_arrivals xs) c.args.budget c.args.board.now.engine c.loop-arrival.board.engine c.args.board.now.plugs c.loop-arrival.board.plugs (g.K.Sink.taken c.args.out.now) (g.K.Sink.taken c.loop-arrival.out) l c.loop-arrival.done c.loop-arrival.board.instructions)
+    let s = subst (λ (l : List WorldArrival). Stands g.D.Device.account (world_arrivals xs) c.args.budget c.args.board.now.engine c.loop-arrival.board.engine c.args.board.now.plugs c.loop-arrival.board.plugs (g.K.Sink.taken c.args.out.now) (g.K.Sink.taken c.loop-arrival.out) l c.loop-arrival.done c.loop-arrival.board.instructions)
     (next_at xs i (record { after = 0; act = Down 0 }) (omega (arith, c.loop-arrival-test.true))) c.loop-arrival.invariant.0 in
     let here : x.after ≤ x.after = omega arith in
-    stands_stops g.D.Device.log g.D.Device.faults (world_arrivals xs) c.args.budget c.args.board.now.engine c.loop-arrival.board.engine c.args.board.now.plugs c.loop-arrival.board.plugs (g.K.Sink.taken c.args.out.now) (g.K.Sink.taken c.loop-arrival.out)
+    stands_stops g.D.Device.account (world_arrivals xs) c.args.budget c.args.board.now.engine c.loop-arrival.board.engine c.args.board.now.plugs c.loop-arrival.board.plugs (g.K.Sink.taken c.args.out.now) (g.K.Sink.taken c.loop-arrival.out)
     (world_arrival x ∷ rest) c.loop-arrival.done c.loop-arrival.board.instructions s x.after c.run_up_to.new.board.engine c.run_up_to.new.board.plugs (g.K.Sink.taken c.run_up_to.new.out)
     (g.K.Sink.faults c.args.out.now) (g.K.Sink.faults c.loop-arrival.out) (g.K.Sink.faults c.run_up_to.new.out) c.run_up_to.new.board.instructions c.in-Some.end
     s.rises.0 (omega (arith, c.if-arrival-budget.false)) here c.loop-arrival.invariant.1 c.in-Some.ensures.parted
@@ -35,9 +35,9 @@ loop-arrival-preserved g c =
     let i = c.loop-arrival.arrival-index in
     let x = get_or xs i (record { after = 0; act = Down 0 }) in
     let rest = world_arrivals (drop (i + 1) xs) in
-    let s = subst (λ (l : List WorldArrival). Stands g.D.Device.log g.D.Device.faults (world_arrivals xs) c.args.budget c.args.board.now.engine c.loop-arrival.board.engine c.args.board.now.plugs c.loop-arrival.board.plugs (g.K.Sink.taken c.args.out.now) (g.K.Sink.taken c.loop-arrival.out) l c.loop-arrival.done c.loop-arrival.board.instructions)
+    let s = subst (λ (l : List WorldArrival). Stands g.D.Device.account (world_arrivals xs) c.args.budget c.args.board.now.engine c.loop-arrival.board.engine c.args.board.now.plugs c.loop-arrival.board.plugs (g.K.Sink.taken c.args.out.now) (g.K.Sink.taken c.loop-arrival.out) l c.loop-arrival.done c.loop-arrival.board.instructions)
     (next_at xs i (record { after = 0; act = Down 0 }) (omega (arith, c.loop-arrival-test.true))) c.loop-arrival.invariant.0 in (
-      stands_takes g.D.Device.log g.D.Device.faults (world_arrivals xs) c.args.budget c.args.board.now.engine c.loop-arrival.board.engine c.run_up_to.new.board.engine c.arrive.new.self.engine
+      stands_takes g.D.Device.account (world_arrivals xs) c.args.budget c.args.board.now.engine c.loop-arrival.board.engine c.run_up_to.new.board.engine c.arrive.new.self.engine
           c.args.board.now.plugs c.loop-arrival.board.plugs c.run_up_to.new.board.plugs c.arrive.new.self.plugs (g.K.Sink.taken c.args.out.now) (g.K.Sink.taken c.loop-arrival.out) (g.K.Sink.taken c.run_up_to.new.out)
           (world_arrival x) rest c.loop-arrival.done c.loop-arrival.board.instructions (g.K.Sink.faults c.loop-arrival.out) (g.K.Sink.faults c.run_up_to.new.out) c.run_up_to.new.board.instructions c.arrive.new.self.instructions
           s c.in-None.ensures.parted c.in-None.ensures.settled (omega (arith, c.if-arrival-budget.false))

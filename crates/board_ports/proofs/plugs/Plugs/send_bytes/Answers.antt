@@ -5,10 +5,10 @@ use Rattle.board_ports.proofs.plugs.Plugs.send_bytes.Goals as goal
 
 pub returns-then-port-len-clause-follows : goal.returns-then-port-len-clause-follows
 returns-then-port-len-clause-follows g c = λ moves start f.
-    follows_bytes g.D.Device.log g.D.Device.faults g.D.Device.writes moves start c.args.self.now _ c.args.port c.args.now c.args.bytes.now
+    follows_bytes g.D.Device.account moves start c.args.self.now _ c.args.port c.args.now c.args.bytes.now
     (omega arith) (grind (arith, common_steps)) (search rules) f
 
 pub returns-clause-follows : goal.returns-clause-follows
 returns-clause-follows g c = λ moves start f.
-    follows_bytes g.D.Device.log g.D.Device.faults g.D.Device.writes moves start c.args.self.now _ c.args.port c.args.now c.args.bytes.now
+    follows_bytes g.D.Device.account moves start c.args.self.now _ c.args.port c.args.now c.args.bytes.now
     (omega arith) (grind (arith, common_steps)) (search rules) f

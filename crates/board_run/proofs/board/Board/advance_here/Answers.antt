@@ -6,28 +6,28 @@ use Rattle.board_run.proofs.board.Board.advance_here.Goals as goal
 
 pub tell_led-requires-clause-size : goal.tell_led-requires-clause-size
 tell_led-requires-clause-size g c =
-    let flash = same_flash g.D.Device.log g.D.Device.faults c.args.self.now.engine c.instruct-sight.new.self c.instruct-sight.result c.requires.whole.shown c.instruct-sight.ensures.comes in
+    let flash = same_flash g.D.Device.account c.args.self.now.engine c.instruct-sight.new.self c.instruct-sight.result c.requires.whole.shown c.instruct-sight.ensures.comes in
     subst (λ l. length l ≤ flash_end) (sym flash) c.requires.whole.size
 
 pub tell_led-requires-clause-bytes : goal.tell_led-requires-clause-bytes
 tell_led-requires-clause-bytes g c =
-    let flash = same_flash g.D.Device.log g.D.Device.faults c.args.self.now.engine c.instruct-sight.new.self c.instruct-sight.result c.requires.whole.shown c.instruct-sight.ensures.comes in
+    let flash = same_flash g.D.Device.account c.args.self.now.engine c.instruct-sight.new.self c.instruct-sight.result c.requires.whole.shown c.instruct-sight.ensures.comes in
     subst (λ l. All (λ b. b < 256) l) (sym flash) c.requires.whole.bytes
 
 pub stay-requires : goal.stay-requires
 stay-requires g c = record {
-  shown = step_shown g.D.Device.log g.D.Device.faults c.args.self.now.engine c.instruct-sight.new.self c.instruct-sight.result c.requires.whole.shown c.instruct-sight.ensures.comes c.tell_led.new.engine c.tell_led.ensures.same;
+  shown = step_shown g.D.Device.account c.args.self.now.engine c.instruct-sight.new.self c.instruct-sight.result c.requires.whole.shown c.instruct-sight.ensures.comes c.tell_led.new.engine c.tell_led.ensures.same;
 }
 
 pub returns-in-Ok-clause-goes : goal.returns-in-Ok-clause-goes
 returns-in-Ok-clause-goes g c =
-    step_proceeds g.D.Device.log g.D.Device.faults c.args.lead.now c.args.self.now c.instruct-sight.new.self c.instruct-sight.result c.requires.whole.shown c.instruct-sight.ensures.comes
+    step_proceeds g.D.Device.account c.args.lead.now c.args.self.now c.instruct-sight.new.self c.instruct-sight.result c.requires.whole.shown c.instruct-sight.ensures.comes
     c.tell_led.new.engine _ (g.K.Sink.taken c.args.out.now) (g.K.Sink.taken c.tell_led.new.out)
     c.requires.going c.requires.runs c.tell_led.ensures.same c.in-Ok.ensures.sends c.in-Ok.ensures.puts.took c.note.ensures c.stay.ensures.comes
 
 pub returns-in-Ok-clause-whole : goal.returns-in-Ok-clause-whole
 returns-in-Ok-clause-whole g c =
-    step_stays_whole g.D.Device.log g.D.Device.faults c.args.lead.now c.args.self.now c.instruct-sight.new.self c.instruct-sight.result c.requires.whole.shown c.instruct-sight.ensures.comes
+    step_stays_whole g.D.Device.account c.args.lead.now c.args.self.now c.instruct-sight.new.self c.instruct-sight.result c.requires.whole.shown c.instruct-sight.ensures.comes
     c.args.self.now.instructions c.tell_led.new.engine c.stay.new.self c.requires.whole c.instruct-sight.ensures.steps c.tell_led.ensures.same c.stay.ensures.comes c.stay.ensures.stays
 
 pub returns-in-Ok-clause-stands : goal.returns-in-Ok-clause-stands
@@ -36,6 +36,6 @@ returns-in-Ok-clause-stands g c =
 
 pub returns-in-Err-clause-cut : goal.returns-in-Err-clause-cut
 returns-in-Err-clause-cut g c =
-    step_stops g.D.Device.log g.D.Device.faults c.args.lead.now c.args.self.now c.instruct-sight.new.self c.instruct-sight.result c.requires.whole.shown c.instruct-sight.ensures.comes
+    step_stops g.D.Device.account c.args.lead.now c.args.self.now c.instruct-sight.new.self c.instruct-sight.result c.requires.whole.shown c.instruct-sight.ensures.comes
     _ (g.K.Sink.taken c.args.out.now) (g.K.Sink.taken c.tell_led.new.out)
     c.requires.going c.requires.runs c.in-Err.ensures.seen c.in-Err.ensures.stays c.in-Err.ensures.puts.part

@@ -5,14 +5,14 @@ use Rattle.board_run.proofs.board.Board.execute.Goals as goal
 
 pub loop-init : goal.loop-init
 loop-init g c =
-    (advances_none g.D.Device.log g.D.Device.faults c.args.self.now.engine c.args.self.now.plugs (g.K.Sink.taken c.args.out.now), c.requires.whole, c.requires.settled, omega arith, omega arith)
+    (advances_none g.D.Device.account c.args.self.now.engine c.args.self.now.plugs (g.K.Sink.taken c.args.out.now), c.requires.whole, c.requires.settled, omega arith, omega arith)
 
 pub loop-preserved : goal.loop-preserved
 loop-preserved g c =
     let i = c.loop.invariant in
     let count : 1 + c.loop.counter ≡ c.loop.counter + 1 = omega arith in (
-      subst (λ n. Advances g.D.Device.log g.D.Device.faults n c.args.self.now.engine c.advance.new.self.engine c.args.self.now.plugs c.advance.new.self.plugs (g.K.Sink.taken c.args.out.now) (g.K.Sink.taken c.advance.new.out)) count
-          (advances_then g.D.Device.log g.D.Device.faults c.loop.counter 1 c.args.self.now.engine c.loop.self.engine c.advance.new.self.engine c.args.self.now.plugs c.loop.self.plugs c.advance.new.self.plugs
+      subst (λ n. Advances g.D.Device.account n c.args.self.now.engine c.advance.new.self.engine c.args.self.now.plugs c.advance.new.self.plugs (g.K.Sink.taken c.args.out.now) (g.K.Sink.taken c.advance.new.out)) count
+          (advances_then g.D.Device.account c.loop.counter 1 c.args.self.now.engine c.loop.self.engine c.advance.new.self.engine c.args.self.now.plugs c.loop.self.plugs c.advance.new.self.plugs
           (g.K.Sink.taken c.args.out.now) (g.K.Sink.taken c.loop.out) (g.K.Sink.taken c.advance.new.out) i.0 c.in_ok-advance.ensures.goes),
       c.in_ok-advance.ensures.whole,
       c.in_ok-advance.ensures.settled,
@@ -23,7 +23,7 @@ loop-preserved g c =
 pub returns-in_err-advance-clause-cut : goal.returns-in_err-advance-clause-cut
 returns-in_err-advance-clause-cut g c =
     on_err c.from_residual.result
-    (fails_then g.D.Device.log g.D.Device.faults c.loop.counter 1 c.args.most c.args.self.now.engine c.loop.self.engine c.args.self.now.plugs c.loop.self.plugs c.advance.new.self.plugs
+    (fails_then g.D.Device.account c.loop.counter 1 c.args.most c.args.self.now.engine c.loop.self.engine c.args.self.now.plugs c.loop.self.plugs c.advance.new.self.plugs
     (g.K.Sink.taken c.args.out.now) (g.K.Sink.taken c.loop.out) (g.K.Sink.taken c.advance.new.out) c.loop.invariant.0 c.in_err-advance.ensures.cut (omega (arith, c.loop-test.true)))
 
 pub returns-in_err-advance-clause-few : goal.returns-in_err-advance-clause-few

@@ -16,15 +16,15 @@ returns-then-is_some-clause-parted g c =
     let t = g.K.Sink.taken c.execute.new.out in
     let n = c.in-Ok.ensures.goes.0 in
     let ran = c.in-Ok.ensures.goes.1 in
-    let idle = advances_idle g.D.Device.log g.D.Device.faults c.args.self.now.engine c.settle.new.self c.args.self.now.plugs c.settle.new.plugs s c.settle.ensures.idles in
-    let both = advances_then g.D.Device.log g.D.Device.faults 0 n c.args.self.now.engine c.settle.new.self c.execute.new.self.engine c.args.self.now.plugs c.settle.new.plugs c.execute.new.self.plugs s s t idle ran.advances in
+    let idle = advances_idle g.D.Device.account c.args.self.now.engine c.settle.new.self c.args.self.now.plugs c.settle.new.plugs s c.settle.ensures.idles in
+    let both = advances_then g.D.Device.account 0 n c.args.self.now.engine c.settle.new.self c.execute.new.self.engine c.args.self.now.plugs c.settle.new.plugs c.execute.new.self.plugs s s t idle ran.advances in
     let count : n + 0 ≡ n = omega arith in
     inl (record {
       count = n;
       mid = t;
       fault = g.K.Sink.faults c.execute.new.out;
       executed = record {
-        advances = subst (λ k. Advances g.D.Device.log g.D.Device.faults k c.args.self.now.engine c.execute.new.self.engine c.args.self.now.plugs c.execute.new.self.plugs s t) count both;
+        advances = subst (λ k. Advances g.D.Device.account k c.args.self.now.engine c.execute.new.self.engine c.args.self.now.plugs c.execute.new.self.plugs s t) count both;
         within = ran.within;
         done = ran.done;
         counted = ran.counted;
@@ -40,13 +40,13 @@ returns-else-is_some-clause-parted g c =
     let t = g.K.Sink.taken c.execute.new.out in
     let n = c.in-Ok.ensures.goes.0 in
     let ran = c.in-Ok.ensures.goes.1 in
-    let idle = advances_idle g.D.Device.log g.D.Device.faults c.args.self.now.engine c.settle.new.self c.args.self.now.plugs c.settle.new.plugs s c.settle.ensures.idles in
-    let both = advances_then g.D.Device.log g.D.Device.faults 0 n c.args.self.now.engine c.settle.new.self c.execute.new.self.engine c.args.self.now.plugs c.settle.new.plugs c.execute.new.self.plugs s s t idle ran.advances in
+    let idle = advances_idle g.D.Device.account c.args.self.now.engine c.settle.new.self c.args.self.now.plugs c.settle.new.plugs s c.settle.ensures.idles in
+    let both = advances_then g.D.Device.account 0 n c.args.self.now.engine c.settle.new.self c.execute.new.self.engine c.args.self.now.plugs c.settle.new.plugs c.execute.new.self.plugs s s t idle ran.advances in
     let count : n + 0 ≡ n = omega arith in
     let open_end : is_some c.execute.new.self.engine.end ≡ false = sym c.is_some.ensures ∙ c.if-is_some.false in
     let all : n ≡ c.args.instructions = elim ran.done [ inl e ↦ e | inr o ↦ absurd (false≢true (sym open_end ∙ o)) ] in (
       record {
-        advances = subst (λ k. Advances g.D.Device.log g.D.Device.faults k c.args.self.now.engine c.execute.new.self.engine c.args.self.now.plugs c.execute.new.self.plugs s t) (count ∙ all) both;
+        advances = subst (λ k. Advances g.D.Device.account k c.args.self.now.engine c.execute.new.self.engine c.args.self.now.plugs c.execute.new.self.plugs s t) (count ∙ all) both;
         within = omega arith;
         done = inl refl;
         counted = ran.counted ∙ ap (λ k. c.args.self.now.instructions + k) all;
@@ -58,6 +58,6 @@ pub returns-in-Err-clause-parted : goal.returns-in-Err-clause-parted
 returns-in-Err-clause-parted g c =
     let s = g.K.Sink.taken c.args.out.now in
     let u = g.K.Sink.taken c.execute.new.out in
-    let idle = advances_idle g.D.Device.log g.D.Device.faults c.args.self.now.engine c.settle.new.self c.args.self.now.plugs c.settle.new.plugs s c.settle.ensures.idles in
-    let cut = fails_then g.D.Device.log g.D.Device.faults 0 c.args.instructions c.args.instructions c.args.self.now.engine c.settle.new.self c.args.self.now.plugs c.settle.new.plugs c.execute.new.self.plugs s s u idle c.in-Err.ensures.cut (omega arith) in
+    let idle = advances_idle g.D.Device.account c.args.self.now.engine c.settle.new.self c.args.self.now.plugs c.settle.new.plugs s c.settle.ensures.idles in
+    let cut = fails_then g.D.Device.account 0 c.args.instructions c.args.instructions c.args.self.now.engine c.settle.new.self c.args.self.now.plugs c.settle.new.plugs c.execute.new.self.plugs s s u idle c.in-Err.ensures.cut (omega arith) in
     inr (cut, refl, c.in-Err.ensures.failed)

@@ -17,20 +17,20 @@ returns-in-Ok-clause-ran g c = λ image script places m f.
     let t = g.K.Sink.taken c.execute.new.out in
     let n = c.in-Ok.ensures.goes.0 in
     let ran = c.in-Ok.ensures.goes.1 in
-    let idle = advances_idle g.D.Device.log g.D.Device.faults c.args.self.now.engine c.settle.new.self c.args.self.now.plugs c.settle.new.plugs s c.settle.ensures.idles in
-    let both = advances_then g.D.Device.log g.D.Device.faults 0 n c.args.self.now.engine c.settle.new.self c.execute.new.self.engine c.args.self.now.plugs c.settle.new.plugs c.execute.new.self.plugs s s t idle ran.advances in
+    let idle = advances_idle g.D.Device.account c.args.self.now.engine c.settle.new.self c.args.self.now.plugs c.settle.new.plugs s c.settle.ensures.idles in
+    let both = advances_then g.D.Device.account 0 n c.args.self.now.engine c.settle.new.self c.execute.new.self.engine c.args.self.now.plugs c.settle.new.plugs c.execute.new.self.plugs s s t idle ran.advances in
     let count : n + 0 ≡ n = omega arith in
-    let whole : Advances g.D.Device.log g.D.Device.faults n c.args.self.now.engine c.execute.new.self.engine c.args.self.now.plugs c.execute.new.self.plugs s t =
-    subst (λ k. Advances g.D.Device.log g.D.Device.faults k c.args.self.now.engine c.execute.new.self.engine c.args.self.now.plugs c.execute.new.self.plugs s t) count both in
+    let whole : Advances g.D.Device.account n c.args.self.now.engine c.execute.new.self.engine c.args.self.now.plugs c.execute.new.self.plugs s t =
+    subst (λ k. Advances g.D.Device.account k c.args.self.now.engine c.execute.new.self.engine c.args.self.now.plugs c.execute.new.self.plugs s t) count both in
     let instructions : n ≡ c.execute.new.self.instructions = (let a = ran.counted in let b = c.requires.counted in omega (arith, a, b)) in
-    subst (λ k. Ran g.D.Device.log g.D.Device.faults image script c.args.budget c.execute.new.self.engine k s (g.K.Sink.taken c.finish.new.out) (g.K.Sink.faults c.args.out.now) (g.K.Sink.faults c.finish.new.out) places c.execute.new.self.plugs.places c.finish.result) instructions
-    (finished g.D.Device.log g.D.Device.faults image script c.args.budget c.args.self.now.engine m places c.args.self.now.plugs f n c.execute.new.self.engine c.execute.new.self.plugs s t whole c.in-Ok.ensures.settled
+    subst (λ k. Ran g.D.Device.account image script c.args.budget c.execute.new.self.engine k s (g.K.Sink.taken c.finish.new.out) (g.K.Sink.faults c.args.out.now) (g.K.Sink.faults c.finish.new.out) places c.execute.new.self.plugs.places c.finish.result) instructions
+    (finished g.D.Device.account image script c.args.budget c.args.self.now.engine m places c.args.self.now.plugs f n c.execute.new.self.engine c.execute.new.self.plugs s t whole c.in-Ok.ensures.settled
     (g.K.Sink.taken c.finish.new.out) (g.K.Sink.faults c.args.out.now) (g.K.Sink.faults c.execute.new.out) (g.K.Sink.faults c.finish.new.out) c.finish.result ran.within ran.done c.execute.ensures.later c.finish.ensures)
 
 pub returns-in-Err-clause-ran : goal.returns-in-Err-clause-ran
 returns-in-Err-clause-ran g c = λ image script places m f.
     let s = g.K.Sink.taken c.args.out.now in
     let u = g.K.Sink.taken c.execute.new.out in
-    let idle = advances_idle g.D.Device.log g.D.Device.faults c.args.self.now.engine c.settle.new.self c.args.self.now.plugs c.settle.new.plugs s c.settle.ensures.idles in
-    let cut = fails_then g.D.Device.log g.D.Device.faults 0 c.args.budget c.args.budget c.args.self.now.engine c.settle.new.self c.args.self.now.plugs c.settle.new.plugs c.execute.new.self.plugs s s u idle c.in-Err.ensures.cut (omega arith) in
-    (fails_cut g.D.Device.log g.D.Device.faults image script c.args.budget c.args.self.now.engine m places c.args.self.now.plugs f c.execute.new.self.plugs s u cut, c.in-Err.ensures.failed)
+    let idle = advances_idle g.D.Device.account c.args.self.now.engine c.settle.new.self c.args.self.now.plugs c.settle.new.plugs s c.settle.ensures.idles in
+    let cut = fails_then g.D.Device.account 0 c.args.budget c.args.budget c.args.self.now.engine c.settle.new.self c.args.self.now.plugs c.settle.new.plugs c.execute.new.self.plugs s s u idle c.in-Err.ensures.cut (omega arith) in
+    (fails_cut g.D.Device.account image script c.args.budget c.args.self.now.engine m places c.args.self.now.plugs f c.execute.new.self.plugs s u cut, c.in-Err.ensures.failed)

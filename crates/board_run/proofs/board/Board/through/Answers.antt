@@ -17,12 +17,12 @@ come_to-requires-clause-rising g c = due_rising c.args.moment c.args.self.now.ke
 
 pub stay-requires : goal.stay-requires
 stay-requires g c = record {
-  shown = came_shown g.D.Device.log g.D.Device.faults c.args.self.now.engine c.come_to.new.self c.args.self.now.plugs c.come_to.new.plugs c.args.moment c.as_slice.result.now c.come_to.ensures.came c.requires.whole.shown;
+  shown = came_shown g.D.Device.account c.args.self.now.engine c.come_to.new.self c.args.self.now.plugs c.come_to.new.plugs c.args.moment c.as_slice.result.now c.come_to.ensures.came c.requires.whole.shown;
 }
 
 pub proceed-requires-clause-whole : goal.proceed-requires-clause-whole
 proceed-requires-clause-whole g c =
-    let w = came_whole g.D.Device.log g.D.Device.faults c.args.self.now.engine c.come_to.new.self c.args.self.now.plugs c.come_to.new.plugs c.args.moment c.as_slice.result.now c.come_to.ensures.came
+    let w = came_whole g.D.Device.account c.args.self.now.engine c.come_to.new.self c.args.self.now.plugs c.come_to.new.plugs c.args.moment c.as_slice.result.now c.come_to.ensures.came
     c.args.self.now.instructions c.requires.whole c.come_to.ensures.script c.come_to.ensures.counts c.come_to.ensures.clock c.come_to.ensures.within
     (due_within c.args.moment c.args.self.now.kept c.args.self.now.engine c.requires.due c.requires.whole.script) in
     let s = c.stay.ensures.stays in
@@ -31,18 +31,18 @@ proceed-requires-clause-whole g c =
 
 pub returns-clause-goes : goal.returns-clause-goes
 returns-clause-goes g c = then_oks c.proceed.result c.proceed.ensures.goes c.proceed.ensures.whole c.proceed.ensures.stayed (λ q whole stayed.
-    let came = subst (λ (es : List Event). CameTo g.D.Device.log g.D.Device.faults c.args.moment es c.args.self.now.engine c.come_to.new.self c.args.self.now.plugs c.come_to.new.plugs) c.as_slice.ensures c.come_to.ensures.came in
+    let came = subst (λ (es : List Event). CameTo g.D.Device.account c.args.moment es c.args.self.now.engine c.come_to.new.self c.args.self.now.plugs c.come_to.new.plugs) c.as_slice.ensures c.come_to.ensures.came in
     let s = c.stay.ensures.stays in (
       q.0,
-      through_gone g.D.Device.log g.D.Device.faults c.args.lead.now c.args.moment c.args.self.now _ c.come_to.new.self c.requires.whole c.requires.resting c.requires.due came c.stay.ensures.comes c.clear.ensures refl
+      through_gone g.D.Device.account c.args.lead.now c.args.moment c.args.self.now _ c.come_to.new.self c.requires.whole c.requires.resting c.requires.due came c.stay.ensures.comes c.clear.ensures refl
           c.args.most q.0 c.proceed.new.self (g.K.Sink.taken c.args.out.now) (g.K.Sink.taken c.proceed.new.out) q.1 stayed whole
           (ap (λ (x : Engine). x.clock) s ∙ c.come_to.ensures.clock) (ap (λ (x : Engine). x.script) s ∙ c.come_to.ensures.script) refl,
-      through_passed g.D.Device.log g.D.Device.faults c.args.lead.now c.args.moment c.args.self.now _ c.come_to.new.self c.requires.whole c.requires.resting c.requires.due came c.stay.ensures.comes c.clear.ensures refl
+      through_passed g.D.Device.account c.args.lead.now c.args.moment c.args.self.now _ c.come_to.new.self c.requires.whole c.requires.resting c.requires.due came c.stay.ensures.comes c.clear.ensures refl
           c.args.most q.0 c.proceed.new.self (g.K.Sink.taken c.args.out.now) (g.K.Sink.taken c.proceed.new.out) q.1 stayed,
     ))
 
 pub returns-clause-cut : goal.returns-clause-cut
 returns-clause-cut g c = then_err c.proceed.result c.proceed.ensures.cut (λ q.
-    let came = subst (λ (es : List Event). CameTo g.D.Device.log g.D.Device.faults c.args.moment es c.args.self.now.engine c.come_to.new.self c.args.self.now.plugs c.come_to.new.plugs) c.as_slice.ensures c.come_to.ensures.came in
-    through_cut g.D.Device.log g.D.Device.faults c.args.lead.now c.args.moment c.args.self.now _ c.come_to.new.self c.requires.whole c.requires.resting c.requires.due came c.stay.ensures.comes c.clear.ensures refl
+    let came = subst (λ (es : List Event). CameTo g.D.Device.account c.args.moment es c.args.self.now.engine c.come_to.new.self c.args.self.now.plugs c.come_to.new.plugs) c.as_slice.ensures c.come_to.ensures.came in
+    through_cut g.D.Device.account c.args.lead.now c.args.moment c.args.self.now _ c.come_to.new.self c.requires.whole c.requires.resting c.requires.due came c.stay.ensures.comes c.clear.ensures refl
     c.args.most c.proceed.new.self (g.K.Sink.taken c.args.out.now) (g.K.Sink.taken c.proceed.new.out) q)

@@ -14,13 +14,13 @@ pub returns-in-Quiet-clause-idles : goal.returns-in-Quiet-clause-idles
 returns-in-Quiet-clause-idles g c =
     let e = c.args.self.now in
     let says = says_so e Quiet c.next_wake.result c.next_entry.result c.in-Quiet.ensures c.next_wake.ensures.least c.next_entry.ensures in
-    ended_idles g.D.Device.log g.D.Device.faults (state_of e) (state_of (record e { end = Some StopQuiet })) c.args.plugs.now (comes_quiet e c.requires.empty c.requires.going c.requires.quiet says)
+    ended_idles g.D.Device.account (state_of e) (state_of (record e { end = Some StopQuiet })) c.args.plugs.now (comes_quiet e c.requires.empty c.requires.going c.requires.quiet says)
 
 pub returns-in-Script-clause-idles : goal.returns-in-Script-clause-idles
 returns-in-Script-clause-idles g c =
     let e = c.args.self.now in
     let says = says_so e Script c.next_wake.result c.next_entry.result c.in-Script.ensures c.next_wake.ensures.least c.next_entry.ensures in
-    ended_idles g.D.Device.log g.D.Device.faults (state_of e) (state_of (record e { clock = e.script.end; end = Some StopScript })) c.args.plugs.now (comes_script e c.requires.empty c.requires.going c.requires.quiet says)
+    ended_idles g.D.Device.account (state_of e) (state_of (record e { clock = e.script.end; end = Some StopScript })) c.args.plugs.now (comes_script e c.requires.empty c.requires.going c.requires.quiet says)
 
 pub returns-in-Quiet-clause-fewer : goal.returns-in-Quiet-clause-fewer
 returns-in-Quiet-clause-fewer g c = fewer_ends c.args.self.now c.requires.empty c.requires.going c.requires.quiet StopQuiet c.args.self.now.clock
@@ -31,13 +31,13 @@ returns-in-Script-clause-fewer g c = fewer_ends c.args.self.now c.requires.empty
 pub returns-in-Jump-clause-idles : goal.returns-in-Jump-clause-idles
 returns-in-Jump-clause-idles g c =
     let says = says_so c.args.self.now (Jump c.in-Jump.moment) c.next_wake.result c.next_entry.result c.in-Jump.ensures c.next_wake.ensures.least c.next_entry.ensures in
-    jump_idles g.D.Device.log g.D.Device.faults c.args.self.now c.requires.empty c.requires.going c.requires.quiet c.args.plugs.now c.arrive.new.plugs c.in-Jump.moment says c.requires.within
+    jump_idles g.D.Device.account c.args.self.now c.requires.empty c.requires.going c.requires.quiet c.args.plugs.now c.arrive.new.plugs c.in-Jump.moment says c.requires.within
     c.wake_due.new.self c.wake_due.ensures c.arrive.new.self c.arrive.ensures.stays c.arrive.ensures.arrived
 
 pub returns-in-Jump-clause-fewer : goal.returns-in-Jump-clause-fewer
 returns-in-Jump-clause-fewer g c =
     let says = says_so c.args.self.now (Jump c.in-Jump.moment) c.next_wake.result c.next_entry.result c.in-Jump.ensures c.next_wake.ensures.least c.next_entry.ensures in
-    jump_fewer g.D.Device.log g.D.Device.faults c.args.self.now c.requires.empty c.requires.going c.requires.quiet c.args.plugs.now c.arrive.new.plugs c.in-Jump.moment says c.requires.within
+    jump_fewer g.D.Device.account c.args.self.now c.requires.empty c.requires.going c.requires.quiet c.args.plugs.now c.arrive.new.plugs c.in-Jump.moment says c.requires.within
     c.wake_due.new.self c.wake_due.ensures c.arrive.new.self c.arrive.ensures.stays c.arrive.ensures.arrived c.arrive.ensures.later.1 c.arrive.ensures.later.0 c.arrive.ensures.grows c.arrive.ensures.applies
 
 pub returns-in-Jump-clause-early : goal.returns-in-Jump-clause-early

@@ -3,4 +3,4 @@ use Rattle.board_run.proofs.Clocks.{still_idles}
 use Rattle.board_run.proofs.engine.Engine.idle.Goals as goal
 
 pub returns-else-not-dispatch-clause-idles : goal.returns-else-not-dispatch-clause-idles
-returns-else-not-dispatch-clause-idles g c = still_idles g.D.Device.log g.D.Device.faults (state_of c.args.self.now) (state_of c.dispatch.new.self) c.args.plugs.now c.if-not-dispatch.ensures.comes
+returns-else-not-dispatch-clause-idles g c = still_idles g.D.Device.account (state_of c.args.self.now) (state_of c.dispatch.new.self) c.args.plugs.now c.if-not-dispatch.ensures.comes
