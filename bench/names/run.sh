@@ -1,5 +1,5 @@
 #!/bin/sh
-# Times of `check` of texts of 16, 32 and 64 KB with as many declarations or uses of names as fit, the least of RUNS runs each (3 if not given), in milliseconds, and the
+# Times of `check` of texts of 16, 32 and 64 KB with as many declarations, uses of names or `[]` as fit, the least of RUNS runs each (3 if not given), in milliseconds, and the
 # last over the middle one: 2 is linear, 4 quadratic. What takes more than 20 s of the processor is cut off. The verdict on the longest text stands behind: most pass a counted limit, which is asked last.
 # usage: bench/names/run.sh [RUNS]
 set -eu
@@ -89,12 +89,23 @@ kinds = {
     "parameters": lambda s: filled(s, "function f(a:number", lambda i: f",{name(i)}:number", "){}")[0],
     "handlers": lambda s: filled(s, "", lambda i: f"control.onEvent({i % 30 + 1},{i},()=>{{}})\n")[0],
     "names that aren't known": lambda s: filled(s, "", lambda i: f"let {name(i)}=1\n", "zz9")[0],
+    "a type with many `[]`, used in the main program": lambda s: filled(s, "let a:number" + "[]" * (s // 4) + "=null\n", lambda i: "a=" * 50 + "a\n")[0],
+    "a type with more `[]`, used in functions": lambda s: bracketed(s),
+    "locals, each an array of the one before": lambda s: filled(s, "function f(){let a0=[1]\n", lambda i: f"let a{i + 1}=[a{i}]\n", "}")[0],
+    "assignments in a row, in handlers of handlers": lambda s: filled(
+        s, "let a=[1]\nlet g=1\n" + ("control.inBackground(()=>{let q=1" + "".join(f",b{i}=1" for i in range(20)) + "\n") * 28 + "a=" * 130 + "[g", lambda i: ",g", "]\n" + "})" * 28
+    )[0],
 }
 
 
 def chained(size, head):
     text, count = filled(size - 60, head, lambda i: f"function {name(i)}(){{return {name(i + 1)}()}}\n")
     return text + f"function {name(count)}(){{return {'h()' if head else '1'}}}\n"
+
+
+def bracketed(size):
+    uses = "".join(f"function f{k}(){{" + ("a=" * 199 + "a\n") * 2 + "a=" * 149 + "a\n}\n" for k in range(3))
+    return "let a:number" + "[]" * ((size - len(uses) - 18) // 2) + "=null\n" + uses
 
 
 def circle(size):

@@ -1,8 +1,8 @@
-// Types with more `[]` than any text has room for: each is dropped at the end with no call for a level.
+// A written type with more `[]` than any text has room for: it is dropped at the end with no call for a level.
 
 use std::alloc::{AllocError, Global};
+use sts_syntax::Shape;
 use sts_syntax::build::boxed;
-use sts_syntax::{Shape, Ty};
 
 const LEVELS: u32 = 2_000_000;
 
@@ -14,18 +14,6 @@ pub fn drop_shape(alloc: Global) -> Result<(), AllocError> {
             return Err(AllocError);
         };
         shape = Shape::List(item);
-    }
-    Ok(())
-}
-
-/// A type of values.
-pub fn drop_type(alloc: Global) -> Result<(), AllocError> {
-    let mut ty = Ty::Class(3);
-    for _ in 0..LEVELS {
-        let Ok(item) = boxed(alloc, ty) else {
-            return Err(AllocError);
-        };
-        ty = Ty::List(item);
     }
     Ok(())
 }

@@ -44,7 +44,7 @@ pub fn number(value: i32) -> TypedExpr
     ensures { typed_tree result ≡ r.number value }
 {
     TypedExpr {
-        ty: Ty::Number,
+        ty: Ty::NUMBER,
         node: TypedNode::Num(value),
     }
 }
@@ -53,7 +53,7 @@ pub fn name(spot: Spot) -> TypedExpr
     ensures { typed_tree result ≡ r.name spot }
 {
     TypedExpr {
-        ty: Ty::Number,
+        ty: Ty::NUMBER,
         node: TypedNode::Name(spot),
     }
 }
@@ -64,7 +64,7 @@ pub fn binary(alloc: Global, op: u8, a: TypedExpr, b: TypedExpr) -> Result<Typed
 {
     let (a, b) = both(alloc, a, b)?;
     Ok(TypedExpr {
-        ty: Ty::Number,
+        ty: Ty::NUMBER,
         node: TypedNode::Binary(op, a, b),
     })
 }
@@ -75,7 +75,7 @@ pub fn set(alloc: Global, op: Option<u8>, spot: Spot, a: TypedExpr) -> Result<Ty
 {
     let (target, a) = both(alloc, name(spot), a)?;
     Ok(TypedStmt::Plain(TypedExpr {
-        ty: Ty::Number,
+        ty: Ty::NUMBER,
         node: TypedNode::Set(op, target, a),
     }))
 }
@@ -85,7 +85,7 @@ pub fn increment(alloc: Global, spot: Spot) -> Result<TypedExpr, NoMemory>
     ensures { IfOk result (λ e. typed_tree e ≡ r.increment spot) }
 {
     Ok(TypedExpr {
-        ty: Ty::Number,
+        ty: Ty::NUMBER,
         node: TypedNode::Bump {
             target: boxed(alloc, name(spot))?,
             by: 1,
@@ -108,21 +108,21 @@ fn call_of(ty: Ty, callee: Callee, args: Seq<TypedExpr>) -> TypedExpr
 pub fn call(function: u32, args: Seq<TypedExpr>) -> TypedExpr
     ensures { typed_tree result ≡ r.call function (typed_trees args) }
 {
-    call_of(Ty::Number, Callee::Function(function), args)
+    call_of(Ty::NUMBER, Callee::Function(function), args)
 }
 
 /// A call of a function that gives nothing, as a statement.
 pub fn run(function: u32, args: Seq<TypedExpr>) -> TypedStmt
     ensures { typed_statement result ≡ r.run function (typed_trees args) }
 {
-    TypedStmt::Plain(call_of(Ty::Nothing, Callee::Function(function), args))
+    TypedStmt::Plain(call_of(Ty::NOTHING, Callee::Function(function), args))
 }
 
 /// A call of the board, as a statement.
 pub fn ask(call: BoardCall, args: Seq<TypedExpr>) -> TypedStmt
     ensures { typed_statement result ≡ r.ask call (typed_trees args) }
 {
-    TypedStmt::Plain(call_of(Ty::Nothing, Callee::Board(call), args))
+    TypedStmt::Plain(call_of(Ty::NOTHING, Callee::Board(call), args))
 }
 
 /// `let name = first`

@@ -1,7 +1,9 @@
 // Rows of the board's interface.
 
 use std::alloc::{AllocError, Global};
-use sts_syntax::{BoardAction, BoardParameter, ServicePlace, Ty, board_call, board_constant};
+use sts_syntax::{
+    BaseType, BoardAction, BoardParameter, ServicePlace, Ty, board_call, board_constant,
+};
 
 fn parameter_name(parameter: BoardParameter) -> &'static str {
     match parameter {
@@ -12,13 +14,16 @@ fn parameter_name(parameter: BoardParameter) -> &'static str {
     }
 }
 
-fn type_name(ty: &Ty) -> &'static str {
-    match ty {
-        Ty::Number => "number",
-        Ty::Boolean => "boolean",
-        Ty::Text => "text",
-        Ty::Nothing => "nothing",
-        Ty::Class(_) | Ty::List(_) | Ty::Null => "other",
+fn type_name(ty: Ty) -> &'static str {
+    if ty.depth > 0 {
+        return "other";
+    }
+    match ty.base {
+        BaseType::Number => "number",
+        BaseType::Boolean => "boolean",
+        BaseType::Text => "text",
+        BaseType::Nothing => "nothing",
+        BaseType::Class(_) | BaseType::Null => "other",
     }
 }
 
@@ -54,7 +59,7 @@ pub fn show_call(alloc: Global, space: &str, name: &str) -> Result<String, Alloc
     for parameter in call.takes() {
         shown.push_str(parameter_name(*parameter))?;
     }
-    let gives = type_name(&call.gives());
+    let gives = type_name(call.gives());
     let action = show_action(alloc, call.action())?;
     format!(in alloc; "{shown}; gives {gives}; {action}\n")
 }

@@ -20,8 +20,8 @@ pub fn deep(alloc: Global) -> Result<TypedBody, NoMemory>
     all.push(declare(alloc, Spot::Local(0), product)?)?;
     all.push(ask(BoardCall::Pause, one(alloc, number(5))?))?;
     all.push(TypedStmt::Return(Some(name(Spot::Local(0)))))?;
-    let params = one(alloc, Ty::Number)?;
-    Ok(routine(params, one(alloc, Ty::Number)?, Ty::Number, all))
+    let params = one(alloc, Ty::NUMBER)?;
+    Ok(routine(params, one(alloc, Ty::NUMBER)?, Ty::NUMBER, all))
 }
 
 pub fn mid(alloc: Global) -> Result<TypedBody, NoMemory>
@@ -35,8 +35,8 @@ pub fn mid(alloc: Global) -> Result<TypedBody, NoMemory>
     let product = binary(alloc, MULTIPLY, name(Spot::Local(0)), number(100))?;
     let value = binary(alloc, ADD, product, name(Spot::Local(1)))?;
     all.push(TypedStmt::Return(Some(value)))?;
-    let params = one(alloc, Ty::Number)?;
-    Ok(routine(params, two(alloc, Ty::Number, Ty::Number)?, Ty::Number, all))
+    let params = one(alloc, Ty::NUMBER)?;
+    Ok(routine(params, two(alloc, Ty::NUMBER, Ty::NUMBER)?, Ty::NUMBER, all))
 }
 
 pub fn writes_mid(alloc: Global) -> Result<TypedBody, NoMemory>
@@ -44,7 +44,7 @@ pub fn writes_mid(alloc: Global) -> Result<TypedBody, NoMemory>
 {
     let found = call(8, one(alloc, number(6))?);
     let all = one(alloc, ask(BoardCall::WriteNumber, one(alloc, found)?))?;
-    Ok(routine(Seq::new(alloc), Seq::new(alloc), Ty::Nothing, all))
+    Ok(routine(Seq::new(alloc), Seq::new(alloc), Ty::NOTHING, all))
 }
 
 pub fn counts_on(alloc: Global) -> Result<TypedBody, NoMemory>
@@ -54,15 +54,15 @@ pub fn counts_on(alloc: Global) -> Result<TypedBody, NoMemory>
     all.push(ask(BoardCall::WriteNumber, one(alloc, name(Spot::Param(0)))?))?;
     let sum = binary(alloc, ADD, name(Spot::Param(0)), number(1))?;
     all.push(run(7, one(alloc, sum)?))?;
-    let params = one(alloc, Ty::Number)?;
-    Ok(routine(params, Seq::new(alloc), Ty::Nothing, all))
+    let params = one(alloc, Ty::NUMBER)?;
+    Ok(routine(params, Seq::new(alloc), Ty::NOTHING, all))
 }
 
 pub fn starts_at_one(alloc: Global) -> Result<TypedBody, NoMemory>
     ensures { IfOk result (λ b. typed_routine b ≡ r.starts_at_one) }
 {
     let all = one(alloc, run(7, one(alloc, number(1))?))?;
-    Ok(routine(Seq::new(alloc), Seq::new(alloc), Ty::Nothing, all))
+    Ok(routine(Seq::new(alloc), Seq::new(alloc), Ty::NOTHING, all))
 }
 
 pub fn waits(alloc: Global) -> Result<TypedBody, NoMemory>
@@ -70,7 +70,7 @@ pub fn waits(alloc: Global) -> Result<TypedBody, NoMemory>
 {
     let args = two(alloc, number(60), number(1))?;
     let all = one(alloc, ask(BoardCall::WaitForEvent, args))?;
-    Ok(routine(Seq::new(alloc), Seq::new(alloc), Ty::Nothing, all))
+    Ok(routine(Seq::new(alloc), Seq::new(alloc), Ty::NOTHING, all))
 }
 
 fn worker_turn(alloc: Global) -> Result<TypedStmt, NoMemory>
@@ -112,5 +112,5 @@ pub fn worker(alloc: Global) -> Result<TypedBody, NoMemory>
     all.push(worker_loop(alloc)?)?;
     all.push(set(alloc, Some(ADD), Spot::Global(1), number(1))?)?;
     all.push(worker_end(alloc)?)?;
-    Ok(routine(Seq::new(alloc), one(alloc, Ty::Number)?, Ty::Nothing, all))
+    Ok(routine(Seq::new(alloc), one(alloc, Ty::NUMBER)?, Ty::NOTHING, all))
 }

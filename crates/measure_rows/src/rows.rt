@@ -1,6 +1,6 @@
 // One row, and its answer.
 
-use crate::deep_types::{drop_shape, drop_type};
+use crate::deep_types::drop_shape;
 use crate::interface::{show_call, show_constant};
 use crate::library::show_library;
 use crate::measured::show_measures;
@@ -19,10 +19,6 @@ pub fn answer(alloc: Global, line: &str) -> Result<String, AllocError> {
         "library" => show_library(alloc),
         "shape" => {
             drop_shape(alloc)?;
-            format!(in alloc; "  dropped\n")
-        }
-        "type" => {
-            drop_type(alloc)?;
             format!(in alloc; "  dropped\n")
         }
         _ => Ok(String::new(alloc)),

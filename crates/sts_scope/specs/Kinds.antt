@@ -1,7 +1,8 @@
 -- Types as names and calls are given them: a base, and how many `[]` stand behind it.
-use Rattle.std.specs.Prelude.{ℕ, zero, suc, ◌+◌, ◌-◌, Bool, true, false, not, ◌&&◌, ◌||◌, ◌==◌, Option, Some, None, List, [], ◌∷◌}
+use Rattle.std.specs.Prelude.{ℕ, ◌+◌, ◌-◌, Bool, true, false, not, ◌&&◌, ◌||◌, ◌==◌, Option, Some, None, List, [], ◌∷◌}
 use Rattle.sts_syntax.specs.Types as t
-use Rattle.sts_syntax.specs.Types.{ValueType}
+use Rattle.sts_syntax.specs.Layered.{layered}
+use Rattle.sts_syntax.specs.Types.{ValueType, ListOf}
 use Rattle.sts_scope.specs.declared.kinds.Base.{Base}
 use Rattle.sts_scope.specs.declared.kinds.Base.TheVariants as b
 use Rattle.sts_scope.specs.declared.kinds.Kind.{Kind}
@@ -86,12 +87,8 @@ base_type b.Null = t.NullType
 base_type b.Empty = t.Nothing
 base_type (b.Class c) = t.Object c
 
-abbrev pub listed : ℕ → ValueType → ValueType
-listed zero u = u
-listed (suc n) u = t.ListOf (listed n u)
-
 abbrev pub value_type : Kind → ValueType
-value_type t = listed t.depth (base_type t.base)
+value_type t = layered ListOf t.depth (base_type t.base)
 
 abbrev pub value_types : List Kind → List ValueType
 value_types [] = []

@@ -17,6 +17,7 @@ use Rattle.sts_scope.specs.declared.known.Part.TheVariants as part
 use Rattle.sts_scope.specs.Kinds.{number, boolean, nothing, null, empty, object, array, item, same, is_array, class_of, takes_null}
 use Rattle.sts_scope.specs.Lookup.{base_of, member_number, sort_of}
 use Rattle.sts_scope.specs.Places.{Place}
+use Rattle.sts_syntax.specs.declared.operators.TheConstants.{NEGATE, PLUS, NOT, COMPLEMENT, BIT_OR, BIT_XOR, BIT_AND, EQUAL, UNEQUAL, LESS, GREATER, AT_MOST, AT_LEAST, SHIFT_LEFT, SHIFT_RIGHT, SHIFT_RIGHT_UNSIGNED, ADD, SUBTRACT, MULTIPLY, DIVIDE, REMAINDER}
 
 -- the class m is n, or one of its next so many bases is
 unfoldable pub reaches : List ClassHead → ℕ → ℕ → ℕ → Bool
@@ -48,15 +49,17 @@ unfoldable pub comparable : List ClassHead → Kind → Kind → Bool
 comparable classes s t =
     (same s t && not (same s nothing)) || below classes s t || below classes t s || (same s null && takes_null t) || (same t null && takes_null s)
 
--- What operators take, by their numbers. 1 to 3 and 10 to 17 are `|`, `^`, `&`, shifts and arithmetic, 4 and 5 `==` and `!=`, 6 to 9 put in order.
+-- What operators take: numbers, of which they give one; equality two values that may be compared; order two numbers.
 abbrev pub is_arithmetic : ℕ → Bool
-is_arithmetic op = op == 1 || op == 2 || op == 3 || op == 10 || op == 11 || op == 12 || op == 13 || op == 14 || op == 15 || op == 16 || op == 17
+is_arithmetic op =
+    op == BIT_OR || op == BIT_XOR || op == BIT_AND || op == SHIFT_LEFT || op == SHIFT_RIGHT || op == SHIFT_RIGHT_UNSIGNED
+    || op == ADD || op == SUBTRACT || op == MULTIPLY || op == DIVIDE || op == REMAINDER
 
 abbrev pub is_equality : ℕ → Bool
-is_equality op = op == 4 || op == 5
+is_equality op = op == EQUAL || op == UNEQUAL
 
 abbrev pub is_order : ℕ → Bool
-is_order op = op == 6 || op == 7 || op == 8 || op == 9
+is_order op = op == LESS || op == GREATER || op == AT_MOST || op == AT_LEAST
 
 unfoldable pub operate : List ClassHead → ℕ → Kind → Kind → Option Kind
 operate classes op s t =
@@ -64,11 +67,11 @@ operate classes op s t =
     else if same s number && same t number then (if is_arithmetic op then Some number else if is_order op then Some boolean else None)
     else None
 
--- prefix operators: 3 is `!`; 1, 2 and 4 are `-`, `+` and `~`
+-- prefix operators
 unfoldable pub prefix : ℕ → Kind → Option Kind
 prefix op s =
-    if op == 3 then (if same s boolean then Some boolean else None)
-    else if (op == 1 || op == 2 || op == 4) && same s number then Some number
+    if op == NOT then (if same s boolean then Some boolean else None)
+    else if (op == NEGATE || op == PLUS || op == COMPLEMENT) && same s number then Some number
     else None
 
 -- `&&` and `||`

@@ -7,6 +7,11 @@ use crate::environment::Environment;
 use crate::kind_rules::{array, below, flat, goes, is_array, item, same, takes_null};
 use crate::kinds::{Base, Kind};
 use sts_base::Refused;
+use sts_syntax::operators::{
+    ADD, AT_LEAST, AT_MOST, BIT_AND, BIT_OR, BIT_XOR, COMPLEMENT, DIVIDE, EQUAL, GREATER, LESS,
+    MULTIPLY, NEGATE, NOT, PLUS, REMAINDER, SHIFT_LEFT, SHIFT_RIGHT, SHIFT_RIGHT_UNSIGNED,
+    SUBTRACT, UNEQUAL,
+};
 
 /// Whether values of types go where types are given, each to each.
 #[tactic(auto, unfolding(crate::specs::Rules::all_go))]
@@ -52,29 +57,29 @@ fn comparable(known: &Environment, s: Kind, t: Kind) -> bool
 fn is_arithmetic(op: u8) -> bool
     ensures { result ≡ rule.is_arithmetic op }
 {
-    op == 1
-        || op == 2
-        || op == 3
-        || op == 10
-        || op == 11
-        || op == 12
-        || op == 13
-        || op == 14
-        || op == 15
-        || op == 16
-        || op == 17
+    op == BIT_OR
+        || op == BIT_XOR
+        || op == BIT_AND
+        || op == SHIFT_LEFT
+        || op == SHIFT_RIGHT
+        || op == SHIFT_RIGHT_UNSIGNED
+        || op == ADD
+        || op == SUBTRACT
+        || op == MULTIPLY
+        || op == DIVIDE
+        || op == REMAINDER
 }
 
 fn is_equality(op: u8) -> bool
     ensures { result ≡ rule.is_equality op }
 {
-    op == 4 || op == 5
+    op == EQUAL || op == UNEQUAL
 }
 
 fn is_order(op: u8) -> bool
     ensures { result ≡ rule.is_order op }
 {
-    op == 6 || op == 7 || op == 8 || op == 9
+    op == LESS || op == GREATER || op == AT_MOST || op == AT_LEAST
 }
 
 /// An operator between two operands.
@@ -107,13 +112,13 @@ pub fn operate(known: &Environment, op: u8, s: Kind, t: Kind) -> Option<Kind>
 pub fn prefix(op: u8, s: Kind) -> Option<Kind>
     ensures { result ≡ rule.prefix op s }
 {
-    if op == 3 {
+    if op == NOT {
         if same(s, flat(Base::Boolean)) {
             Some(flat(Base::Boolean))
         } else {
             None
         }
-    } else if (op == 1 || op == 2 || op == 4) && same(s, flat(Base::Number)) {
+    } else if (op == NEGATE || op == PLUS || op == COMPLEMENT) && same(s, flat(Base::Number)) {
         Some(flat(Base::Number))
     } else {
         None

@@ -1,6 +1,7 @@
 -- The board's interface: one row for each of its calls, and its constants. Names, types, measures, the meaning of programs and
 -- their code all read this table.
 use Rattle.std.specs.Prelude.{ℕ, ℤ, pos, Bool, true, false, ◌&&◌, if◌then◌else◌, ◌==◌, Option, Some, None, List, [], ◌∷◌, codes}
+use Rattle.board_services.specs.declared.numbers.TheConstants.{PANIC, PAUSE, WAIT, SPAWN, LISTEN, RAISE, TIME, EVENT_VALUE, BUTTON, PLOT, SHOW, WRITE_NUMBER, WRITE_TEXT, WRITE_PIN, SEND, TEXT_GLYPH, NUMBER_GLYPH, LISTEN_IN_MODE, RAISE_NOW}
 use Rattle.sts_syntax.specs.declared.board_calls.BoardCall.{BoardCall}
 use Rattle.sts_syntax.specs.declared.board_calls.BoardCall.TheVariants.{Pause, Forever, ShowLeds, ShowNumber, ShowString, ClearScreen, Unplot, Plot, Toggle, OnButtonPressed, ButtonIsPressed, RunningTime, InBackground, OnEvent, OnEventFlags, RaiseEvent, RaiseNow, WaitForEvent, EventValue, Panic, WriteNumber, WriteString, WriteLine, DigitalWritePin, SendNumber, Abs, Min, Max, Show, NumberGlyph, TextGlyph}
 use Rattle.sts_syntax.specs.Types as t
@@ -49,37 +50,37 @@ two_written = Written ∷ one_written
 
 -- the table
 abbrev pub row_of : BoardCall → BoardRow
-row_of Pause = row (codes "basic") (codes "pause") (number ∷ []) t.Nothing (Service 2 one_written)
+row_of Pause = row (codes "basic") (codes "pause") (number ∷ []) t.Nothing (Service PAUSE one_written)
 row_of Forever = row (codes "basic") (codes "forever") (Handler ∷ []) t.Nothing Repeats
 row_of ShowLeds = row (codes "basic") (codes "showLeds") (Drawing ∷ []) t.Nothing (Library 0)
 row_of ShowNumber = row (codes "basic") (codes "showNumber") (number ∷ []) t.Nothing (Library 1)
 row_of ShowString = row (codes "basic") (codes "showString") (text ∷ []) t.Nothing (Library 2)
-row_of ClearScreen = row (codes "basic") (codes "clearScreen") [] t.Nothing (Service 11 (Always (pos 0) ∷ []))
-row_of Unplot = row (codes "led") (codes "unplot") (number ∷ number ∷ []) t.Nothing (Service 10 (Written ∷ Written ∷ Always (pos 0) ∷ []))
-row_of Plot = row (codes "led") (codes "plot") (number ∷ number ∷ []) t.Nothing (Service 10 (Written ∷ Written ∷ Always (pos 1) ∷ []))
-row_of Toggle = row (codes "led") (codes "toggle") (number ∷ number ∷ []) t.Nothing (Service 10 (Written ∷ Written ∷ Always (pos 2) ∷ []))
-row_of OnButtonPressed = row (codes "input") (codes "onButtonPressed") (number ∷ Handler ∷ []) t.Nothing (Service 5 (Written ∷ Always (pos 3) ∷ Written ∷ []))
-row_of ButtonIsPressed = row (codes "input") (codes "buttonIsPressed") (number ∷ []) t.Boolean (Service 9 one_written)
-row_of RunningTime = row (codes "input") (codes "runningTime") [] t.Number (Service 7 [])
-row_of InBackground = row (codes "control") (codes "inBackground") (Handler ∷ []) t.Nothing (Service 4 one_written)
-row_of OnEvent = row (codes "control") (codes "onEvent") (number ∷ number ∷ Handler ∷ []) t.Nothing (Service 5 (Written ∷ two_written))
-row_of OnEventFlags = row (codes "control") (codes "onEventFlags") (number ∷ number ∷ Handler ∷ number ∷ []) t.Nothing (Service 22 (Written ∷ Written ∷ two_written))
-row_of RaiseEvent = row (codes "control") (codes "raiseEvent") (number ∷ number ∷ []) t.Nothing (Service 6 two_written)
-row_of RaiseNow = row (codes "control") (codes "raiseNow") (number ∷ number ∷ []) t.Nothing (Service 23 two_written)
-row_of WaitForEvent = row (codes "control") (codes "waitForEvent") (number ∷ number ∷ []) t.Nothing (Service 3 two_written)
-row_of EventValue = row (codes "control") (codes "eventValue") [] t.Number (Service 8 [])
-row_of Panic = row (codes "control") (codes "panic") (number ∷ []) t.Nothing (Service 1 one_written)
-row_of WriteNumber = row (codes "serial") (codes "writeNumber") (number ∷ []) t.Nothing (Service 12 one_written)
-row_of WriteString = row (codes "serial") (codes "writeString") (text ∷ []) t.Nothing (Service 13 one_written)
+row_of ClearScreen = row (codes "basic") (codes "clearScreen") [] t.Nothing (Service SHOW (Always (pos 0) ∷ []))
+row_of Unplot = row (codes "led") (codes "unplot") (number ∷ number ∷ []) t.Nothing (Service PLOT (Written ∷ Written ∷ Always (pos 0) ∷ []))
+row_of Plot = row (codes "led") (codes "plot") (number ∷ number ∷ []) t.Nothing (Service PLOT (Written ∷ Written ∷ Always (pos 1) ∷ []))
+row_of Toggle = row (codes "led") (codes "toggle") (number ∷ number ∷ []) t.Nothing (Service PLOT (Written ∷ Written ∷ Always (pos 2) ∷ []))
+row_of OnButtonPressed = row (codes "input") (codes "onButtonPressed") (number ∷ Handler ∷ []) t.Nothing (Service LISTEN (Written ∷ Always (pos 3) ∷ Written ∷ []))
+row_of ButtonIsPressed = row (codes "input") (codes "buttonIsPressed") (number ∷ []) t.Boolean (Service BUTTON one_written)
+row_of RunningTime = row (codes "input") (codes "runningTime") [] t.Number (Service TIME [])
+row_of InBackground = row (codes "control") (codes "inBackground") (Handler ∷ []) t.Nothing (Service SPAWN one_written)
+row_of OnEvent = row (codes "control") (codes "onEvent") (number ∷ number ∷ Handler ∷ []) t.Nothing (Service LISTEN (Written ∷ two_written))
+row_of OnEventFlags = row (codes "control") (codes "onEventFlags") (number ∷ number ∷ Handler ∷ number ∷ []) t.Nothing (Service LISTEN_IN_MODE (Written ∷ Written ∷ two_written))
+row_of RaiseEvent = row (codes "control") (codes "raiseEvent") (number ∷ number ∷ []) t.Nothing (Service RAISE two_written)
+row_of RaiseNow = row (codes "control") (codes "raiseNow") (number ∷ number ∷ []) t.Nothing (Service RAISE_NOW two_written)
+row_of WaitForEvent = row (codes "control") (codes "waitForEvent") (number ∷ number ∷ []) t.Nothing (Service WAIT two_written)
+row_of EventValue = row (codes "control") (codes "eventValue") [] t.Number (Service EVENT_VALUE [])
+row_of Panic = row (codes "control") (codes "panic") (number ∷ []) t.Nothing (Service PANIC one_written)
+row_of WriteNumber = row (codes "serial") (codes "writeNumber") (number ∷ []) t.Nothing (Service WRITE_NUMBER one_written)
+row_of WriteString = row (codes "serial") (codes "writeString") (text ∷ []) t.Nothing (Service WRITE_TEXT one_written)
 row_of WriteLine = row (codes "serial") (codes "writeLine") (text ∷ []) t.Nothing (Library 3)
-row_of DigitalWritePin = row (codes "pins") (codes "digitalWritePin") (number ∷ number ∷ []) t.Nothing (Service 14 two_written)
-row_of SendNumber = row (codes "radio") (codes "sendNumber") (number ∷ []) t.Nothing (Service 15 one_written)
+row_of DigitalWritePin = row (codes "pins") (codes "digitalWritePin") (number ∷ number ∷ []) t.Nothing (Service WRITE_PIN two_written)
+row_of SendNumber = row (codes "radio") (codes "sendNumber") (number ∷ []) t.Nothing (Service SEND one_written)
 row_of Abs = row (codes "Math") (codes "abs") (number ∷ []) t.Number (Library 4)
 row_of Min = row (codes "Math") (codes "min") (number ∷ number ∷ []) t.Number (Library 5)
 row_of Max = row (codes "Math") (codes "max") (number ∷ number ∷ []) t.Number (Library 6)
-row_of Show = row [] (codes "$show") (number ∷ []) t.Nothing (Service 11 one_written)
-row_of NumberGlyph = row [] (codes "$numberGlyph") (number ∷ number ∷ []) t.Number (Service 17 two_written)
-row_of TextGlyph = row [] (codes "$textGlyph") (text ∷ number ∷ []) t.Number (Service 16 two_written)
+row_of Show = row [] (codes "$show") (number ∷ []) t.Nothing (Service SHOW one_written)
+row_of NumberGlyph = row [] (codes "$numberGlyph") (number ∷ number ∷ []) t.Number (Service NUMBER_GLYPH two_written)
+row_of TextGlyph = row [] (codes "$textGlyph") (text ∷ number ∷ []) t.Number (Service TEXT_GLYPH two_written)
 
 -- all calls
 abbrev pub board_calls : List BoardCall

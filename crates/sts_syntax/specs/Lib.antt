@@ -3,6 +3,7 @@ pub mod Trees
 pub mod Views
 pub mod Programs
 pub mod Nesting
+pub mod Layered
 pub mod Types
 pub mod TypedTrees
 pub mod TypedViews

@@ -2,6 +2,7 @@
 use Rattle.std.specs.Prelude.{◌≡◌, ℕ, zero, suc, ℤ, pos, negsuc, ◌^◌, Bool, List, [], ◌∷◌, Option, Some, None, nat_lt, ◌⊎◌}
 use Rattle.sts_syntax.specs.Types.{ValueType, Number, Boolean, Text, Nothing, Object, ListOf, NullType}
 use Rattle.sts_syntax.specs.TypedTrees.{TypedRoutine, ClassEntry, TypedProgram}
+use Rattle.sts_syntax.specs.declared.operators.TheConstants.{NEGATE, PLUS, NOT, COMPLEMENT, BIT_OR, BIT_XOR, BIT_AND, EQUAL, UNEQUAL, LESS, GREATER, AT_MOST, AT_LEAST, SHIFT_LEFT, SHIFT_RIGHT, SHIFT_RIGHT_UNSIGNED, ADD, SUBTRACT, MULTIPLY, DIVIDE, REMAINDER}
 
 -- an entry of a list, if it is there
 abbrev pub entry : {X : Type 0} → List X → ℕ → Option X
@@ -29,19 +30,20 @@ abbrev pub is_int32 : ℤ → Bool
 is_int32 (pos n) = nat_lt n (2 ^ 31)
 is_int32 (negsuc n) = nat_lt n (2 ^ 31)
 
--- operators by their numbers: those that take numbers and give one, those that put numbers in order, and those of equality
+-- operators: those that take numbers and give one, those that put numbers in order, and those of equality
 abbrev pub arithmetic_operators : List ℕ
-arithmetic_operators = 1 ∷ 2 ∷ 3 ∷ 10 ∷ 11 ∷ 12 ∷ 13 ∷ 14 ∷ 15 ∷ 16 ∷ 17 ∷ []
+arithmetic_operators =
+    BIT_OR ∷ BIT_XOR ∷ BIT_AND ∷ SHIFT_LEFT ∷ SHIFT_RIGHT ∷ SHIFT_RIGHT_UNSIGNED ∷ ADD ∷ SUBTRACT ∷ MULTIPLY ∷ DIVIDE ∷ REMAINDER ∷ []
 
 abbrev pub order_operators : List ℕ
-order_operators = 6 ∷ 7 ∷ 8 ∷ 9 ∷ []
+order_operators = LESS ∷ GREATER ∷ AT_MOST ∷ AT_LEAST ∷ []
 
 abbrev pub equality_operators : List ℕ
-equality_operators = 4 ∷ 5 ∷ []
+equality_operators = EQUAL ∷ UNEQUAL ∷ []
 
--- prefix operators: `-`, `+` and `~` take a number, and 3 is `!`
+-- prefix operators that take a number; `!` takes a truth value
 abbrev pub number_prefixes : List ℕ
-number_prefixes = 1 ∷ 2 ∷ 4 ∷ []
+number_prefixes = NEGATE ∷ PLUS ∷ COMPLEMENT ∷ []
 
 -- `++` adds 1, and `--` -1
 abbrev pub IsOne : ℤ → Type 0
@@ -49,7 +51,7 @@ IsOne by = (by ≡ pos 1) ⊎ (by ≡ negsuc 0)
 
 -- what a prefix operator takes and gives
 abbrev pub Prefixes : ℕ → ValueType → ValueType → Type 0
-Prefixes op u w = (IsOneOf op number_prefixes × (u ≡ Number) × (w ≡ Number)) ⊎ ((op ≡ 3) × (u ≡ Boolean) × (w ≡ Boolean))
+Prefixes op u w = (IsOneOf op number_prefixes × (u ≡ Number) × (w ≡ Number)) ⊎ ((op ≡ NOT) × (u ≡ Boolean) × (w ≡ Boolean))
 
 module _ (P : TypedProgram) where
   abbrev pub HasClass : ℕ → ClassEntry → Type 0

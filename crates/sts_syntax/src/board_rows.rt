@@ -5,6 +5,10 @@ ghost use Rattle.sts_syntax.specs.BoardViews.{board_parameter, board_action, con
 ghost use Rattle.sts_syntax.specs.Types.{value_type};
 
 use crate::{BoardCall, Ty};
+use board_services::{
+    BUTTON, EVENT_VALUE, LISTEN, LISTEN_IN_MODE, NUMBER_GLYPH, PANIC, PAUSE, PLOT, RAISE,
+    RAISE_NOW, SEND, SHOW, SPAWN, TEXT_GLYPH, TIME, WAIT, WRITE_NUMBER, WRITE_PIN, WRITE_TEXT,
+};
 
 /// What a call takes at one of its places.
 #[derive(Clone, Copy)]
@@ -268,15 +272,15 @@ impl BoardCall {
             | BoardCall::WriteLine
             | BoardCall::DigitalWritePin
             | BoardCall::SendNumber
-            | BoardCall::Show => Ty::Nothing,
-            BoardCall::ButtonIsPressed => Ty::Boolean,
+            | BoardCall::Show => Ty::NOTHING,
+            BoardCall::ButtonIsPressed => Ty::BOOLEAN,
             BoardCall::RunningTime
             | BoardCall::EventValue
             | BoardCall::Abs
             | BoardCall::Min
             | BoardCall::Max
             | BoardCall::NumberGlyph
-            | BoardCall::TextGlyph => Ty::Number,
+            | BoardCall::TextGlyph => Ty::NUMBER,
         }
     }
 
@@ -285,37 +289,37 @@ impl BoardCall {
         ensures { board_action result ≡ (row_of self).action }
     {
         match self {
-            BoardCall::Pause => BoardAction::Service(2, ONE_WRITTEN),
+            BoardCall::Pause => BoardAction::Service(PAUSE, ONE_WRITTEN),
             BoardCall::Forever => BoardAction::Repeats,
             BoardCall::ShowLeds => BoardAction::Library(0),
             BoardCall::ShowNumber => BoardAction::Library(1),
             BoardCall::ShowString => BoardAction::Library(2),
-            BoardCall::ClearScreen => BoardAction::Service(11, DARK),
-            BoardCall::Unplot => BoardAction::Service(10, LIGHT_OFF),
-            BoardCall::Plot => BoardAction::Service(10, LIGHT_ON),
-            BoardCall::Toggle => BoardAction::Service(10, LIGHT_TURNED),
-            BoardCall::OnButtonPressed => BoardAction::Service(5, PRESSED),
-            BoardCall::ButtonIsPressed => BoardAction::Service(9, ONE_WRITTEN),
-            BoardCall::RunningTime => BoardAction::Service(7, &[]),
-            BoardCall::InBackground => BoardAction::Service(4, ONE_WRITTEN),
-            BoardCall::OnEvent => BoardAction::Service(5, THREE_WRITTEN),
-            BoardCall::OnEventFlags => BoardAction::Service(22, FOUR_WRITTEN),
-            BoardCall::RaiseEvent => BoardAction::Service(6, TWO_WRITTEN),
-            BoardCall::RaiseNow => BoardAction::Service(23, TWO_WRITTEN),
-            BoardCall::WaitForEvent => BoardAction::Service(3, TWO_WRITTEN),
-            BoardCall::EventValue => BoardAction::Service(8, &[]),
-            BoardCall::Panic => BoardAction::Service(1, ONE_WRITTEN),
-            BoardCall::WriteNumber => BoardAction::Service(12, ONE_WRITTEN),
-            BoardCall::WriteString => BoardAction::Service(13, ONE_WRITTEN),
+            BoardCall::ClearScreen => BoardAction::Service(SHOW, DARK),
+            BoardCall::Unplot => BoardAction::Service(PLOT, LIGHT_OFF),
+            BoardCall::Plot => BoardAction::Service(PLOT, LIGHT_ON),
+            BoardCall::Toggle => BoardAction::Service(PLOT, LIGHT_TURNED),
+            BoardCall::OnButtonPressed => BoardAction::Service(LISTEN, PRESSED),
+            BoardCall::ButtonIsPressed => BoardAction::Service(BUTTON, ONE_WRITTEN),
+            BoardCall::RunningTime => BoardAction::Service(TIME, &[]),
+            BoardCall::InBackground => BoardAction::Service(SPAWN, ONE_WRITTEN),
+            BoardCall::OnEvent => BoardAction::Service(LISTEN, THREE_WRITTEN),
+            BoardCall::OnEventFlags => BoardAction::Service(LISTEN_IN_MODE, FOUR_WRITTEN),
+            BoardCall::RaiseEvent => BoardAction::Service(RAISE, TWO_WRITTEN),
+            BoardCall::RaiseNow => BoardAction::Service(RAISE_NOW, TWO_WRITTEN),
+            BoardCall::WaitForEvent => BoardAction::Service(WAIT, TWO_WRITTEN),
+            BoardCall::EventValue => BoardAction::Service(EVENT_VALUE, &[]),
+            BoardCall::Panic => BoardAction::Service(PANIC, ONE_WRITTEN),
+            BoardCall::WriteNumber => BoardAction::Service(WRITE_NUMBER, ONE_WRITTEN),
+            BoardCall::WriteString => BoardAction::Service(WRITE_TEXT, ONE_WRITTEN),
             BoardCall::WriteLine => BoardAction::Library(3),
-            BoardCall::DigitalWritePin => BoardAction::Service(14, TWO_WRITTEN),
-            BoardCall::SendNumber => BoardAction::Service(15, ONE_WRITTEN),
+            BoardCall::DigitalWritePin => BoardAction::Service(WRITE_PIN, TWO_WRITTEN),
+            BoardCall::SendNumber => BoardAction::Service(SEND, ONE_WRITTEN),
             BoardCall::Abs => BoardAction::Library(4),
             BoardCall::Min => BoardAction::Library(5),
             BoardCall::Max => BoardAction::Library(6),
-            BoardCall::Show => BoardAction::Service(11, ONE_WRITTEN),
-            BoardCall::NumberGlyph => BoardAction::Service(17, TWO_WRITTEN),
-            BoardCall::TextGlyph => BoardAction::Service(16, TWO_WRITTEN),
+            BoardCall::Show => BoardAction::Service(SHOW, ONE_WRITTEN),
+            BoardCall::NumberGlyph => BoardAction::Service(NUMBER_GLYPH, TWO_WRITTEN),
+            BoardCall::TextGlyph => BoardAction::Service(TEXT_GLYPH, TWO_WRITTEN),
         }
     }
 }

@@ -27,5 +27,5 @@ pub use trees::{Binding, Body, Expr, Form, Node, Param, Stmt};
 pub use typed::{
     Callee, Spot, Typed, TypedBinding, TypedBody, TypedClass, TypedExpr, TypedNode, TypedStmt,
 };
-pub use types::Ty;
+pub use types::{BaseType, Ty};
 pub use units::{Item, Member, Unit};

@@ -22,8 +22,8 @@ use crate::bounds::{
     shape_role,
 };
 use crate::nodes::{
-    board_call_seen, bump_kind, call_seen, callee, is_called, is_served, items_seen, leaf_seen,
-    make_seen, member_seen, set_kind, settable, super_call_seen,
+    board_call_seen, call_seen, callee, is_called, is_served, items_seen, leaf_seen, make_seen,
+    member_seen, settable, super_call_seen,
 };
 use crate::places::enter_loop;
 use crate::seen::{Seen, always, own, plain};
@@ -32,8 +32,9 @@ use sts_scope::{Base, Kind, flat, is_dollar, or_no_memory, unless};
 use sts_syntax::{Binding, BoardCall, BoardParameter, Body, Expr, Form, Node, Param, Shape, Stmt};
 use text_headings::check_written;
 use type_derive::{
-    Context, Role, Scope, board_callee, both, chosen, constant, declare, enter, handler_result,
-    handler_scope, indexed, is_alone, is_given, leave, operated, prefixed,
+    Context, Role, Scope, board_callee, both, bump_kind, chosen, constant, declare, enter,
+    handler_result, handler_scope, indexed, is_alone, is_given, leave, operated, prefixed,
+    set_kind,
 };
 
 /// An expression: its first failure, else its type and what stands behind its dot.

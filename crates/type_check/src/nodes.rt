@@ -22,7 +22,7 @@ use crate::arguments::{are_given, call_type, items_kind, lacks_handler};
 use crate::codes::{why_call, why_make, why_name, why_part, why_super, why_this};
 use crate::seen::{Seen, always, own, plain};
 use sts_base::{Code, Refused};
-use sts_scope::{Base, Environment, Found, Kind, Part, assign, counted, or_no_memory, unless};
+use sts_scope::{Base, Found, Kind, Part, or_no_memory, unless};
 use sts_syntax::{BoardCall, Expr, Node};
 use type_derive::{
     Called, Context, Role, Scope, board_kind, constant, gives_of, kind_at, made, name_fixed,
@@ -205,33 +205,6 @@ pub fn settable(context: &Context, scope: &Scope, x: &Expr, part: Option<Part>) 
     }
 }
 
-/// The type of an assignment to a target, where it may be set.
-pub fn set_kind(
-    known: &Environment,
-    op: Option<u8>,
-    can: bool,
-    t: Option<Kind>,
-    s: Option<Kind>,
-) -> Option<Kind>
-    ensures { result ≡ bind t (λ u. bind s (λ v. if can then rule.assign known.now.classes op u v else None)) }
-{
-    match (t, s) {
-        (Some(t), Some(s)) => { if can { assign(known, op, t, s) } else { None } }
-        (Some(_), None) => None,
-        (None, _) => None,
-    }
-}
-
-/// The type of `++` or `--` of a target, where it may be set.
-pub fn bump_kind(can: bool, t: Option<Kind>) -> Option<Kind>
-    ensures { result ≡ bind t (λ u. if can then rule.counted u else None) }
-{
-    match t {
-        Some(t) => { if can { counted(t) } else { None } }
-        None => None,
-    }
-}
-
 /// A call of what is no call of the board.
 pub fn call_seen(
     context: &Context,
@@ -327,7 +300,7 @@ pub fn board_call_seen(
         Code::Mismatch,
         at,
     )?;
-    Ok(plain(Some(board_kind(&call.gives()))))
+    Ok(plain(Some(board_kind(call.gives()))))
 }
 
 /// A list literal, by its first item's type and those of the others.

@@ -1,7 +1,7 @@
 // What calls of the board take and give, and which expressions are functions.
 ghost use Rattle.std.specs.Prelude.{◌≡◌, drop};
 ghost use Rattle.std.specs.Option.{option_map};
-ghost use Rattle.sts_syntax.specs.Types.{value_type};
+ghost use Rattle.sts_syntax.specs.Types.{plain_type, value_type};
 ghost use Rattle.sts_syntax.specs.Views.{tree};
 ghost use Rattle.type_derive.specs.Scopes.{place};
 ghost use Rattle.type_derive.specs.Shown.{goes_some, goes_first, row_shown, row_called};
@@ -12,7 +12,7 @@ use crate::roles::Role;
 use crate::scopes::{Scope, name_found};
 use sts_base::Tables;
 use sts_scope::{Base, Environment, Found, Kind, flat, goes};
-use sts_syntax::{BoardParameter, Expr, Node, Ty};
+use sts_syntax::{BaseType, BoardParameter, Expr, Node, Ty};
 
 /// Whether a place gives a type.
 pub fn is_given(role: Role) -> bool
@@ -26,18 +26,27 @@ pub fn is_given(role: Role) -> bool
     }
 }
 
-/// A type of the board's table.
-pub fn board_kind(t: &Ty) -> Kind
-    ensures { result ≡ typing.board_kind (value_type t.now) }
+fn plain_kind(base: BaseType) -> Kind
+    ensures { result ≡ typing.board_kind (plain_type base) }
 {
-    match t {
-        Ty::Number => flat(Base::Number),
-        Ty::Boolean => flat(Base::Boolean),
-        Ty::Text => flat(Base::Text),
-        Ty::Nothing => flat(Base::Nothing),
-        Ty::Class(c) => flat(Base::Class(*c)),
-        Ty::List(_) => flat(Base::Nothing),
-        Ty::Null => flat(Base::Null),
+    match base {
+        BaseType::Number => flat(Base::Number),
+        BaseType::Boolean => flat(Base::Boolean),
+        BaseType::Text => flat(Base::Text),
+        BaseType::Nothing => flat(Base::Nothing),
+        BaseType::Class(c) => flat(Base::Class(c)),
+        BaseType::Null => flat(Base::Null),
+    }
+}
+
+/// A type of the board's table.
+pub fn board_kind(t: Ty) -> Kind
+    ensures { result ≡ typing.board_kind (value_type t) }
+{
+    if t.depth == 0 {
+        plain_kind(t.base)
+    } else {
+        flat(Base::Nothing)
     }
 }
 
@@ -63,7 +72,7 @@ pub fn board_takes(
         None => None,
         Some(call) => Some(BoardTakes {
             takes: call.takes(),
-            gives: board_kind(&call.gives()),
+            gives: board_kind(call.gives()),
         }),
     }
 }

@@ -28,7 +28,7 @@ pub use drawings::is_drawing;
 pub use evaluation::{part_behind, type_of};
 pub use heads::{head_of, lets_of};
 pub use locals::{Locals, Mark};
-pub use parts::{assigned, both, bumped, chosen, indexed, listed, operated, prefixed};
+pub use parts::{both, bump_kind, chosen, indexed, listed, operated, prefixed, set_kind};
 pub use results::handler_result;
 pub use returns::{
     after, bound, declare, declare_all, enter, is_alone, items_of, leave, returned_in_block,

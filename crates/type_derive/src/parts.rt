@@ -79,6 +79,33 @@ pub fn bumped(t: Option<Kind>) -> Option<Kind>
     }
 }
 
+/// The type of an assignment to a target, where it may be set.
+pub fn set_kind(
+    known: &Environment,
+    op: Option<u8>,
+    can: bool,
+    t: Option<Kind>,
+    s: Option<Kind>,
+) -> Option<Kind>
+    ensures { result ≡ bind t (λ u. bind s (λ v. if can then rule.assign known.now.classes op u v else None)) }
+{
+    match (t, s) {
+        (Some(t), Some(s)) => { if can { assign(known, op, t, s) } else { None } }
+        (Some(_), None) => None,
+        (None, _) => None,
+    }
+}
+
+/// The type of `++` or `--` of a target, where it may be set.
+pub fn bump_kind(can: bool, t: Option<Kind>) -> Option<Kind>
+    ensures { result ≡ bind t (λ u. if can then rule.counted u else None) }
+{
+    match t {
+        Some(t) => { if can { counted(t) } else { None } }
+        None => None,
+    }
+}
+
 pub fn indexed(s: Option<Kind>, t: Option<Kind>) -> Option<Kind>
     ensures { result ≡ bind s (λ s. bind t (λ t. rule.element s t)) }
 {

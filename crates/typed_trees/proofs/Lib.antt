@@ -9,6 +9,7 @@ pub mod Made
 pub mod Passed
 pub mod Pieces
 pub mod Runs
+pub mod Targets
 pub mod Undeclared
 pub mod Values
 pub mod Functions

@@ -1,5 +1,6 @@
 -- Typed trees of nodes, and their types, by those of their parts.
-use Rattle.std.proofs.Common.{◌≡◌, ℕ, ℤ, Bool, List, [], ◌++◌, Option, None, refl, ap, ◌∙◌}
+use Rattle.std.proofs.Common.{◌≡◌, ℕ, ℤ, Bool, List, [], ◌++◌, Option, Some, None, refl, ap, ◌∙◌}
+use Rattle.std.specs.Prelude.{unwrap_or, if◌then◌else◌}
 use Rattle.std.proofs.lemmas.List.{append-nil}
 use Rattle.sts_syntax.specs.Types as t
 use Rattle.sts_syntax.specs.Types.{ValueType}
@@ -7,9 +8,11 @@ use Rattle.sts_syntax.specs.TypedTrees as e
 use Rattle.sts_syntax.specs.TypedTrees.{TypedRoutine}
 use Rattle.sts_syntax.specs.Trees.{Tree, Unary, Binary, Both, Either, Set, Bump, Item}
 use Rattle.sts_scope.specs.declared.kinds.Kind.{Kind}
+use Rattle.sts_scope.specs.Kinds.{nothing}
 use Rattle.sts_scope.specs.Rules as rule
 use Rattle.type_derive.specs.Built as b
 use Rattle.type_derive.specs.Making.{Made}
+use Rattle.type_derive.specs.Typing as typing
 use Rattle.type_derive.specs.Typing.{◌>>=◌}
 use Rattle.typed_trees.specs.declared.build_places.Plan.{Plan}
 use Rattle.typed_trees.specs.Sites.{tree_made, tree_kind, two_made, noted, made_of}
@@ -79,3 +82,13 @@ pub set_made : (p : Plan) (s : b.Site) (g : Option Kind) (at : ℕ) (op : Option
     ≡ made_of (e.Set (noted (tree_kind p s g (Set at op a c))) op (two_made p s (Set at op a c) m n).it.first (two_made p s (Set at op a c) m n).it.second) (two_made p s (Set at op a c) m n).locals (two_made p s (Set at op a c) m n).routines
 unfolding tree_made two_made tree_kind
 set_made p s g at op a c m n = refl
+
+pub set_kind : (p : Plan) (s : b.Site) (g : Option Kind) (at : ℕ) (op : Option ℕ) (a c : Tree) → tree_kind p s g (Set at op a c)
+    ≡ (tree_kind p s None a >>= λ u. tree_kind p s (Some (unwrap_or (tree_kind p s None a) nothing)) c >>= λ v. if typing.settable p.tables.now p.known.now s.place a then rule.assign p.known.now.classes op u v else None)
+unfolding tree_made two_made tree_kind
+set_kind p s g at op a c = refl
+
+pub bump_kind : (p : Plan) (s : b.Site) (g : Option Kind) (at : ℕ) (a : Tree) (by : ℤ) (late : Bool) → tree_kind p s g (Bump at a by late)
+    ≡ (tree_kind p s None a >>= λ u. if typing.settable p.tables.now p.known.now s.place a then rule.counted u else None)
+unfolding tree_kind
+bump_kind p s g at a by late = refl

@@ -1,4 +1,5 @@
 pub mod Calls
 pub mod Sites
+pub mod Targets
 pub mod Steps
 pub mod Functions

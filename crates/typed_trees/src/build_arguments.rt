@@ -105,7 +105,7 @@ fn served(plan: &Plan, site: &Site, a: &Expr) -> Planned
     match &a.node {
         Node::Handler(_) => Planned::Built(None),
         Node::Name(x) => Planned::There(TypedExpr {
-            ty: Ty::Nothing,
+            ty: Ty::NOTHING,
             node: TypedNode::Handler(routine_of(
                 plan,
                 name_found(plan.tables, plan.known, &site.scope, *x),
@@ -120,7 +120,7 @@ pub fn amiss() -> TypedExpr
     ensures { typed_tree result ≡ b.amiss }
 {
     TypedExpr {
-        ty: Ty::Null,
+        ty: Ty::NULL,
         node: TypedNode::Null,
     }
 }
@@ -189,7 +189,7 @@ fn drawing(plan: &Plan, a: &Expr) -> Result<TypedExpr, NoMemory>
         Node::Text(text) => {
             let frame = frame_of(text_at(plan.tables, *text))?;
             Ok(TypedExpr {
-                ty: Ty::Number,
+                ty: Ty::NUMBER,
                 node: TypedNode::Num(frame),
             })
         }

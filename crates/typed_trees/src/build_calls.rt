@@ -140,7 +140,7 @@ pub fn build_call(
         }),
         Some(head) => {
             let args = build_passed(plan, site, builder, head, e)?;
-            let ty = node_type(plan, given, kind, e)?;
+            let ty = node_type(given, kind, e);
             let tree = head_node(plan, ty, head, args)?;
             Ok(Noted { tree, kind })
         }

@@ -6,9 +6,9 @@ ghost use Rattle.sts_syntax.specs.TypedTrees as t;
 ghost use Rattle.sts_syntax.specs.TypedViews.{typed_statement, typed_statements};
 ghost use Rattle.typed_trees.specs.Sites as s;
 
-use crate::build_nodes::{boxed, noted_type};
+use crate::build_nodes::{noted_type, or_nothing};
 use crate::build_places::Builder;
-use std::alloc::Global;
+use crate::build_types::list_of_values;
 use sts_base::{NoMemory, Seq};
 use sts_scope::Kind;
 use sts_syntax::{Ty, TypedStmt};
@@ -50,38 +50,34 @@ fn add_typed(builder: &mut Builder, ty: Ty) -> Result<u32, NoMemory>
 
 /// A further local of this kind, or of none; its number.
 #[tactic(auto, using(crate::proofs::Values::values_append))]
-pub fn add_local(alloc: Global, builder: &mut Builder, kind: Option<Kind>) -> Result<u32, NoMemory>
+pub fn add_local(builder: &mut Builder, kind: Option<Kind>) -> Result<u32, NoMemory>
     ensures number { IfOk result (λ i. i ≡ builder.old.local) }
     ensures locals { OnOk result (value_types builder.new.locals ≡ value_types builder.old.locals ++ s.noted kind ∷ []) }
     ensures routines { OnOk result (builder.new.routines ≡ builder.old.routines) }
     ensures local { OnOk result (builder.new.local ≡ builder.old.local + 1) }
     ensures function { OnOk result (builder.new.function ≡ builder.old.function) }
 {
-    let ty = noted_type(alloc, kind)?;
-    add_typed(builder, ty)
+    add_typed(builder, noted_type(kind))
 }
 
 /// The type of an array of what has a type, else of none.
-fn noted_list_type(alloc: Global, kind: Option<Kind>) -> Result<Ty, NoMemory>
-    ensures { IfOk result (λ ty. value.value_type ty ≡ value.ListOf (s.noted kind)) }
+fn noted_list_type(kind: Option<Kind>) -> Ty
+    ensures { value.value_type result ≡ value.ListOf (s.noted kind) }
 {
-    let ty = noted_type(alloc, kind)?;
-    let item = boxed(alloc, ty)?;
-    Ok(Ty::List(item))
+    list_of_values(or_nothing(kind))
 }
 
 /// The locals of a loop through an array: the item, the array and how far it is; the number of the first.
 #[tactic(auto, using(crate::proofs::Values::values_append, crate::proofs::Pieces::three))]
-pub fn add_loop(alloc: Global, builder: &mut Builder, kind: Option<Kind>) -> Result<u32, NoMemory>
+pub fn add_loop(builder: &mut Builder, kind: Option<Kind>) -> Result<u32, NoMemory>
     ensures number { IfOk result (λ i. i ≡ builder.old.local) }
     ensures locals { OnOk result (value_types builder.new.locals ≡ value_types builder.old.locals ++ s.noted kind ∷ value.ListOf (s.noted kind) ∷ value.Number ∷ []) }
     ensures routines { OnOk result (builder.new.routines ≡ builder.old.routines) }
     ensures local { OnOk result (builder.new.local ≡ builder.old.local + 3) }
     ensures function { OnOk result (builder.new.function ≡ builder.old.function) }
 {
-    let number = add_local(alloc, builder, kind)?;
-    let ty = noted_list_type(alloc, kind)?;
-    add_typed(builder, ty)?;
-    add_typed(builder, Ty::Number)?;
+    let number = add_local(builder, kind)?;
+    add_typed(builder, noted_list_type(kind))?;
+    add_typed(builder, Ty::NUMBER)?;
     Ok(number)
 }

@@ -40,7 +40,7 @@ pub fn add_types(plan: &Plan, all: &mut Seq<Ty>, params: &[Param]) -> Result<(),
 {
     for param in params {
         let kind = written_kind(plan.classes, &param.shape)?;
-        all.push(noted_type(plan.alloc, kind)?)?;
+        all.push(noted_type(kind))?;
     }
     Ok(())
 }
@@ -129,7 +129,7 @@ pub fn add_function(
     let mut site = function_site(plan, This::Nowhere, gives, library, 0, params)?;
     let mut types = Seq::new(plan.alloc);
     add_types(plan, &mut types, params)?;
-    let gives = noted_type(plan.alloc, gives)?;
+    let gives = noted_type(gives);
     let function = build_function(plan, &mut site, types, gives, n, body.stmts.as_slice())?;
     add(routines, function)
 }
@@ -149,9 +149,9 @@ pub fn add_method(
     let params = body.params.as_slice();
     let mut site = function_site(plan, This::Object(class), gives, false, 1, params)?;
     let mut types = Seq::new(plan.alloc);
-    types.push(Ty::Class(class))?;
+    types.push(Ty::object(class))?;
     add_types(plan, &mut types, params)?;
-    let gives = noted_type(plan.alloc, gives)?;
+    let gives = noted_type(gives);
     let function = build_function(plan, &mut site, types, gives, n, body.stmts.as_slice())?;
     add(routines, function)
 }

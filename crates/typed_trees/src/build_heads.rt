@@ -226,7 +226,7 @@ pub fn head_node(
             node: TypedNode::Items(args),
         }),
         Head::Make(class) => Ok(TypedExpr {
-            ty: Ty::Class(class),
+            ty: Ty::object(class),
             node: TypedNode::Make(class, args),
         }),
         Head::Super(d) => Ok(TypedExpr {
@@ -243,19 +243,14 @@ pub fn head_node(
 }
 
 /// The type that such a node is noted to have, of its own type: `[]` has that of its place.
-pub fn node_type(
-    plan: &Plan,
-    given: Option<Kind>,
-    kind: Option<Kind>,
-    e: &Expr,
-) -> Result<Ty, NoMemory>
-    ensures { IfOk result (λ ty. value_type ty ≡ call.type_noted given kind (tree e.now)) }
+pub fn node_type(given: Option<Kind>, kind: Option<Kind>, e: &Expr) -> Ty
+    ensures { value_type result ≡ call.type_noted given kind (tree e.now) }
 {
     match &e.node {
         Node::Items(items) => match items.as_slice() {
-            [] => noted_type(plan.alloc, given),
-            [_, ..] => noted_type(plan.alloc, kind),
+            [] => noted_type(given),
+            [_, ..] => noted_type(kind),
         },
-        _ => noted_type(plan.alloc, kind),
+        _ => noted_type(kind),
     }
 }

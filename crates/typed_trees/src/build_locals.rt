@@ -132,7 +132,7 @@ fn build_local(
     let number = builder.local;
     let initial = build_initial(plan, site, builder, &a.shape, &a.first)?;
     let kind = initial.kind;
-    let (first, local) = beside(initial.first, add_local(plan.alloc, builder, kind))?;
+    let (first, local) = beside(initial.first, add_local(builder, kind))?;
     let (first, _known) = beside(first, declare_local(site, a.name, kind, fixed, number))?;
     Ok(TypedBinding {
         name: Spot::Local(local),

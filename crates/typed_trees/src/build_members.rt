@@ -39,20 +39,20 @@ pub fn build_leaf(
 {
     let known = plan.known;
     match &e.node {
-        Node::Num(v) => Ok(noted(Ty::Number, TypedNode::Num(*v), Some(flat(Base::Number)))),
-        Node::Text(v) => Ok(noted(Ty::Text, TypedNode::Text(*v), Some(flat(Base::Text)))),
-        Node::Truth(v) => Ok(noted(Ty::Boolean, TypedNode::Truth(*v), Some(flat(Base::Boolean)))),
-        Node::Null => Ok(noted(Ty::Null, TypedNode::Null, Some(flat(Base::Null)))),
+        Node::Num(v) => Ok(noted(Ty::NUMBER, TypedNode::Num(*v), Some(flat(Base::Number)))),
+        Node::Text(v) => Ok(noted(Ty::TEXT, TypedNode::Text(*v), Some(flat(Base::Text)))),
+        Node::Truth(v) => Ok(noted(Ty::BOOLEAN, TypedNode::Truth(*v), Some(flat(Base::Boolean)))),
+        Node::Null => Ok(noted(Ty::NULL, TypedNode::Null, Some(flat(Base::Null)))),
         Node::This => {
             let kind = this_kind(site.scope.this);
-            let ty = noted_type(plan.alloc, kind)?;
+            let ty = noted_type(kind);
             Ok(noted(ty, TypedNode::This, kind))
         }
         Node::Name(x) => {
             let found = name_found(plan.tables, known, &site.scope, *x);
             let kind = name_kind(known, &site.scope, found);
             let at = spot_of(plan, site, found)?;
-            let ty = noted_type(plan.alloc, kind)?;
+            let ty = noted_type(kind);
             Ok(noted(ty, TypedNode::Name(at), kind))
         }
         _ => Err(NoMemory),
@@ -74,7 +74,7 @@ fn constant_node(z: i32) -> Noted
     ensures tree { typed_tree result.tree ≡ e.Num value.Number z }
     ensures kind { result.kind ≡ Some kind.number }
 {
-    noted(Ty::Number, TypedNode::Num(z), Some(flat(Base::Number)))
+    noted(Ty::NUMBER, TypedNode::Num(z), Some(flat(Base::Number)))
 }
 
 /// A member that is read.
@@ -99,7 +99,7 @@ fn member_read(
             node: TypedNode::Length(a),
         }),
         Part::Method(_) | Part::Push(_) | Part::Pop(_) | Part::Missing => Ok(TypedExpr {
-            ty: Ty::Null,
+            ty: Ty::NULL,
             node: TypedNode::Null,
         }),
     }
@@ -130,7 +130,7 @@ pub fn build_member(
             }
             let x = build_part(plan, site, builder, None, a)?;
             let kind = read_kind(plan, x.kind, *m);
-            let ty = noted_type(plan.alloc, kind)?;
+            let ty = noted_type(kind);
             let part = part_behind(plan, x.kind, *m);
             let tree = member_read(plan, ty, part, class_behind(x.kind), *m, x.tree)?;
             Ok(Noted { tree, kind })
@@ -188,7 +188,7 @@ pub fn build_choice(
             let three = build_three(plan, site, builder, e)?;
             let (test, parts) = (three.test, three.parts);
             let kind = chosen(plan.known, test.kind, parts.first.kind, parts.second.kind);
-            let ty = noted_type(plan.alloc, kind)?;
+            let ty = noted_type(kind);
             Ok(noted(
                 ty,
                 TypedNode::Choice(test.tree, parts.first.tree, parts.second.tree),

@@ -68,13 +68,10 @@ pub fn or_nothing(of: Option<Kind>) -> Kind
 }
 
 /// The type that is noted where this one was found, or none.
-pub fn noted_type(alloc: Global, of: Option<Kind>) -> Result<Ty, NoMemory>
-    ensures { IfOk result (λ ty. value.value_type ty ≡ s.noted of) }
+pub fn noted_type(of: Option<Kind>) -> Ty
+    ensures { value.value_type result ≡ s.noted of }
 {
-    match of {
-        None => type_of_values(alloc, flat(Base::Nothing)),
-        Some(of) => type_of_values(alloc, of),
-    }
+    type_of_values(or_nothing(of))
 }
 
 /// What the place of an expression does with it, to which a type may be given.

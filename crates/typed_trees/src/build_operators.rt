@@ -7,13 +7,14 @@ ghost use Rattle.sts_scope.specs.Kinds.{nothing};
 ghost use Rattle.typed_trees.specs.Sites as s;
 ghost use Rattle.typed_trees.specs.Sites.{IsPlan};
 
-use crate::build_nodes::{Part, Parts, boxed, kind_of, noted, noted_type, or_nothing};
+use crate::build_nodes::{Part, Parts, boxed, noted, noted_type, or_nothing};
 use crate::build_places::{Builder, Noted, Plan, Site};
+use crate::build_targets::may_be_set;
 use crate::build_trees::build_tree;
 use sts_base::NoMemory;
 use sts_scope::Kind;
 use sts_syntax::{Expr, Node, Ty, TypedNode};
-use type_derive::{both, indexed, operated, prefixed};
+use type_derive::{both, bump_kind, indexed, operated, prefixed, set_kind};
 
 /// An operand, to whose place a type may be given.
 #[cycle(build)]
@@ -101,7 +102,7 @@ pub fn build_operation(
         Node::Binary(op, _, _) => {
             let parts = build_two(plan, site, builder, e)?;
             let kind = operated(known, *op, parts.first.kind, parts.second.kind);
-            let ty = noted_type(plan.alloc, kind)?;
+            let ty = noted_type(kind);
             Ok(noted(
                 ty,
                 TypedNode::Binary(*op, parts.first.tree, parts.second.tree),
@@ -112,7 +113,7 @@ pub fn build_operation(
             let parts = build_two(plan, site, builder, e)?;
             let kind = both(parts.first.kind, parts.second.kind);
             Ok(noted(
-                Ty::Boolean,
+                Ty::BOOLEAN,
                 TypedNode::Both(parts.first.tree, parts.second.tree),
                 kind,
             ))
@@ -121,7 +122,7 @@ pub fn build_operation(
             let parts = build_two(plan, site, builder, e)?;
             let kind = both(parts.first.kind, parts.second.kind);
             Ok(noted(
-                Ty::Boolean,
+                Ty::BOOLEAN,
                 TypedNode::Either(parts.first.tree, parts.second.tree),
                 kind,
             ))
@@ -129,7 +130,7 @@ pub fn build_operation(
         Node::Item(_, _) => {
             let parts = build_two(plan, site, builder, e)?;
             let kind = indexed(parts.first.kind, parts.second.kind);
-            let ty = noted_type(plan.alloc, kind)?;
+            let ty = noted_type(kind);
             Ok(noted(
                 ty,
                 TypedNode::Item(parts.first.tree, parts.second.tree),
@@ -162,16 +163,16 @@ pub fn build_prefix(
         Node::Unary(op, a) => {
             let x = build_part(plan, site, builder, None, a)?;
             let kind = prefixed(*op, x.kind);
-            let ty = noted_type(plan.alloc, kind)?;
+            let ty = noted_type(kind);
             Ok(noted(ty, TypedNode::Unary(*op, x.tree), kind))
         }
         _ => Err(NoMemory),
     }
 }
 
-/// A target that is set or counted. Whether it may be is asked of its types, not of what was built.
+/// A target that is set or counted.
 #[cycle(build)]
-#[tactic(auto, using(crate::proofs::Made::set_made, crate::proofs::Made::bump_made))]
+#[tactic(auto, using(crate::proofs::Made::set_made, crate::proofs::Made::set_kind, crate::proofs::Made::bump_made, crate::proofs::Made::bump_kind))]
 pub fn build_set(
     plan: &Plan,
     site: &Site,
@@ -188,10 +189,11 @@ pub fn build_set(
     ensures function { OnOk result (builder.new.function ≡ builder.old.function + length (s.tree_made plan.now (s.site site.now) given (tree e.now) builder.old.local builder.old.function).routines) }
 {
     match &e.node {
-        Node::Set(op, _, _) => {
+        Node::Set(op, x, _) => {
             let parts = build_two(plan, site, builder, e)?;
-            let kind = kind_of(plan, site, given, e)?;
-            let ty = noted_type(plan.alloc, kind)?;
+            let can = may_be_set(plan, site, x, &parts.first.tree);
+            let kind = set_kind(plan.known, *op, can, parts.first.kind, parts.second.kind);
+            let ty = noted_type(kind);
             Ok(noted(
                 ty,
                 TypedNode::Set(*op, parts.first.tree, parts.second.tree),
@@ -200,10 +202,11 @@ pub fn build_set(
         }
         Node::Bump { target, by, after } => {
             let x = build_part(plan, site, builder, None, target)?;
-            let kind = kind_of(plan, site, given, e)?;
+            let can = may_be_set(plan, site, target, &x.tree);
+            let kind = bump_kind(can, x.kind);
             let (by, after) = (*by, *after);
             Ok(noted(
-                Ty::Number,
+                Ty::NUMBER,
                 TypedNode::Bump {
                     target: x.tree,
                     by,

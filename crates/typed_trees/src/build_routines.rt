@@ -48,7 +48,7 @@ fn build_inner(plan: &Plan, site: &Site, n: u32, body: &Body) -> Result<Inner, N
     let own = TypedBody {
         params: Seq::new(plan.alloc),
         locals,
-        gives: Ty::Nothing,
+        gives: Ty::NOTHING,
         stmts,
     };
     Ok(Inner {
@@ -84,7 +84,7 @@ pub fn build_handler(
             let inner = build_inner(plan, site, n, body)?;
             add(&mut builder.routines, inner.function)?;
             builder.function = inner.behind;
-            Ok(noted(Ty::Nothing, TypedNode::Handler(n), None))
+            Ok(noted(Ty::NOTHING, TypedNode::Handler(n), None))
         }
         _ => Err(NoMemory),
     }

@@ -203,7 +203,7 @@ fn build_for_of(
             let list = build_tree(plan, site, builder, None, list)?;
             let kind = items_of(list.kind);
             let around = begin(site);
-            let (list, local) = beside(list.tree, add_loop(plan.alloc, builder, kind))?;
+            let (list, local) = beside(list.tree, add_loop(builder, kind))?;
             let (list, _known) = beside(list, declare_local(site, *name, kind, *fixed, number))?;
             let (list, body) = beside(list, build_branch(plan, site, builder, body))?;
             end(site, around);

@@ -16,6 +16,7 @@ mod build_places;
 mod build_routines;
 mod build_spots;
 mod build_statements;
+mod build_targets;
 mod build_trees;
 mod build_types;
 mod spots;

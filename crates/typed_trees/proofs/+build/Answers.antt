@@ -36,6 +36,7 @@ use Rattle.typed_trees.proofs.Runs.{body_is, bound_is, NamesGo, StatementsGo, na
 use Rattle.sts_syntax.specs.declared.trees.Expr.{Expr}
 use Rattle.type_derive.specs.Typing as typing
 use Rattle.typed_trees.proofs.Leaves.{constant_kind, constant_built}
+use Rattle.typed_trees.proofs.Targets.{first_target, target_read}
 use Rattle.typed_trees.proofs.+build.Goals as goal
 
 pub build_locals::build_initial-returns-in_ok-noted-in-Some-clause-kind : goal.build_locals::build_initial-returns-in_ok-noted-in-Some-clause-kind
@@ -742,32 +743,32 @@ build_calls::build_call-returns-in-None-clause-function t c =
 pub build_calls::build_call-returns-in_ok-tree-in-Some-clause-made : goal.build_calls::build_call-returns-in_ok-tree-in-Some-clause-made
 build_calls::build_call-returns-in_ok-tree-in-Some-clause-made t c =
     let x = tree c.args.e.now in
-    (head_built c.args.plan.now (s.site c.args.site.now) c.args.given x c.in-Some.head (v.value_type c.in_ok-ty-in-Some.ty) c.args.builder.now c.build_passed.new.builder (typed_trees c.in_ok-args-in-Some.args) (typed_tree c.in_ok-tree-in-Some.tree)
-    (sym c.in_ok-head_of.ensures.head ∙ c.in-Some.is) c.in_ok-head_of.ensures.list (c.in_ok-ty-in-Some.ensures ∙ ap (λ k. call.type_noted c.args.given k x) c.in_ok-kind.ensures) c.in_ok-tree-in-Some.ensures c.in_ok-args-in-Some.ensures).0
+    (head_built c.args.plan.now (s.site c.args.site.now) c.args.given x c.in-Some.head (v.value_type c.node_type-ty.result) c.args.builder.now c.build_passed.new.builder (typed_trees c.in_ok-args-in-Some.args) (typed_tree c.in_ok-tree-in-Some.tree)
+    (sym c.in_ok-head_of.ensures.head ∙ c.in-Some.is) c.in_ok-head_of.ensures.list (c.node_type-ty.ensures ∙ ap (λ k. call.type_noted c.args.given k x) c.in_ok-kind.ensures) c.in_ok-tree-in-Some.ensures c.in_ok-args-in-Some.ensures).0
 
 pub build_calls::build_call-returns-in_ok-tree-in-Some-clause-locals : goal.build_calls::build_call-returns-in_ok-tree-in-Some-clause-locals
 build_calls::build_call-returns-in_ok-tree-in-Some-clause-locals t c =
     let x = tree c.args.e.now in
-    (head_built c.args.plan.now (s.site c.args.site.now) c.args.given x c.in-Some.head (v.value_type c.in_ok-ty-in-Some.ty) c.args.builder.now c.build_passed.new.builder (typed_trees c.in_ok-args-in-Some.args) (typed_tree c.in_ok-tree-in-Some.tree)
-    (sym c.in_ok-head_of.ensures.head ∙ c.in-Some.is) c.in_ok-head_of.ensures.list (c.in_ok-ty-in-Some.ensures ∙ ap (λ k. call.type_noted c.args.given k x) c.in_ok-kind.ensures) c.in_ok-tree-in-Some.ensures c.in_ok-args-in-Some.ensures).1.0
+    (head_built c.args.plan.now (s.site c.args.site.now) c.args.given x c.in-Some.head (v.value_type c.node_type-ty.result) c.args.builder.now c.build_passed.new.builder (typed_trees c.in_ok-args-in-Some.args) (typed_tree c.in_ok-tree-in-Some.tree)
+    (sym c.in_ok-head_of.ensures.head ∙ c.in-Some.is) c.in_ok-head_of.ensures.list (c.node_type-ty.ensures ∙ ap (λ k. call.type_noted c.args.given k x) c.in_ok-kind.ensures) c.in_ok-tree-in-Some.ensures c.in_ok-args-in-Some.ensures).1.0
 
 pub build_calls::build_call-returns-in_ok-tree-in-Some-clause-routines : goal.build_calls::build_call-returns-in_ok-tree-in-Some-clause-routines
 build_calls::build_call-returns-in_ok-tree-in-Some-clause-routines t c =
     let x = tree c.args.e.now in
-    (head_built c.args.plan.now (s.site c.args.site.now) c.args.given x c.in-Some.head (v.value_type c.in_ok-ty-in-Some.ty) c.args.builder.now c.build_passed.new.builder (typed_trees c.in_ok-args-in-Some.args) (typed_tree c.in_ok-tree-in-Some.tree)
-    (sym c.in_ok-head_of.ensures.head ∙ c.in-Some.is) c.in_ok-head_of.ensures.list (c.in_ok-ty-in-Some.ensures ∙ ap (λ k. call.type_noted c.args.given k x) c.in_ok-kind.ensures) c.in_ok-tree-in-Some.ensures c.in_ok-args-in-Some.ensures).1.1.0
+    (head_built c.args.plan.now (s.site c.args.site.now) c.args.given x c.in-Some.head (v.value_type c.node_type-ty.result) c.args.builder.now c.build_passed.new.builder (typed_trees c.in_ok-args-in-Some.args) (typed_tree c.in_ok-tree-in-Some.tree)
+    (sym c.in_ok-head_of.ensures.head ∙ c.in-Some.is) c.in_ok-head_of.ensures.list (c.node_type-ty.ensures ∙ ap (λ k. call.type_noted c.args.given k x) c.in_ok-kind.ensures) c.in_ok-tree-in-Some.ensures c.in_ok-args-in-Some.ensures).1.1.0
 
 pub build_calls::build_call-returns-in_ok-tree-in-Some-clause-local : goal.build_calls::build_call-returns-in_ok-tree-in-Some-clause-local
 build_calls::build_call-returns-in_ok-tree-in-Some-clause-local t c =
     let x = tree c.args.e.now in
-    (head_built c.args.plan.now (s.site c.args.site.now) c.args.given x c.in-Some.head (v.value_type c.in_ok-ty-in-Some.ty) c.args.builder.now c.build_passed.new.builder (typed_trees c.in_ok-args-in-Some.args) (typed_tree c.in_ok-tree-in-Some.tree)
-    (sym c.in_ok-head_of.ensures.head ∙ c.in-Some.is) c.in_ok-head_of.ensures.list (c.in_ok-ty-in-Some.ensures ∙ ap (λ k. call.type_noted c.args.given k x) c.in_ok-kind.ensures) c.in_ok-tree-in-Some.ensures c.in_ok-args-in-Some.ensures).1.1.1.0
+    (head_built c.args.plan.now (s.site c.args.site.now) c.args.given x c.in-Some.head (v.value_type c.node_type-ty.result) c.args.builder.now c.build_passed.new.builder (typed_trees c.in_ok-args-in-Some.args) (typed_tree c.in_ok-tree-in-Some.tree)
+    (sym c.in_ok-head_of.ensures.head ∙ c.in-Some.is) c.in_ok-head_of.ensures.list (c.node_type-ty.ensures ∙ ap (λ k. call.type_noted c.args.given k x) c.in_ok-kind.ensures) c.in_ok-tree-in-Some.ensures c.in_ok-args-in-Some.ensures).1.1.1.0
 
 pub build_calls::build_call-returns-in_ok-tree-in-Some-clause-function : goal.build_calls::build_call-returns-in_ok-tree-in-Some-clause-function
 build_calls::build_call-returns-in_ok-tree-in-Some-clause-function t c =
     let x = tree c.args.e.now in
-    (head_built c.args.plan.now (s.site c.args.site.now) c.args.given x c.in-Some.head (v.value_type c.in_ok-ty-in-Some.ty) c.args.builder.now c.build_passed.new.builder (typed_trees c.in_ok-args-in-Some.args) (typed_tree c.in_ok-tree-in-Some.tree)
-    (sym c.in_ok-head_of.ensures.head ∙ c.in-Some.is) c.in_ok-head_of.ensures.list (c.in_ok-ty-in-Some.ensures ∙ ap (λ k. call.type_noted c.args.given k x) c.in_ok-kind.ensures) c.in_ok-tree-in-Some.ensures c.in_ok-args-in-Some.ensures).1.1.1.1
+    (head_built c.args.plan.now (s.site c.args.site.now) c.args.given x c.in-Some.head (v.value_type c.node_type-ty.result) c.args.builder.now c.build_passed.new.builder (typed_trees c.in_ok-args-in-Some.args) (typed_tree c.in_ok-tree-in-Some.tree)
+    (sym c.in_ok-head_of.ensures.head ∙ c.in-Some.is) c.in_ok-head_of.ensures.list (c.node_type-ty.ensures ∙ ap (λ k. call.type_noted c.args.given k x) c.in_ok-kind.ensures) c.in_ok-tree-in-Some.ensures c.in_ok-args-in-Some.ensures).1.1.1.1
 
 pub build_statements::build_body-returns-in_err-inside-clause-made : goal.build_statements::build_body-returns-in_err-inside-clause-made
 build_statements::build_body-returns-in_err-inside-clause-made t c = IfOk-from_err c.from_residual.result _ c.from_residual.ensures.0
@@ -1030,24 +1031,6 @@ build_calls::build_call-returns-in_err-args-in-Some-clause-local t c = IfOk-from
 pub build_calls::build_call-returns-in_err-args-in-Some-clause-function : goal.build_calls::build_call-returns-in_err-args-in-Some-clause-function
 build_calls::build_call-returns-in_err-args-in-Some-clause-function t c = IfOk-from_err c.from_residual-in_err-args-in-Some.result _ c.from_residual-in_err-args-in-Some.ensures.0
 
-pub build_calls::build_call-returns-in_err-ty-in-Some-clause-made : goal.build_calls::build_call-returns-in_err-ty-in-Some-clause-made
-build_calls::build_call-returns-in_err-ty-in-Some-clause-made t c = IfOk-from_err c.from_residual-in_err-ty-in-Some.result _ c.from_residual-in_err-ty-in-Some.ensures.0
-
-pub build_calls::build_call-returns-in_err-ty-in-Some-clause-kind : goal.build_calls::build_call-returns-in_err-ty-in-Some-clause-kind
-build_calls::build_call-returns-in_err-ty-in-Some-clause-kind t c = IfOk-from_err c.from_residual-in_err-ty-in-Some.result _ c.from_residual-in_err-ty-in-Some.ensures.0
-
-pub build_calls::build_call-returns-in_err-ty-in-Some-clause-locals : goal.build_calls::build_call-returns-in_err-ty-in-Some-clause-locals
-build_calls::build_call-returns-in_err-ty-in-Some-clause-locals t c = IfOk-from_err c.from_residual-in_err-ty-in-Some.result _ c.from_residual-in_err-ty-in-Some.ensures.0
-
-pub build_calls::build_call-returns-in_err-ty-in-Some-clause-routines : goal.build_calls::build_call-returns-in_err-ty-in-Some-clause-routines
-build_calls::build_call-returns-in_err-ty-in-Some-clause-routines t c = IfOk-from_err c.from_residual-in_err-ty-in-Some.result _ c.from_residual-in_err-ty-in-Some.ensures.0
-
-pub build_calls::build_call-returns-in_err-ty-in-Some-clause-local : goal.build_calls::build_call-returns-in_err-ty-in-Some-clause-local
-build_calls::build_call-returns-in_err-ty-in-Some-clause-local t c = IfOk-from_err c.from_residual-in_err-ty-in-Some.result _ c.from_residual-in_err-ty-in-Some.ensures.0
-
-pub build_calls::build_call-returns-in_err-ty-in-Some-clause-function : goal.build_calls::build_call-returns-in_err-ty-in-Some-clause-function
-build_calls::build_call-returns-in_err-ty-in-Some-clause-function t c = IfOk-from_err c.from_residual-in_err-ty-in-Some.result _ c.from_residual-in_err-ty-in-Some.ensures.0
-
 pub build_calls::build_call-returns-in_err-tree-in-Some-clause-made : goal.build_calls::build_call-returns-in_err-tree-in-Some-clause-made
 build_calls::build_call-returns-in_err-tree-in-Some-clause-made t c = IfOk-from_err c.from_residual-in_err-tree-in-Some.result _ c.from_residual-in_err-tree-in-Some.ensures.0
 
@@ -1120,24 +1103,6 @@ build_operators::build_operation-returns-in_err-parts-in-Binary-clause-local t c
 pub build_operators::build_operation-returns-in_err-parts-in-Binary-clause-function : goal.build_operators::build_operation-returns-in_err-parts-in-Binary-clause-function
 build_operators::build_operation-returns-in_err-parts-in-Binary-clause-function t c = IfOk-from_err c.from_residual.result _ c.from_residual.ensures.0
 
-pub build_operators::build_operation-returns-in_err-ty-in-Binary-clause-made : goal.build_operators::build_operation-returns-in_err-ty-in-Binary-clause-made
-build_operators::build_operation-returns-in_err-ty-in-Binary-clause-made t c = IfOk-from_err c.from_residual-in_err-ty-in-Binary.result _ c.from_residual-in_err-ty-in-Binary.ensures.0
-
-pub build_operators::build_operation-returns-in_err-ty-in-Binary-clause-kind : goal.build_operators::build_operation-returns-in_err-ty-in-Binary-clause-kind
-build_operators::build_operation-returns-in_err-ty-in-Binary-clause-kind t c = IfOk-from_err c.from_residual-in_err-ty-in-Binary.result _ c.from_residual-in_err-ty-in-Binary.ensures.0
-
-pub build_operators::build_operation-returns-in_err-ty-in-Binary-clause-locals : goal.build_operators::build_operation-returns-in_err-ty-in-Binary-clause-locals
-build_operators::build_operation-returns-in_err-ty-in-Binary-clause-locals t c = IfOk-from_err c.from_residual-in_err-ty-in-Binary.result _ c.from_residual-in_err-ty-in-Binary.ensures.0
-
-pub build_operators::build_operation-returns-in_err-ty-in-Binary-clause-routines : goal.build_operators::build_operation-returns-in_err-ty-in-Binary-clause-routines
-build_operators::build_operation-returns-in_err-ty-in-Binary-clause-routines t c = IfOk-from_err c.from_residual-in_err-ty-in-Binary.result _ c.from_residual-in_err-ty-in-Binary.ensures.0
-
-pub build_operators::build_operation-returns-in_err-ty-in-Binary-clause-local : goal.build_operators::build_operation-returns-in_err-ty-in-Binary-clause-local
-build_operators::build_operation-returns-in_err-ty-in-Binary-clause-local t c = IfOk-from_err c.from_residual-in_err-ty-in-Binary.result _ c.from_residual-in_err-ty-in-Binary.ensures.0
-
-pub build_operators::build_operation-returns-in_err-ty-in-Binary-clause-function : goal.build_operators::build_operation-returns-in_err-ty-in-Binary-clause-function
-build_operators::build_operation-returns-in_err-ty-in-Binary-clause-function t c = IfOk-from_err c.from_residual-in_err-ty-in-Binary.result _ c.from_residual-in_err-ty-in-Binary.ensures.0
-
 pub build_operators::build_operation-returns-in_err-parts-in-Both-clause-made : goal.build_operators::build_operation-returns-in_err-parts-in-Both-clause-made
 build_operators::build_operation-returns-in_err-parts-in-Both-clause-made t c = IfOk-from_err c.from_residual-in_err-parts-in-Both.result _ c.from_residual-in_err-parts-in-Both.ensures.0
 
@@ -1192,24 +1157,6 @@ build_operators::build_operation-returns-in_err-parts-in-Item-clause-local t c =
 pub build_operators::build_operation-returns-in_err-parts-in-Item-clause-function : goal.build_operators::build_operation-returns-in_err-parts-in-Item-clause-function
 build_operators::build_operation-returns-in_err-parts-in-Item-clause-function t c = IfOk-from_err c.from_residual-in_err-parts-in-Item.result _ c.from_residual-in_err-parts-in-Item.ensures.0
 
-pub build_operators::build_operation-returns-in_err-ty-in-Item-clause-made : goal.build_operators::build_operation-returns-in_err-ty-in-Item-clause-made
-build_operators::build_operation-returns-in_err-ty-in-Item-clause-made t c = IfOk-from_err c.from_residual-in_err-ty-in-Item.result _ c.from_residual-in_err-ty-in-Item.ensures.0
-
-pub build_operators::build_operation-returns-in_err-ty-in-Item-clause-kind : goal.build_operators::build_operation-returns-in_err-ty-in-Item-clause-kind
-build_operators::build_operation-returns-in_err-ty-in-Item-clause-kind t c = IfOk-from_err c.from_residual-in_err-ty-in-Item.result _ c.from_residual-in_err-ty-in-Item.ensures.0
-
-pub build_operators::build_operation-returns-in_err-ty-in-Item-clause-locals : goal.build_operators::build_operation-returns-in_err-ty-in-Item-clause-locals
-build_operators::build_operation-returns-in_err-ty-in-Item-clause-locals t c = IfOk-from_err c.from_residual-in_err-ty-in-Item.result _ c.from_residual-in_err-ty-in-Item.ensures.0
-
-pub build_operators::build_operation-returns-in_err-ty-in-Item-clause-routines : goal.build_operators::build_operation-returns-in_err-ty-in-Item-clause-routines
-build_operators::build_operation-returns-in_err-ty-in-Item-clause-routines t c = IfOk-from_err c.from_residual-in_err-ty-in-Item.result _ c.from_residual-in_err-ty-in-Item.ensures.0
-
-pub build_operators::build_operation-returns-in_err-ty-in-Item-clause-local : goal.build_operators::build_operation-returns-in_err-ty-in-Item-clause-local
-build_operators::build_operation-returns-in_err-ty-in-Item-clause-local t c = IfOk-from_err c.from_residual-in_err-ty-in-Item.result _ c.from_residual-in_err-ty-in-Item.ensures.0
-
-pub build_operators::build_operation-returns-in_err-ty-in-Item-clause-function : goal.build_operators::build_operation-returns-in_err-ty-in-Item-clause-function
-build_operators::build_operation-returns-in_err-ty-in-Item-clause-function t c = IfOk-from_err c.from_residual-in_err-ty-in-Item.result _ c.from_residual-in_err-ty-in-Item.ensures.0
-
 pub build_operators::build_prefix-returns-in_err-x-in-Unary-clause-made : goal.build_operators::build_prefix-returns-in_err-x-in-Unary-clause-made
 build_operators::build_prefix-returns-in_err-x-in-Unary-clause-made t c = IfOk-from_err c.from_residual.result _ c.from_residual.ensures.0
 
@@ -1228,23 +1175,22 @@ build_operators::build_prefix-returns-in_err-x-in-Unary-clause-local t c = IfOk-
 pub build_operators::build_prefix-returns-in_err-x-in-Unary-clause-function : goal.build_operators::build_prefix-returns-in_err-x-in-Unary-clause-function
 build_operators::build_prefix-returns-in_err-x-in-Unary-clause-function t c = IfOk-from_err c.from_residual.result _ c.from_residual.ensures.0
 
-pub build_operators::build_prefix-returns-in_err-ty-in-Unary-clause-made : goal.build_operators::build_prefix-returns-in_err-ty-in-Unary-clause-made
-build_operators::build_prefix-returns-in_err-ty-in-Unary-clause-made t c = IfOk-from_err c.from_residual-in_err-ty-in-Unary.result _ c.from_residual-in_err-ty-in-Unary.ensures.0
+pub build_operators::build_set-may_be_set-can-requires : goal.build_operators::build_set-may_be_set-can-requires
+build_operators::build_set-may_be_set-can-requires t c =
+    let p = c.args.plan.now in
+    let st = s.site c.args.site.now in
+    let b0 = c.args.builder.now in
+    let at = c.args.e.now.at in
+    let x = c.in-Set.x.value in
+    let built = c.in_ok-parts-in-Set.parts.first.tree.value in
+    let h = first_target p st at c.in-Set.op (tree x) (tree c.in-Set.field-2.value) (tree c.args.e.now) b0.local b0.function (typed_tree built) (ap (node_tree at) c.in-Set.is) c.in_ok-parts-in-Set.ensures.first in
+    target_read p st x c.deref.result.now built c.deref-in-Set.result.now c.deref.ensures c.deref-in-Set.ensures h
 
-pub build_operators::build_prefix-returns-in_err-ty-in-Unary-clause-kind : goal.build_operators::build_prefix-returns-in_err-ty-in-Unary-clause-kind
-build_operators::build_prefix-returns-in_err-ty-in-Unary-clause-kind t c = IfOk-from_err c.from_residual-in_err-ty-in-Unary.result _ c.from_residual-in_err-ty-in-Unary.ensures.0
-
-pub build_operators::build_prefix-returns-in_err-ty-in-Unary-clause-locals : goal.build_operators::build_prefix-returns-in_err-ty-in-Unary-clause-locals
-build_operators::build_prefix-returns-in_err-ty-in-Unary-clause-locals t c = IfOk-from_err c.from_residual-in_err-ty-in-Unary.result _ c.from_residual-in_err-ty-in-Unary.ensures.0
-
-pub build_operators::build_prefix-returns-in_err-ty-in-Unary-clause-routines : goal.build_operators::build_prefix-returns-in_err-ty-in-Unary-clause-routines
-build_operators::build_prefix-returns-in_err-ty-in-Unary-clause-routines t c = IfOk-from_err c.from_residual-in_err-ty-in-Unary.result _ c.from_residual-in_err-ty-in-Unary.ensures.0
-
-pub build_operators::build_prefix-returns-in_err-ty-in-Unary-clause-local : goal.build_operators::build_prefix-returns-in_err-ty-in-Unary-clause-local
-build_operators::build_prefix-returns-in_err-ty-in-Unary-clause-local t c = IfOk-from_err c.from_residual-in_err-ty-in-Unary.result _ c.from_residual-in_err-ty-in-Unary.ensures.0
-
-pub build_operators::build_prefix-returns-in_err-ty-in-Unary-clause-function : goal.build_operators::build_prefix-returns-in_err-ty-in-Unary-clause-function
-build_operators::build_prefix-returns-in_err-ty-in-Unary-clause-function t c = IfOk-from_err c.from_residual-in_err-ty-in-Unary.result _ c.from_residual-in_err-ty-in-Unary.ensures.0
+pub build_operators::build_set-may_be_set-can-requires-in-Bump : goal.build_operators::build_set-may_be_set-can-requires-in-Bump
+build_operators::build_set-may_be_set-can-requires-in-Bump t c =
+    let b0 = c.args.builder.now in
+    target_read c.args.plan.now (s.site c.args.site.now) c.deref-in-Bump.result.now c.deref-in-Bump-2.result.now c.in_ok-x-in-Bump.x.tree.value c.deref-in-Bump-3.result.now
+    (c.deref-in-Bump-2.ensures ∙ sym c.deref-in-Bump.ensures) c.deref-in-Bump-3.ensures (b0.local, b0.function, c.in_ok-x-in-Bump.ensures.made)
 
 pub build_operators::build_set-returns-in_err-parts-in-Set-clause-made : goal.build_operators::build_set-returns-in_err-parts-in-Set-clause-made
 build_operators::build_set-returns-in_err-parts-in-Set-clause-made t c = IfOk-from_err c.from_residual.result _ c.from_residual.ensures.0
@@ -1264,42 +1210,6 @@ build_operators::build_set-returns-in_err-parts-in-Set-clause-local t c = IfOk-f
 pub build_operators::build_set-returns-in_err-parts-in-Set-clause-function : goal.build_operators::build_set-returns-in_err-parts-in-Set-clause-function
 build_operators::build_set-returns-in_err-parts-in-Set-clause-function t c = IfOk-from_err c.from_residual.result _ c.from_residual.ensures.0
 
-pub build_operators::build_set-returns-in_err-kind-in-Set-clause-made : goal.build_operators::build_set-returns-in_err-kind-in-Set-clause-made
-build_operators::build_set-returns-in_err-kind-in-Set-clause-made t c = IfOk-from_err c.from_residual-in_err-kind-in-Set.result _ c.from_residual-in_err-kind-in-Set.ensures.0
-
-pub build_operators::build_set-returns-in_err-kind-in-Set-clause-kind : goal.build_operators::build_set-returns-in_err-kind-in-Set-clause-kind
-build_operators::build_set-returns-in_err-kind-in-Set-clause-kind t c = IfOk-from_err c.from_residual-in_err-kind-in-Set.result _ c.from_residual-in_err-kind-in-Set.ensures.0
-
-pub build_operators::build_set-returns-in_err-kind-in-Set-clause-locals : goal.build_operators::build_set-returns-in_err-kind-in-Set-clause-locals
-build_operators::build_set-returns-in_err-kind-in-Set-clause-locals t c = IfOk-from_err c.from_residual-in_err-kind-in-Set.result _ c.from_residual-in_err-kind-in-Set.ensures.0
-
-pub build_operators::build_set-returns-in_err-kind-in-Set-clause-routines : goal.build_operators::build_set-returns-in_err-kind-in-Set-clause-routines
-build_operators::build_set-returns-in_err-kind-in-Set-clause-routines t c = IfOk-from_err c.from_residual-in_err-kind-in-Set.result _ c.from_residual-in_err-kind-in-Set.ensures.0
-
-pub build_operators::build_set-returns-in_err-kind-in-Set-clause-local : goal.build_operators::build_set-returns-in_err-kind-in-Set-clause-local
-build_operators::build_set-returns-in_err-kind-in-Set-clause-local t c = IfOk-from_err c.from_residual-in_err-kind-in-Set.result _ c.from_residual-in_err-kind-in-Set.ensures.0
-
-pub build_operators::build_set-returns-in_err-kind-in-Set-clause-function : goal.build_operators::build_set-returns-in_err-kind-in-Set-clause-function
-build_operators::build_set-returns-in_err-kind-in-Set-clause-function t c = IfOk-from_err c.from_residual-in_err-kind-in-Set.result _ c.from_residual-in_err-kind-in-Set.ensures.0
-
-pub build_operators::build_set-returns-in_err-ty-in-Set-clause-made : goal.build_operators::build_set-returns-in_err-ty-in-Set-clause-made
-build_operators::build_set-returns-in_err-ty-in-Set-clause-made t c = IfOk-from_err c.from_residual-in_err-ty-in-Set.result _ c.from_residual-in_err-ty-in-Set.ensures.0
-
-pub build_operators::build_set-returns-in_err-ty-in-Set-clause-kind : goal.build_operators::build_set-returns-in_err-ty-in-Set-clause-kind
-build_operators::build_set-returns-in_err-ty-in-Set-clause-kind t c = IfOk-from_err c.from_residual-in_err-ty-in-Set.result _ c.from_residual-in_err-ty-in-Set.ensures.0
-
-pub build_operators::build_set-returns-in_err-ty-in-Set-clause-locals : goal.build_operators::build_set-returns-in_err-ty-in-Set-clause-locals
-build_operators::build_set-returns-in_err-ty-in-Set-clause-locals t c = IfOk-from_err c.from_residual-in_err-ty-in-Set.result _ c.from_residual-in_err-ty-in-Set.ensures.0
-
-pub build_operators::build_set-returns-in_err-ty-in-Set-clause-routines : goal.build_operators::build_set-returns-in_err-ty-in-Set-clause-routines
-build_operators::build_set-returns-in_err-ty-in-Set-clause-routines t c = IfOk-from_err c.from_residual-in_err-ty-in-Set.result _ c.from_residual-in_err-ty-in-Set.ensures.0
-
-pub build_operators::build_set-returns-in_err-ty-in-Set-clause-local : goal.build_operators::build_set-returns-in_err-ty-in-Set-clause-local
-build_operators::build_set-returns-in_err-ty-in-Set-clause-local t c = IfOk-from_err c.from_residual-in_err-ty-in-Set.result _ c.from_residual-in_err-ty-in-Set.ensures.0
-
-pub build_operators::build_set-returns-in_err-ty-in-Set-clause-function : goal.build_operators::build_set-returns-in_err-ty-in-Set-clause-function
-build_operators::build_set-returns-in_err-ty-in-Set-clause-function t c = IfOk-from_err c.from_residual-in_err-ty-in-Set.result _ c.from_residual-in_err-ty-in-Set.ensures.0
-
 pub build_operators::build_set-returns-in_err-x-in-Bump-clause-made : goal.build_operators::build_set-returns-in_err-x-in-Bump-clause-made
 build_operators::build_set-returns-in_err-x-in-Bump-clause-made t c = IfOk-from_err c.from_residual-in_err-x-in-Bump.result _ c.from_residual-in_err-x-in-Bump.ensures.0
 
@@ -1318,24 +1228,6 @@ build_operators::build_set-returns-in_err-x-in-Bump-clause-local t c = IfOk-from
 pub build_operators::build_set-returns-in_err-x-in-Bump-clause-function : goal.build_operators::build_set-returns-in_err-x-in-Bump-clause-function
 build_operators::build_set-returns-in_err-x-in-Bump-clause-function t c = IfOk-from_err c.from_residual-in_err-x-in-Bump.result _ c.from_residual-in_err-x-in-Bump.ensures.0
 
-pub build_operators::build_set-returns-in_err-kind-in-Bump-clause-made : goal.build_operators::build_set-returns-in_err-kind-in-Bump-clause-made
-build_operators::build_set-returns-in_err-kind-in-Bump-clause-made t c = IfOk-from_err c.from_residual-in_err-kind-in-Bump.result _ c.from_residual-in_err-kind-in-Bump.ensures.0
-
-pub build_operators::build_set-returns-in_err-kind-in-Bump-clause-kind : goal.build_operators::build_set-returns-in_err-kind-in-Bump-clause-kind
-build_operators::build_set-returns-in_err-kind-in-Bump-clause-kind t c = IfOk-from_err c.from_residual-in_err-kind-in-Bump.result _ c.from_residual-in_err-kind-in-Bump.ensures.0
-
-pub build_operators::build_set-returns-in_err-kind-in-Bump-clause-locals : goal.build_operators::build_set-returns-in_err-kind-in-Bump-clause-locals
-build_operators::build_set-returns-in_err-kind-in-Bump-clause-locals t c = IfOk-from_err c.from_residual-in_err-kind-in-Bump.result _ c.from_residual-in_err-kind-in-Bump.ensures.0
-
-pub build_operators::build_set-returns-in_err-kind-in-Bump-clause-routines : goal.build_operators::build_set-returns-in_err-kind-in-Bump-clause-routines
-build_operators::build_set-returns-in_err-kind-in-Bump-clause-routines t c = IfOk-from_err c.from_residual-in_err-kind-in-Bump.result _ c.from_residual-in_err-kind-in-Bump.ensures.0
-
-pub build_operators::build_set-returns-in_err-kind-in-Bump-clause-local : goal.build_operators::build_set-returns-in_err-kind-in-Bump-clause-local
-build_operators::build_set-returns-in_err-kind-in-Bump-clause-local t c = IfOk-from_err c.from_residual-in_err-kind-in-Bump.result _ c.from_residual-in_err-kind-in-Bump.ensures.0
-
-pub build_operators::build_set-returns-in_err-kind-in-Bump-clause-function : goal.build_operators::build_set-returns-in_err-kind-in-Bump-clause-function
-build_operators::build_set-returns-in_err-kind-in-Bump-clause-function t c = IfOk-from_err c.from_residual-in_err-kind-in-Bump.result _ c.from_residual-in_err-kind-in-Bump.ensures.0
-
 pub build_members::build_member-returns-in_err-x-in-Member-clause-made : goal.build_members::build_member-returns-in_err-x-in-Member-clause-made
 build_members::build_member-returns-in_err-x-in-Member-clause-made t c = IfOk-from_err c.from_residual.result _ c.from_residual.ensures.0
 
@@ -1353,24 +1245,6 @@ build_members::build_member-returns-in_err-x-in-Member-clause-local t c = IfOk-f
 
 pub build_members::build_member-returns-in_err-x-in-Member-clause-function : goal.build_members::build_member-returns-in_err-x-in-Member-clause-function
 build_members::build_member-returns-in_err-x-in-Member-clause-function t c = IfOk-from_err c.from_residual.result _ c.from_residual.ensures.0
-
-pub build_members::build_member-returns-in_err-ty-in-Member-clause-made : goal.build_members::build_member-returns-in_err-ty-in-Member-clause-made
-build_members::build_member-returns-in_err-ty-in-Member-clause-made t c = IfOk-from_err c.from_residual-in_err-ty-in-Member.result _ c.from_residual-in_err-ty-in-Member.ensures.0
-
-pub build_members::build_member-returns-in_err-ty-in-Member-clause-kind : goal.build_members::build_member-returns-in_err-ty-in-Member-clause-kind
-build_members::build_member-returns-in_err-ty-in-Member-clause-kind t c = IfOk-from_err c.from_residual-in_err-ty-in-Member.result _ c.from_residual-in_err-ty-in-Member.ensures.0
-
-pub build_members::build_member-returns-in_err-ty-in-Member-clause-locals : goal.build_members::build_member-returns-in_err-ty-in-Member-clause-locals
-build_members::build_member-returns-in_err-ty-in-Member-clause-locals t c = IfOk-from_err c.from_residual-in_err-ty-in-Member.result _ c.from_residual-in_err-ty-in-Member.ensures.0
-
-pub build_members::build_member-returns-in_err-ty-in-Member-clause-routines : goal.build_members::build_member-returns-in_err-ty-in-Member-clause-routines
-build_members::build_member-returns-in_err-ty-in-Member-clause-routines t c = IfOk-from_err c.from_residual-in_err-ty-in-Member.result _ c.from_residual-in_err-ty-in-Member.ensures.0
-
-pub build_members::build_member-returns-in_err-ty-in-Member-clause-local : goal.build_members::build_member-returns-in_err-ty-in-Member-clause-local
-build_members::build_member-returns-in_err-ty-in-Member-clause-local t c = IfOk-from_err c.from_residual-in_err-ty-in-Member.result _ c.from_residual-in_err-ty-in-Member.ensures.0
-
-pub build_members::build_member-returns-in_err-ty-in-Member-clause-function : goal.build_members::build_member-returns-in_err-ty-in-Member-clause-function
-build_members::build_member-returns-in_err-ty-in-Member-clause-function t c = IfOk-from_err c.from_residual-in_err-ty-in-Member.result _ c.from_residual-in_err-ty-in-Member.ensures.0
 
 pub build_members::build_member-returns-in_err-tree-in-Member-clause-made : goal.build_members::build_member-returns-in_err-tree-in-Member-clause-made
 build_members::build_member-returns-in_err-tree-in-Member-clause-made t c = IfOk-from_err c.from_residual-in_err-tree-in-Member.result _ c.from_residual-in_err-tree-in-Member.ensures.0
@@ -1467,24 +1341,6 @@ build_members::build_choice-returns-in_err-three-in-Choice-clause-local t c = If
 
 pub build_members::build_choice-returns-in_err-three-in-Choice-clause-function : goal.build_members::build_choice-returns-in_err-three-in-Choice-clause-function
 build_members::build_choice-returns-in_err-three-in-Choice-clause-function t c = IfOk-from_err c.from_residual.result _ c.from_residual.ensures.0
-
-pub build_members::build_choice-returns-in_err-ty-in-Choice-clause-made : goal.build_members::build_choice-returns-in_err-ty-in-Choice-clause-made
-build_members::build_choice-returns-in_err-ty-in-Choice-clause-made t c = IfOk-from_err c.from_residual-in_err-ty-in-Choice.result _ c.from_residual-in_err-ty-in-Choice.ensures.0
-
-pub build_members::build_choice-returns-in_err-ty-in-Choice-clause-kind : goal.build_members::build_choice-returns-in_err-ty-in-Choice-clause-kind
-build_members::build_choice-returns-in_err-ty-in-Choice-clause-kind t c = IfOk-from_err c.from_residual-in_err-ty-in-Choice.result _ c.from_residual-in_err-ty-in-Choice.ensures.0
-
-pub build_members::build_choice-returns-in_err-ty-in-Choice-clause-locals : goal.build_members::build_choice-returns-in_err-ty-in-Choice-clause-locals
-build_members::build_choice-returns-in_err-ty-in-Choice-clause-locals t c = IfOk-from_err c.from_residual-in_err-ty-in-Choice.result _ c.from_residual-in_err-ty-in-Choice.ensures.0
-
-pub build_members::build_choice-returns-in_err-ty-in-Choice-clause-routines : goal.build_members::build_choice-returns-in_err-ty-in-Choice-clause-routines
-build_members::build_choice-returns-in_err-ty-in-Choice-clause-routines t c = IfOk-from_err c.from_residual-in_err-ty-in-Choice.result _ c.from_residual-in_err-ty-in-Choice.ensures.0
-
-pub build_members::build_choice-returns-in_err-ty-in-Choice-clause-local : goal.build_members::build_choice-returns-in_err-ty-in-Choice-clause-local
-build_members::build_choice-returns-in_err-ty-in-Choice-clause-local t c = IfOk-from_err c.from_residual-in_err-ty-in-Choice.result _ c.from_residual-in_err-ty-in-Choice.ensures.0
-
-pub build_members::build_choice-returns-in_err-ty-in-Choice-clause-function : goal.build_members::build_choice-returns-in_err-ty-in-Choice-clause-function
-build_members::build_choice-returns-in_err-ty-in-Choice-clause-function t c = IfOk-from_err c.from_residual-in_err-ty-in-Choice.result _ c.from_residual-in_err-ty-in-Choice.ensures.0
 
 pub build_locals::build_value-returns-in_err-e-in-Some : goal.build_locals::build_value-returns-in_err-e-in-Some
 build_locals::build_value-returns-in_err-e-in-Some t c = IfOk-from_err c.from_residual.result _ c.from_residual.ensures.0

@@ -1,7 +1,6 @@
 use Rattle.std.proofs.Common.{◌++◌, List, [], ◌∷◌, ap, ◌∙◌}
 use Rattle.std.specs.Prelude.{false}
 use Rattle.sts_syntax.specs.declared.types.Ty.{Ty}
-use Rattle.sts_syntax.specs.declared.types.Ty.TheVariants as ty
 use Rattle.sts_syntax.specs.declared.trees.Param.{Param}
 use Rattle.sts_syntax.specs.Types as value
 use Rattle.sts_syntax.specs.Views.{parameters, routine}
@@ -18,10 +17,10 @@ pub returns : goal.returns
 returns c =
     let l = c.args.plan.now in
     let ps = kind.value_types (parameter_kinds (naming l) (parameters c.as_slice-params.result.now)) in
-    let first = c.in_ok-push.ensures.ok ∙ ap (λ (q : List Ty). q ++ ty.Class c.args.class ∷ []) c.new-types.ensures in
-    let vs = c.in_ok-add_types.ensures ∙ (ap (λ (q : List Ty). value.value_types q ++ ps) first
+    let first = ap value.value_types (c.in_ok-push.ensures.ok ∙ ap (λ (q : List Ty). q ++ c.object.result ∷ []) c.new-types.ensures) ∙ ap (λ (t : value.ValueType). t ∷ []) c.object.ensures in
+    let vs = c.in_ok-add_types.ensures ∙ (ap (λ (q : List value.ValueType). q ++ ps) first
     ∙ ap (λ (q : List Param). value.Object c.args.class ∷ kind.value_types (parameter_kinds (naming l) (parameters q))) c.as_slice-params.ensures) in
     let st = c.in_ok-site.ensures ∙ ap (λ (q : List Param). functions.site_of l (this.Object c.args.class) c.args.gives false 1 (parameters q)) c.as_slice-params.ensures in
-    let e = method_is l c.args.class c.args.n c.args.gives c.args.body.now (value.value_types c.add_types.new.all) (value.value_type c.in_ok-gives.gives) (s.site c.in_ok-site.site) c.as_slice.result.now
-    c.in_ok-function.function.own c.in_ok-function.function.inner c.in_ok-function.ensures.own c.in_ok-function.ensures.inner vs c.in_ok-gives.ensures st c.as_slice.ensures in
+    let e = method_is l c.args.class c.args.n c.args.gives c.args.body.now (value.value_types c.add_types.new.all) (value.value_type c.noted_type-gives.result) (s.site c.in_ok-site.site) c.as_slice.result.now
+    c.in_ok-function.function.own c.in_ok-function.function.inner c.in_ok-function.ensures.own c.in_ok-function.ensures.inner vs c.noted_type-gives.ensures st c.as_slice.ensures in
     put_behind c.add.result c.args.routines.now c.add.new.routines c.in_ok-function.function.own c.in_ok-function.function.inner (functions.method_made l c.args.class c.args.n c.args.gives (routine c.args.body.now)) c.add.ensures e
