@@ -6,7 +6,7 @@ use Rattle.sts_syntax.specs.TypedTrees.{TypedTree, ClassEntry}
 use Rattle.sts_syntax.specs.Measures.{hold}
 use Rattle.sts_lower.specs.Sizes.{target}
 use Rattle.sts_lower.specs.Code.{stored_at}
-use Rattle.sts_lower.specs.Fitting.{IsTarget, IsLowerable, TargetFits}
+use Rattle.sts_lower.specs.inner.Fitting.{IsTarget, IsLowerable, TargetFits}
 use Rattle.sts_lower.proofs.Fitted.{hold_positive}
 
 pub target_fits : (params : ℕ) (x : TypedTree) → IsTarget params x → TargetFits params (target x)

@@ -13,8 +13,8 @@ use Rattle.sts_syntax.specs.Types.{ValueType}
 use Rattle.sts_lower.proofs.Opened.{arranged_length}
 use Rattle.sts_lower.specs.Sizes.{ToName, sizes, initial_size, test_size, step_size, statement_size, first_size}
 use Rattle.sts_lower.specs.Code.{bump_code}
-use Rattle.sts_lower.specs.Works.{Layout, Work, Put, puts, places_in, places_of, passed_by, opened_value, opened_reach, opened_arguments, opened_elements, opened_initial, opened_first, opened_test, opened_step, opened_statement, opened_statements, opened_declarations, opened, Value, Reach, Arguments, Elements, Does, DoesAll, Declares}
-use Rattle.sts_lower.specs.Fitting.{IsLowerable, AreLowerable, IsLowerableIfAny, IsFirst, Fits, AllFit}
+use Rattle.sts_lower.specs.inner.Works.{Layout, Work, Put, puts, places_in, places_of, passed_by, opened_value, opened_reach, opened_arguments, opened_elements, opened_initial, opened_first, opened_test, opened_step, opened_statement, opened_statements, opened_declarations, opened, Value, Reach, Arguments, Elements, Does, DoesAll, Declares}
+use Rattle.sts_lower.specs.inner.Fitting.{IsLowerable, AreLowerable, IsLowerableIfAny, IsFirst, Fits, AllFit}
 
 stacked_above : (d b : ℕ) (hs : List ℕ) → stacked (d + b) hs ≤ d + stacked b hs
 stacked_above d b [] = omega arith

@@ -14,7 +14,7 @@ use Rattle.sts_syntax.proofs.Laws.{weighs, few_places, one_more, places_of as ac
 use Rattle.sts_lower.specs.Sizes.{initial_size, test_size, statement_size, first_size, Target, ToName, ToField, ToItem, ToNothing, target}
 use Rattle.sts_lower.specs.Code.{set_op, handler_of, action_code, call_code, store_code, bump_code}
 use Rattle.sts_lower.specs.Statements.{bare_code, return_code}
-use Rattle.sts_lower.specs.Works.{Layout, Work, Put, puts, places_in, places_of, passed_by, opened_value, opened_reach, opened_arguments, opened_elements, opened_initial, opened_first, opened_test, opened_step, opened_statement, opened_statements, opened_declarations, opened, Value, Reach, Arguments, Elements, Does, DoesAll, Declares}
+use Rattle.sts_lower.specs.inner.Works.{Layout, Work, Put, puts, places_in, places_of, passed_by, opened_value, opened_reach, opened_arguments, opened_elements, opened_initial, opened_first, opened_test, opened_step, opened_statement, opened_statements, opened_declarations, opened, Value, Reach, Arguments, Elements, Does, DoesAll, Declares}
 use Rattle.sts_lower.proofs.Fitted.{sizes_placed}
 
 abbrev pub load_of : Work → ℕ

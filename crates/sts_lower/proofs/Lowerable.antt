@@ -12,7 +12,7 @@ use Rattle.sts_syntax.specs.TypeRules.{entry}
 use Rattle.sts_syntax.specs.WellTyped as t
 use Rattle.sts_syntax.specs.WellTyped.{Setting, parameters_of, known_with, known_after, known_after_first, answer}
 use Rattle.sts_syntax.specs.WellTypedPrograms.{IsBodyOf}
-use Rattle.sts_lower.specs.Fitting.{LocalFits, IsLowerable, AreLowerable, IsTarget, IsLowerableIfAny, AreDeclared, IsStatement, IsFirst, AreStatements}
+use Rattle.sts_lower.specs.inner.Fitting.{LocalFits, IsLowerable, AreLowerable, IsTarget, IsLowerableIfAny, AreDeclared, IsStatement, IsFirst, AreStatements}
 
 entry_below : {X : Type 0} (xs : List X) (i : ℕ) (x : X) → entry xs i ≡ Some x → i < length xs
 entry_below [] i x is = absurd (cc)

@@ -16,8 +16,8 @@ use Rattle.sts_lower.specs.Sizes.{statements_size}
 use Rattle.sts_lower.specs.Statements.{statements_code, bare_code}
 use Rattle.sts_lower.specs.Repeated.{before}
 use Rattle.sts_lower.specs.Lowered.{repeating, repeated_in_program, lowered_routine, lowered_routines}
-use Rattle.sts_lower.specs.Works.{routine_of, routines_of}
-use Rattle.sts_lower.specs.Fitting.{IsLowerableRoutine, HasFewFields}
+use Rattle.sts_lower.specs.inner.Works.{routine_of, routines_of}
+use Rattle.sts_lower.specs.inner.Fitting.{IsLowerableRoutine, HasFewFields}
 use Rattle.sts_lower.proofs.Lowerable.{body_is}
 use Rattle.sts_lower.proofs.Bounds.{in_each_le}
 

@@ -10,7 +10,7 @@ use Rattle.sts_syntax.specs.BoardTable.{BoardAction, Service, Library, Repeats, 
 use Rattle.sts_syntax.specs.Measures.{how_many, total}
 use Rattle.flat_ir.specs.declared.ops.Op.TheVariants.{Copy, Call, MakeObject, MakeArray}
 use Rattle.sts_lower.specs.Code.{span, maker_of, items_code, number_part, arguments, parts, Part, call_code, parts_code}
-use Rattle.sts_lower.specs.Works.{Layout, Work, Put, puts, places_in, places_of, passed_by, ops_of, ops_of_all, opened_value, opened_reach, opened_arguments, opened_elements, opened_statement, opened_statements, opened_declarations, opened, own_ops, opened_initial, opened_first, opened_test, opened_step, Value, Reach, Arguments, Elements, Does, DoesAll, Declares}
+use Rattle.sts_lower.specs.inner.Works.{Layout, Work, Put, puts, places_in, places_of, passed_by, ops_of, ops_of_all, opened_value, opened_reach, opened_arguments, opened_elements, opened_statement, opened_statements, opened_declarations, opened, own_ops, opened_initial, opened_first, opened_test, opened_step, Value, Reach, Arguments, Elements, Does, DoesAll, Declares}
 use Rattle.sts_lower.specs.Code.{handler_of}
 use Rattle.sts_lower.specs.Statements.{bare_code, initial_code, first_code, test_code, step_code}
 

@@ -1,8 +1,8 @@
 -- A turn of the work that is left.
 use Rattle.std.proofs.Common.{◌≡◌, ◌<◌, List, ◌∷◌, ◌++◌, sym, ap, ◌∙◌, subst, append_assoc, arith}
 use Rattle.flat_ir.specs.declared.ops.Op.{Op}
-use Rattle.sts_lower.specs.Works.{Layout, Work, ops_of_all, opened, own_ops}
-use Rattle.sts_lower.specs.Fitting.{AllFit}
+use Rattle.sts_lower.specs.inner.Works.{Layout, Work, ops_of_all, opened, own_ops}
+use Rattle.sts_lower.specs.inner.Fitting.{AllFit}
 use Rattle.sts_lower.proofs.Opened.{joined_are, opened_is}
 use Rattle.sts_lower.proofs.Fitted.{joined_fit, opened_fits}
 use Rattle.sts_lower.proofs.Loads.{load, load_joined, opened_less}

@@ -3,6 +3,4 @@ pub mod Code
 pub mod Statements
 pub mod Repeated
 pub mod Lowered
-pub mod Works
-pub mod Fitting
-pub mod Shown
+pub mod inner

@@ -4,7 +4,7 @@ ghost use Rattle.sts_syntax.specs.BoardTable.{placed};
 ghost use Rattle.sts_syntax.specs.BoardViews.{service_place};
 ghost use Rattle.sts_syntax.specs.Measures as m;
 ghost use Rattle.sts_lower.specs.Sizes as z;
-ghost use Rattle.sts_lower.specs.Works as p;
+ghost use Rattle.sts_lower.specs.inner.Works as p;
 
 use sts_syntax::{BoardAction, Callee, ServicePlace};
 

@@ -1,9 +1,9 @@
 // What is assigned to: what is read from it, and stored in it.
 ghost use Rattle.std.specs.Prelude.{◌≡◌, suc, ◌+◌, ◌<◌, ◌^◌, ◌∷◌, ◌++◌, ◌⊎◌, pos, negsuc, OnOk};
 ghost use Rattle.sts_lower.specs.Code as k;
-ghost use Rattle.sts_lower.specs.Works as p;
-ghost use Rattle.sts_lower.specs.Fitting.{TargetFits};
-ghost use Rattle.sts_lower.specs.Shown.{works, layout, target_shown};
+ghost use Rattle.sts_lower.specs.inner.Works as p;
+ghost use Rattle.sts_lower.specs.inner.Fitting.{TargetFits};
+ghost use Rattle.sts_lower.specs.inner.Shown.{works, layout, target_shown};
 
 use crate::frame::Frame;
 use crate::ops::{get_op, set_op};

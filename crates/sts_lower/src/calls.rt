@@ -6,9 +6,9 @@ ghost use Rattle.sts_syntax.specs.TypedViews.{typed_tree, typed_trees, class_ent
 ghost use Rattle.sts_lower.specs.Sizes as z;
 ghost use Rattle.sts_lower.specs.Code as k;
 ghost use Rattle.sts_lower.specs.Repeated as r;
-ghost use Rattle.sts_lower.specs.Works as p;
-ghost use Rattle.sts_lower.specs.Fitting.{Fits};
-ghost use Rattle.sts_lower.specs.Shown.{works, layout};
+ghost use Rattle.sts_lower.specs.inner.Works as p;
+ghost use Rattle.sts_lower.specs.inner.Fitting.{Fits};
+ghost use Rattle.sts_lower.specs.inner.Shown.{works, layout};
 
 use crate::arguments::{own_numbers, places};
 use crate::frame::Frame;

@@ -2,9 +2,9 @@
 ghost use Rattle.std.specs.Prelude.{◌≡◌, suc, ◌+◌, ◌<◌, ◌^◌, [], ◌∷◌, ◌++◌, length, OnOk};
 ghost use Rattle.sts_syntax.specs.TypedViews.{typed_tree};
 ghost use Rattle.sts_lower.specs.Sizes as z;
-ghost use Rattle.sts_lower.specs.Works as p;
-ghost use Rattle.sts_lower.specs.Fitting.{Fits, IsTarget};
-ghost use Rattle.sts_lower.specs.Shown.{works, layout};
+ghost use Rattle.sts_lower.specs.inner.Works as p;
+ghost use Rattle.sts_lower.specs.inner.Fitting.{Fits, IsTarget};
+ghost use Rattle.sts_lower.specs.inner.Shown.{works, layout};
 
 use crate::assign::{bump, read_op, store, stored_at};
 use crate::calls::{open_call, open_items, open_make, open_super_call};

@@ -4,9 +4,9 @@ ghost use Rattle.std.specs.List.{AllByRecursion};
 ghost use Rattle.sts_syntax.specs.TypedViews.{class_entry, class_entries, typed_routine, typed_routines, typed_program};
 ghost use Rattle.sts_syntax.specs.WellTypedPrograms as wt;
 ghost use Rattle.sts_lower.specs.Repeated as r;
-ghost use Rattle.sts_lower.specs.Works as p;
+ghost use Rattle.sts_lower.specs.inner.Works as p;
 ghost use Rattle.sts_lower.specs.Lowered as l;
-ghost use Rattle.sts_lower.specs.Fitting.{IsLowerableRoutine, HasFewFields};
+ghost use Rattle.sts_lower.specs.inner.Fitting.{IsLowerableRoutine, HasFewFields};
 
 use crate::frame::Frame;
 use crate::repeats::note_functions;

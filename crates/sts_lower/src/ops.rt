@@ -1,7 +1,7 @@
 // Ops by themselves, and lists of temporaries.
 ghost use Rattle.std.specs.Prelude.{◌≡◌, ◌+◌, ◌<◌, ◌^◌, [], ◌∷◌, IfOk};
 ghost use Rattle.sts_lower.specs.Code as k;
-ghost use Rattle.sts_lower.specs.Fitting.{LocalFits};
+ghost use Rattle.sts_lower.specs.inner.Fitting.{LocalFits};
 
 use flat_ir::Op;
 use std::alloc::Global;

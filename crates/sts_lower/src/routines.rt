@@ -3,9 +3,9 @@ ghost use Rattle.std.specs.Prelude.{◌≡◌, ◌+◌, ◌<◌, ◌^◌, ◌++�
 ghost use Rattle.sts_syntax.specs.TypedViews.{typed_statements};
 ghost use Rattle.sts_lower.specs.Sizes as z;
 ghost use Rattle.sts_lower.specs.Statements as t;
-ghost use Rattle.sts_lower.specs.Works as p;
-ghost use Rattle.sts_lower.specs.Fitting.{Fits};
-ghost use Rattle.sts_lower.specs.Shown.{work_shown, works, layout};
+ghost use Rattle.sts_lower.specs.inner.Works as p;
+ghost use Rattle.sts_lower.specs.inner.Fitting.{Fits};
+ghost use Rattle.sts_lower.specs.inner.Shown.{work_shown, works, layout};
 
 use crate::calls::{open_arguments, open_elements};
 use crate::expressions::{open_reach, open_value};

@@ -3,9 +3,9 @@ ghost use Rattle.std.specs.Prelude.{◌≡◌, suc, ◌+◌, ◌<◌, ◌^◌, [
 ghost use Rattle.sts_syntax.specs.TypedViews.{typed_tree, optional_typed_tree, typed_statement, typed_statements, typed_declarations};
 ghost use Rattle.sts_lower.specs.Sizes as z;
 ghost use Rattle.sts_lower.specs.Statements as t;
-ghost use Rattle.sts_lower.specs.Works as p;
-ghost use Rattle.sts_lower.specs.Fitting.{Fits};
-ghost use Rattle.sts_lower.specs.Shown.{works, layout};
+ghost use Rattle.sts_lower.specs.inner.Works as p;
+ghost use Rattle.sts_lower.specs.inner.Fitting.{Fits};
+ghost use Rattle.sts_lower.specs.inner.Shown.{works, layout};
 
 use crate::assign::ONE_MORE;
 use crate::frame::Frame;

@@ -2,7 +2,7 @@
 ghost use Rattle.std.specs.Prelude.{◌≡◌};
 ghost use Rattle.sts_syntax.specs.TypedViews.{typed_tree};
 ghost use Rattle.sts_lower.specs.Sizes as z;
-ghost use Rattle.sts_lower.specs.Shown.{target_shown};
+ghost use Rattle.sts_lower.specs.inner.Shown.{target_shown};
 
 use sts_syntax::{Spot, TypedExpr, TypedNode};
 

@@ -2,8 +2,8 @@
 ghost use Rattle.std.specs.Prelude.{◌≡◌, suc, ◌+◌, ◌<◌, ◌^◌, ◌∷◌, OnOk};
 ghost use Rattle.sts_syntax.specs.TypedViews.{typed_tree};
 ghost use Rattle.sts_lower.specs.Sizes as z;
-ghost use Rattle.sts_lower.specs.Works as p;
-ghost use Rattle.sts_lower.specs.Shown.{works};
+ghost use Rattle.sts_lower.specs.inner.Works as p;
+ghost use Rattle.sts_lower.specs.inner.Shown.{works};
 
 use crate::sizes::size_of;
 use crate::work::{Stack, Work};

@@ -3,9 +3,9 @@ use Rattle.sts_syntax.specs.Types.{value_type}
 use Rattle.sts_syntax.specs.TypedTrees.{TypedTree}
 use Rattle.sts_syntax.specs.TypedViews.{typed_trees}
 use Rattle.sts_syntax.proofs.Laws.{call_is, super_call_is, make_is, items_is}
-use Rattle.sts_lower.specs.Works.{Value, opened_value}
-use Rattle.sts_lower.specs.Fitting.{Fits}
-use Rattle.sts_lower.specs.Shown.{layout, works}
+use Rattle.sts_lower.specs.inner.Works.{Value, opened_value}
+use Rattle.sts_lower.specs.inner.Fitting.{Fits}
+use Rattle.sts_lower.specs.inner.Shown.{layout, works}
 use Rattle.std.specs.Prelude.{OnOk}
 use Rattle.sts_lower.proofs.Sums.{items_many}
 use Rattle.sts_lower.proofs.Fitted.{call_holds, super_call_holds, make_holds}

@@ -2,7 +2,7 @@ use Rattle.std.proofs.Common.{◌≡◌, ◌++◌, drop}
 use Rattle.std.specs.List.{AllByRecursion}
 use Rattle.sts_syntax.specs.TypedViews.{class_entries}
 use Rattle.sts_lower.specs.Lowered.{flat_classes}
-use Rattle.sts_lower.specs.Fitting.{HasFewFields}
+use Rattle.sts_lower.specs.inner.Fitting.{HasFewFields}
 use Rattle.sts_lower.proofs.lowering.lower_classes.Given as goal
 
 abbrev pub invariant-loop-class : goal.invariant-loop-class

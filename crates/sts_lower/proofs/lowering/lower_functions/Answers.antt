@@ -5,8 +5,8 @@ use Rattle.sts_syntax.specs.declared.typed.TypedBody.{TypedBody}
 use Rattle.sts_syntax.specs.TypedViews.{class_entries, typed_routine, typed_routines}
 use Rattle.sts_syntax.proofs.Laws.{drop_at}
 use Rattle.sts_lower.specs.Repeated.{before}
-use Rattle.sts_lower.specs.Works.{routine_of, routines_of}
-use Rattle.sts_lower.specs.Fitting.{IsLowerableRoutine}
+use Rattle.sts_lower.specs.inner.Works.{routine_of, routines_of}
+use Rattle.sts_lower.specs.inner.Fitting.{IsLowerableRoutine}
 use Rattle.sts_lower.proofs.Made.{routines_next}
 use Rattle.sts_lower.proofs.lowering.lower_functions.Goals as goal
 

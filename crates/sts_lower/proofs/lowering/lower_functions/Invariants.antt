@@ -2,8 +2,8 @@ use Rattle.std.proofs.Common.{◌≡◌, ◌+◌, ◌++◌, drop}
 use Rattle.std.specs.List.{AllByRecursion}
 use Rattle.sts_syntax.specs.TypedViews.{class_entries, typed_routines}
 use Rattle.sts_lower.specs.Repeated.{before}
-use Rattle.sts_lower.specs.Works.{routines_of}
-use Rattle.sts_lower.specs.Fitting.{IsLowerableRoutine}
+use Rattle.sts_lower.specs.inner.Works.{routines_of}
+use Rattle.sts_lower.specs.inner.Fitting.{IsLowerableRoutine}
 use Rattle.sts_lower.proofs.lowering.lower_functions.Given as goal
 
 abbrev pub invariant-loop-body : goal.invariant-loop-body

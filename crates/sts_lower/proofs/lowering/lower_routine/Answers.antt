@@ -6,7 +6,7 @@ use Rattle.sts_syntax.proofs.Laws.{locals_are, outgoing_words_le}
 use Rattle.sts_lower.specs.Sizes.{statements_size}
 use Rattle.sts_lower.specs.Statements.{statements_code, bare_code}
 use Rattle.sts_lower.specs.Repeated.{before}
-use Rattle.sts_lower.specs.Fitting.{AreStatements}
+use Rattle.sts_lower.specs.inner.Fitting.{AreStatements}
 use Rattle.sts_lower.proofs.Bounds.{statements_le}
 use Rattle.sts_lower.proofs.Made.{routine_made}
 use Rattle.sts_lower.proofs.lowering.lower_routine.Goals as goal

@@ -2,8 +2,8 @@ use Rattle.std.proofs.Common.{◌≡◌, ◌++◌, sym, subst}
 use Rattle.std.specs.Prelude.{OnOk}
 use Rattle.sts_syntax.specs.TypedTrees.{TypedStatement}
 use Rattle.sts_syntax.proofs.Laws.{block_is}
-use Rattle.sts_lower.specs.Works.{opened_statement}
-use Rattle.sts_lower.specs.Shown.{layout, works}
+use Rattle.sts_lower.specs.inner.Works.{opened_statement}
+use Rattle.sts_lower.specs.inner.Shown.{layout, works}
 use Rattle.sts_lower.proofs.statements.open_statement.Goals as goal
 
 pub returns-in-Block : goal.returns-in-Block

@@ -6,7 +6,7 @@ use Rattle.sts_lower.specs.declared.work.Work as rust_work
 use Rattle.sts_lower.specs.declared.work.Work.TheVariants as w
 use Rattle.sts_lower.specs.declared.frame.Frame as rust_frame
 use Rattle.sts_lower.specs.Repeated.{before}
-use Rattle.sts_lower.specs.Works.{Layout, Work, Put, Value, Reach, Arguments, Elements, Does, DoesAll, Declares}
+use Rattle.sts_lower.specs.inner.Works.{Layout, Work, Put, Value, Reach, Arguments, Elements, Does, DoesAll, Declares}
 use Rattle.sts_lower.specs.declared.targets.Target as rust
 use Rattle.sts_lower.specs.declared.targets.Target.TheVariants as r
 use Rattle.sts_lower.specs.Sizes.{Target, ToName, ToField, ToItem, ToNothing}

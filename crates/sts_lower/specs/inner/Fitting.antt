@@ -8,7 +8,7 @@ use Rattle.sts_syntax.specs.BoardTable.{placed}
 use Rattle.sts_syntax.specs.Measures.{hold, holds, target_hold, stacked, greatest, total, greatest_in, greatest_of, greatest_first, pending_words}
 use Rattle.sts_syntax.specs.Weights.{weight}
 use Rattle.sts_lower.specs.Sizes.{Target, ToName, ToField, ToItem, ToNothing, size, sizes, reach_size, items_size, declared_size, statement_size, statements_size}
-use Rattle.sts_lower.specs.Works.{Layout, Work, Put, Value, Reach, Arguments, Elements, Does, DoesAll, Declares}
+use Rattle.sts_lower.specs.inner.Works.{Layout, Work, Put, Value, Reach, Arguments, Elements, Does, DoesAll, Declares}
 
 -- in a function with so many parameters
 module _ (params : ℕ) where
