@@ -76,10 +76,10 @@ take_up entry_of (t ∷ rest) n m h = one (next_of (entry_of t.kind) n) refl h (
     one None q g later = absurd (let z : ◌≡◌ {A = Option ℕ} None (Some m) = g in cc)
     one (Some k) q g later = (k, takes_up (entry_of t.kind) n k q, later k g)
 
-own_names : IsDistinct own.names
+pub own_names : IsDistinct own.names
 own_names = tested own.names refl
 
-own_texts : IsDistinct own.texts
+pub own_texts : IsDistinct own.texts
 own_texts = tested own.texts refl
 
 own_read : IsRead no_entries LIBRARY.now own own_tokens
@@ -91,6 +91,9 @@ own_read = record {
   more_texts = (own.texts, refl);
   in_order = record { names = take_up name_entry own_tokens 0 28 refl; texts = take_up text_entry own_tokens 0 1 refl };
 }
+
+pub library_read : IsLibrary no_entries own (l.library own_tokens)
+library_read = record { tokens = own_tokens; read = own_tokenized; in_order = own_read.in_order; spelled = library_spelled own own_tokens own_names own_texts own_tokenized }
 
 pub library_first : (one : OneProgram) (new : Tables) (program : Program) → IsDistinct new.names → IsDistinct new.texts → IsLibrary no_entries new program
     → (new ≡ own) × (program ≡ l.library own_tokens)

@@ -41,3 +41,10 @@ abbrev pub TypedLibraryIsLight : Type 0
 TypedLibraryIsLight = (tokens : List Token) (names texts : List (List ℕ)) (text : Program) (kinds : List (Option Kind)) → IsDistinct first.names → IsDistinct first.texts
     → IsTokenization first LIBRARY.now tokens → AreDerived (record { names = first.names ++ names; texts = first.texts ++ texts }) (library tokens) text kinds
     → routines_weight (take library_size (typed (record { names = first.names ++ names; texts = first.texts ++ texts }) (library tokens) text kinds).functions) ≤ 600
+
+-- Where no entry stood before, the library's text has tokens that spell a tree, and its names and its text are distinct.
+pub record LibraryIsRead : Type 0 where
+  pub names : IsDistinct first.names
+  pub texts : IsDistinct first.texts
+  pub program : Program
+  pub read : spelled.IsLibrary no_entries first program

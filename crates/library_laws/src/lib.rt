@@ -3,4 +3,6 @@
 
 mod theorems;
 
-pub use theorems::{library_leaves_first, prelude_is_library, typed_library_is_light};
+pub use theorems::{
+    library_is_read, library_leaves_first, prelude_is_library, typed_library_is_light,
+};

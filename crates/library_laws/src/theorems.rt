@@ -1,5 +1,5 @@
 //! Laws of the library.
-ghost use Rattle.library_laws.specs.Laws.{LibraryLeavesFirst, PreludeIsLibrary, TypedLibraryIsLight};
+ghost use Rattle.library_laws.specs.Laws.{LibraryIsRead, LibraryLeavesFirst, PreludeIsLibrary, TypedLibraryIsLight};
 
 use sts_grammar::one_program;
 
@@ -15,6 +15,11 @@ pub fn library_leaves_first()
 {
     one_program();
 }
+
+/// The library is there: where no entry stood before it, its text has tokens, which spell a tree.
+pub fn library_is_read()
+    ensures { LibraryIsRead }
+{}
 
 /// The library's typed functions weigh at most 600, whatever text stands behind it.
 pub fn typed_library_is_light()

@@ -1,5 +1,5 @@
 -- Flat code follows the source, word by word.
-use Rattle.std.proofs.Common.{◌≡◌, ◌≢◌, ℕ, suc, ◌+◌, ◌-◌, ◌<◌, ◌≤◌, ◌⊎◌, inl, inr, ⊎_elim, List, [], ◌∷◌, length, map, min, Option, Some, None, Bool, true, false, refl, sym, ap, ◌∙◌, subst, arith}
+use Rattle.std.proofs.Common.{◌≡◌, ◌≢◌, ℕ, suc, ◌+◌, ◌-◌, ◌<◌, ◌≤◌, inl, inr, ⊎_elim, List, [], ◌∷◌, length, map, min, Option, Some, None, Bool, true, false, refl, sym, ap, ◌∙◌, subst, arith}
 use Rattle.std.specs.Prelude.{ℤ, ◌+ℤ◌, if◌then◌else◌, ◌==◌}
 use Rattle.board_world.specs.Limits.{arena_limit}
 use Rattle.board_world.specs.Observations.{ByteList}
@@ -272,7 +272,7 @@ module _ (P : TypedProgram) (texts : List ByteList) (fine : IsFine P) (weight : 
 
     -- a service of the board that is asked for
     ask_matches : (r : Outcome Request) (gives : Bool) (q : Marks) (rest : List Value) (k : Todo) (pc : ℕ) (temps : ℕ → Value) → AllAmong (length P.functions) r → Sh n q rest temps → By k (pc + 1) (None ∷ q)
-        → M used h (after r (λ x. asked (source.maker P texts h f n callers base depth gives rest k) x)) (after r (λ x. asked (flat.maker (lowered P) texts (forget h) (fr j pc temps) waiting base (params + locals + length q) gives) x))
+        → M used h (after r (λ x. asked (source.asker P texts h f n callers base depth gives rest k) x)) (after r (λ x. asked (flat.flat_asker (lowered P) texts (forget h) (fr j pc temps) waiting base (params + locals + length q) gives) x))
     ask_matches (Gives r) gives q rest k pc temps among shows near =
         asked_matches P texts weight light used h (λ g. Starts g depth) (λ g. Starts g base) (λ g. Enters g (base + depth_of (lowered P) (fr j pc temps ∷ waiting))) (λ g. Enters g base)
         (λ answer. (now_with n (answered gives answer ∷ rest) k, h)) (λ answer. (here (pc + 1) (with_entry (params + locals + length q) (answered gives answer) temps), forget h)) (λ i j code. (code, deepness)) (λ i j code. (code, refl))
@@ -554,13 +554,13 @@ module _ (P : TypedProgram) (texts : List ByteList) (fine : IsFine P) (weight : 
     asked_follows service m gives k r q vs pc temps above e other answering proper shows near =
         let t = call_args m r q vs temps above shows in
         let d = params + locals + length q in
-        let turn = after (requested service t.these) (λ x. asked (source.maker P texts h f n callers base depth gives t.rest k) x) in
-        let to : sact (Ask service m gives k) vs ≡ turn = ap (λ x. after x (λ (x : List Value × List Value). after (requested service x.0) (λ r. asked (source.maker P texts h f n callers base depth gives x.1 k) r))) t.taken in
+        let turn = after (requested service t.these) (λ x. asked (source.asker P texts h f n callers base depth gives t.rest k) x) in
+        let to : sact (Ask service m gives k) vs ≡ turn = ap (λ x. after x (λ (x : List Value × List Value). after (requested service x.0) (λ r. asked (source.asker P texts h f n callers base depth gives x.1 k) r))) t.taken in
         let op = o.Ask d service (span d m []) in
-        let down : at_op (forget h) pc temps op ≡ after (requested service t.these) (λ x. asked (flat.maker (lowered P) texts (forget h) (fr j pc temps) waiting base d gives) x) =
-        ap (λ b. if b then flat.with_pair (map temps (span d m [])) (λ a v. after (pushed (forget h) a v) (λ x. grown x.0 x.1 (here (pc + 1) (with_entry d default temps)))) else after (requested service (map temps (span d m []))) (λ x. asked (flat.maker (lowered P) texts (forget h) (fr j pc temps) waiting base d (answers service)) x)) other
-        ∙ ap (λ xs. after (requested service xs) (λ x. asked (flat.maker (lowered P) texts (forget h) (fr j pc temps) waiting base d (answers service)) x)) t.args
-        ∙ ap (λ b. after (requested service t.these) (λ x. asked (flat.maker (lowered P) texts (forget h) (fr j pc temps) waiting base d b) x)) (sym answering) in
+        let down : at_op (forget h) pc temps op ≡ after (requested service t.these) (λ x. asked (flat.flat_asker (lowered P) texts (forget h) (fr j pc temps) waiting base d gives) x) =
+        ap (λ b. if b then flat.with_pair (map temps (span d m [])) (λ a v. after (pushed (forget h) a v) (λ x. grown x.0 x.1 (here (pc + 1) (with_entry d default temps)))) else after (requested service (map temps (span d m []))) (λ x. asked (flat.flat_asker (lowered P) texts (forget h) (fr j pc temps) waiting base d (answers service)) x)) other
+        ∙ ap (λ xs. after (requested service xs) (λ x. asked (flat.flat_asker (lowered P) texts (forget h) (fr j pc temps) waiting base d (answers service)) x)) t.args
+        ∙ ap (λ b. after (requested service t.these) (λ x. asked (flat.flat_asker (lowered P) texts (forget h) (fr j pc temps) waiting base d b) x)) (sym answering) in
         alone (Ask service m gives k) vs pc temps op (omega arith) e
         (subst (λ u. M used h u (at_op (forget h) pc temps op)) (sym to)
         (subst (λ v. M used h turn v) (sym down)

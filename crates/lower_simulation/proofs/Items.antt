@@ -1,5 +1,5 @@
 -- A turn of a loop over items is followed.
-use Rattle.std.proofs.Common.{◌≡◌, ◌≢◌, ℕ, suc, ◌+◌, ◌-◌, ◌<◌, ◌≤◌, ◌⊎◌, inl, ⊎_elim, List, [], length, Option, Some, None, Bool, true, false, refl, sym, ap, ◌∙◌, subst, arith}
+use Rattle.std.proofs.Common.{◌≡◌, ◌≢◌, ℕ, suc, ◌+◌, ◌<◌, ◌≤◌, inl, ⊎_elim, List, [], length, Option, Some, None, Bool, true, false, refl, sym, ap, ◌∙◌, subst, arith}
 use Rattle.std.specs.Prelude.{ℤ, pos, negsuc, ◌+ℤ◌, if◌then◌else◌, nat_eq, int_lt}
 use Rattle.std.proofs.lemmas.Bool.Decides.{eqb_tells}
 use Rattle.board_world.specs.Panics.{index_panic}
@@ -11,10 +11,10 @@ use Rattle.flat_ir.specs.declared.ops.Op.TheVariants as o
 use Rattle.sts_syntax.specs.TypedTrees.{TypedStatement, TypedProgram}
 use Rattle.sts_syntax.specs.TypeRules.{entry}
 use Rattle.sts_syntax.specs.WellTypedPrograms.{is_maker}
-use Rattle.sts_meaning.specs.Values.{truth, Value, Whole, Object, Text, Code, Outcome, Gives, Breaks, then_gives, there, to_int32, applied, decided, with_entry}
+use Rattle.sts_meaning.specs.Values.{truth, Value, Whole, Object, Text, Code, Outcome, Gives, Breaks, then_gives, to_int32, applied, decided, with_entry}
 use Rattle.sts_meaning.specs.Heaps.{Heap, read_item, length_at, next_item, next_at, array_at, item_at, found, numbered, Row, RowOf}
 use Rattle.sts_meaning.specs.Todo.{Todo, Each, runs}
-use Rattle.sts_meaning.specs.Frames.{Names, Frame, Activity, Runs, after, with_local, first}
+use Rattle.sts_meaning.specs.Frames.{Names, Frame, Activity, Runs, after, with_local}
 use Rattle.sts_meaning.specs.Steps as source
 use Rattle.sts_implements.specs.Forgotten.{FlatHeap, forget}
 use Rattle.sts_implements.proofs.Laws.{AreRows, array_agrees}

@@ -11,3 +11,4 @@ mod Items
 mod Follows
 mod Whole
 mod Faults
+mod Implementing

@@ -10,9 +10,9 @@ use Rattle.board_world.specs.Sound.{NoFault}
 use Rattle.sts_syntax.specs.TypedTrees.{TypedRoutine, TypedProgram}
 use Rattle.sts_syntax.specs.TypeRules.{entry, IsOneOf}
 use Rattle.sts_syntax.specs.WellTypedPrograms.{is_maker}
-use Rattle.sts_meaning.specs.Values.{Value, Whole, default, Outcome, Gives, Breaks, Stuck, there, whole, map_of}
+use Rattle.sts_meaning.specs.Values.{Value, Whole, default, Outcome, Gives, Breaks, Stuck, there, map_of}
 use Rattle.sts_meaning.specs.Heaps.{Heap}
-use Rattle.sts_meaning.specs.Todo.{Put, Drop, Ask, Round, runs}
+use Rattle.sts_meaning.specs.Todo.{Put, Drop, Ask, Round}
 use Rattle.sts_meaning.specs.Frames.{Names, Frame, Activity, Runs, after, as_many, round}
 use Rattle.sts_meaning.specs.Steps as source
 use Rattle.sts_implements.specs.Forgotten.{FlatHeap, forget}
@@ -26,7 +26,7 @@ use Rattle.lower_simulation.specs.Tied.{Shows, CodeTied, fetched, LiesIn, FrameT
 use Rattle.lower_simulation.specs.Limits.{IsLight}
 use Rattle.lower_simulation.proofs.Requests.{plain_2}
 use Rattle.lower_simulation.proofs.Statements.{body_at}
-use Rattle.lower_simulation.proofs.Temporaries.{marked, map_past}
+use Rattle.lower_simulation.proofs.Temporaries.{map_past}
 use Rattle.lower_simulation.proofs.Functions.{as_many_is, as_many_long, has_all, routine_there, repeating_there, routine_words, repeating_frames}
 use Rattle.lower_simulation.proofs.Turns.{Match, going, same_fault}
 

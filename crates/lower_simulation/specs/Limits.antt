@@ -35,6 +35,10 @@ limit (Return from) = 32
 abbrev pub entry_limit : ℕ
 entry_limit = 160
 
+-- As each op may weigh 24 at least, a counted step, whose ops weigh at most 512 together, takes no more than 21 of them.
+abbrev pub ops_of_a_step : ℕ
+ops_of_a_step = 21
+
 -- the weights of steps keep within the list
 pub record IsLight (C : FlatCode) (weight : FlatActivity → FlatHeap → ℕ) : Type 0 where
   pub enters : (f base : ℕ) (h : FlatHeap) → weight (Enters f base) h ≤ entry_limit

@@ -1,5 +1,6 @@
 -- Which ops stand at a place for what is left to do.
 use Rattle.std.specs.Prelude.{◌≡◌, ℕ, zero, suc, ◌+◌, ◌<◌, ◌⊎◌, Bool, false, ◌==◌, List, [], ◌∷◌, ◌++◌, length, Option, Some, None}
+use Rattle.board_services.specs.declared.numbers.TheConstants.{PUSH}
 use Rattle.board_world.specs.declared.requests.Request.{Request}
 use Rattle.board_world.specs.declared.requests.Request.TheVariants.{Spawn, Listen}
 use Rattle.flat_ir.specs.declared.ops.Op.{Op}
@@ -176,7 +177,7 @@ module _ (classes : List ClassEntry) (functions : ℕ) (repeating : ℕ → ℕ)
     Lies (Send s n k) pc p = (q : Marks) × IsAbove n p q × (fetch pc ≡ Some (o.CallSlot (height q) s (span (height q) n []))) × Near (Lies k) (pc + 1) (None ∷ q)
     Lies (Ask service n gives k) pc p =
         (q : Marks) × IsAbove n p q × (fetch pc ≡ Some (o.Ask (height q) service (span (height q) n [])))
-        × (service == 19 ≡ false) × (gives ≡ answers service) × IsProper functions p service n × Near (Lies k) (pc + 1) (None ∷ q)
+        × (service == PUSH ≡ false) × (gives ≡ answers service) × IsProper functions p service n × Near (Lies k) (pc + 1) (None ∷ q)
     Lies (Repeat k) pc p =
         KnownAs (λ f q. IsOneOf f repeated × (fetch pc ≡ Some (o.HandlerOf (height q) (repeating f))) × (fetch (pc + 1) ≡ Some (o.Ask (height q) 4 (height q ∷ [])))
         × Near (Lies k) (pc + 1 + 1) (None ∷ q)) p

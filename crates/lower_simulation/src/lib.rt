@@ -5,5 +5,7 @@
 #![tactic(auto)]
 
 mod lowering;
+mod world;
 
 pub use lowering::{lowered_code_does_what_the_source_does, lowered_code_makes_no_fault};
+pub use world::flat_code_implements_its_program;

@@ -3,7 +3,7 @@
 ghost use Rattle.std.specs.Prelude.{◌≡◌, ℕ, List};
 ghost use Rattle.board_world.specs.Observations.{ByteList};
 ghost use Rattle.board_world.specs.Board.{Entry};
-ghost use Rattle.board_world.specs.Arrivals.{Arrival, Rises, run_with};
+ghost use Rattle.board_world.specs.Runs.{Arrival, Rises, run_with};
 ghost use Rattle.board_world.specs.Invariants.{SoundEnd};
 ghost use Rattle.board_world.specs.World.{start};
 ghost use Rattle.sts_syntax.specs.TypedTrees.{TypedRoutine, TypedProgram};
@@ -32,5 +32,5 @@ pub fn lowered_code_does_what_the_source_does()
 /// The flat code of a well-typed program makes no fault, whatever its texts, its script, and what arrives between two ops: wherever a run of it stands, it has a next step.
 pub fn lowered_code_makes_no_fault()
     ensures { (P : TypedProgram) (texts : List ByteList) → IsWellTyped P → (until : ℕ) (script : List Entry) (arrivals : List Arrival) → Rises 0 arrivals → (m : ℕ)
-        → SoundEnd (λ kind address. ⊥) (run_with (flat (lowered P) texts) 0 arrivals m (start (flat (lowered P) texts) P.main (forget (empty P texts)) until script)).board.end }
+        → SoundEnd (λ kind address. ⊥) (run_with (flat (lowered P) texts) arrivals m (start (flat (lowered P) texts) P.main (forget (empty P texts)) until script)).board.end }
 {}

@@ -21,5 +21,6 @@ pub mod Constructors
 pub mod Facts
 pub mod Parts
 pub mod Whole
+pub mod OwnFunctions
 pub mod Rounds
 pub mod Accepting

@@ -2,6 +2,7 @@
 use Rattle.std.proofs.Common.{◌≡◌, ℕ, zero, suc, ◌-◌, ◌==◌, ◌&&◌, ◌||◌, refl, sym, ap, ◌∙◌, subst, Bool, true, false, Option, Some, None, List, [], ◌∷◌, length, inl, inr, arith, eqb-true, add-one}
 use Rattle.std.specs.Prelude.{if◌then◌else◌, not, ◌⊎◌}
 use Rattle.sts_syntax.specs.Types as t
+use Rattle.sts_syntax.specs.Layered.{layered}
 use Rattle.sts_syntax.specs.Types.{ValueType}
 use Rattle.sts_syntax.specs.TypedTrees.{ClassEntry, TypedProgram}
 use Rattle.sts_syntax.specs.TypeRules.{IsOneOf, TakesNull, arithmetic_operators, order_operators, equality_operators, Prefixes, HasClass, IsBelow, GoesTo, AreCompared, Join, Works}
@@ -9,7 +10,7 @@ use Rattle.sts_scope.specs.declared.kinds.Kind.{Kind}
 use Rattle.sts_scope.specs.declared.kinds.Base.{Base}
 use Rattle.sts_scope.specs.declared.kinds.Base.TheVariants as b
 use Rattle.sts_scope.specs.declared.entries.ClassHead.{ClassHead}
-use Rattle.sts_scope.specs.Kinds.{number, boolean, nothing, null, empty, array, item, same_base, same, is_array, class_of, base_class, takes_null, base_takes_null, base_type, listed, value_type}
+use Rattle.sts_scope.specs.Kinds.{number, boolean, nothing, null, empty, array, item, same_base, same, is_array, class_of, base_class, takes_null, base_takes_null, base_type, value_type}
 use Rattle.sts_scope.specs.Lookup.{base_of}
 use Rattle.typed_laws.specs.Stands.{is_proper_base, IsProper}
 use Rattle.sts_scope.specs.Rules.{reaches, below, goes, comparable, is_arithmetic, is_equality, is_order, operate, prefix, joined, common, choose, counted, element}
@@ -65,7 +66,7 @@ no_zero : (n : ℕ) → (suc n == 0) ≡ false
 no_zero n = test_false (suc n == 0) (λ e. let q : suc n ≡ 0 = eqb-true (suc n) 0 e in absurd (omega arith))
 
 -- classes
-class_at : (d : ℕ) (a : Base) (c : ℕ) → elim (d == 0) [ true ↦ base_class a | false ↦ None ] ≡ Some c → listed d (base_type a) ≡ t.Object c
+class_at : (d : ℕ) (a : Base) (c : ℕ) → elim (d == 0) [ true ↦ base_class a | false ↦ None ] ≡ Some c → layered t.ListOf d (base_type a) ≡ t.Object c
 class_at zero (b.Class n) c h = ap t.Object cc
 class_at zero b.Number c h = cc
 class_at zero b.Boolean c h = cc
@@ -79,7 +80,7 @@ pub class_type : (s : Kind) (c : ℕ) → class_of s ≡ Some c → value_type s
 unfolding class_of
 class_type s c h = class_at s.depth s.base c h
 
-null_at : (d : ℕ) (a : Base) → (not (d == 0) || base_takes_null a) ≡ true → TakesNull (listed d (base_type a))
+null_at : (d : ℕ) (a : Base) → (not (d == 0) || base_takes_null a) ≡ true → TakesNull (layered t.ListOf d (base_type a))
 null_at zero (b.Class n) h = tt
 null_at zero b.Text h = tt
 null_at zero b.Number h = cc
@@ -93,18 +94,18 @@ pub null_goes : (s : Kind) → takes_null s ≡ true → TakesNull (value_type s
 unfolding takes_null is_array
 null_goes s h = null_at s.depth s.base h
 
-array_at : (d : ℕ) (a : Base) → not (d == 0) ≡ true → listed d (base_type a) ≡ t.ListOf (listed (d - 1) (base_type a))
+array_at : (d : ℕ) (a : Base) → not (d == 0) ≡ true → layered t.ListOf d (base_type a) ≡ t.ListOf (layered t.ListOf (d - 1) (base_type a))
 array_at zero a h = cc
-array_at (suc n) a h = let e : suc n - 1 ≡ n = omega arith in ap (λ (m : ℕ). t.ListOf (listed m (base_type a))) (sym e)
+array_at (suc n) a h = let e : suc n - 1 ≡ n = omega arith in ap (λ (m : ℕ). t.ListOf (layered t.ListOf m (base_type a))) (sym e)
 
 pub array_type : (s : Kind) → is_array s ≡ true → value_type s ≡ t.ListOf (value_type (item s))
 unfolding is_array
 array_type s h = array_at s.depth s.base h
 
 pub arrayed : (s : Kind) → value_type (array s) ≡ t.ListOf (value_type s)
-arrayed s = ap (λ (m : ℕ). listed m (base_type s.base)) (add-one s.depth)
+arrayed s = ap (λ (m : ℕ). layered t.ListOf m (base_type s.base)) (add-one s.depth)
 
-nothing_at : (d : ℕ) (a : Base) → is_proper_base a ≡ true → listed d (base_type a) ≡ t.Nothing → (same_base a b.Nothing && (d == 0)) ≡ true
+nothing_at : (d : ℕ) (a : Base) → is_proper_base a ≡ true → layered t.ListOf d (base_type a) ≡ t.Nothing → (same_base a b.Nothing && (d == 0)) ≡ true
 nothing_at zero b.Nothing p h = refl
 nothing_at zero b.Empty p h = cc
 nothing_at zero b.Number p h = cc

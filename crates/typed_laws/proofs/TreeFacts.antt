@@ -7,12 +7,11 @@ use Rattle.sts_scope.specs.declared.kinds.Kind.{Kind}
 use Rattle.sts_scope.specs.declared.known.This.{This as Self}
 use Rattle.sts_scope.specs.declared.known.This.TheVariants as this
 use Rattle.sts_scope.specs.Kinds.{number, boolean, nothing, null, empty, same, is_array, takes_null, value_type}
-use Rattle.sts_scope.specs.Faults.{Fault, ◌then◌, unless, own}
+use Rattle.sts_scope.specs.Faults.{Fault, ◌then◌, unless}
 use Rattle.sts_scope.specs.Places.{hidden}
 use Rattle.sts_scope.specs.declared.known.Local.{Local as Scoped}
 use Rattle.sts_scope.specs.Rules.{none_taken, is_nothing, is_boolean, local_kind}
-use Rattle.type_derive.specs.Nodes.{kind_role, is_called, faults}
-use Rattle.type_derive.specs.Built.{noted}
+use Rattle.type_derive.specs.Nodes.{kind_role, is_called}
 use Rattle.typed_laws.specs.Stands.{is_proper_base, IsProper}
 use Rattle.typed_laws.proofs.OneNode.{same_is, same_types}
 use Rattle.typed_laws.proofs.Typed.{last, first}

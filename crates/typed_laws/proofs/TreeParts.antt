@@ -18,7 +18,6 @@ use Rattle.sts_syntax.specs.TypeRules.{entry, is_int32, Works, HasField, HasMeth
 use Rattle.sts_syntax.specs.WellTyped.{Setting, IsTyped, IsTarget, IsHandler, AreGiven, parameters_of}
 use Rattle.sts_syntax.specs.WellTyped as w
 use Rattle.sts_syntax.specs.WellTypedPrograms.{declared_local}
-use Rattle.sts_syntax.specs.Annotations as s
 use Rattle.sts_syntax.specs.Trees.{Tree, Num, Text, Truth, Null, This, Name, Unary, Binary, Both, Either, Choice, Set, Bump, Member, Item, Call, SuperCall, Make, Items, Handler, Trees, none, more, Statement, Block, Let, IfOnly, IfElse, While, DoWhile, For, ForOf, Return, Break, Continue, Plain, Empty, Statements, OptionalStatement, omitted, written, Declaration, Declare, Declarations, ended, next}
 use Rattle.sts_scope.specs.declared.kinds.Kind.{Kind}
 use Rattle.sts_scope.specs.declared.known.Known.{Known}
@@ -42,7 +41,7 @@ use Rattle.type_derive.specs.Nodes.{kind_role, is_called, fault, faults, is_list
 use Rattle.sts_scope.specs.Handlers.{handlers, handlers_of}
 use Rattle.type_derive.specs.Making.{Making, pure, ◌>=>◌, a_local}
 use Rattle.sts_scope.specs.Numbers.{Numbering, field_names, slot_names, place_among, routine_number}
-use Rattle.type_derive.specs.Built.{Site, amiss, spots_from, in_handler_site, first_site, made_tree, made_given, made_asked, made_call, noted, type_in, part_in, class_in, member_read, part_target, part_takes, routine_of, routine_takes, class_found, call_takes, board_target, drawing}
+use Rattle.type_derive.specs.Built.{Site, amiss, spots_from, in_handler_site, first_site, made_tree, made_given, made_asked, made_call, type_in, part_in, class_in, member_read, part_target, part_takes, routine_of, routine_takes, class_found, call_takes, board_target, drawing}
 use Rattle.type_derive.specs.Formed.{IsFormed, AreFormed}
 use Rattle.typed_laws.specs.Stands.{IsProper, EachProper, Stands}
 use Rattle.type_derive.specs.Libraries.{taken}

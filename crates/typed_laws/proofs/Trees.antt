@@ -31,12 +31,12 @@ use Rattle.sts_scope.specs.Entries.{Naming, kind_of}
 use Rattle.sts_scope.specs.Places.{Place, inner}
 use Rattle.sts_scope.specs.Headings.{type_fault, written_fault}
 use Rattle.sts_scope.specs.Globals.{is_dollar}
-use Rattle.sts_scope.specs.Rules.{maker_takes_of, part_of, operate, prefix, joined, choose, assign, counted, element, items_type, all_go, all_go_to, goes, serves, is_nothing, is_boolean}
+use Rattle.sts_scope.specs.Rules.{maker_takes_of, part_of, operate, prefix, joined, choose, assign, counted, element, items_type, all_go, all_go_to, goes, is_nothing, is_boolean}
 use Rattle.type_derive.specs.declared.roles.Role.{Role}
 use Rattle.type_derive.specs.declared.roles.Role.TheVariants.{Free, Given, Called, Served}
 use Rattle.type_derive.specs.Typing.{◌>>=◌, board_kind, finds, constant_of, board_callee, named_callee, part_callee, callee_of, super_method, made, given_to, type_of, types_of, are_given, settable, is_routine, is_drawing}
 use Rattle.typed_laws.proofs.Returning.{give_value, gives_value}
-use Rattle.type_derive.specs.Returns.{is_alone, bound, declared, all_declared, after, items_of, looped}
+use Rattle.type_derive.specs.Returns.{is_alone, bound, all_declared, after, items_of, looped}
 use Rattle.type_derive.specs.Nodes.{kind_role, fault, faults, handler_fault, is_list, initial_fault, optional_fault, test_fault, declaration_fault, declarations_fault, statement_fault, first_fault, statements_fault, own_local, own_bound, own_called, own_super, own_make, fits}
 use Rattle.sts_scope.specs.Handlers.{handlers, handlers_of, optional_handlers, declarations_handlers, statement_handlers, first_handlers, statements_handlers}
 use Rattle.type_derive.specs.Making.{Making, pure, ◌>=>◌, a_local}
@@ -48,7 +48,7 @@ use Rattle.typed_laws.proofs.OneNode.{both_true, same_is, works, prefixes, joins
 use Rattle.typed_laws.proofs.Typed.{typed, last, first, unless_true, own_has}
 use Rattle.typed_laws.proofs.Makings.{IsInner, Inners, Gives, gives_pure, gives_bind, gives_as, kept_all, good_pure, good_bind, good_bind_at, good_free, good_local, good_as}
 use Rattle.typed_laws.proofs.Makings.{Good as Built}
-use Rattle.typed_laws.proofs.Names.{bind_some, some_is, either_some, real, has_part, proper, board_proper}
+use Rattle.typed_laws.proofs.Names.{bind_some, some_is, either_some, real, has_part, board_proper}
 use Rattle.typed_laws.proofs.Sites.{seen, Suits, Wanted, suits_given, given_goes, at_block, at_local, IsGood, At, name_good, this_good}
 use Rattle.typed_laws.proofs.Boards.{are_plain, plain_first, plain_rest}
 use Rattle.typed_laws.proofs.TreeFacts.{noted_is, kind_is, parts2, parts3, settable_is, test_is, alone_is, unless_waived, parts4}

@@ -51,7 +51,7 @@ use Rattle.typed_laws.proofs.Facts.{EachIs, each_is_both, each_is_get, sane_text
 use Rattle.typed_laws.proofs.Parts.{TextAt, text_sound}
 
 -- a library of functions before a text
-entries_joined : (names : Naming) (c : ℕ) (library text : Program) → OnlyFunctions library → entries_from names c (library ++ text) ≡ entries_from names c library ++ entries_from names c text
+pub entries_joined : (names : Naming) (c : ℕ) (library text : Program) → OnlyFunctions library → entries_from names c (library ++ text) ≡ entries_from names c library ++ entries_from names c text
 entries_joined names c [] text h = refl
 entries_joined names c (Function x r ∷ rest) text h =
     let i : TopLevel = Function x r in
@@ -87,13 +87,13 @@ heads_joined names (Function x r ∷ rest) text h = heads_joined names rest text
 heads_joined names (Class at x base base_at members ∷ rest) text h = absurd h
 heads_joined names (Main a ∷ rest) text h = absurd h
 
-no_classes : (library : Program) → OnlyFunctions library → class_names library ≡ []
+pub no_classes : (library : Program) → OnlyFunctions library → class_names library ≡ []
 no_classes [] h = refl
 no_classes (Function x r ∷ rest) h = no_classes rest h
 no_classes (Class at x base base_at members ∷ rest) h = absurd h
 no_classes (Main a ∷ rest) h = absurd h
 
-numbers_joined : (n : ℕ) (library text : Program) → numbers_from n (library ++ text) ≡ numbers_from n library ++ numbers_from (n + all_routines library) text
+pub numbers_joined : (n : ℕ) (library text : Program) → numbers_from n (library ++ text) ≡ numbers_from n library ++ numbers_from (n + all_routines library) text
 numbers_joined n [] text = let z : n ≡ n + 0 = omega arith in ap (λ (j : ℕ). numbers_from j text) z
 numbers_joined n (i ∷ rest) text =
     let z : n + item_routines i + all_routines rest ≡ n + (item_routines i + all_routines rest) = omega arith in
@@ -114,7 +114,7 @@ marks_length c [] = refl
 marks_length c (i ∷ rest) =
     length-append (item_marks c i) (marks_from (c + classes_in i) rest) ∙ ap (λ (j : ℕ). j + length (marks_from (c + classes_in i) rest)) (item_length c i) ∙ ap (λ (j : ℕ). item_routines i + j) (marks_length (c + classes_in i) rest)
 
-numbers_length : (names : Naming) (c n : ℕ) (text : Program) → length (numbers_from n text) ≡ length (entries_from names c text)
+pub numbers_length : (names : Naming) (c n : ℕ) (text : Program) → length (numbers_from n text) ≡ length (entries_from names c text)
 numbers_length names c n [] = refl
 numbers_length names c n (i ∷ rest) =
     length-append (item_numbers n i) (numbers_from (n + item_routines i) rest) ∙ ap (λ (j : ℕ). j + length (numbers_from (n + item_routines i) rest)) (item_numbered names c n i)
@@ -126,7 +126,7 @@ sources_length names c (i ∷ rest) =
     length-append (item_sources names c i) (sources_from names (c + classes_in i) rest) ∙ ap (λ (j : ℕ). j + length (sources_from names (c + classes_in i) rest)) (item_sourced names c i)
     ∙ ap (λ (j : ℕ). length (item_entries names c i) + j) (sources_length names (c + classes_in i) rest) ∙ sym (length-append (item_entries names c i) (entries_from names (c + classes_in i) rest))
 
-routines_joined : (library text : Program) → all_routines (library ++ text) ≡ all_routines library + all_routines text
+pub routines_joined : (library text : Program) → all_routines (library ++ text) ≡ all_routines library + all_routines text
 routines_joined [] text = let z : all_routines text ≡ 0 + all_routines text = omega arith in z
 routines_joined (i ∷ rest) text = ap (λ (j : ℕ). item_routines i + j) (routines_joined rest text) ∙ (let z : item_routines i + (all_routines rest + all_routines text) ≡ item_routines i + all_routines rest + all_routines text = omega arith in z)
 
@@ -340,7 +340,7 @@ module _ (tables : Tables) (library text : Program) (kinds : List (Option Kind))
     overrides_none : pass_overrides ≡ None
     overrides_none = first pass_overrides (pass_nodes then pass_limits) types_none
 
-    nodes_none : pass_nodes ≡ None
+    pub nodes_none : pass_nodes ≡ None
     nodes_none = first pass_nodes pass_limits (last pass_overrides (pass_nodes then pass_limits) types_none)
 
     pub limits_none : pass_limits ≡ None
@@ -392,21 +392,21 @@ module _ (tables : Tables) (library text : Program) (kinds : List (Option Kind))
     back_many : length back.routines ≡ all_routines text
     back_many = text_counts tables names k numbers c0 k.library 0 n0 text nodes_none
 
-    main_is : P.main ≡ n0 + all_routines text
+    pub main_is : P.main ≡ n0 + all_routines text
     main_is = ap (λ (j : ℕ). j + length back.routines) front_many ∙ ap (λ (j : ℕ). n0 + j) back_many
 
     all_placed : Placed P 0 (front ++ back.routines ++ own_main ∷ [])
     all_placed = placed_from P [] P.functions refl
 
-    front_placed : Placed P 0 front
+    pub front_placed : Placed P 0 front
     front_placed = placed_left P 0 front back.routines (placed_left P 0 (front ++ back.routines) (own_main ∷ []) all_placed)
 
-    back_placed : Placed P n0 back.routines
+    pub back_placed : Placed P n0 back.routines
     back_placed =
         let z : 0 + length front ≡ n0 = (let y : 0 + length front ≡ length front = omega arith in y ∙ front_many) in
         subst (λ (j : ℕ). Placed P j back.routines) z (placed_right P 0 front back.routines (placed_left P 0 (front ++ back.routines) (own_main ∷ []) all_placed))
 
-    main_there : HasRoutine P P.main own_main
+    pub main_there : HasRoutine P P.main own_main
     main_there =
         let z : 0 + length (front ++ back.routines) ≡ P.main = omega (arith, length-append front back.routines) in
         let placed_main = placed_right P 0 (front ++ back.routines) (own_main ∷ []) all_placed in

@@ -14,8 +14,9 @@ use Rattle.type_derive.specs.declared.roles.Role.TheVariants.{Free, Given, Calle
 use Rattle.type_derive.specs.Typing.{type_of}
 use Rattle.type_derive.specs.Nodes.{fault}
 use Rattle.type_derive.specs.Formed.{IsFormedProgram}
-use Rattle.type_derive.specs.Accepted.{AreDerived, IsAccepted}
+use Rattle.type_derive.specs.Accepted.{AreDerived, IsAccepted, refusal}
 use Rattle.type_derive.specs.Libraries.{IsLibrary}
+use Rattle.typed_laws.specs.OwnFunctions.{FunctionsAreDeclared}
 
 -- a place that reads what stands there
 abbrev pub IsRead : Role → Type 0
@@ -34,3 +35,8 @@ abbrev pub AcceptedIsWellTyped : Type 0
 AcceptedIsWellTyped = (tables : Tables) (library text : Program) (P : TypedProgram) → IsFormedProgram text
     → ((kinds : List (Option Kind)) → AreDerived tables library text kinds → IsLibrary tables library text kinds)
     → IsAccepted tables library text P → IsWellTyped P × IsProgramWithinLimits P tables.texts
+
+-- In the typed program of an accepted text, with the types that its declarations have, the function at the number of a declaration is the typed function of this declaration.
+abbrev pub FunctionsAreTheirs : Type 0
+FunctionsAreTheirs = (tables : Tables) (library text : Program) (kinds : List (Option Kind)) → IsFormedProgram text → AreDerived tables library text kinds
+    → IsLibrary tables library text kinds → refusal tables library text kinds ≡ None → FunctionsAreDeclared tables library text kinds

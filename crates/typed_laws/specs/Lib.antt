@@ -1,3 +1,4 @@
 pub mod Laws
+pub mod OwnFunctions
 pub mod Rows
 pub mod Stands
