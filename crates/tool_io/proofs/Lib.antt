@@ -1,4 +1,2 @@
 pub mod Laws
-mod FileNames
-mod Reading
 mod Streams

@@ -1,4 +1,3 @@
-pub mod Fetching
 pub mod Putting
 pub mod Lines
 pub mod Memory

@@ -1,5 +1,5 @@
 // Standard output, or another stream of the operating system.
-ghost use Rattle.std.specs.Prelude.{◌≡◌, ◌≢◌, ◌↔◌, [], true, OnOk, OnErr, IfErr};
+ghost use Rattle.std.specs.Prelude.{◌≡◌, ◌≢◌, ◌↔◌, [], true, OnOk, OnErr, IfOk, IfErr};
 ghost use Rattle.std.specs.IoError.{error_kind};
 ghost use Rattle.std.specs.Io.KnownBytes.{append_known};
 ghost use Rattle.tool_io.specs.Memory.{one_more};
@@ -8,8 +8,10 @@ ghost use Rattle.tool_io.specs.Lines.{EndsLine};
 
 use crate::{PutFailed, Sink};
 use buffered_stream::BufferedStream;
+use std::alloc::Global;
 use std::io;
 use std::io::{ErrorKind, Write};
+use sts_base::NoMemory;
 
 /// A stream, such as standard output. Pieces are gathered until one ends a line, or no room is left, and then written in one piece. What it has
 /// taken is what the stream holds and then what is gathered: it tells that where the stream tells, which one of the operating system doesn't.
@@ -23,15 +25,15 @@ pub struct StdSink<W: Write + Drop> {
 }
 
 impl<W: Write + Drop> StdSink<W> {
-    /// The sink, without faults.
-    pub fn new(writer: W) -> StdSink<W>
-        ensures writer { result.stream.writer ≡ writer }
-        ensures nothing { result.stream.held.items ≡ [] }
-        ensures faults { result.faults ≡ 0 }
+    /// The sink, without faults, with nothing gathered. The memory for what it gathers is taken here.
+    pub fn new(alloc: Global, writer: W) -> Result<StdSink<W>, NoMemory>
+        ensures writer { IfOk result (λ sink. sink.stream.writer ≡ writer) }
+        ensures nothing { IfOk result (λ sink. sink.stream.held.items ≡ []) }
+        ensures faults { IfOk result (λ sink. sink.faults ≡ 0) }
     {
-        StdSink {
-            stream: BufferedStream::new(writer),
-            faults: 0,
+        match BufferedStream::new(alloc, writer) {
+            Ok(stream) => Ok(StdSink { stream, faults: 0 }),
+            Err(_) => Err(NoMemory),
         }
     }
 }

@@ -13,11 +13,11 @@ pub struct Files {
 }
 
 impl Files {
-    ghost use Rattle.tool_io.specs.Fetching.{IsFetched, IsWithin};
-    ghost use Rattle.tool_io.specs.Memory.{content_of};
+    ghost use Rattle.tool_folder.specs.Fetching.{IsFoundOf, IsWithinLimit};
+    ghost use Rattle.tool_folder.specs.Memory.{bytes_named};
 
     pub fn new(alloc: Global) -> Files
-        ensures { (file : List ℕ) → content_of result.by_name file ≡ None }
+        ensures { (file : List ℕ) → bytes_named result.by_name file ≡ None }
     {
         Files {
             by_name: BTreeMap::new(alloc),
@@ -26,9 +26,9 @@ impl Files {
 
     /// Adds a file, in the place of one of that name.
     pub fn add(&mut self, alloc: Global, name: &str, bytes: &[u8]) -> Result<(), NoMemory>
-        ensures added { OnOk result (content_of self.new.by_name name.now ≡ Some bytes.now) }
-        ensures others { (file : List ℕ) → file ≢ name.now → content_of self.new.by_name file ≡ content_of self.old.by_name file }
-        ensures unchanged { OnErr result (content_of self.new.by_name name.now ≡ content_of self.old.by_name name.now) }
+        ensures added { OnOk result (bytes_named self.new.by_name name.now ≡ Some bytes.now) }
+        ensures others { (file : List ℕ) → file ≢ name.now → bytes_named self.new.by_name file ≡ bytes_named self.old.by_name file }
+        ensures unchanged { OnErr result (bytes_named self.new.by_name name.now ≡ bytes_named self.old.by_name name.now) }
     {
         let (Ok(name), Ok(bytes)) = (String::from_str(alloc, name), Vec::from_slice(alloc, bytes))
         else {
@@ -42,8 +42,8 @@ impl Files {
 
     /// The file of that name, if it has at most `limit` bytes.
     pub fn fetch(&self, alloc: Global, name: &str, limit: usize) -> Result<Found, NoMemory>
-        ensures content { IfOk result (λ found. IsFetched (content_of self.now.by_name name.now) limit found) }
-        ensures within { IfOk result (λ found. IsWithin limit found) }
+        ensures content { IfOk result (λ found. IsFoundOf (bytes_named self.now.by_name name.now) limit found) }
+        ensures within { IfOk result (λ found. IsWithinLimit limit found) }
     {
         match self.by_name.get(name) {
             None => Ok(Found::Missing),

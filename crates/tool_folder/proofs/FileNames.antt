@@ -13,7 +13,7 @@ use Rattle.std.specs.declared.vec.Vec.{Vec}
 use Rattle.std.specs.declared.alloc.Global.{Global}
 use Rattle.std.proofs.lemmas.Map.Text.{btree_map_updates_text}
 use Rattle.std.proofs.lemmas.Slice.Eq.{bytes_eq-Decides}
-use Rattle.tool_io.specs.Memory.{content_of}
+use Rattle.tool_folder.specs.Memory.{bytes_named}
 
 cond-false : {X : Type 0} (b : Bool) (x y : X) → (b ≡ true → ⊥) → cond b x y ≡ y
 cond-false true x y h = absurd (h refl)
@@ -24,6 +24,6 @@ update-apart f name w file apart = cond-false (bytes_eq name file) w (f file) (�
 
 pub content-apart : (old new : tree.BTreeMap (String Global) (Vec ℕ Global)) (name : List ℕ) (w : Option (Vec ℕ Global))
     → tree.UpdatesBy string_cmp (λ k. slice_cmp nat_cmp name (string_bytes k)) old new w
-    → (file : List ℕ) → file ≢ name → content_of new file ≡ content_of old file
+    → (file : List ℕ) → file ≢ name → bytes_named new file ≡ bytes_named old file
 content-apart old new name w updates file apart =
     ap (λ found. option_map (λ bytes. bytes.items) found) (btree_map_updates_text name old new w updates file ∙ update-apart (tree.get_by_text old) name w file apart)

@@ -1,7 +1,7 @@
 use Rattle.std.proofs.Common.{◌∙◌}
 use Rattle.std.specs.String.{string_bytes}
-use Rattle.tool_io.proofs.FileNames.{content-apart}
-use Rattle.tool_io.proofs.files.Files.add.Goals as goal
+use Rattle.tool_folder.proofs.FileNames.{content-apart}
+use Rattle.tool_folder.proofs.files.Files.add.Goals as goal
 
 pub returns-in-Ok-clause-others : goal.returns-in-Ok-clause-others
 returns-in-Ok-clause-others c = λ file apart.

@@ -1,0 +1,4 @@
+pub mod Fetching
+pub mod Noting
+pub mod Reading
+pub mod Memory
