@@ -1,6 +1,6 @@
 """Runs each row of checks/commands.txt through a program and compares the status and the output with those that are due.
 
-    commands.py MADE PROGRAM ROWS..
+    commands.py PROGRAM ROWS..
 
 A line of rows is one of these. A name of a file stands from its line on.
 
@@ -22,7 +22,6 @@ import os
 import re
 import resource
 import shlex
-import signal
 import subprocess
 import sys
 import tempfile
@@ -70,8 +69,8 @@ MOST_WRONG = 20
 
 
 class Rows:
-    def __init__(self, program, folder, may_want_stack):
-        self.program, self.folder, self.may_want_stack = program, folder, may_want_stack
+    def __init__(self, program, folder):
+        self.program, self.folder = program, folder
         self.rows = self.wrong = 0
         self.pieces = None
 
@@ -128,7 +127,7 @@ class Rows:
                 break
             if ran == (30, b""):
                 wanting += 1
-            elif ran[0] != 127 and not (self.may_want_stack and ran == (-signal.SIGSEGV, b"")):
+            elif ran[0] != 127:
                 self.wrong += 1
                 print(f"commands: {where}: {words}: {ran[0]} {ran[1]!r} in {limit} bytes, where 30 and nothing is due")
         if ran != enough or not wanting:
@@ -180,10 +179,10 @@ class Rows:
 
 
 def main():
-    made, program = sys.argv[1], os.path.abspath(sys.argv[2])
+    program = os.path.abspath(sys.argv[1])
     with tempfile.TemporaryDirectory() as folder:
-        rows = Rows(program, folder, made == "compiled")
-        for path in sys.argv[3:]:
+        rows = Rows(program, folder)
+        for path in sys.argv[2:]:
             rows.read(path)
     print(f"commands: {rows.rows} rows, {rows.wrong} wrong")
     sys.exit(1 if rows.wrong or not rows.rows else 0)

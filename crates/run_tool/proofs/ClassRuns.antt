@@ -48,7 +48,7 @@ paired-push R [] (b ∷ ys) x y p r = absurd p
 paired-push R (a ∷ xs) [] x y p r = absurd p
 paired-push R (a ∷ xs) (b ∷ ys) x y p r = (p.0, paired-push R xs ys x y p.1 r)
 
-paired-so : {X Y : Type 0} (R Q : X → Y → Type 0) → ((x : X) (y : Y) → R x y → Q x y) → (xs : List X) (ys : List Y) → Paired R xs ys → Paired Q xs ys
+pub paired-so : {X Y : Type 0} (R Q : X → Y → Type 0) → ((x : X) (y : Y) → R x y → Q x y) → (xs : List X) (ys : List Y) → Paired R xs ys → Paired Q xs ys
 paired-so R Q f [] [] p = tt
 paired-so R Q f [] (y ∷ ys) p = absurd p
 paired-so R Q f (x ∷ xs) [] p = absurd p

@@ -36,6 +36,7 @@ use Rattle.run_tool.specs.RunAt.{RunsProgramAt, RunsOnScript, RunsOutside, RunsT
 use Rattle.run_tool.proofs.RunsAt.{text-runs-onwards}
 use Rattle.run_tool.proofs.ClassTexts.{class-text-onwards}
 use Rattle.run_tool.proofs.ClassStatuses.{in-class}
+use Rattle.board_ports.specs.Account.{Account}
 
 -- what may be answered may be answered too where the folder may have failed more
 text-onwards : (told : List ℕ → Option (Option (List ℕ))) (rose rose' : Type 0) (asked : Asked) (text : List ℕ) (answer : Answer) → (rose → rose') → AnswersText told rose asked text answer → AnswersText told rose' asked text answer
@@ -63,17 +64,17 @@ pub onwards : (told : List ℕ → Option (Option (List ℕ))) (rose rose' : Typ
 onwards told rose rose' None answer f h = h
 onwards told rose rose' (Some asked) answer f h = named-onwards told rose rose' asked (file_of asked) answer f h
 
-module _ {B : Type 0} (log : B → Option (List (ℕ × ℕ))) (failed : B → ℕ) (places places' : List (Option B)) (lead : List ℕ) where
+module _ {B : Type 0} (account : B → Account) (places places' : List (Option B)) (lead : List ℕ) where
   pub completes : (told : List ℕ → Option (Option (List ℕ))) (rose sink_rose : Type 0) (asked : Option Asked) (a b : Option (List ℕ)) (ending : Ending) (number : ℕ)
-      → number ≡ ending_number ending → Ends log failed lead (MayAnswer told rose asked) a b places places' ending → (ending ≡ Cut → sink_rose) → Completes told asked rose sink_rose number
+      → number ≡ ending_number ending → Ends account lead (MayAnswer told rose asked) a b places places' ending → (ending ≡ Cut → sink_rose) → Completes told asked rose sink_rose number
   completes told rose sink_rose asked a b (Gave given) number e s cut = λ quiet calm. inl (s.0, onwards told rose ⊥ asked s.0 quiet s.1, e ∙ ap status_number s.2)
   completes told rose sink_rose asked a b Cut number e s cut = λ quiet calm. absurd (calm (cut refl))
   completes told rose sink_rose asked a b NoMemory number e s cut = λ quiet calm. inr e
 
   -- the answer that was given, where the status is known
-  pub given-answer : (may : Answer → Type 0) (a b : Option (List ℕ)) (given : Status) (ending : Ending) → ending ≡ Gave given → Ends log failed lead may a b places places' ending
+  pub given-answer : (may : Answer → Type 0) (a b : Option (List ℕ)) (given : Status) (ending : Ending) → ending ≡ Gave given → Ends account lead may a b places places' ending
       → (answer : Answer) × may answer × (status_of answer ≡ given)
-  given-answer may a b given ending e s = (let known : Ends log failed lead may a b places places' (Gave given) = subst (λ x. Ends log failed lead may a b places places' x) e s in (known.0, known.1, sym known.2))
+  given-answer may a b given ending e s = (let known : Ends account lead may a b places places' (Gave given) = subst (λ x. Ends account lead may a b places places' x) e s in (known.0, known.1, sym known.2))
 
 -- kinds of statuses
 abbrev of_image : Status → Bool
@@ -428,23 +429,23 @@ failed-20 (Gave other) e = absurd (omega (arith, e))
 failed-20 Cut e = absurd (omega (arith, e))
 failed-20 NoMemory e = absurd (omega (arith, e))
 
-module _ {B : Type 0} (log : B → Option (List (ℕ × ℕ))) (failed : B → ℕ) (places places' : List (Option B)) (lead : List ℕ) (told : List ℕ → Option (Option (List ℕ))) (rose : Type 0)
-    (asked : Option Asked) (a b : Option (List ℕ)) (ending : Ending) (number : ℕ) (n : number ≡ ending_number ending) (s : Ends log failed lead (MayAnswer told rose asked) a b places places' ending) where
+module _ {B : Type 0} (account : B → Account) (places places' : List (Option B)) (lead : List ℕ) (told : List ℕ → Option (Option (List ℕ))) (rose : Type 0)
+    (asked : Option Asked) (a b : Option (List ℕ)) (ending : Ending) (number : ℕ) (n : number ≡ ending_number ending) (s : Ends account lead (MayAnswer told rose asked) a b places places' ending) where
   pub refused : number ≡ 10 → AsksForProgram asked
-  refused is = (let k = given-answer log failed places places' lead (MayAnswer told rose asked) a b status.Refused ending (refused-10 ending (sym is ∙ n)) s in refused-answer told rose asked k.0 (ap of_refused k.2) k.1)
+  refused is = (let k = given-answer account places places' lead (MayAnswer told rose asked) a b status.Refused ending (refused-10 ending (sym is ∙ n)) s in refused-answer told rose asked k.0 (ap of_refused k.2) k.1)
 
   pub script-refused : number ≡ 11 → NamesScript asked
   script-refused is = elim (script-11 ending (sym is ∙ n)) [
-    | inl e ↦ (let k = given-answer log failed places places' lead (MayAnswer told rose asked) a b status.ScriptRefused ending e s in script-answer told rose asked k.0 (ap of_script k.2) k.1)
-    | inr (inl e) ↦ (let k = given-answer log failed places places' lead (MayAnswer told rose asked) a b status.ClassRefused ending e s in script-answer told rose asked k.0 (ap of_script k.2) k.1)
-    | inr (inr e) ↦ (let k = given-answer log failed places places' lead (MayAnswer told rose asked) a b status.ArrivalsRefused ending e s in script-answer told rose asked k.0 (ap of_script k.2) k.1)
+    | inl e ↦ (let k = given-answer account places places' lead (MayAnswer told rose asked) a b status.ScriptRefused ending e s in script-answer told rose asked k.0 (ap of_script k.2) k.1)
+    | inr (inl e) ↦ (let k = given-answer account places places' lead (MayAnswer told rose asked) a b status.ClassRefused ending e s in script-answer told rose asked k.0 (ap of_script k.2) k.1)
+    | inr (inr e) ↦ (let k = given-answer account places places' lead (MayAnswer told rose asked) a b status.ArrivalsRefused ending e s in script-answer told rose asked k.0 (ap of_script k.2) k.1)
   ]
 
   pub image-refused : number ≡ 12 → AsksForImage asked
-  image-refused is = (let k = given-answer log failed places places' lead (MayAnswer told rose asked) a b status.ImageRefused ending (refused-12 ending (sym is ∙ n)) s in image-answer told rose asked k.0 (ap of_image k.2) k.1)
+  image-refused is = (let k = given-answer account places places' lead (MayAnswer told rose asked) a b status.ImageRefused ending (refused-12 ending (sym is ∙ n)) s in image-answer told rose asked k.0 (ap of_image k.2) k.1)
 
   pub faulted : number ≡ 13 → AsksForImage asked
-  faulted is = (let k = given-answer log failed places places' lead (MayAnswer told rose asked) a b status.Faulted ending (faulted-13 ending (sym is ∙ n)) s in image-answer told rose asked k.0 (ap of_image k.2) k.1)
+  faulted is = (let k = given-answer account places places' lead (MayAnswer told rose asked) a b status.Faulted ending (faulted-13 ending (sym is ∙ n)) s in image-answer told rose asked k.0 (ap of_image k.2) k.1)
 
   pub folder-failed : number ≡ 20 → rose
-  folder-failed is = (let k = given-answer log failed places places' lead (MayAnswer told rose asked) a b status.FolderFailed ending (failed-20 ending (sym is ∙ n)) s in failed-answer told rose asked k.0 (ap of_folder k.2) k.1)
+  folder-failed is = (let k = given-answer account places places' lead (MayAnswer told rose asked) a b status.FolderFailed ending (failed-20 ending (sym is ∙ n)) s in failed-answer told rose asked k.0 (ap of_folder k.2) k.1)

@@ -42,6 +42,7 @@ use Rattle.run_tool.specs.Orders.{MayAnswer, lead_of}
 use Rattle.run_tool.specs.Scripts.{AnswersScript, OverScript, RefusesScript, IsScriptOf, none_to_scripts}
 use Rattle.event_script.specs.declared.script.Script.{Script}
 use Rattle.tool_io.specs.Putting.{TookPart}
+use Rattle.board_ports.specs.Account.{Account}
 
 -- an ending where more answers may be given
 pub says-more : (may more : Answer → Type 0) (a b : Option (List ℕ)) (ending : Ending) → ((answer : Answer) → may answer → more answer)
@@ -94,18 +95,18 @@ no-text-gives answers told rose ending s =
     gives-more (AnswersFile none_to_texts told rose) (AnswersFile answers told rose) ending (λ answer h. no-text answers told rose answer h.0 h.1 h.2) s
 
 -- the same over devices
-module _ {B : Type 0} (log : B → Option (List (ℕ × ℕ))) (failed : B → ℕ) (places places' : List (Option B)) (lead : List ℕ) where
+module _ {B : Type 0} (account : B → Account) (places places' : List (Option B)) (lead : List ℕ) where
   ends-more : (may more : Answer → Type 0) (a b : Option (List ℕ)) (ending : Ending) → ((answer : Answer) → may answer → more answer)
-      → Ends log failed lead may a b places places' ending → Ends log failed lead more a b places places' ending
+      → Ends account lead may a b places places' ending → Ends account lead more a b places places' ending
   ends-more may more a b (Gave status) f s = (s.0, f s.0 s.1, s.2, s.3, s.4)
   ends-more may more a b Cut f s = (s.0, f s.0 s.1, s.2)
   ends-more may more a b NoMemory f s = s
 
   pub concludes-more : {S : Type 0} {taken : S → Option (List ℕ)} {faults : S → ℕ} {old new : S} (may more : Answer → Type 0) (ending : Ending) → ((answer : Answer) → may answer → more answer)
-      → Concludes taken faults old new log failed places places' lead may ending → Concludes taken faults old new log failed places places' lead more ending
+      → Concludes taken faults old new account places places' lead may ending → Concludes taken faults old new account places places' lead more ending
   concludes-more {S} {taken} {faults} {old} {new} may more ending f s = record { ends = ends-more may more (taken old) (taken new) ending f s.ends; later = s.later; cut = s.cut }
 
-  cut-after : (a b c : Option (List ℕ)) (answer : Answer) → Took a b [] → IsCut log failed lead answer b c places places' → IsCut log failed lead answer a c places places'
+  cut-after : (a b c : Option (List ℕ)) (answer : Answer) → Took a b [] → IsCut account lead answer b c places places' → IsCut account lead answer a c places places'
   cut-after a b c (says status output) t x = (part-then [] (lead ++ output) t x.0, x.1)
   cut-after a b c (runs status moves behind) t (inl x) = inl (part-then [] lead t x.0, x.1)
   cut-after a b c (runs status moves behind) t (inr x) = inr (record {
@@ -117,54 +118,54 @@ module _ {B : Type 0} (log : B → Option (List (ℕ × ℕ))) (failed : B → �
     devices = x.devices;
   })
 
-  ends-after : (may : Answer → Type 0) (a b c : Option (List ℕ)) (ending : Ending) → Took a b [] → Ends log failed lead may b c places places' ending → Ends log failed lead may a c places places' ending
+  ends-after : (may : Answer → Type 0) (a b c : Option (List ℕ)) (ending : Ending) → Took a b [] → Ends account lead may b c places places' ending → Ends account lead may a c places places' ending
   ends-after may a b c (Gave status) t s = (s.0, s.1, s.2, took-then [] (lead ++ output_of s.0) t s.3, s.4)
   ends-after may a b c Cut t s = (s.0, s.1, cut-after a b c s.0 t s.2)
   ends-after may a b c NoMemory t (inl x, p) = (inl (took-then [] [] t x), p)
   ends-after may a b c NoMemory t (inr x, p) = (inr (took-then [] lead t x), p)
 
   pub concludes-after : {S : Type 0} {taken : S → Option (List ℕ)} {faults : S → ℕ} {old between new : S} (may : Answer → Type 0) (ending : Ending) → Took (taken old) (taken between) [] → faults old ≤ faults between
-      → Concludes taken faults between new log failed places places' lead may ending → Concludes taken faults old new log failed places places' lead may ending
+      → Concludes taken faults between new account places places' lead may ending → Concludes taken faults old new account places places' lead may ending
   concludes-after {S} {taken} {faults} {old} {between} {new} may ending t later s = record {
     ends = ends-after may (taken old) (taken between) (taken new) ending t s.ends;
     later = omega (arith, later, s.later);
     cut = λ e. let rose = s.cut e in omega (arith, later, rose);
   }
 
-module _ {B : Type 0} (log : B → Option (List (ℕ × ℕ))) (failed : B → ℕ) (places places' : List (Option B)) (same : places' ≡ places) where
-  ends-said : (may : Answer → Type 0) (a b : Option (List ℕ)) (ending : Ending) → Says may a b ending → Ends log failed [] may a b places places' ending
+module _ {B : Type 0} (account : B → Account) (places places' : List (Option B)) (same : places' ≡ places) where
+  ends-said : (may : Answer → Type 0) (a b : Option (List ℕ)) (ending : Ending) → Says may a b ending → Ends account [] may a b places places' ending
   ends-said may a b (Gave status) s = (says status s.0, s.1, refl, s.2, same)
   ends-said may a b Cut s = (says s.0 s.1, s.2, (s.3, same))
   ends-said may a b NoMemory s = (inl s, same)
 
   -- an output that was given, over devices
   pub says-concludes : {S : Type 0} {taken : S → Option (List ℕ)} {faults : S → ℕ} {old new : S} (may : Answer → Type 0) (ending : Ending) → GivesOneOf taken faults old new may ending
-      → Concludes taken faults old new log failed places places' [] may ending
+      → Concludes taken faults old new account places places' [] may ending
   says-concludes {S} {taken} {faults} {old} {new} may ending s = record { ends = ends-said may (taken old) (taken new) ending s.ends; later = s.later; cut = s.cut }
 
-  ends-led : (lead : List ℕ) (may : Answer → Type 0) (a b : Option (List ℕ)) (ending : Ending) → Says (Led lead may) a b ending → Ends log failed lead may a b places places' ending
+  ends-led : (lead : List ℕ) (may : Answer → Type 0) (a b : Option (List ℕ)) (ending : Ending) → Says (Led lead may) a b ending → Ends account lead may a b places places' ending
   ends-led lead may a b (Gave given) s = (let l = s.1 in (says l.0 l.1, l.2, ap status_of l.3, subst (λ x. Took a b x) (ap output_of l.3) s.2, same))
   ends-led lead may a b Cut s = (let l = s.2 in (says l.0 l.1, l.2, (subst (λ x. TookPart a b x) (ap output_of l.3) s.3, same)))
   ends-led lead may a b NoMemory s = (inl s, same)
 
   -- the same behind the line that the command begins with
   pub led-concludes : {S : Type 0} {taken : S → Option (List ℕ)} {faults : S → ℕ} {old new : S} (lead : List ℕ) (may : Answer → Type 0) (ending : Ending)
-      → GivesOneOf taken faults old new (Led lead may) ending → Concludes taken faults old new log failed places places' lead may ending
+      → GivesOneOf taken faults old new (Led lead may) ending → Concludes taken faults old new account places places' lead may ending
   led-concludes {S} {taken} {faults} {old} {new} lead may ending s = record { ends = ends-led lead may (taken old) (taken new) ending s.ends; later = s.later; cut = s.cut }
 
-  cut-in-lead : (lead : List ℕ) (answer : Answer) (a b : Option (List ℕ)) → TookPart a b lead → IsCut log failed lead answer a b places places'
+  cut-in-lead : (lead : List ℕ) (answer : Answer) (a b : Option (List ℕ)) → TookPart a b lead → IsCut account lead answer a b places places'
   cut-in-lead lead (says status output) a b t = (part-more lead output t, same)
   cut-in-lead lead (runs status moves behind) a b t = inl (t, same)
 
   -- the sink stopped that line, and an answer is due
   pub lead-concludes : {S : Type 0} {taken : S → Option (List ℕ)} {faults : S → ℕ} {old new : S} (lead : List ℕ) (may : Answer → Type 0) (answer : Answer) → may answer
-      → TookPart (taken old) (taken new) lead → faults old ≤ faults new → Rose (faults old) (faults new) → Concludes taken faults old new log failed places places' lead may Cut
+      → TookPart (taken old) (taken new) lead → faults old ≤ faults new → Rose (faults old) (faults new) → Concludes taken faults old new account places places' lead may Cut
   lead-concludes {S} {taken} {faults} {old} {new} lead may answer due t later rose =
       record { ends = (answer, due, cut-in-lead lead answer (taken old) (taken new) t); later = later; cut = λ e. rose }
 
 -- a run behind the line that the command begins with
-module _ {B : Type 0} (log : B → Option (List (ℕ × ℕ))) (failed : B → ℕ) (places places' : List (Option B)) (lead : List ℕ) where
-  cut-behind : (a b c : Option (List ℕ)) (answer : Answer) → Took a b lead → IsCut log failed [] answer b c places places' → IsCut log failed lead answer a c places places'
+module _ {B : Type 0} (account : B → Account) (places places' : List (Option B)) (lead : List ℕ) where
+  cut-behind : (a b c : Option (List ℕ)) (answer : Answer) → Took a b lead → IsCut account [] answer b c places places' → IsCut account lead answer a c places places'
   cut-behind a b c (says status output) t x = (part-then lead output t x.0, x.1)
   cut-behind a b c (runs status moves behind) t (inl x) = inl (subst (λ l. TookPart a c l) (append-nil lead) (part-then lead [] t x.0), x.1)
   cut-behind a b c (runs status moves behind) t (inr x) = inr (record {
@@ -181,14 +182,14 @@ module _ {B : Type 0} (log : B → Option (List (ℕ × ℕ))) (failed : B → �
     devices = x.devices;
   })
 
-  ends-behind : (may : Answer → Type 0) (a b c : Option (List ℕ)) (ending : Ending) → Took a b lead → Ends log failed [] may b c places places' ending → Ends log failed lead may a c places places' ending
+  ends-behind : (may : Answer → Type 0) (a b c : Option (List ℕ)) (ending : Ending) → Took a b lead → Ends account [] may b c places places' ending → Ends account lead may a c places places' ending
   ends-behind may a b c (Gave status) t s = (s.0, s.1, s.2, took-then lead (output_of s.0) t s.3, s.4)
   ends-behind may a b c Cut t s = (s.0, s.1, cut-behind a b c s.0 t s.2)
   ends-behind may a b c NoMemory t (inl x, p) = (inr (subst (λ l. Took a c l) (append-nil lead) (took-then lead [] t x)), p)
   ends-behind may a b c NoMemory t (inr x, p) = (inr (subst (λ l. Took a c l) (append-nil lead) (took-then lead [] t x)), p)
 
   pub concludes-behind : {S : Type 0} {taken : S → Option (List ℕ)} {faults : S → ℕ} {old between new : S} (may : Answer → Type 0) (ending : Ending) → Took (taken old) (taken between) lead
-      → faults old ≤ faults between → Concludes taken faults between new log failed places places' [] may ending → Concludes taken faults old new log failed places places' lead may ending
+      → faults old ≤ faults between → Concludes taken faults between new account places places' [] may ending → Concludes taken faults old new account places places' lead may ending
   concludes-behind {S} {taken} {faults} {old} {between} {new} may ending t later s = record {
     ends = ends-behind may (taken old) (taken between) (taken new) ending t s.ends;
     later = omega (arith, later, s.later);
@@ -196,13 +197,13 @@ module _ {B : Type 0} (log : B → Option (List (ℕ × ℕ))) (failed : B → �
   }
 
 -- a text that was fetched is answered over devices, and nothing was written before
-pub text-concludes : {S B : Type 0} {taken : S → Option (List ℕ)} {faults : S → ℕ} {old between new : S} (log : B → Option (List (ℕ × ℕ))) (failed : B → ℕ) (places places' : List (Option B))
+pub text-concludes : {S B : Type 0} {taken : S → Option (List ℕ)} {faults : S → ℕ} {old between new : S} (account : B → Account) (places places' : List (Option B))
     (answers : List ℕ → Answer → Type 0) (told : Option (Option (List ℕ))) (rose : Type 0) (bytes : Vec ℕ Global) (text : List ℕ) (ending : Ending) → taken between ≡ taken old → faults old ≤ faults between
-    → text ≡ bytes.items → MayFetch told rose (Text bytes) → Concludes taken faults between new log failed places places' [] (answers text) ending
-    → Concludes taken faults old new log failed places places' [] (AnswersFile answers told rose) ending
-text-concludes {S} {B} {taken} {faults} {old} {between} {new} log failed places places' answers told rose bytes text ending same later f m s =
-    concludes-after log failed places places' [] (AnswersFile answers told rose) ending (subst (λ x. Took x (taken between) []) same (took-nothing (taken between))) later
-    (concludes-more log failed places places' [] (answers text) (AnswersFile answers told rose) ending (λ answer h. (Text bytes, m, subst (λ t. answers t answer) f h)) s)
+    → text ≡ bytes.items → MayFetch told rose (Text bytes) → Concludes taken faults between new account places places' [] (answers text) ending
+    → Concludes taken faults old new account places places' [] (AnswersFile answers told rose) ending
+text-concludes {S} {B} {taken} {faults} {old} {between} {new} account places places' answers told rose bytes text ending same later f m s =
+    concludes-after account places places' [] (AnswersFile answers told rose) ending (subst (λ x. Took x (taken between) []) same (took-nothing (taken between))) later
+    (concludes-more account places places' [] (answers text) (AnswersFile answers told rose) ending (λ answer h. (Text bytes, m, subst (λ t. answers t answer) f h)) s)
 
 -- where no script was read, the answer is one of each command
 no-script-text : (answers : Script → Answer → Type 0) (text : List ℕ) (answer : Answer) → AnswersScript none_to_scripts text answer → AnswersScript answers text answer
@@ -227,12 +228,12 @@ over-script told rose None answers script answer s h = subst (λ x. answers x an
 over-script told rose (Some name) answers script answer s h = (Text s.0, s.1, inl (script, s.2, h))
 
 -- an order that was read is the one that the words give
-pub order-concludes : {S B : Type 0} {taken : S → Option (List ℕ)} {faults : S → ℕ} {old new : S} (log : B → Option (List (ℕ × ℕ))) (failed : B → ℕ) (places places' : List (Option B))
+pub order-concludes : {S B : Type 0} {taken : S → Option (List ℕ)} {faults : S → ℕ} {old new : S} (account : B → Account) (places places' : List (Option B))
     (told : List ℕ → Option (Option (List ℕ))) (rose : Type 0) (order : Option Asked) (asked : Asked) (ending : Ending) → Some asked ≡ order
-    → Concludes taken faults old new log failed places places' (lead_of (Some asked)) (MayAnswer told rose (Some asked)) ending
-    → Concludes taken faults old new log failed places places' (lead_of order) (MayAnswer told rose order) ending
-order-concludes {S} {B} {taken} {faults} {old} {new} log failed places places' told rose order asked ending e s =
-    subst (λ o. Concludes taken faults old new log failed places places' (lead_of o) (MayAnswer told rose o) ending) e s
+    → Concludes taken faults old new account places places' (lead_of (Some asked)) (MayAnswer told rose (Some asked)) ending
+    → Concludes taken faults old new account places places' (lead_of order) (MayAnswer told rose order) ending
+order-concludes {S} {B} {taken} {faults} {old} {new} account places places' told rose order asked ending e s =
+    subst (λ o. Concludes taken faults old new account places places' (lead_of o) (MayAnswer told rose o) ending) e s
 
 -- a fact of what was read, or of how the call ended
 pub if-ok : {T E : Type 0} {P Q : T → Type 0} (r : Result T E) → ((x : T) → P x → Q x) → IfOk r P → IfOk r Q

@@ -12,8 +12,9 @@ use Rattle.board_world.specs.Transcript.{lines, closing_line}
 use Rattle.board_world.specs.Board.{Board, over}
 use Rattle.board_world.specs.Kinds.{Kind}
 use Rattle.board_world.specs.Activities.{World}
-use Rattle.board_world.specs.World.{run}
+use Rattle.board_world.specs.Runs.{run}
 use Rattle.board_world.proofs.Laws.{run_over, run_sum}
+use Rattle.board_ports.specs.Account.{Account}
 use Rattle.board_ports.specs.History.{PortMove, entries_of, entries_at, unplugs, unplugged_at}
 use Rattle.board_ports.proofs.Laws.{places_as}
 use Rattle.tool_io.specs.Putting.{Took}
@@ -174,21 +175,21 @@ module _ (one : OneAnswer) (told : List ℕ → Option (Option (List ℕ))) (ros
   )
   asked-answer other t a = absurd a
 
-module _ {B : Type 0} (log : B → Option (List (ℕ × ℕ))) (faults : B → ℕ) (t : AskedRun) (taken taken' : Option (List ℕ)) (places places' : List (Option B)) (number : ℕ) (had : List ℕ) (e : taken ≡ Some had) where
+module _ {B : Type 0} (account : B → Account) (t : AskedRun) (taken taken' : Option (List ℕ)) (places places' : List (Option B)) (number : ℕ) (had : List ℕ) (e : taken ≡ Some had) where
   abbrev Left : Type 0
   Left =
       (written : List ℕ) × (taken' ≡ Some (had ++ written))
       × (let a : Aftermath B = record { status = number; written = written; before = places; behind = places' } in
-      LacksMemory t a ⊎ ((steps executed : ℕ) × (image : List ℕ) × IsTranscript log faults t a steps executed image × IsRunOfImage t steps executed image))
+      LacksMemory t a ⊎ ((steps executed : ℕ) × (image : List ℕ) × IsTranscript account t a steps executed image × IsRunOfImage t steps executed image))
 
   -- a run that was answered whole
-  given : (answer : Answer) (status : Status) → number ≡ status_number status → status ≡ status_of answer → Took taken taken' (t.lead ++ output_of answer) → Leaves log faults answer places places'
+  given : (answer : Answer) (status : Status) → number ≡ status_number status → status ≡ status_of answer → Took taken taken' (t.lead ++ output_of answer) → Leaves account answer places places'
       → RunsAsked t answer → Left
   given answer status n s took left r =
       let b : Board = source_board t r.steps in
       let behind = closing_line b.clock b.end ++ asked_behind t.stats t.image b r.executed r.image in
       let whole : Took taken taken' (t.lead ++ (lines (seen_of r.moves) ++ behind)) = subst (λ a. Took taken taken' (t.lead ++ output_of a)) r.is took in
-      let devices : DevicesAfter log faults r.moves places places' = subst (λ a. Leaves log faults a places places') r.is left in (
+      let devices : DevicesAfter account r.moves places places' = subst (λ a. Leaves account a places places') r.is left in (
         t.lead ++ (lines (seen_of r.moves) ++ behind),
         whole.told had e,
         inr (
@@ -201,7 +202,7 @@ module _ {B : Type 0} (log : B → Option (List (ℕ × ℕ))) (faults : B → �
             whole = λ m within o. shown-whole (source t.program t.tables.texts) (source_start t.program t.tables.texts t.script.end (world_entries t.script.entries)) m r.steps o (r.reaches.at_least m within);
             at_least = r.reaches.at_least;
             status = n ∙ ap status_number (s ∙ ap status_of r.is);
-            devices = places_as log faults (entries_at (port_moves r.moves)) (entries_at (words_sent b.seen)) (unplugged_at (port_moves r.moves)) (is_unplugged b.unplugged) places places'
+            devices = places_as account (entries_at (port_moves r.moves)) (entries_at (words_sent b.seen)) (unplugged_at (port_moves r.moves)) (is_unplugged b.unplugged) places places'
                 (λ k. ap (λ seen. entries_at (words_sent seen) k) r.met.seen ∙ words-met r.moves k) (λ k. ap (λ us. is_unplugged us k) r.met.unplugged ∙ unplugs-met 0 r.moves k) devices;
           },
           record { is_image = r.is_image; implements = r.implements; free = r.free; is_executed = r.reaches.is_executed; alike = r.reaches.alike },
@@ -213,18 +214,18 @@ module _ {B : Type 0} (log : B → Option (List (ℕ × ℕ))) (faults : B → �
   unmade n (inl took) same = ([], took.told had e, inl (n, inl refl, same))
   unmade n (inr took) same = (t.lead, took.told had e, inl (n, inr refl, same))
 
-  ended : (may : Answer → Type 0) (sink_rose : Type 0) (ending : Ending) → number ≡ ending_number ending → Ends log faults t.lead may taken taken' places places' ending → (ending ≡ Cut → sink_rose) → ¬ sink_rose
+  ended : (may : Answer → Type 0) (sink_rose : Type 0) (ending : Ending) → number ≡ ending_number ending → Ends account t.lead may taken taken' places places' ending → (ending ≡ Cut → sink_rose) → ¬ sink_rose
       → ((answer : Answer) → may answer → RunsAsked t answer) → Left
   ended may sink_rose (Gave status) n s cut calm runs = given s.0 status n s.2 s.3 s.4 (runs s.0 s.1)
   ended may sink_rose Cut n s cut calm runs = absurd (calm (cut refl))
   ended may sink_rose NoMemory n s cut calm runs = unmade n s.0 s.1
 
 -- how a call ends leaves what the claim says
-pub headline : {B : Type 0} (log : B → Option (List (ℕ × ℕ))) (faults : B → ℕ) (told : List ℕ → Option (Option (List ℕ))) (asked : Option Asked) (folder_rose sink_rose : Type 0) (taken taken' : Option (List ℕ))
+pub headline : {B : Type 0} (account : B → Account) (told : List ℕ → Option (Option (List ℕ))) (asked : Option Asked) (folder_rose sink_rose : Type 0) (taken taken' : Option (List ℕ))
     (places places' : List (Option B)) (number : ℕ) (one : OneAnswer) (ending : Ending) → number ≡ ending_number ending
-    → Ends log faults (lead_of asked) (MayAnswer told folder_rose asked) taken taken' places places' ending → (ending ≡ Cut → sink_rose)
-    → Headline log faults told asked folder_rose sink_rose taken taken' places places' number
-headline log faults told asked folder_rose sink_rose taken taken' places places' number one ending n s cut = λ t ask quiet calm had e. (
+    → Ends account (lead_of asked) (MayAnswer told folder_rose asked) taken taken' places places' ending → (ending ≡ Cut → sink_rose)
+    → Headline account told asked folder_rose sink_rose taken taken' places places' number
+headline account told asked folder_rose sink_rose taken taken' places places' number one ending n s cut = λ t ask quiet calm had e. (
     let answer = asked-answer one told folder_rose quiet asked t ask in
-    ended log faults t taken taken' places places' number had e (MayAnswer told folder_rose asked) sink_rose ending n
-    (subst (λ lead. Ends log faults lead (MayAnswer told folder_rose asked) taken taken' places places' ending) (sym answer.0) s) cut calm answer.1)
+    ended account t taken taken' places places' number had e (MayAnswer told folder_rose asked) sink_rose ending n
+    (subst (λ lead. Ends account lead (MayAnswer told folder_rose asked) taken taken' places places' ending) (sym answer.0) s) cut calm answer.1)

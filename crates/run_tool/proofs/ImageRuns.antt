@@ -33,6 +33,7 @@ use Rattle.run_tool.specs.Scripts.{OverScript, script_refused_line}
 use Rattle.run_tool.specs.Runs.{run_status, ending_of, RunsBoard}
 use Rattle.run_tool.specs.Run.{RunsProgram, RunsText}
 use Rattle.run_tool.specs.RunHex.{image_refused_line, RunsHex}
+use Rattle.board_ports.specs.Account.{Account}
 
 extent-fits : (cells : List Cell) → AllByRecursion (λ cell. cell.at < flash_bytes) cells → extent cells ≤ flash_bytes
 extent-fits [] h = omega arith
@@ -52,11 +53,11 @@ three a b c = append_assoc a b c
 pub image-refusal-pieces : (printed code : ℕ) → printed ≡ code → [] ++ codes "image refused " ++ decimal printed ++ codes "\n" ≡ image_refused_line code
 image-refusal-pieces printed code e = three (codes "image refused ") (decimal printed) (codes "\n") ∙ ap image_refused_line e
 
-module _ {S B : Type 0} (taken : S → Option (List ℕ)) (faults : S → ℕ) (old new : S) (log : B → Option (List (ℕ × ℕ))) (failed : B → ℕ) (places places' : List (Option B))
+module _ {S B : Type 0} (taken : S → Option (List ℕ)) (faults : S → ℕ) (old new : S) (account : B → Account) (places places' : List (Option B))
     (image : List ℕ) (script : ReadScript) (budget : ℕ) (later : faults old ≤ faults new) where
   -- a run that came to its end, or to that of its budget
-  pub run-gives : (end : Option RunEnd) (stats : Stats) → RunsTo log failed image script budget (taken old) (taken new) places places' end stats
-      → Concludes taken faults old new log failed places places' [] (RunsBoard image script budget) (Gave (run_status end))
+  pub run-gives : (end : Option RunEnd) (stats : Stats) → RunsTo account image script budget (taken old) (taken new) places places' end stats
+      → Concludes taken faults old new account places places' [] (RunsBoard image script budget) (Gave (run_status end))
   run-gives end stats r =
       let b : Board = (world_after image script r.free r.executed).board in
       let closing = closing_line b.clock b.end in
@@ -73,8 +74,8 @@ module _ {S B : Type 0} (taken : S → Option (List ℕ)) (faults : S → ℕ) (
       }
 
   -- a run that the sink stopped
-  pub run-cut : IsRunCut log failed image script budget (taken old) (taken new) places places' × Rose (faults old) (faults new)
-      → Concludes taken faults old new log failed places places' [] (RunsBoard image script budget) Cut
+  pub run-cut : IsRunCut account image script budget (taken old) (taken new) places places' × Rose (faults old) (faults new)
+      → Concludes taken faults old new account places places' [] (RunsBoard image script budget) Cut
   run-cut r =
       let b : Board = (world_after image script r.0.free r.0.executed).board in
       record {
@@ -88,8 +89,8 @@ module _ {S B : Type 0} (taken : S → Option (List ℕ)) (faults : S → ℕ) (
       }
 
   -- what a call that ran an image answered
-  pub run-ends : (end : End) (stats : Stats) → RunsImage log failed image script budget (taken old) (taken new) (faults old) (faults new) places places' end stats
-      → Concludes taken faults old new log failed places places' [] (RunsBoard image script budget) (ending_of end)
+  pub run-ends : (end : End) (stats : Stats) → RunsImage account image script budget (taken old) (taken new) (faults old) (faults new) places places' end stats
+      → Concludes taken faults old new account places places' [] (RunsBoard image script budget) (ending_of end)
   run-ends Quiet stats r = run-gives (Some Quietly) stats r
   run-ends Script stats r = run-gives (Some By_script) stats r
   run-ends (Panic code) stats r = run-gives _ stats r

@@ -16,3 +16,5 @@ mod ClassRuns
 mod ClassTexts
 mod ClassStatuses
 mod ToldClass
+mod Wanting
+mod WantedReadings

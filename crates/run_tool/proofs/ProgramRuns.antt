@@ -30,6 +30,7 @@ use Rattle.run_tool.specs.declared.ending.Ending.TheVariants.{Gave, Cut}
 use Rattle.run_tool.specs.Answers.{Answer, runs, Concludes}
 use Rattle.run_tool.specs.Runs.{run_status, ending_of}
 use Rattle.run_tool.specs.Run.{asked_behind, counted_behind, instructions_line, ending_by, Finishes, RunsProgram}
+use Rattle.board_ports.specs.Account.{Account}
 
 -- a part of the text that is due is one of a longer text
 due-more : (behind more : List ℕ) (left : List Move) (part : List ℕ) → IsPrefix part (text_due behind left) → IsPrefix part (text_due (behind ++ more) left)
@@ -96,12 +97,12 @@ module _ (P : TypedProgram) (texts : List ByteList) (image : List ℕ) (is_image
           ap (λ (x : Stats). stats_line x.spawned x.blocked x.words x.seats ++ (instructions_line x.instructions ++ hex)) e
           ∙ ap (λ x. stats_line b.spawned b.blocked b.words b.most ++ (instructions_line executed ++ x)) (t refl)
 
-  module _ {S B : Type 0} (taken : S → Option (List ℕ)) (faults : S → ℕ) (old between new : S) (log : B → Option (List (ℕ × ℕ))) (failed : B → ℕ) (places places' : List (Option B)) where
+  module _ {S B : Type 0} (taken : S → Option (List ℕ)) (faults : S → ℕ) (old between new : S) (account : B → Account) (places places' : List (Option B)) where
     abbrev Concluded : Ending → Type 0
-    Concluded ending = Concludes taken faults old new log failed places places' [] (RunsProgram P texts script budget stats with_image) ending
+    Concluded ending = Concludes taken faults old new account places places' [] (RunsProgram P texts script budget stats with_image) ending
 
     -- the text behind a run was put, or the sink stopped it
-    put-behind : (end : Option RunEnd) (s : Stats) (r : RunsTo log failed image script budget (taken old) (taken between) places places' end s) (put : Result (Unit {0}) PutFailed) → faults old ≤ faults between
+    put-behind : (end : Option RunEnd) (s : Stats) (r : RunsTo account image script budget (taken old) (taken between) places places' end s) (put : Result (Unit {0}) PutFailed) → faults old ≤ faults between
         → (let b : Board = (world_after image script r.free r.executed).board in Puts (taken between) (taken new) (faults between) (faults new) (asked_behind stats with_image b r.executed image) put)
         → Concluded (ending_by (run_status end) put)
     put-behind end s r (Ok x) later p =
@@ -149,7 +150,7 @@ module _ (P : TypedProgram) (texts : List ByteList) (image : List ℕ) (is_image
         }
 
     gave : (end : Option RunEnd) (s : Stats) (hex : List ℕ) (ending : Ending) → (with_image ≡ true → hex ≡ hextext image)
-        → RunsTo log failed image script budget (taken old) (taken between) places places' end s → faults old ≤ faults between
+        → RunsTo account image script budget (taken old) (taken between) places places' end s → faults old ≤ faults between
         → Finishes (taken between) (taken new) (faults between) (faults new) (Gave (run_status end)) (counted_behind stats with_image s hex) ending → Concluded ending
     gave end s hex ending text r later f =
         let b : Board = (world_after image script r.free r.executed).board in
@@ -158,7 +159,7 @@ module _ (P : TypedProgram) (texts : List ByteList) (image : List ℕ) (is_image
         (subst (λ t. Puts (taken between) (taken new) (faults between) (faults new) t f.0) (counted-same s b r.executed hex r.counted text) f.1))
 
     -- the sink stopped the run
-    cut-run : (behind : List ℕ) (ending : Ending) → IsRunCut log failed image script budget (taken old) (taken between) places places' × Rose (faults old) (faults between) → faults old ≤ faults between
+    cut-run : (behind : List ℕ) (ending : Ending) → IsRunCut account image script budget (taken old) (taken between) places places' × Rose (faults old) (faults between) → faults old ≤ faults between
         → Finishes (taken between) (taken new) (faults between) (faults new) Cut behind ending → Concluded ending
     cut-run behind ending r later f =
         let c = r.0 in
@@ -182,12 +183,12 @@ module _ (P : TypedProgram) (texts : List ByteList) (image : List ℕ) (is_image
           cut = λ e. subst (λ n. Rose (faults old) n) (sym f.1) r.1;
         })
 
-    never-faulted : (kind address : ℕ) (s : Stats) → RunsTo log failed image script budget (taken old) (taken between) places places' (Some (Faulted kind address)) s → ⊥
+    never-faulted : (kind address : ℕ) (s : Stats) → RunsTo account image script budget (taken old) (taken between) places places' (Some (Faulted kind address)) s → ⊥
     never-faulted kind address s r = subst (λ e. SoundEnd (λ kind address. ⊥) e) r.ended (faultless P texts image implements script r.free r.executed)
 
     -- what a call that ran the image answered, with what is asked for behind it
     pub finished : (end : End) (s : Stats) (hex : List ℕ) (ending : Ending) → (with_image ≡ true → hex ≡ hextext image)
-        → RunsImage log failed image script budget (taken old) (taken between) (faults old) (faults between) places places' end s → faults old ≤ faults between
+        → RunsImage account image script budget (taken old) (taken between) (faults old) (faults between) places places' end s → faults old ≤ faults between
         → Finishes (taken between) (taken new) (faults between) (faults new) (ending_of end) (counted_behind stats with_image s hex) ending → Concluded ending
     finished Quiet s hex ending text r later f = gave (Some Quietly) s hex ending text r later f
     finished Script s hex ending text r later f = gave (Some By_script) s hex ending text r later f

@@ -34,6 +34,7 @@ use Rattle.run_tool.specs.Files.{AnswersFile}
 use Rattle.run_tool.specs.Arrivals.{AnswersArrivals, OverArrivals, IsArrivalsOf, RefusesArrivals, arrivals_refused_line, none_to_arrivals}
 use Rattle.run_tool.specs.RunAt.{RunsProgramAt, RunsOnScript, RunsOutside, RunsTextAt}
 use Rattle.run_tool.proofs.Readings.{file-onwards, file-more, read-more, none-read, program-more}
+use Rattle.board_ports.specs.Account.{Account}
 
 pub arrivals-refusal-pieces : (printed code : ℕ) → printed ≡ code → [] ++ codes "arrivals refused " ++ decimal printed ++ codes "\n" ≡ arrivals_refused_line code
 arrivals-refusal-pieces printed code e = append_assoc (codes "arrivals refused ") (decimal printed) (codes "\n") ∙ ap arrivals_refused_line e
@@ -75,11 +76,11 @@ module _ (told told' : List ℕ → Option (Option (List ℕ))) (rose rose' : Ty
   text-runs-onwards text answer h = program-more (RunsOutside told rose script arrivals budget) (RunsOutside told' rose' script arrivals budget) text answer (λ P texts x. outside-onwards P texts answer x) h
 
 -- what a call that ran an image with arrivals answered
-module _ {S B : Type 0} (taken : S → Option (List ℕ)) (faults : S → ℕ) (old new : S) (log : B → Option (List (ℕ × ℕ))) (failed : B → ℕ) (places places' : List (Option B))
+module _ {S B : Type 0} (taken : S → Option (List ℕ)) (faults : S → ℕ) (old new : S) (account : B → Account) (places places' : List (Option B))
     (P : TypedProgram) (texts : List ByteList) (image : List ℕ) (implements : ImageImplements P texts image) (script : Script) (come : List Arrival) (budget : ℕ) (later : faults old ≤ faults new) where
   -- a run that came to its end, or to that of its budget
-  gives : (end : Option RunEnd) → RunsSourceTo log failed P texts image script (world_arrivals come) budget (taken old) (taken new) places places' end
-      → Concludes taken faults old new log failed places places' [] (RunsProgramAt P texts script come budget) (Gave (run_status end))
+  gives : (end : Option RunEnd) → RunsSourceTo account P texts image script (world_arrivals come) budget (taken old) (taken new) places places' end
+      → Concludes taken faults old new account places places' [] (RunsProgramAt P texts script come budget) (Gave (run_status end))
   gives end r =
       let b : Board = (source_at P texts script r.meets.places r.meets.steps).board in
       let closing = closing_line b.clock b.end in
@@ -96,8 +97,8 @@ module _ {S B : Type 0} (taken : S → Option (List ℕ)) (faults : S → ℕ) (
       }
 
   -- a run that the sink stopped
-  stopped : CutsSource log failed P texts image script (world_arrivals come) budget (taken old) (taken new) places places' × Rose (faults old) (faults new)
-      → Concludes taken faults old new log failed places places' [] (RunsProgramAt P texts script come budget) Cut
+  stopped : CutsSource account P texts image script (world_arrivals come) budget (taken old) (taken new) places places' × Rose (faults old) (faults new)
+      → Concludes taken faults old new account places places' [] (RunsProgramAt P texts script come budget) Cut
   stopped r =
       let b : Board = (source_at P texts script r.0.meets.places r.0.meets.steps).board in
       record {
@@ -110,8 +111,8 @@ module _ {S B : Type 0} (taken : S → Option (List ℕ)) (faults : S → ℕ) (
         cut = λ e. r.1;
       }
 
-  pub at-ends : (end : End) → RunsSourceAt log failed P texts image script (world_arrivals come) budget (taken old) (taken new) (faults old) (faults new) places places' end
-      → Concludes taken faults old new log failed places places' [] (RunsProgramAt P texts script come budget) (ending_of end)
+  pub at-ends : (end : End) → RunsSourceAt account P texts image script (world_arrivals come) budget (taken old) (taken new) (faults old) (faults new) places places' end
+      → Concludes taken faults old new account places places' [] (RunsProgramAt P texts script come budget) (ending_of end)
   at-ends ended.Quiet r = gives (Some Quietly) r
   at-ends ended.Script r = gives (Some By_script) r
   at-ends (ended.Panic code) r = gives (Some (Panicked code)) r

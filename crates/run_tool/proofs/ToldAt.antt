@@ -7,7 +7,7 @@ use Rattle.tool_io.specs.Putting.{Took}
 use Rattle.board_world.specs.Transcript.{lines, closing_line}
 use Rattle.board_world.specs.Board.{Board}
 use Rattle.board_world.specs.Simulation.{Paired}
-use Rattle.board_world.specs.Arrivals.{Placed}
+use Rattle.board_world.specs.Runs.{Placed}
 use Rattle.sts_syntax.specs.TypedTrees.{TypedProgram}
 use Rattle.event_script.specs.Json.{IsTree}
 use Rattle.event_script.specs.Verdict as script
@@ -38,6 +38,7 @@ use Rattle.run_tool.specs.Orders.{MayAnswer, lead_of}
 use Rattle.run_tool.specs.HeadlineAt.{IsTold, AreTold, WritesAt, HeadlineAt}
 use Rattle.run_tool.proofs.Completing.{onwards}
 use Rattle.run_tool.proofs.ProgramStatuses.{run-number}
+use Rattle.board_ports.specs.Account.{Account}
 
 -- what is fetched of a file that is told is its bytes
 pub of-told : (told : List ℕ → Option (Option (List ℕ))) (name bytes : List ℕ) (answers : List ℕ → Answer → Type 0) (answer : Answer) → IsTold told name bytes → AnswersFile answers (told name) ⊥ answer → answers bytes answer
@@ -113,9 +114,9 @@ module _ (one : OneAnswer) (told : List ℕ → Option (Option (List ℕ))) (nam
   pub due : (answer : Answer) → MayAnswer told ⊥ (Some (run_at name script_name arrivals_name budget)) answer → RunsProgramAt P tables.texts read come budget answer
   due answer h = of-this answer (of-told told name n.text (RunsTextAt told ⊥ script_name arrivals_name budget) answer n.text_told h)
 
-  module _ {B : Type 0} (log : B → Option (List (ℕ × ℕ))) (failed : B → ℕ) (places places' : List (Option B)) (taken taken' : Option (List ℕ)) where
-    writes : (answer : Answer) (number : ℕ) → RunsProgramAt P tables.texts read come budget answer → Took taken taken' (output_of answer) → Leaves log failed answer places places' → number ≡ status_number (status_of answer)
-        → WritesAt log failed taken taken' places places' P tables.texts read come budget number
+  module _ {B : Type 0} (account : B → Account) (places places' : List (Option B)) (taken taken' : Option (List ℕ)) where
+    writes : (answer : Answer) (number : ℕ) → RunsProgramAt P tables.texts read come budget answer → Took taken taken' (output_of answer) → Leaves account answer places places' → number ≡ status_number (status_of answer)
+        → WritesAt account taken taken' places places' P tables.texts read come budget number
     writes answer number r took leaves e =
         let b : Board = (source_at P tables.texts read r.meets.places r.meets.steps).board in
         let status : number ≡ status_number (run_status b.end) = e ∙ ap (λ a. status_number (status_of a)) r.is in
@@ -132,14 +133,14 @@ module _ (one : OneAnswer) (told : List ℕ → Option (Option (List ℕ))) (nam
             met = r.meets.met;
           };
           written = subst (λ os. Took taken taken' (lines os ++ closing_line b.clock b.end)) (sym r.meets.met.seen) (subst (λ a. Took taken taken' (output_of a)) r.is took);
-          devices = subst (λ a. Leaves log failed a places places') r.is leaves;
+          devices = subst (λ a. Leaves account a places places') r.is leaves;
           status = status;
           ended = run-number b.end number r.meets.faultless status;
         }
 
-    by-ending : (rose sink_rose : Type 0) (ending : Ending) (number : ℕ) → number ≡ ending_number ending → Ends log failed [] (MayAnswer told rose (Some (run_at name script_name arrivals_name budget))) taken taken' places places' ending
+    by-ending : (rose sink_rose : Type 0) (ending : Ending) (number : ℕ) → number ≡ ending_number ending → Ends account [] (MayAnswer told rose (Some (run_at name script_name arrivals_name budget))) taken taken' places places' ending
         → (ending ≡ Cut → sink_rose) → ¬ rose → ¬ sink_rose
-        → ((number ≡ 30) × Took taken taken' [] × (places' ≡ places)) ⊎ WritesAt log failed taken taken' places places' P tables.texts read come budget number
+        → ((number ≡ 30) × Took taken taken' [] × (places' ≡ places)) ⊎ WritesAt account taken taken' places places' P tables.texts read come budget number
     by-ending rose sink_rose (Gave given) number e s cut quiet calm =
         inr (writes s.0 number (due s.0 (onwards told rose ⊥ (Some (run_at name script_name arrivals_name budget)) s.0 quiet s.1)) s.3 s.4 (e ∙ ap status_number s.2))
     by-ending rose sink_rose Cut number e s cut quiet calm = absurd (calm (cut refl))
@@ -147,9 +148,9 @@ module _ (one : OneAnswer) (told : List ℕ → Option (Option (List ℕ))) (nam
     by-ending rose sink_rose NoMemory number e (inr x, p) cut quiet calm = inl (e, x, p)
 
 -- what a call comes to that ended so
-pub headline-at : (one : OneAnswer) {B : Type 0} (log : B → Option (List (ℕ × ℕ))) (failed : B → ℕ) (places places' : List (Option B)) (told : List ℕ → Option (Option (List ℕ))) (rose sink_rose : Type 0) (asked : Option Asked)
-    (taken taken' : Option (List ℕ)) (ending : Ending) (number : ℕ) → number ≡ ending_number ending → Ends log failed (lead_of asked) (MayAnswer told rose asked) taken taken' places places' ending → (ending ≡ Cut → sink_rose)
-    → HeadlineAt log failed told asked rose sink_rose taken taken' places places' number
-headline-at one log failed places places' told rose sink_rose asked taken taken' ending number e s cut = λ name script_name arrivals_name budget tables P read come is n quiet calm.
-    by-ending one told name script_name arrivals_name budget tables P read come n log failed places places' taken taken' rose sink_rose ending number e
-    (subst (λ o. Ends log failed (lead_of o) (MayAnswer told rose o) taken taken' places places' ending) is s) cut quiet calm
+pub headline-at : (one : OneAnswer) {B : Type 0} (account : B → Account) (places places' : List (Option B)) (told : List ℕ → Option (Option (List ℕ))) (rose sink_rose : Type 0) (asked : Option Asked)
+    (taken taken' : Option (List ℕ)) (ending : Ending) (number : ℕ) → number ≡ ending_number ending → Ends account (lead_of asked) (MayAnswer told rose asked) taken taken' places places' ending → (ending ≡ Cut → sink_rose)
+    → HeadlineAt account told asked rose sink_rose taken taken' places places' number
+headline-at one account places places' told rose sink_rose asked taken taken' ending number e s cut = λ name script_name arrivals_name budget tables P read come is n quiet calm.
+    by-ending one told name script_name arrivals_name budget tables P read come n account places places' taken taken' rose sink_rose ending number e
+    (subst (λ o. Ends account (lead_of o) (MayAnswer told rose o) taken taken' places places' ending) is s) cut quiet calm

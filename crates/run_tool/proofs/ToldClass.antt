@@ -26,6 +26,7 @@ use Rattle.run_tool.specs.HeadlineClass.{IsToldBoard, IsToldClass, WritesWhole, 
 use Rattle.run_tool.proofs.Completing.{onwards}
 use Rattle.run_tool.proofs.ClassStatuses.{status-by-number}
 use Rattle.run_tool.proofs.ToldAt.{of-told, one-tree, one-script, script-stands, not-both, same-read}
+use Rattle.board_ports.specs.Account.{Account}
 
 -- a text of a class has one verdict
 one-class : (text : List ℕ) (a b : Result ClassFile ClassCode) → class.Tells text a → class.Tells text b → a ≡ b
@@ -81,24 +82,24 @@ module _ (one : OneAnswer) (told : List ℕ → Option (Option (List ℕ))) (nam
   pub class-due : (answer : Answer) → MayAnswer told ⊥ (Some (run_class name budget)) answer → RunsClass (class_of_sources file boards) budget answer
   class-due answer h = of-file answer (of-told told name n.text (RunsClassText told ⊥ budget) answer n.text_told h)
 
-  module _ {B : Type 0} (log : B → Option (List (ℕ × ℕ))) (failed : B → ℕ) (places places' : List (Option B)) (taken taken' : Option (List ℕ)) where
+  module _ {B : Type 0} (account : B → Account) (places places' : List (Option B)) (taken taken' : Option (List ℕ)) where
     -- what a call comes to that gave this answer
     abbrev Comes : ℕ → Type 0
     Comes number = (places' ≡ places) × (((number ≡ 30) × Took taken taken' [])
         ⊎ ((text : ByteList) × Took taken taken' text × (WritesWhole (class_of_sources file boards) budget text number ⊎ WritesCut (class_of_sources file boards) budget text number)))
 
-    writes : (answer : Answer) (number : ℕ) → RunsClass (class_of_sources file boards) budget answer → Took taken taken' (output_of answer) → Leaves log failed answer places places' → number ≡ status_number (status_of answer)
+    writes : (answer : Answer) (number : ℕ) → RunsClass (class_of_sources file boards) budget answer → Took taken taken' (output_of answer) → Leaves account answer places places' → number ≡ status_number (status_of answer)
         → Comes number
     writes answer number (inl r) took leaves e = (
-      subst (λ a. Leaves log failed a places places') r.is leaves,
+      subst (λ a. Leaves account a places places') r.is leaves,
       inr (r.text, subst (λ a. Took taken taken' (output_of a)) r.is took, inl (record { has = r.has; status = e ∙ (ap (λ a. status_number (status_of a)) r.is ∙ status-by-number _) })),
     )
     writes answer number (inr r) took leaves e = (
-      subst (λ a. Leaves log failed a places places') r.is leaves,
+      subst (λ a. Leaves account a places places') r.is leaves,
       inr (r.text, subst (λ a. Took taken taken' (output_of a)) r.is took, inr (record { has = r.has; status = e ∙ ap (λ a. status_number (status_of a)) r.is })),
     )
 
-    by-ending : (rose sink_rose : Type 0) (ending : Ending) (number : ℕ) → number ≡ ending_number ending → Ends log failed [] (MayAnswer told rose (Some (run_class name budget))) taken taken' places places' ending
+    by-ending : (rose sink_rose : Type 0) (ending : Ending) (number : ℕ) → number ≡ ending_number ending → Ends account [] (MayAnswer told rose (Some (run_class name budget))) taken taken' places places' ending
         → (ending ≡ Cut → sink_rose) → ¬ rose → ¬ sink_rose → Comes number
     by-ending rose sink_rose (Gave given) number e s cut quiet calm =
         writes s.0 number (class-due s.0 (onwards told rose ⊥ (Some (run_class name budget)) s.0 quiet s.1)) s.3 s.4 (e ∙ ap status_number s.2)
@@ -107,9 +108,9 @@ module _ (one : OneAnswer) (told : List ℕ → Option (Option (List ℕ))) (nam
     by-ending rose sink_rose NoMemory number e (inr x, p) cut quiet calm = (p, inl (e, x))
 
 -- what a call comes to that ended so
-pub headline-class : (one : OneAnswer) {B : Type 0} (log : B → Option (List (ℕ × ℕ))) (failed : B → ℕ) (places places' : List (Option B)) (told : List ℕ → Option (Option (List ℕ))) (rose sink_rose : Type 0) (asked : Option Asked)
-    (taken taken' : Option (List ℕ)) (ending : Ending) (number : ℕ) → number ≡ ending_number ending → Ends log failed (lead_of asked) (MayAnswer told rose asked) taken taken' places places' ending → (ending ≡ Cut → sink_rose)
+pub headline-class : (one : OneAnswer) {B : Type 0} (account : B → Account) (places places' : List (Option B)) (told : List ℕ → Option (Option (List ℕ))) (rose sink_rose : Type 0) (asked : Option Asked)
+    (taken taken' : Option (List ℕ)) (ending : Ending) (number : ℕ) → number ≡ ending_number ending → Ends account (lead_of asked) (MayAnswer told rose asked) taken taken' places places' ending → (ending ≡ Cut → sink_rose)
     → HeadlineClass told asked rose sink_rose taken taken' places places' number
-headline-class one log failed places places' told rose sink_rose asked taken taken' ending number e s cut = λ name budget file boards is n quiet calm.
-    by-ending one told name budget file boards n log failed places places' taken taken' rose sink_rose ending number e
-    (subst (λ o. Ends log failed (lead_of o) (MayAnswer told rose o) taken taken' places places' ending) is s) cut quiet calm
+headline-class one account places places' told rose sink_rose asked taken taken' ending number e s cut = λ name budget file boards is n quiet calm.
+    by-ending one told name budget file boards n account places places' taken taken' rose sink_rose ending number e
+    (subst (λ o. Ends account (lead_of o) (MayAnswer told rose o) taken taken' places places' ending) is s) cut quiet calm

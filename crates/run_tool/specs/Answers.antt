@@ -10,6 +10,7 @@ use Rattle.run_tool.specs.declared.ending.Status.{Status}
 use Rattle.run_tool.specs.declared.ending.Status.TheVariants.{Done, Usage, Panicked, OutOfBudget, Refused, ScriptRefused, ClassRefused, ArrivalsRefused, ImageRefused, Faulted, FolderFailed, Missing, TooLong}
 use Rattle.run_tool.specs.declared.ending.Ending.{Ending}
 use Rattle.run_tool.specs.declared.ending.Ending.TheVariants.{Gave, Cut, NoMemory}
+use Rattle.board_ports.specs.Account.{Account}
 
 -- What a call is to give behind the line that its command begins with: an output, over which the devices stay; or a run, by what it showed and
 -- unplugged in order, and by what is written behind the lines of that.
@@ -48,29 +49,29 @@ ending_number Cut = 22
 ending_number NoMemory = 30
 
 -- The devices are as an answer leaves them.
-abbrev pub Leaves : {B : Type 0} → (B → Option (List (ℕ × ℕ))) → (B → ℕ) → Answer → List (Option B) → List (Option B) → Type 0
-Leaves log failed (says status output) places places' = places' ≡ places
-Leaves log failed (runs status moves behind) places places' = DevicesAfter log failed moves places places'
+abbrev pub Leaves : {B : Type 0} → (B → Account) → Answer → List (Option B) → List (Option B) → Type 0
+Leaves account (says status output) places places' = places' ≡ places
+Leaves account (runs status moves behind) places places' = DevicesAfter account moves places places'
 
 -- The sink stopped the output of an answer: in the line that the command begins with, before any device was touched, or behind it.
-abbrev pub IsCut : {B : Type 0} → (B → Option (List (ℕ × ℕ))) → (B → ℕ) → List ℕ → Answer → Option (List ℕ) → Option (List ℕ) → List (Option B) → List (Option B) → Type 0
-IsCut log failed lead (says status output) taken taken' places places' = TookPart taken taken' (lead ++ output) × (places' ≡ places)
-IsCut log failed lead (runs status moves behind) taken taken' places places' =
-    (TookPart taken taken' lead × (places' ≡ places)) ⊎ Stopped log failed lead moves behind taken taken' places places'
+abbrev pub IsCut : {B : Type 0} → (B → Account) → List ℕ → Answer → Option (List ℕ) → Option (List ℕ) → List (Option B) → List (Option B) → Type 0
+IsCut account lead (says status output) taken taken' places places' = TookPart taken taken' (lead ++ output) × (places' ≡ places)
+IsCut account lead (runs status moves behind) taken taken' places places' =
+    (TookPart taken taken' lead × (places' ≡ places)) ⊎ Stopped account lead moves behind taken taken' places places'
 
 -- A call that begins with this line and may give these answers ended so, over a sink that had taken the first and has taken the second, and over
 -- devices: one answer was given whole, or was cut short; or memory was wanting, before anything was written or behind that line.
-abbrev pub Ends : {B : Type 0} → (B → Option (List (ℕ × ℕ))) → (B → ℕ) → List ℕ → (Answer → Type 0) → Option (List ℕ) → Option (List ℕ) → List (Option B) → List (Option B) → Ending → Type 0
-Ends log failed lead may taken taken' places places' (Gave status) =
-    (answer : Answer) × may answer × (status ≡ status_of answer) × Took taken taken' (lead ++ output_of answer) × Leaves log failed answer places places'
-Ends log failed lead may taken taken' places places' Cut = (answer : Answer) × may answer × IsCut log failed lead answer taken taken' places places'
-Ends log failed lead may taken taken' places places' NoMemory = (Took taken taken' [] ⊎ Took taken taken' lead) × (places' ≡ places)
+abbrev pub Ends : {B : Type 0} → (B → Account) → List ℕ → (Answer → Type 0) → Option (List ℕ) → Option (List ℕ) → List (Option B) → List (Option B) → Ending → Type 0
+Ends account lead may taken taken' places places' (Gave status) =
+    (answer : Answer) × may answer × (status ≡ status_of answer) × Took taken taken' (lead ++ output_of answer) × Leaves account answer places places'
+Ends account lead may taken taken' places places' Cut = (answer : Answer) × may answer × IsCut account lead answer taken taken' places places'
+Ends account lead may taken taken' places places' NoMemory = (Took taken taken' [] ⊎ Took taken taken' lead) × (places' ≡ places)
 
 -- A call that may give these answers over these devices ended so. Of the sink, before and after it, `taken` tells what it had taken and `faults`
 -- how often it had failed: the call was cut short only where that count rose.
-pub record Concludes {S B : Type 0} (taken : S → Option (List ℕ)) (faults : S → ℕ) (old new : S) (log : B → Option (List (ℕ × ℕ))) (failed : B → ℕ)
+pub record Concludes {S B : Type 0} (taken : S → Option (List ℕ)) (faults : S → ℕ) (old new : S) (account : B → Account)
     (places places' : List (Option B)) (lead : List ℕ) (may : Answer → Type 0) (ending : Ending) : Type 0 where
-  pub ends : Ends log failed lead may (taken old) (taken new) places places' ending
+  pub ends : Ends account lead may (taken old) (taken new) places places' ending
   pub later : faults old ≤ faults new
   pub cut : ending ≡ Cut → Rose (faults old) (faults new)
 

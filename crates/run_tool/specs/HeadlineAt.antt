@@ -4,7 +4,7 @@ use Rattle.sts_base.specs.declared.tables.Tables.{Tables}
 use Rattle.board_world.specs.Observations.{ByteList}
 use Rattle.board_world.specs.Board.{over, transcript_of}
 use Rattle.board_world.specs.Simulation.{Paired}
-use Rattle.board_world.specs.Arrivals.{Arrival as WorldArrival, RisesTo, Placed}
+use Rattle.board_world.specs.Runs.{Arrival as WorldArrival, RisesTo, Placed}
 use Rattle.board_outside.specs.Moves.{Move, HasMet}
 use Rattle.board_outside.specs.Ports.{DevicesAfter}
 use Rattle.tool_io.specs.Putting.{Took}
@@ -20,6 +20,7 @@ use Rattle.sts_words.specs.Orders.{Asked, run_at}
 use Rattle.run_tool.specs.Answers.{status_number}
 use Rattle.run_tool.specs.Fetches.{limit}
 use Rattle.run_tool.specs.Runs.{run_status}
+use Rattle.board_ports.specs.Account.{Account}
 
 -- a file of which the folder tells these bytes, within the limit
 abbrev pub IsTold : (List ℕ → Option (Option (List ℕ))) → List ℕ → List ℕ → Type 0
@@ -53,18 +54,18 @@ pub record ComesSoFar (P : TypedProgram) (texts : List ByteList) (read : Script)
   pub met : HasMet moves (source_at P texts read places steps).board
 
 -- Its transcript is written, the devices have met what it has met, and the status is that of its end: 0, 3 or 4.
-pub record WritesAt {B : Type 0} (log : B → Option (List (ℕ × ℕ))) (failed : B → ℕ) (taken taken' : Option (List ℕ)) (places places' : List (Option B))
+pub record WritesAt {B : Type 0} (account : B → Account) (taken taken' : Option (List ℕ)) (places places' : List (Option B))
     (P : TypedProgram) (texts : List ByteList) (read : Script) (come : List Arrival) (budget number : ℕ) : Type 0 where
   pub comes : ComesSoFar P texts read come budget
   pub written : Took taken taken' (transcript_of (source_at P texts read comes.places comes.steps).board)
-  pub devices : DevicesAfter log failed comes.moves places places'
+  pub devices : DevicesAfter account comes.moves places places'
   pub status : number ≡ status_number (run_status (source_at P texts read comes.places comes.steps).board.end)
   pub ended : (number ≡ 0) ⊎ ((number ≡ 3) ⊎ (number ≡ 4))
 
 -- For words that ask for it, over files that are told, and where no count of faults rose: there was no memory, and nothing was written and no device changed; or that.
-abbrev pub HeadlineAt : {B : Type 0} → (B → Option (List (ℕ × ℕ))) → (B → ℕ) → (told : List ℕ → Option (Option (List ℕ))) → Option Asked → (folder_rose sink_rose : Type 0)
+abbrev pub HeadlineAt : {B : Type 0} → (B → Account) → (told : List ℕ → Option (Option (List ℕ))) → Option Asked → (folder_rose sink_rose : Type 0)
     → (taken taken' : Option (List ℕ)) → (places places' : List (Option B)) → (number : ℕ) → Type 0
-HeadlineAt log failed told asked folder_rose sink_rose taken taken' places places' number =
+HeadlineAt account told asked folder_rose sink_rose taken taken' places places' number =
     (name script_name arrivals_name : List ℕ) (budget : ℕ) (tables : Tables) (P : TypedProgram) (read : Script) (come : List Arrival)
     → asked ≡ Some (run_at name script_name arrivals_name budget) → AreTold told name script_name arrivals_name tables P read come → ¬ folder_rose → ¬ sink_rose
-    → ((number ≡ 30) × Took taken taken' [] × (places' ≡ places)) ⊎ WritesAt log failed taken taken' places places' P tables.texts read come budget number
+    → ((number ≡ 30) × Took taken taken' [] × (places' ≡ places)) ⊎ WritesAt account taken taken' places places' P tables.texts read come budget number

@@ -19,6 +19,7 @@ pub mod Class
 pub mod Orders
 pub mod Headline
 pub mod Completeness
+pub mod Wanted
 pub mod Laws
 pub mod HeadlineAt
 pub mod HeadlineClass

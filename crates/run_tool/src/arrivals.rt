@@ -1,5 +1,5 @@
 // The arrivals that a command names.
-ghost use Rattle.std.specs.Prelude.{◌≡◌, ◌≤◌, Ok, IfOk, IfErr, OnOk};
+ghost use Rattle.std.specs.Prelude.{◌≡◌, ◌≤◌, Ok, IfOk, IfErr, OnOk, IsErrOf};
 ghost use Rattle.sts_base.specs.Faults.{Rose};
 ghost use Rattle.tool_io.specs.Putting.{PutsTo};
 ghost use Rattle.arrival_file.specs.Codes.{number_of};
@@ -9,13 +9,15 @@ ghost use Rattle.run_tool.specs.declared.ending.Status.TheVariants as status;
 ghost use Rattle.run_tool.specs.Answers.{GivesOneOf, says};
 ghost use Rattle.run_tool.specs.Files.{OverFile};
 ghost use Rattle.run_tool.specs.Arrivals.{AnswersArrivals, IsArrivalsOf, none_to_arrivals, arrivals_refused_line};
+ghost use Rattle.run_tool.specs.Wanted.{HasAsked, WantsFile, none_behind};
 
 use crate::ending::{Ending, Status};
 use crate::fetched::text_of;
 use arrival_file::{Arrival, ArrivalCode, ArrivalRefused, read_arrivals};
 use std::alloc::Global;
 use sts_base::Seq;
-use tool_io::{Folder, PutFailed, Sink, then_put, then_put_decimal};
+use tool_folder::Folder;
+use tool_io::{PutFailed, Sink, then_put, then_put_decimal};
 
 /// Puts the line of a refusal of arrivals: the code's number.
 fn put_arrivals_refused<K: Sink>(out: &mut K, code: ArrivalCode) -> Result<(), PutFailed>
@@ -62,6 +64,7 @@ pub fn arrivals_of<F: Folder, K: Sink>(
     ensures sound { IfOk result IsSound }
     ensures unwritten { OnOk result (K.taken out.new ≡ K.taken out.old) }
     ensures none { IfErr result (GivesOneOf K.taken K.faults out.old out.new (OverFile F.holds F.faults folder.old folder.new name.now (AnswersArrivals none_to_arrivals))) }
+    ensures asked { HasAsked F.asked folder.old folder.new (WantsFile (F.holds folder.old) (Rose (F.faults folder.old) (F.faults folder.new)) (IsErrOf result Ending.NoMemory) name.now none_behind) }
     ensures folder_later { F.faults folder.old ≤ F.faults folder.new }
     ensures later { K.faults out.old ≤ K.faults out.new }
 {

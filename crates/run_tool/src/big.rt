@@ -149,7 +149,7 @@ fn run_big<K: Sink, D: Device>(
     requires size { vec_len image ≤ flash_end }
     requires budget { IsBudget manner.budget }
     ensures { (P : TypedProgram) (texts : List ByteList) → ImageImplements P texts image.items
-        → Concludes K.taken K.faults out.old out.new D.log D.faults places.old.items places.new.items (spec.big_line size) (RunsProgram P texts default_script manner.budget manner.stats manner.image) result }
+        → Concludes K.taken K.faults out.old out.new D.account places.old.items places.new.items (spec.big_line size) (RunsProgram P texts default_script manner.budget manner.stats manner.image) result }
 {
     match put_big_line(out, size) {
         Ok(()) => run_program(alloc, image, default_script(alloc), manner, out, places),
@@ -167,7 +167,7 @@ fn big_of<K: Sink, D: Device>(
     places: &mut Vec<Option<D>>,
 ) -> Ending
     requires budget { IsBudget manner.budget }
-    ensures { Concludes K.taken K.faults out.old out.new D.log D.faults places.old.items places.new.items (spec.big_line size)
+    ensures { Concludes K.taken K.faults out.old out.new D.account places.old.items places.new.items (spec.big_line size)
         (OverProgram (λ P texts. RunsProgram P texts default_script manner.budget manner.stats manner.image) text.now) result }
 {
     match build(alloc, text) {
@@ -187,7 +187,7 @@ pub fn big<K: Sink, D: Device>(
     requires least { 1 ≤ size }
     requires most { size ≤ 200 }
     requires budget { IsBudget manner.budget }
-    ensures { Concludes K.taken K.faults out.old out.new D.log D.faults places.old.items places.new.items (spec.big_line size)
+    ensures { Concludes K.taken K.faults out.old out.new D.account places.old.items places.new.items (spec.big_line size)
         (OverProgram (λ P texts. RunsProgram P texts default_script manner.budget manner.stats manner.image) (spec.big_text size)) result }
 {
     match big_text(alloc, size) {

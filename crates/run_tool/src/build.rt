@@ -5,10 +5,12 @@ ghost use Rattle.board_world.specs.Observations.{ByteList};
 ghost use Rattle.sts_syntax.specs.TypedTrees.{TypedProgram};
 ghost use Rattle.sts_implements.specs.Images.{ImageImplements};
 ghost use Rattle.sts_whole.specs.Built.{Builds};
+ghost use Rattle.sts_base.specs.Faults.{Rose};
 ghost use Rattle.run_tool.specs.Answers.{GivesOneOf};
 ghost use Rattle.run_tool.specs.Programs.{OverProgram, none_to_programs};
 ghost use Rattle.run_tool.specs.Build.{BuildsText, WritesImage};
 ghost use Rattle.run_tool.specs.Files.{OverFile};
+ghost use Rattle.run_tool.specs.Wanted.{FoundNoMemory, HasAsked, WantsFile, none_behind};
 
 use crate::ending::{Ending, Status};
 use crate::fetched::text_of;
@@ -16,7 +18,8 @@ use crate::said::{say, say_refusal};
 use hex_image::write_hex;
 use std::alloc::Global;
 use sts_base::NoMemory;
-use tool_io::{Folder, Sink};
+use tool_folder::Folder;
+use tool_io::Sink;
 
 /// The image that is built of a text, with nothing written. Where the text is refused, the answer that says so was given.
 pub fn image_of<K: Sink>(alloc: Global, text: &[u8], out: &mut K) -> Result<Vec<u8>, Ending>
@@ -55,6 +58,8 @@ fn build_text<K: Sink>(alloc: Global, text: &[u8], out: &mut K) -> Ending
 /// The command `build`.
 pub fn build<F: Folder, K: Sink>(alloc: Global, name: &str, folder: &mut F, out: &mut K) -> Ending
     ensures answer { GivesOneOf K.taken K.faults out.old out.new (OverFile F.holds F.faults folder.old folder.new name.now BuildsText) result }
+    ensures asked { HasAsked F.asked folder.old folder.new
+        (WantsFile (F.holds folder.old) (Rose (F.faults folder.old) (F.faults folder.new)) (FoundNoMemory result) name.now none_behind) }
     ensures folder_later { F.faults folder.old ≤ F.faults folder.new }
 {
     match text_of(alloc, name, folder, out) {

@@ -1,15 +1,18 @@
 // The command `check`.
 ghost use Rattle.std.specs.Prelude.{◌≡◌, ◌≤◌};
+ghost use Rattle.sts_base.specs.Faults.{Rose};
 ghost use Rattle.run_tool.specs.Answers.{GivesOneOf};
 ghost use Rattle.run_tool.specs.Check.{ChecksText};
 ghost use Rattle.run_tool.specs.Files.{OverFile};
+ghost use Rattle.run_tool.specs.Wanted.{FoundNoMemory, HasAsked, WantsFile, none_behind};
 
 use crate::ending::{Ending, Status};
 use crate::fetched::text_of;
 use crate::said::{say, say_refusal};
 use std::alloc::Global;
 use sts_whole::accept;
-use tool_io::{Folder, Sink};
+use tool_folder::Folder;
+use tool_io::Sink;
 
 /// Says whether a text is accepted.
 fn check_text<K: Sink>(alloc: Global, text: &[u8], out: &mut K) -> Ending
@@ -24,6 +27,8 @@ fn check_text<K: Sink>(alloc: Global, text: &[u8], out: &mut K) -> Ending
 /// The command `check`.
 pub fn check<F: Folder, K: Sink>(alloc: Global, name: &str, folder: &mut F, out: &mut K) -> Ending
     ensures answer { GivesOneOf K.taken K.faults out.old out.new (OverFile F.holds F.faults folder.old folder.new name.now ChecksText) result }
+    ensures asked { HasAsked F.asked folder.old folder.new
+        (WantsFile (F.holds folder.old) (Rose (F.faults folder.old) (F.faults folder.new)) (FoundNoMemory result) name.now none_behind) }
     ensures folder_later { F.faults folder.old ≤ F.faults folder.new }
 {
     match text_of(alloc, name, folder, out) {

@@ -11,6 +11,7 @@ ghost use Rattle.run_tool.specs.Files.{OverFile};
 ghost use Rattle.run_tool.specs.ClassBoards.{BoardSource};
 ghost use Rattle.run_tool.specs.ClassReady.{CanRun, IsBuiltAs};
 ghost use Rattle.run_tool.specs.Class.{RunsClass, RunsFile, RunsClassText, class_of_sources, ending_of_class};
+ghost use Rattle.run_tool.specs.Wanted.{FoundNoMemory, HasAsked, OrLacks, WantsBoards, WantsClass, WantsFile, wants_none};
 
 use crate::class_boards::{Boards, boards_of};
 use crate::classes::class_in;
@@ -20,7 +21,8 @@ use class_file::ClassFile;
 use class_radio::{ClassEnd, run_class};
 use std::alloc::Global;
 use sts_base::NoMemory;
-use tool_io::{Folder, Sink};
+use tool_folder::Folder;
+use tool_io::Sink;
 
 /// How a call ends whose class's run ended so.
 fn ending_of_class(end: ClassEnd) -> Ending
@@ -80,6 +82,8 @@ fn run_file<F: Folder, K: Sink>(
     requires texts { All AreTexts class.boards }
     requires budget { IsBudget budget }
     ensures answer { GivesOneOf K.taken K.faults out.old out.new (RunsFile (F.holds folder.old) (Rose (F.faults folder.old) (F.faults folder.new)) budget class) result }
+    ensures asked { HasAsked F.asked folder.old folder.new
+        (WantsBoards (F.holds folder.old) (Rose (F.faults folder.old) (F.faults folder.new)) (FoundNoMemory result) class.end class.boards wants_none) }
     ensures folder_later { F.faults folder.old ≤ F.faults folder.new }
 {
     match boards_of(alloc, class.end, class.boards.as_slice(), folder, out) {
@@ -98,6 +102,8 @@ fn run_text<F: Folder, K: Sink>(
 ) -> Ending
     requires budget { IsBudget budget }
     ensures answer { GivesOneOf K.taken K.faults out.old out.new (RunsClassText (F.holds folder.old) (Rose (F.faults folder.old) (F.faults folder.new)) budget text.now) result }
+    ensures asked { HasAsked F.asked folder.old folder.new
+        (OrLacks (FoundNoMemory result) (WantsClass (F.holds folder.old) (Rose (F.faults folder.old) (F.faults folder.new)) (FoundNoMemory result) text.now)) }
     ensures folder_later { F.faults folder.old ≤ F.faults folder.new }
 {
     match class_in(alloc, text, out) {
@@ -117,6 +123,8 @@ pub fn class<F: Folder, K: Sink>(
     requires budget { IsBudget budget }
     ensures answer { GivesOneOf K.taken K.faults out.old out.new (OverFile F.holds F.faults folder.old folder.new name.now
         (RunsClassText (F.holds folder.old) (Rose (F.faults folder.old) (F.faults folder.new)) budget)) result }
+    ensures asked { HasAsked F.asked folder.old folder.new
+        (WantsFile (F.holds folder.old) (Rose (F.faults folder.old) (F.faults folder.new)) (FoundNoMemory result) name.now (WantsClass (F.holds folder.old) (Rose (F.faults folder.old) (F.faults folder.new)) (FoundNoMemory result))) }
     ensures folder_later { F.faults folder.old ≤ F.faults folder.new }
 {
     match text_of(alloc, name, folder, out) {

@@ -18,6 +18,7 @@ ghost use Rattle.run_tool.specs.Scripts.{none_to_scripts, script_refused_line};
 ghost use Rattle.run_tool.specs.ClassFiles.{refuses_class};
 ghost use Rattle.run_tool.specs.ClassBoards.{OverBoardProgram, OverBoardScript, OverBoard, OverBoards, AnswersBoardScript, board_lead, none_to_boards, none_to_board, none_to_all};
 ghost use Rattle.run_tool.specs.ClassReady.{IsImageOf, IsBoardScript, HasScript, HasAdded, AreReady};
+ghost use Rattle.run_tool.specs.Wanted.{FoundNoMemory, HasAsked, WantsBoardScript, WantsBoards, WantsProgram, names_of_boards, wants_never};
 
 use crate::classes::say_class_refused;
 use crate::ending::{Ending, Status};
@@ -28,7 +29,8 @@ use event_script::{Script, ScriptCode, ScriptRefused, read_script};
 use std::alloc::Global;
 use sts_base::{Code, Refused, place};
 use sts_whole::{build, refusals_stand_in_their_texts};
-use tool_io::{Folder, PutFailed, Sink, then_put, then_put_decimal};
+use tool_folder::Folder;
+use tool_io::{PutFailed, Sink, then_put, then_put_decimal};
 
 /// Boards that are made ready: their images, and their scripts.
 #[derive(Drop)]
@@ -109,6 +111,9 @@ fn image_of<F: Folder, K: Sink>(
     ensures unwritten { OnOk result (K.taken out.new ≡ K.taken out.old) }
     ensures none { IfErr result (GivesOneOf K.taken K.faults out.old out.new
         (AnswersFile (OverBoardProgram number none_to_boards) (F.holds folder.old name.now) (Rose (F.faults folder.old) (F.faults folder.new)))) }
+    ensures asked { OnOk result (F.asked folder.new ≡ F.asked folder.old ++ name.now ∷ []) }
+    ensures stopped { IfErr result (λ ending. HasAsked F.asked folder.old folder.new
+        (WantsProgram (F.holds folder.old) (Rose (F.faults folder.old) (F.faults folder.new)) (FoundNoMemory ending) name.now wants_never)) }
     ensures stays { (file : List ℕ) → F.holds folder.new file ≡ F.holds folder.old file }
     ensures folder_later { F.faults folder.old ≤ F.faults folder.new }
     ensures later { K.faults out.old ≤ K.faults out.new }
@@ -191,6 +196,9 @@ fn script_of<F: Folder, K: Sink>(
     ensures unwritten { OnOk result (K.taken out.new ≡ K.taken out.old) }
     ensures none { IfErr result (GivesOneOf K.taken K.faults out.old out.new
         (OverBoardScript (F.holds folder.old) (Rose (F.faults folder.old) (F.faults folder.new)) end number name.now none_to_scripts)) }
+    ensures asked { OnOk result (F.asked folder.new ≡ F.asked folder.old ++ name.now ∷ []) }
+    ensures stopped { IfErr result (λ ending. HasAsked F.asked folder.old folder.new
+        (WantsBoardScript (F.holds folder.old) (Rose (F.faults folder.old) (F.faults folder.new)) (FoundNoMemory ending) end name.now wants_never)) }
     ensures stays { (file : List ℕ) → F.holds folder.new file ≡ F.holds folder.old file }
     ensures folder_later { F.faults folder.old ≤ F.faults folder.new }
     ensures later { K.faults out.old ≤ K.faults out.new }
@@ -243,6 +251,9 @@ impl Boards {
         ensures unwritten { OnOk result (K.taken out.new ≡ K.taken out.old) }
         ensures none { IfErr result (GivesOneOf K.taken K.faults out.old out.new
             (OverBoardScript (F.holds folder.old) (Rose (F.faults folder.old) (F.faults folder.new)) end number name.now none_to_scripts)) }
+        ensures asked { OnOk result (F.asked folder.new ≡ F.asked folder.old ++ name.now ∷ []) }
+        ensures stopped { IfErr result (λ ending. HasAsked F.asked folder.old folder.new
+            (WantsBoardScript (F.holds folder.old) (Rose (F.faults folder.old) (F.faults folder.new)) (FoundNoMemory ending) end name.now wants_never)) }
         ensures stays { (file : List ℕ) → F.holds folder.new file ≡ F.holds folder.old file }
         ensures folder_later { F.faults folder.old ≤ F.faults folder.new }
         ensures later { K.faults out.old ≤ K.faults out.new }
@@ -268,6 +279,9 @@ impl Boards {
         ensures unwritten { OnOk result (K.taken out.new ≡ K.taken out.old) }
         ensures none { IfErr result (GivesOneOf K.taken K.faults out.old out.new
             (OverBoard (F.holds folder.old) (Rose (F.faults folder.old) (F.faults folder.new)) end number names.now none_to_board)) }
+        ensures asked { OnOk result (F.asked folder.new ≡ F.asked folder.old ++ names_of_boards (names.now ∷ [])) }
+        ensures stopped { IfErr result (λ ending. HasAsked F.asked folder.old folder.new
+            (WantsBoards (F.holds folder.old) (Rose (F.faults folder.old) (F.faults folder.new)) (FoundNoMemory ending) end (names.now ∷ []) wants_never)) }
         ensures stays { (file : List ℕ) → F.holds folder.new file ≡ F.holds folder.old file }
         ensures folder_later { F.faults folder.old ≤ F.faults folder.new }
         ensures later { K.faults out.old ≤ K.faults out.new }
@@ -295,6 +309,9 @@ pub fn boards_of<F: Folder, K: Sink>(
     ensures unwritten { OnOk result (K.taken out.new ≡ K.taken out.old) }
     ensures none { IfErr result (GivesOneOf K.taken K.faults out.old out.new
         (OverBoards (F.holds folder.old) (Rose (F.faults folder.old) (F.faults folder.new)) end 0 names.now none_to_all)) }
+    ensures asked { OnOk result (F.asked folder.new ≡ F.asked folder.old ++ names_of_boards names.now) }
+    ensures stopped { IfErr result (λ ending. HasAsked F.asked folder.old folder.new
+        (WantsBoards (F.holds folder.old) (Rose (F.faults folder.old) (F.faults folder.new)) (FoundNoMemory ending) end names.now wants_never)) }
     ensures folder_later { F.faults folder.old ≤ F.faults folder.new }
     ensures later { K.faults out.old ≤ K.faults out.new }
 {

@@ -10,6 +10,7 @@ ghost use Rattle.run_tool.specs.Completeness.{IsComplete};
 ghost use Rattle.sts_words.specs.Orders.{IsInRange, order_view};
 ghost use Rattle.run_tool.specs.HeadlineAt.{HeadlineAt};
 ghost use Rattle.run_tool.specs.HeadlineClass.{HeadlineClass};
+ghost use Rattle.run_tool.specs.Wanted.{FoundNoMemory, HasAsked, Wants};
 
 use crate::big::big;
 use crate::build::build;
@@ -26,7 +27,8 @@ use std::alloc::Global;
 use sts_base::NoMemory;
 use sts_whole::one_answer;
 use sts_words::Order;
-use tool_io::{Folder, Sink};
+use tool_folder::Folder;
+use tool_io::Sink;
 
 /// Does what an order asks for.
 fn perform_order<F: Folder, K: Sink, D: Device>(
@@ -37,8 +39,10 @@ fn perform_order<F: Folder, K: Sink, D: Device>(
     places: &mut Vec<Option<D>>,
 ) -> Ending
     requires { IsInRange order }
-    ensures answer { Concludes K.taken K.faults out.old out.new D.log D.faults places.old.items places.new.items (lead_of (Some (order_view order.entry)))
+    ensures answer { Concludes K.taken K.faults out.old out.new D.account places.old.items places.new.items (lead_of (Some (order_view order.entry)))
         (AnswersOrder F.holds F.faults folder.old folder.new (order_view order.entry)) result }
+    ensures asked { HasAsked F.asked folder.old folder.new
+        (Wants (F.holds folder.old) (Rose (F.faults folder.old) (F.faults folder.new)) (FoundNoMemory result) (Some (order_view order.entry))) }
     ensures folder_later { F.faults folder.old ≤ F.faults folder.new }
 {
     match order {
@@ -100,8 +104,10 @@ fn perform<F: Folder, K: Sink, D: Device>(
     out: &mut K,
     places: &mut Vec<Option<D>>,
 ) -> Ending
-    ensures answer { Concludes K.taken K.faults out.old out.new D.log D.faults places.old.items places.new.items (lead_of (order_of (map string_bytes words.now)))
+    ensures answer { Concludes K.taken K.faults out.old out.new D.account places.old.items places.new.items (lead_of (order_of (map string_bytes words.now)))
         (AnswersWords F.holds F.faults folder.old folder.new (map string_bytes words.now)) result }
+    ensures asked { HasAsked F.asked folder.old folder.new
+        (Wants (F.holds folder.old) (Rose (F.faults folder.old) (F.faults folder.new)) (FoundNoMemory result) (order_of (map string_bytes words.now))) }
     ensures folder_later { F.faults folder.old ≤ F.faults folder.new }
     ensures untouched { order_of (map string_bytes words.now) ≡ None → folder.new ≡ folder.old }
 {
@@ -163,16 +169,16 @@ pub fn sts_main<F: Folder, K: Sink>(
     out: &mut K,
     plugs: &mut Vec<Option<Box<dyn Device>>>,
 ) -> u8
-    ensures headline { Headline ⟦<Box<dyn Device> as Device>⟧.log ⟦<Box<dyn Device> as Device>⟧.faults (F.holds folder.old) (order_of (map string_bytes words.now))
+    ensures headline { Headline ⟦<Box<dyn Device> as Device>⟧.account (F.holds folder.old) (order_of (map string_bytes words.now))
         (Rose (F.faults folder.old) (F.faults folder.new)) (Rose (K.faults out.old) (K.faults out.new)) (K.taken out.old) (K.taken out.new) plugs.old.items plugs.new.items result }
     ensures ends { (ending : Ending) × (result ≡ ending_number ending)
-        × Concludes K.taken K.faults out.old out.new ⟦<Box<dyn Device> as Device>⟧.log ⟦<Box<dyn Device> as Device>⟧.faults plugs.old.items plugs.new.items
+        × Concludes K.taken K.faults out.old out.new ⟦<Box<dyn Device> as Device>⟧.account plugs.old.items plugs.new.items
         (lead_of (order_of (map string_bytes words.now))) (AnswersWords F.holds F.faults folder.old folder.new (map string_bytes words.now)) ending }
     ensures completes { Completes (F.holds folder.old) (order_of (map string_bytes words.now))
         (Rose (F.faults folder.old) (F.faults folder.new)) (Rose (K.faults out.old) (K.faults out.new)) result }
     ensures complete { IsComplete (F.holds folder.old) (order_of (map string_bytes words.now))
         (Rose (F.faults folder.old) (F.faults folder.new)) (Rose (K.faults out.old) (K.faults out.new)) result }
-    ensures headline_at { HeadlineAt ⟦<Box<dyn Device> as Device>⟧.log ⟦<Box<dyn Device> as Device>⟧.faults (F.holds folder.old) (order_of (map string_bytes words.now))
+    ensures headline_at { HeadlineAt ⟦<Box<dyn Device> as Device>⟧.account (F.holds folder.old) (order_of (map string_bytes words.now))
         (Rose (F.faults folder.old) (F.faults folder.new)) (Rose (K.faults out.old) (K.faults out.new)) (K.taken out.old) (K.taken out.new) plugs.old.items plugs.new.items result }
     ensures headline_class { HeadlineClass (F.holds folder.old) (order_of (map string_bytes words.now))
         (Rose (F.faults folder.old) (F.faults folder.new)) (Rose (K.faults out.old) (K.faults out.new)) (K.taken out.old) (K.taken out.new) plugs.old.items plugs.new.items result }
@@ -183,6 +189,8 @@ pub fn sts_main<F: Folder, K: Sink>(
     ensures folder_failed { result ≡ 20 → Rose (F.faults folder.old) (F.faults folder.new) }
     ensures sink_failed { result ≡ 22 → Rose (K.faults out.old) (K.faults out.new) }
     ensures untouched { order_of (map string_bytes words.now) ≡ None → folder.new ≡ folder.old }
+    ensures asked { HasAsked F.asked folder.old folder.new
+        (Wants (F.holds folder.old) (Rose (F.faults folder.old) (F.faults folder.new)) (result ≡ 30) (order_of (map string_bytes words.now))) }
 {
     one_answer();
     perform(alloc, words, folder, out, plugs).number()

@@ -1,14 +1,17 @@
 // The file that a command names.
-ghost use Rattle.std.specs.Prelude.{◌≡◌, ◌≤◌, List, ℕ, IfOk, IfErr, OnOk};
+ghost use Rattle.std.specs.Prelude.{◌≡◌, ◌≤◌, List, ℕ, IfOk, IfErr, OnOk, ◌⊎◌, ◌++◌, ◌∷◌, [], OnErr};
 ghost use Rattle.run_tool.specs.Fetches.{MayFetchFrom};
 ghost use Rattle.run_tool.specs.Answers.{GivesOneOf};
 ghost use Rattle.run_tool.specs.Files.{OverFile, none_to_texts};
+ghost use Rattle.sts_base.specs.Faults.{Rose};
+ghost use Rattle.run_tool.specs.Wanted.{FoundNoMemory, HasAsked, WantsFile, never_behind};
 
 use crate::ending::{Ending, Status};
 use crate::said::say;
 use std::alloc::Global;
 use sts_base::NoMemory;
-use tool_io::{FetchFault, Folder, Found, Sink};
+use tool_folder::{FetchFault, Folder, Found};
+use tool_io::Sink;
 
 /// The most bytes that a file may have.
 const LIMIT: usize = 1_048_576;
@@ -25,6 +28,8 @@ pub enum Fetched {
 /// Fetches the file of that name.
 fn fetch<F: Folder>(alloc: Global, name: &str, folder: &mut F) -> Result<Fetched, NoMemory>
     ensures fetched { IfOk result (λ fetched. MayFetchFrom F.holds F.faults folder.old folder.new name.now fetched) }
+    ensures asked { OnOk result (F.asked folder.new ≡ F.asked folder.old ++ name.now ∷ []) }
+    ensures lacking { OnErr result ((F.asked folder.new ≡ F.asked folder.old ++ name.now ∷ []) ⊎ (F.asked folder.new ≡ F.asked folder.old)) }
     ensures stays { (file : List ℕ) → F.holds folder.new file ≡ F.holds folder.old file }
     ensures later { F.faults folder.old ≤ F.faults folder.new }
 {
@@ -47,17 +52,18 @@ pub fn text_of<F: Folder, K: Sink>(
     ensures text { IfOk result (λ text. MayFetchFrom F.holds F.faults folder.old folder.new name.now (Fetched.Text text)) }
     ensures unwritten { OnOk result (K.taken out.new ≡ K.taken out.old) }
     ensures none { IfErr result (GivesOneOf K.taken K.faults out.old out.new (OverFile F.holds F.faults folder.old folder.new name.now none_to_texts)) }
+    ensures asked { OnOk result (F.asked folder.new ≡ F.asked folder.old ++ name.now ∷ []) }
+    ensures stopped { IfErr result (λ ending. HasAsked F.asked folder.old folder.new
+        (WantsFile (F.holds folder.old) (Rose (F.faults folder.old) (F.faults folder.new)) (FoundNoMemory ending) name.now never_behind)) }
     ensures stays { (file : List ℕ) → F.holds folder.new file ≡ F.holds folder.old file }
     ensures folder_later { F.faults folder.old ≤ F.faults folder.new }
     ensures later { K.faults out.old ≤ K.faults out.new }
 {
-    let Ok(fetched) = fetch(alloc, name, folder) else {
-        return Err(Ending::NoMemory);
-    };
-    match fetched {
-        Fetched::Text(text) => Ok(text),
-        Fetched::Absent => Err(say(out, Status::Missing, b"missing\n")),
-        Fetched::Long => Err(say(out, Status::TooLong, b"too long\n")),
-        Fetched::Failed => Err(say(out, Status::FolderFailed, b"folder failed\n")),
+    match fetch(alloc, name, folder) {
+        Ok(Fetched::Text(text)) => Ok(text),
+        Ok(Fetched::Absent) => Err(say(out, Status::Missing, b"missing\n")),
+        Ok(Fetched::Long) => Err(say(out, Status::TooLong, b"too long\n")),
+        Ok(Fetched::Failed) => Err(say(out, Status::FolderFailed, b"folder failed\n")),
+        Err(NoMemory) => Err(Ending::NoMemory),
     }
 }

@@ -18,6 +18,8 @@ ghost use Rattle.run_tool.specs.Files.{OverFile};
 ghost use Rattle.run_tool.specs.Scripts.{OverScript};
 ghost use Rattle.run_tool.specs.Runs.{ending_of};
 ghost use Rattle.run_tool.specs.Run.{RunsProgram, RunsText, Finishes, counted_behind, instructions_line};
+ghost use Rattle.run_tool.specs.Completeness.{IsProgramText};
+ghost use Rattle.run_tool.specs.Wanted.{FoundNoMemory, HasAsked, IsRefusedText, Onwards, OrLacks, WantsProgram, WantsScript, wants_none};
 
 use crate::build::image_of;
 use crate::ending::Ending;
@@ -32,7 +34,8 @@ use itoa::Buffer;
 use std::alloc::Global;
 use sts_base::NoMemory;
 use sts_whole::run_image;
-use tool_io::{Folder, PutFailed, Sink, then_put};
+use tool_folder::Folder;
+use tool_io::{PutFailed, Sink, then_put};
 
 /// What a run is to be done with beside its program and its script.
 #[derive(Clone, Copy, Drop)]
@@ -141,7 +144,7 @@ fn run_with<K: Sink, D: Device>(
     requires script { IsSound script }
     requires budget { IsBudget manner.budget }
     ensures { (P : TypedProgram) (texts : List ByteList) → ImageImplements P texts image.items
-        → Concludes K.taken K.faults out.old out.new D.log D.faults places.old.items places.new.items [] (RunsProgram P texts script manner.budget manner.stats manner.image) result }
+        → Concludes K.taken K.faults out.old out.new D.account places.old.items places.new.items [] (RunsProgram P texts script manner.budget manner.stats manner.image) result }
 {
     match run_image(alloc, image, script, places, manner.budget, out) {
         Ok((end, stats)) => finish(out, end, manner, &stats, hex),
@@ -174,7 +177,7 @@ pub fn run_program<K: Sink, D: Device>(
     requires script { IsSound script }
     requires budget { IsBudget manner.budget }
     ensures { (P : TypedProgram) (texts : List ByteList) → ImageImplements P texts image.items
-        → Concludes K.taken K.faults out.old out.new D.log D.faults places.old.items places.new.items [] (RunsProgram P texts script manner.budget manner.stats manner.image) result }
+        → Concludes K.taken K.faults out.old out.new D.account places.old.items places.new.items [] (RunsProgram P texts script manner.budget manner.stats manner.image) result }
 {
     match hex_of(alloc, &image, manner) {
         Ok(hex) => run_with(alloc, image, &hex, script, manner, out, places),
@@ -195,9 +198,11 @@ fn run_named<F: Folder, K: Sink, D: Device>(
     requires size { vec_len image ≤ flash_end }
     requires budget { IsBudget manner.budget }
     ensures answer { (P : TypedProgram) (texts : List ByteList) → ImageImplements P texts image.items
-        → Concludes K.taken K.faults out.old out.new D.log D.faults places.old.items places.new.items []
+        → Concludes K.taken K.faults out.old out.new D.account places.old.items places.new.items []
         (OverScript (F.holds folder.old) (Rose (F.faults folder.old) (F.faults folder.new)) (option_map spoken script.entry)
         (λ read. RunsProgram P texts read manner.budget manner.stats manner.image)) result }
+    ensures asked { HasAsked F.asked folder.old folder.new
+        (WantsScript (F.holds folder.old) (Rose (F.faults folder.old) (F.faults folder.new)) (FoundNoMemory result) (option_map spoken script.entry) wants_none) }
     ensures folder_later { F.faults folder.old ≤ F.faults folder.new }
 {
     match script_of(alloc, script, folder, out) {
@@ -217,8 +222,10 @@ fn run_text<F: Folder, K: Sink, D: Device>(
     places: &mut Vec<Option<D>>,
 ) -> Ending
     requires budget { IsBudget manner.budget }
-    ensures answer { Concludes K.taken K.faults out.old out.new D.log D.faults places.old.items places.new.items []
+    ensures answer { Concludes K.taken K.faults out.old out.new D.account places.old.items places.new.items []
         (RunsText (F.holds folder.old) (Rose (F.faults folder.old) (F.faults folder.new)) (option_map spoken script.entry) manner.budget manner.stats manner.image text.now) result }
+    ensures asked { HasAsked F.asked folder.old folder.new
+        (OrLacks (FoundNoMemory result) (Onwards (IsProgramText text.now) (IsRefusedText text.now) (WantsScript (F.holds folder.old) (Rose (F.faults folder.old) (F.faults folder.new)) (FoundNoMemory result) (option_map spoken script.entry) wants_none))) }
     ensures folder_later { F.faults folder.old ≤ F.faults folder.new }
 {
     match image_of(alloc, text, out) {
@@ -238,9 +245,11 @@ pub fn run<F: Folder, K: Sink, D: Device>(
     places: &mut Vec<Option<D>>,
 ) -> Ending
     requires budget { IsBudget manner.budget }
-    ensures answer { Concludes K.taken K.faults out.old out.new D.log D.faults places.old.items places.new.items []
+    ensures answer { Concludes K.taken K.faults out.old out.new D.account places.old.items places.new.items []
         (OverFile F.holds F.faults folder.old folder.new name.now
         (RunsText (F.holds folder.old) (Rose (F.faults folder.old) (F.faults folder.new)) (option_map spoken script.entry) manner.budget manner.stats manner.image)) result }
+    ensures asked { HasAsked F.asked folder.old folder.new
+        (WantsProgram (F.holds folder.old) (Rose (F.faults folder.old) (F.faults folder.new)) (FoundNoMemory result) name.now (WantsScript (F.holds folder.old) (Rose (F.faults folder.old) (F.faults folder.new)) (FoundNoMemory result) (option_map spoken script.entry) wants_none)) }
     ensures folder_later { F.faults folder.old ≤ F.faults folder.new }
 {
     match text_of(alloc, name, folder, out) {

@@ -11,6 +11,8 @@ ghost use Rattle.sts_words.specs.Orders.{IsBudget};
 ghost use Rattle.run_tool.specs.Answers.{Concludes};
 ghost use Rattle.run_tool.specs.Files.{OverFile};
 ghost use Rattle.run_tool.specs.RunAt.{RunsProgramAt, RunsOnScript, RunsOutside, RunsTextAt};
+ghost use Rattle.run_tool.specs.Completeness.{IsProgramText};
+ghost use Rattle.run_tool.specs.Wanted.{FoundNoMemory, HasAsked, IsRefusedText, Onwards, OrLacks, WantsFile, WantsOutside, WantsProgram, none_behind};
 
 use crate::arrivals::arrivals_of;
 use crate::build::image_of;
@@ -24,7 +26,8 @@ use event_script::Script;
 use irq_arrival::run_image_at;
 use std::alloc::Global;
 use sts_base::{NoMemory, Seq};
-use tool_io::{Folder, Sink};
+use tool_folder::Folder;
+use tool_io::Sink;
 
 /// What a program is to meet while it runs, by the names of files, and for how many instructions at most.
 #[derive(Clone, Copy, Drop)]
@@ -49,7 +52,7 @@ fn run_board_at<K: Sink, D: Device>(
     requires arrivals { IsSound arrivals.now }
     requires budget { IsBudget budget }
     ensures { (P : TypedProgram) (texts : List ByteList) → ImageImplements P texts image.items
-        → Concludes K.taken K.faults out.old out.new D.log D.faults places.old.items places.new.items [] (RunsProgramAt P texts script arrivals.now budget) result }
+        → Concludes K.taken K.faults out.old out.new D.account places.old.items places.new.items [] (RunsProgramAt P texts script arrivals.now budget) result }
 {
     match run_image_at(alloc, image, script, arrivals, places, budget, out) {
         Ok(end) => ending_of(end),
@@ -71,8 +74,10 @@ fn run_on_script<F: Folder, K: Sink, D: Device>(
     requires script { script_sound.IsSound script }
     requires budget { IsBudget outside.budget }
     ensures answer { (P : TypedProgram) (texts : List ByteList) → ImageImplements P texts image.items
-        → Concludes K.taken K.faults out.old out.new D.log D.faults places.old.items places.new.items []
+        → Concludes K.taken K.faults out.old out.new D.account places.old.items places.new.items []
         (RunsOnScript (F.holds folder.old) (Rose (F.faults folder.old) (F.faults folder.new)) outside.entry.arrivals.now outside.entry.budget P texts script) result }
+    ensures asked { HasAsked F.asked folder.old folder.new
+        (WantsFile (F.holds folder.old) (Rose (F.faults folder.old) (F.faults folder.new)) (FoundNoMemory result) outside.entry.arrivals.now none_behind) }
     ensures folder_later { F.faults folder.old ≤ F.faults folder.new }
 {
     match arrivals_of(alloc, outside.arrivals, folder, out) {
@@ -93,8 +98,10 @@ fn run_outside<F: Folder, K: Sink, D: Device>(
     requires size { vec_len image ≤ flash_end }
     requires budget { IsBudget outside.budget }
     ensures answer { (P : TypedProgram) (texts : List ByteList) → ImageImplements P texts image.items
-        → Concludes K.taken K.faults out.old out.new D.log D.faults places.old.items places.new.items []
+        → Concludes K.taken K.faults out.old out.new D.account places.old.items places.new.items []
         (RunsOutside (F.holds folder.old) (Rose (F.faults folder.old) (F.faults folder.new)) outside.entry.script.now outside.entry.arrivals.now outside.entry.budget P texts) result }
+    ensures asked { HasAsked F.asked folder.old folder.new
+        (WantsOutside (F.holds folder.old) (Rose (F.faults folder.old) (F.faults folder.new)) (FoundNoMemory result) outside.entry.script.now outside.entry.arrivals.now) }
     ensures folder_later { F.faults folder.old ≤ F.faults folder.new }
 {
     match script_of(alloc, Some(outside.script), folder, out) {
@@ -113,8 +120,10 @@ fn run_text_at<F: Folder, K: Sink, D: Device>(
     places: &mut Vec<Option<D>>,
 ) -> Ending
     requires budget { IsBudget outside.budget }
-    ensures answer { Concludes K.taken K.faults out.old out.new D.log D.faults places.old.items places.new.items []
+    ensures answer { Concludes K.taken K.faults out.old out.new D.account places.old.items places.new.items []
         (RunsTextAt (F.holds folder.old) (Rose (F.faults folder.old) (F.faults folder.new)) outside.entry.script.now outside.entry.arrivals.now outside.entry.budget text.now) result }
+    ensures asked { HasAsked F.asked folder.old folder.new
+        (OrLacks (FoundNoMemory result) (Onwards (IsProgramText text.now) (IsRefusedText text.now) (WantsOutside (F.holds folder.old) (Rose (F.faults folder.old) (F.faults folder.new)) (FoundNoMemory result) outside.entry.script.now outside.entry.arrivals.now))) }
     ensures folder_later { F.faults folder.old ≤ F.faults folder.new }
 {
     match image_of(alloc, text, out) {
@@ -133,9 +142,11 @@ pub fn run_at<F: Folder, K: Sink, D: Device>(
     places: &mut Vec<Option<D>>,
 ) -> Ending
     requires budget { IsBudget outside.budget }
-    ensures answer { Concludes K.taken K.faults out.old out.new D.log D.faults places.old.items places.new.items []
+    ensures answer { Concludes K.taken K.faults out.old out.new D.account places.old.items places.new.items []
         (OverFile F.holds F.faults folder.old folder.new name.now
         (RunsTextAt (F.holds folder.old) (Rose (F.faults folder.old) (F.faults folder.new)) outside.entry.script.now outside.entry.arrivals.now outside.entry.budget)) result }
+    ensures asked { HasAsked F.asked folder.old folder.new
+        (WantsProgram (F.holds folder.old) (Rose (F.faults folder.old) (F.faults folder.new)) (FoundNoMemory result) name.now (WantsOutside (F.holds folder.old) (Rose (F.faults folder.old) (F.faults folder.new)) (FoundNoMemory result) outside.entry.script.now outside.entry.arrivals.now)) }
     ensures folder_later { F.faults folder.old ≤ F.faults folder.new }
 {
     match text_of(alloc, name, folder, out) {

@@ -14,6 +14,7 @@ ghost use Rattle.run_tool.specs.Files.{OverFile};
 ghost use Rattle.run_tool.specs.Scripts.{OverScript};
 ghost use Rattle.run_tool.specs.Runs.{RunsBoard, ending_of};
 ghost use Rattle.run_tool.specs.RunHex.{RunsHex, image_refused_line};
+ghost use Rattle.run_tool.specs.Wanted.{FoundNoMemory, HasAsked, IsBrokenText, IsSpelledText, Onwards, OrLacks, WantsImage, WantsScript, wants_none};
 
 use crate::ending::{Ending, Status};
 use crate::fetched::text_of;
@@ -25,7 +26,8 @@ use hex_image::{HexCode, HexRefused, read_hex};
 use std::alloc::Global;
 use sts_base::NoMemory;
 use sts_whole::run_image;
-use tool_io::{Folder, PutFailed, Sink, then_put, then_put_decimal};
+use tool_folder::Folder;
+use tool_io::{PutFailed, Sink, then_put, then_put_decimal};
 
 /// Puts the line of a refusal of an image: the code's number.
 fn put_image_refused<K: Sink>(out: &mut K, code: HexCode) -> Result<(), PutFailed>
@@ -72,7 +74,7 @@ fn run_board<K: Sink, D: Device>(
     requires size { vec_len image ≤ flash_bytes }
     requires script { IsSound script }
     requires budget { IsBudget budget }
-    ensures { Concludes K.taken K.faults out.old out.new D.log D.faults places.old.items places.new.items [] (RunsBoard image.items script budget) result }
+    ensures { Concludes K.taken K.faults out.old out.new D.account places.old.items places.new.items [] (RunsBoard image.items script budget) result }
 {
     match run_image(alloc, image, script, places, budget, out) {
         Ok((end, _)) => ending_of(end),
@@ -92,8 +94,10 @@ fn run_named<F: Folder, K: Sink, D: Device>(
 ) -> Ending
     requires size { vec_len image ≤ flash_bytes }
     requires budget { IsBudget budget }
-    ensures answer { Concludes K.taken K.faults out.old out.new D.log D.faults places.old.items places.new.items []
+    ensures answer { Concludes K.taken K.faults out.old out.new D.account places.old.items places.new.items []
         (OverScript (F.holds folder.old) (Rose (F.faults folder.old) (F.faults folder.new)) (option_map spoken script.entry) (λ read. RunsBoard image.items read budget)) result }
+    ensures asked { HasAsked F.asked folder.old folder.new
+        (WantsScript (F.holds folder.old) (Rose (F.faults folder.old) (F.faults folder.new)) (FoundNoMemory result) (option_map spoken script.entry) wants_none) }
     ensures folder_later { F.faults folder.old ≤ F.faults folder.new }
 {
     match script_of(alloc, script, folder, out) {
@@ -113,8 +117,10 @@ fn run_hex_text<F: Folder, K: Sink, D: Device>(
     places: &mut Vec<Option<D>>,
 ) -> Ending
     requires budget { IsBudget budget }
-    ensures answer { Concludes K.taken K.faults out.old out.new D.log D.faults places.old.items places.new.items []
+    ensures answer { Concludes K.taken K.faults out.old out.new D.account places.old.items places.new.items []
         (RunsHex (F.holds folder.old) (Rose (F.faults folder.old) (F.faults folder.new)) (option_map spoken script.entry) budget text.now) result }
+    ensures asked { HasAsked F.asked folder.old folder.new
+        (OrLacks (FoundNoMemory result) (Onwards (IsSpelledText text.now) (IsBrokenText text.now) (WantsScript (F.holds folder.old) (Rose (F.faults folder.old) (F.faults folder.new)) (FoundNoMemory result) (option_map spoken script.entry) wants_none))) }
     ensures folder_later { F.faults folder.old ≤ F.faults folder.new }
 {
     match read_hex(alloc, text) {
@@ -137,9 +143,11 @@ pub fn run_hex<F: Folder, K: Sink, D: Device>(
     places: &mut Vec<Option<D>>,
 ) -> Ending
     requires budget { IsBudget budget }
-    ensures answer { Concludes K.taken K.faults out.old out.new D.log D.faults places.old.items places.new.items []
+    ensures answer { Concludes K.taken K.faults out.old out.new D.account places.old.items places.new.items []
         (OverFile F.holds F.faults folder.old folder.new name.now
         (RunsHex (F.holds folder.old) (Rose (F.faults folder.old) (F.faults folder.new)) (option_map spoken script.entry) budget)) result }
+    ensures asked { HasAsked F.asked folder.old folder.new
+        (WantsImage (F.holds folder.old) (Rose (F.faults folder.old) (F.faults folder.new)) (FoundNoMemory result) name.now (WantsScript (F.holds folder.old) (Rose (F.faults folder.old) (F.faults folder.new)) (FoundNoMemory result) (option_map spoken script.entry) wants_none)) }
     ensures folder_later { F.faults folder.old ≤ F.faults folder.new }
 {
     match text_of(alloc, name, folder, out) {

@@ -1,5 +1,5 @@
 // The script that a command names.
-ghost use Rattle.std.specs.Prelude.{◌≡◌, ◌≤◌, ℕ, List, Ok, IfOk, IfErr, OnOk};
+ghost use Rattle.std.specs.Prelude.{◌≡◌, ◌≤◌, ℕ, List, Ok, IfOk, IfErr, OnOk, ◌++◌};
 ghost use Rattle.std.specs.Option.{option_map};
 ghost use Rattle.sts_base.specs.Faults.{Rose};
 ghost use Rattle.tool_io.specs.Putting.{PutsTo};
@@ -10,13 +10,15 @@ ghost use Rattle.sts_words.specs.Views.{spoken};
 ghost use Rattle.run_tool.specs.declared.ending.Status.TheVariants as status;
 ghost use Rattle.run_tool.specs.Answers.{GivesOneOf, says};
 ghost use Rattle.run_tool.specs.Scripts.{AnswersScript, OverScript, IsScriptOf, default_script, none_to_scripts, script_refused_line};
+ghost use Rattle.run_tool.specs.Wanted.{FoundNoMemory, HasAsked, WantsScript, names_given, wants_never};
 
 use crate::ending::{Ending, Status};
 use crate::fetched::text_of;
 use event_script::{Script, ScriptCode, ScriptRefused, read_script};
 use std::alloc::Global;
 use sts_base::Seq;
-use tool_io::{Folder, PutFailed, Sink, then_put, then_put_decimal};
+use tool_folder::Folder;
+use tool_io::{PutFailed, Sink, then_put, then_put_decimal};
 
 /// The moment at which the script ends that is run where none is named.
 const DEFAULT_END: u32 = 1000;
@@ -79,6 +81,9 @@ pub fn script_of<F: Folder, K: Sink>(
     ensures unwritten { OnOk result (K.taken out.new ≡ K.taken out.old) }
     ensures none { IfErr result (GivesOneOf K.taken K.faults out.old out.new
         (OverScript (F.holds folder.old) (Rose (F.faults folder.old) (F.faults folder.new)) (option_map spoken name.entry) none_to_scripts)) }
+    ensures asked { OnOk result (F.asked folder.new ≡ F.asked folder.old ++ names_given (option_map spoken name.entry)) }
+    ensures stopped { IfErr result (λ ending. HasAsked F.asked folder.old folder.new
+        (WantsScript (F.holds folder.old) (Rose (F.faults folder.old) (F.faults folder.new)) (FoundNoMemory ending) (option_map spoken name.entry) wants_never)) }
     ensures stays { (file : List ℕ) → F.holds folder.new file ≡ F.holds folder.old file }
     ensures folder_later { F.faults folder.old ≤ F.faults folder.new }
     ensures later { K.faults out.old ≤ K.faults out.new }

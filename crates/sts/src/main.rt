@@ -8,7 +8,8 @@ use std::alloc::Global;
 use std::env;
 use std::io::ErrorKind;
 use std::process::ExitCode;
-use tool_io::{DiskFolder, StdSink};
+use tool_folder::DiskFolder;
+use tool_io::StdSink;
 
 /// The status where no memory is found before the top call.
 const NO_MEMORY: u8 = 30;
@@ -35,11 +36,16 @@ fn main(rt: HostRuntime) -> ExitCode {
     let Some(words) = words_given(&rt) else {
         return ExitCode::from(NO_MEMORY);
     };
-    let mut out = StdSink::new(rt.stdout());
-    let Ok(echo) = Box::new(alloc, EchoDevice::new(rt.stderr())) else {
+    let Ok(mut out) = StdSink::new(alloc, rt.stdout()) else {
         return ExitCode::from(NO_MEMORY);
     };
-    let mut folder = DiskFolder::new(rt);
+    let Ok(device) = EchoDevice::new(alloc, rt.stderr()) else {
+        return ExitCode::from(NO_MEMORY);
+    };
+    let Ok(echo) = Box::new(alloc, device) else {
+        return ExitCode::from(NO_MEMORY);
+    };
+    let mut folder = DiskFolder::new(alloc, rt);
     let mut plugs: Vec<Option<Box<dyn Device>>> = Vec::new(alloc);
     if plugs.push(None).is_err() || plugs.push(Some(echo)).is_err() {
         return ExitCode::from(NO_MEMORY);

@@ -37,9 +37,8 @@ use Rattle.flat_ir.specs.declared.ops.Function.{Function}
 use Rattle.flat_ir.specs.declared.ops.FlatClass.{FlatClass}
 use Rattle.flat_ir.specs.declared.ops.FlatCode.{FlatCode}
 use Rattle.flat_ir.specs.WellFormed.{IsWellFormed, IsFunctionAmong}
-use Rattle.sts_lower.specs.Fitting.{HasFewFields}
 use Rattle.sts_lower.specs.Lowered.{lowered, flat_class, flat_classes, lowered_routines, repeating_functions, repeated_in_program}
-use Rattle.sts_lower.proofs.Laws.{few_functions, few_fields}
+use Rattle.sts_lower.proofs.Laws.{HasFewFields, few_functions, few_fields}
 use Rattle.lowered_lives.specs.Texts.{Has, AllHave, NamesOnly}
 use Rattle.lowered_lives.proofs.Laws.{program_named, program_fits}
 use Rattle.register_assign.specs.declared.places.Placed.{Placed}

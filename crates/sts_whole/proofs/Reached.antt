@@ -5,7 +5,7 @@ use Rattle.std.proofs.lemmas.Bool.{cases_lt}
 use Rattle.board_world.specs.Observations.{ByteList, End}
 use Rattle.board_world.specs.Board.{Board, over}
 use Rattle.board_world.specs.Activities.{World}
-use Rattle.board_world.specs.Arrivals.{Keeps}
+use Rattle.board_world.proofs.Laws.{PlainlyKept}
 use Rattle.board_world.specs.Invariants.{SoundEnd}
 use Rattle.board_outside.specs.Moves.{Move, HasMet}
 use Rattle.board_outside.proofs.Laws.{goes_on_meeting}
@@ -14,23 +14,11 @@ use Rattle.sts_meaning.specs.Steps.{source, source_start}
 use Rattle.bank_model.specs.Fibers.{Fiber, Shared}
 use Rattle.bank_model.specs.BoardMachine.{fibers, bank_start}
 use Rattle.sts_implements.specs.Images.{instructions_of_a_step, ImageImplements, LooksLike}
-use Rattle.sts_implements.proofs.Laws.{plain, same, in_time}
+use Rattle.sts_implements.proofs.Laws.{looks_like, plainly, plain_faultless}
 use Rattle.event_script.specs.World.{world_entries}
 use Rattle.event_script.specs.declared.script.Script.{Script}
 use Rattle.board_run.specs.Ran.{world_after, IsExecuted}
 use Rattle.sts_whole.specs.Programs.{source_after, Reaches, Met}
-
-looks : (b c : Board) → b ≡ c → LooksLike b c
-looks b c e = record {
-  seen = ap (λ (x : Board). x.seen) e;
-  unplugged = ap (λ (x : Board). x.unplugged) e;
-  clock = ap (λ (x : Board). x.clock) e;
-  end = ap (λ (x : Board). x.end) e;
-  spawned = ap (λ (x : Board). x.spawned) e;
-  blocked = ap (λ (x : Board). x.blocked) e;
-  words = ap (λ (x : Board). x.words) e;
-  most = ap (λ (x : Board). x.most) e;
-}
 
 -- the least number of instructions after which a run is over, or the budget
 next_executed : (at : ℕ → World Fiber Shared) (b n : ℕ) → IsExecuted at b n → (is : Bool) → over (at n).board ≡ is → (m : ℕ) × IsExecuted at (suc b) m
@@ -53,38 +41,30 @@ least_executed at zero = (zero, record { within = omega arith; not_before = λ n
 least_executed at (suc b) = (let r = least_executed at b in next_executed at b r.0 r.1 (over (at r.0).board) refl)
 
 module _ (P : TypedProgram) (texts : List ByteList) (image : List ℕ) (implements : ImageImplements P texts image) (script : Script) (free : List ℕ) where
-  kept : (m : ℕ) → Keeps (source P texts) (fibers image) instructions_of_a_step (source_start P texts script.end (world_entries script.entries))
-      (bank_start image script.end (world_entries script.entries) free) [] m
-  kept m = (implements free).keeps script.end (world_entries script.entries) [] tt m
+  abbrev kept : (m : ℕ) → PlainlyKept instructions_of_a_step (λ s. (source_after P texts script s).board) (λ n. (world_after image script free n).board) m
+  kept m = plainly P texts image implements script.end (world_entries script.entries) free m
 
-  alike : (m : ℕ) → LooksLike (source_after P texts script (kept m).k).board (world_after image script free m).board
-  unfolding kept
-  alike m =
-      looks _ _ (same (source P texts) (fibers image) instructions_of_a_step (source_start P texts script.end (world_entries script.entries))
-      (bank_start image script.end (world_entries script.entries) free) m (kept m))
+  alike : (m : ℕ) → LooksLike (source_after P texts script (kept m).steps).board (world_after image script free m).board
+  alike m = looks_like _ _ (kept m).board
 
   pub faultless : (n : ℕ) → SoundEnd (λ kind address. ⊥) (world_after image script free n).board.end
-  faultless n =
-      subst (λ (w : World Fiber Shared). SoundEnd (λ kind address. ⊥) w.board.end) (plain (fibers image) n (bank_start image script.end (world_entries script.entries) free))
-      ((implements free).no_fault script.end (world_entries script.entries) [] tt n)
+  faultless n = plain_faultless P texts image implements script.end (world_entries script.entries) free n
 
   -- enough steps are made where the source hasn't ended
   enough : (budget executed n : ℕ) → IsExecuted (world_after image script free) budget executed → instructions_of_a_step * n ≤ budget
-      → (is : Bool) → over (world_after image script free executed).board ≡ is → (n ≤ (kept executed).k) ⊎ (over (source_after P texts script (kept executed).k).board ≡ true)
+      → (is : Bool) → over (world_after image script free executed).board ≡ is → (n ≤ (kept executed).steps) ⊎ (over (source_after P texts script (kept executed).steps).board ≡ true)
   enough budget executed n e l true is = inr (ap (λ (x : Option End). is_some x) (alike executed).end ∙ is)
   enough budget executed n e l false is = goes e.done
     where
-      goes : (executed ≡ budget) ⊎ (over (world_after image script free executed).board ≡ true) → (n ≤ (kept executed).k) ⊎ (over (source_after P texts script (kept executed).k).board ≡ true)
+      goes : (executed ≡ budget) ⊎ (over (world_after image script free executed).board ≡ true) → (n ≤ (kept executed).steps) ⊎ (over (source_after P texts script (kept executed).steps).board ≡ true)
       goes (inl whole) =
-          let below : executed < instructions_of_a_step * ((kept executed).k + 1) =
-          in_time (source P texts) (fibers image) instructions_of_a_step (source_start P texts script.end (world_entries script.entries))
-          (bank_start image script.end (world_entries script.entries) free) executed (kept executed) is in
+          let below : executed < instructions_of_a_step * ((kept executed).steps + 1) = (kept executed).at_least is in
           inl (omega arith)
       goes (inr end) = absurd (let c : false ≡ true = sym is ∙ end in cc)
 
   pub reaches : (budget executed : ℕ) → IsExecuted (world_after image script free) budget executed → (steps : ℕ) × Reaches P texts image script budget free executed steps
   reaches budget executed e = (
-    (kept executed).k,
+    (kept executed).steps,
     record {
       is_executed = e;
       alike = alike executed;

@@ -18,7 +18,9 @@ use Rattle.sts_grammar.specs.Texts.{source, BeginsToken}
 use Rattle.sts_grammar.specs.Units.{IsProgram}
 use Rattle.type_derive.specs.Accepted.{AreDerived, refusal, typed, DerivedTypesExist}
 use Rattle.sts_whole.specs.Accepting.{Reads, Accepts, IsRefusedFor}
-use Rattle.sts_whole.specs.Laws.{SomeAnswer}
+use Rattle.sts_lexer.specs.Laws.{SomeReading}
+use Rattle.library_laws.specs.Laws.{first, LibraryIsRead}
+use Rattle.sts_whole.specs.Laws.{OneAnswer, SomeAnswer, TextHasOneAnswer}
 
 token_there : (tokens : List Token) (n : ℕ) → n < length tokens → (token : Token) × (slice_get tokens n ≡ Some token)
 token_there [] n lt = absurd (omega (arith, lt))
@@ -94,3 +96,27 @@ module _ (reading : ProgramIsRead) (types : DerivedTypesExist) (text : List ℕ)
 
 pub some_answer : ProgramIsRead → DerivedTypesExist → SomeAnswer
 some_answer reading types = λ text tables library tokens read. answered reading types text tables library tokens read
+
+-- the library is read first, and then the text behind it, which has tokens or is refused for want of them
+pub has_one : LibraryIsRead → SomeReading → SomeAnswer → OneAnswer → TextHasOneAnswer
+has_one library reading answer one = record { some = each; one = one }
+  where
+    each : (text : List ℕ) → ((tables : Tables) × (P : TypedProgram) × Accepts text tables P) ⊎ ((code : Code) × (at : ℕ) × IsRefusedFor text code at)
+    each text =
+        elim (reading first text library.names library.texts) [
+          | inr refused ↦ inr (refused.0, refused.1, inl refused.2)
+          | inl found ↦
+              (let tables = found.0 in
+              let read = found.2 in
+              let behind : Reads text tables library.program found.1 = record {
+                first = first;
+                library_is = library.read;
+                tokenization = read.tokens;
+                in_order = read.in_order;
+                names = read.more_names;
+                texts = read.more_texts;
+                names_distinct = read.names;
+                texts_distinct = read.texts;
+              } in
+              elim (answer text tables library.program found.1 behind) [ inl accepted ↦ inl (tables, accepted.0, accepted.1) | inr refused ↦ inr refused ])
+        ]

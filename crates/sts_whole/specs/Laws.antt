@@ -27,3 +27,8 @@ pub record OneAnswer : Type 0 where
 abbrev pub SomeAnswer : Type 0
 SomeAnswer = (text : List ℕ) (tables : Tables) (library : Program) (tokens : List Token) → Reads text tables library tokens
     → ((P : TypedProgram) × Accepts text tables P) ⊎ ((code : Code) × (at : ℕ) × IsRefusedFor text code at)
+
+-- A text has one answer: it is accepted or refused, and never both; as one program, or for one reason.
+pub record TextHasOneAnswer : Type 0 where
+  pub some : (text : List ℕ) → ((tables : Tables) × (P : TypedProgram) × Accepts text tables P) ⊎ ((code : Code) × (at : ℕ) × IsRefusedFor text code at)
+  pub one : OneAnswer

@@ -1,9 +1,11 @@
 //! Laws of accepted texts.
-ghost use Rattle.sts_whole.specs.Laws.{AcceptedIsBuildable, OneAnswer, SomeAnswer};
+ghost use Rattle.sts_whole.specs.Laws.{AcceptedIsBuildable, OneAnswer, SomeAnswer, TextHasOneAnswer};
 
-use library_laws::{library_leaves_first, prelude_is_library, typed_library_is_light};
+use library_laws::{
+    library_is_read, library_leaves_first, prelude_is_library, typed_library_is_light,
+};
 use sts_grammar::{one_program, the_program_is_read};
-use sts_lexer::{one_reading, spellings_stay};
+use sts_lexer::{one_reading, spellings_stay, texts_are_read_or_refused};
 use sts_prelude::text_spells_library;
 use type_derive::{derived_types_are_one, derived_types_exist};
 use typed_laws::accepted_texts_are_well_typed;
@@ -37,4 +39,14 @@ pub fn texts_with_tokens_have_an_answer()
 {
     the_program_is_read();
     derived_types_exist();
+}
+
+/// A text has one answer: each text is accepted or refused, never both, as one program, or with one code and, but for a syntax error, one place.
+pub fn texts_have_one_answer()
+    ensures { TextHasOneAnswer }
+{
+    library_is_read();
+    texts_are_read_or_refused();
+    texts_with_tokens_have_an_answer();
+    one_answer();
 }

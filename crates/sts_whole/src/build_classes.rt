@@ -34,12 +34,12 @@ fn member(plan: &Plan, class: u32, name: u32) -> Option<usize>
 }
 
 /// The type of a class's member of a name.
-fn member_type(plan: &Plan, class: u32, name: u32) -> Result<Ty, NoMemory>
-    ensures { IfOk result (λ t. value.value_type t ≡ w.member_kind plan.now class name) }
+fn member_type(plan: &Plan, class: u32, name: u32) -> Ty
+    ensures { value.value_type result ≡ w.member_kind plan.now class name }
 {
     match member(plan, class, name) {
-        None => Ok(Ty::Nothing),
-        Some(d) => noted_type(plan.alloc, kind_at(plan.known, d)),
+        None => Ty::NOTHING,
+        Some(d) => noted_type(kind_at(plan.known, d)),
     }
 }
 
@@ -59,7 +59,7 @@ fn member_types(plan: &Plan, class: u32, names: &[u32]) -> Result<Seq<Ty>, NoMem
 {
     let mut all = Seq::new(plan.alloc);
     for name in names {
-        all.push(member_type(plan, class, *name)?)?;
+        all.push(member_type(plan, class, *name))?;
     }
     Ok(all)
 }
@@ -111,8 +111,7 @@ fn add_global(plan: &Plan, all: &mut Seq<Ty>, d: usize, entry: &Entry) -> Result
     ensures { OnOk result (value.value_types all.new ≡ value.value_types all.old ++ w.one_global plan.now d entry.now) }
 {
     if is_global(entry.sort) {
-        let found = noted_type(plan.alloc, kind_at(plan.known, d))?;
-        return all.push(found);
+        return all.push(noted_type(kind_at(plan.known, d)));
     }
     Ok(())
 }

@@ -65,11 +65,11 @@ fn own_field(plan: &Plan, class: u32, of: Option<Kind>, name: u32) -> Result<Typ
     ensures { IfOk result (λ r. typed_tree r ≡ e.Field (s.noted of) (e.This (value.Object class)) (number.place_among (number.field_names plan.now.known.now class) name)) }
 {
     let number = field_number(plan, class, name)?;
-    let ty = noted_type(plan.alloc, of)?;
+    let ty = noted_type(of);
     let this = boxed(
         plan.alloc,
         TypedExpr {
-            ty: Ty::Class(class),
+            ty: Ty::object(class),
             node: TypedNode::This,
         },
     )?;
@@ -104,8 +104,7 @@ fn field_set(
     let value = boxed(plan.alloc, value)?;
     let (value, target) = beside(value, own_field(plan, class, of, name))?;
     let (value, target) = beside(value, boxed(plan.alloc, target))?;
-    let ((value, target), ty) = beside((value, target), noted_type(plan.alloc, of))?;
-    Ok(set(ty, target, value))
+    Ok(set(noted_type(of), target, value))
 }
 
 /// A statement more.

@@ -34,7 +34,7 @@ pub fn passed_on(alloc: Global, first: u32, takes: &[Kind]) -> Result<Seq<TypedE
     let mut all = Seq::new(alloc);
     let mut at = first;
     for kind in takes {
-        let ty = type_of_values(alloc, *kind)?;
+        let ty = type_of_values(*kind);
         let node = TypedNode::Name(Spot::Param(at));
         all.push(TypedExpr { ty, node })?;
         at = one_more(at)?;
@@ -48,7 +48,7 @@ fn super_called(plan: &Plan, base: u32, args: Seq<TypedExpr>) -> TypedStmt
     ensures { typed_statement result ≡ w.super_called plan.now base (typed_trees args) }
 {
     TypedStmt::Plain(TypedExpr {
-        ty: Ty::Class(base),
+        ty: Ty::object(base),
         node: TypedNode::SuperCall(maker_number(plan.numbers, base), args),
     })
 }
@@ -192,7 +192,7 @@ fn build_constructor(
     let own = TypedBody {
         params,
         locals,
-        gives: Ty::Class(parts.class),
+        gives: Ty::object(parts.class),
         stmts,
     };
     Ok(Function {
@@ -206,7 +206,7 @@ fn types_of_this(alloc: Global, class: u32) -> Result<Seq<Ty>, NoMemory>
     ensures { IfOk result (λ all. value_types all ≡ value.Object class ∷ []) }
 {
     let mut all = Seq::new(alloc);
-    all.push(Ty::Class(class))?;
+    all.push(Ty::object(class))?;
     Ok(all)
 }
 
@@ -243,11 +243,11 @@ pub fn add_constructor(
 
 /// Types of values behind others.
 #[tactic(auto, using(crate::proofs::Constructors::value_next))]
-fn add_kinds(alloc: Global, all: &mut Seq<Ty>, takes: &[Kind]) -> Result<(), NoMemory>
+fn add_kinds(all: &mut Seq<Ty>, takes: &[Kind]) -> Result<(), NoMemory>
     ensures { OnOk result (value_types all.new ≡ value_types all.old ++ kind.value_types takes.now) }
 {
     for kind in takes {
-        all.push(type_of_values(alloc, *kind)?)?;
+        all.push(type_of_values(*kind))?;
     }
     Ok(())
 }
@@ -279,14 +279,14 @@ fn unwritten_constructor(plan: &Plan, parts: &ClassParts) -> Result<TypedBody, N
     let class = parts.class;
     let takes = plan.known.maker_takes(class);
     let mut params = types_of_this(plan.alloc, class)?;
-    add_kinds(plan.alloc, &mut params, takes)?;
+    add_kinds(&mut params, takes)?;
     let mut stmts = Seq::new(plan.alloc);
     add_passed(plan, &mut stmts, base_of(plan.known, class), takes)?;
     add_initials(plan, &mut stmts, parts)?;
     Ok(TypedBody {
         params,
         locals: Seq::new(plan.alloc),
-        gives: Ty::Class(class),
+        gives: Ty::object(class),
         stmts,
     })
 }

@@ -173,7 +173,7 @@ fn with_main(plan: &Plan, whole: Whole) -> Result<Seq<TypedBody>, NoMemory>
     let main = TypedBody {
         params: Seq::new(plan.alloc),
         locals,
-        gives: Ty::Nothing,
+        gives: Ty::NOTHING,
         stmts,
     };
     routines.push(main)?;

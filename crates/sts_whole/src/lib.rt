@@ -18,7 +18,8 @@ mod reaching;
 mod refused_places;
 
 pub use accepted_programs::{
-    accepted_programs_are_buildable, one_answer, texts_with_tokens_have_an_answer,
+    accepted_programs_are_buildable, one_answer, texts_have_one_answer,
+    texts_with_tokens_have_an_answer,
 };
 pub use accepting::accept;
 pub use board::run_image;

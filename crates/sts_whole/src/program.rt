@@ -51,7 +51,7 @@ pub fn run_text<K: Sink, D: Device>(
     requires script { IsSound script }
     requires least { 1 ≤ budget }
     requires most { budget ≤ 2147483648 }
-    ensures ran { IfOk result (λ r. (image : List ℕ) × Builds text.now image × RunsImage D.log D.faults image script budget (K.taken out.old) (K.taken out.new) (K.faults out.old) (K.faults out.new)
+    ensures ran { IfOk result (λ r. (image : List ℕ) × Builds text.now image × RunsImage D.account image script budget (K.taken out.old) (K.taken out.new) (K.faults out.old) (K.faults out.new)
         places.old.items places.new.items r.0 r.1) }
     ensures counted { IfOk result (λ r. r.1.instructions ≤ budget) }
     ensures faultless { IfOk result (λ r. IsFaultless r.0) }

@@ -9,7 +9,7 @@ use std::alloc::Global;
 use std::io;
 use std::io::Write;
 use sts_base::NoMemory;
-use tool_io::MemoryFolder;
+use tool_folder::MemoryFolder;
 
 /// Board 0 sends, and board 1 writes what it hears.
 const TWO: &str =

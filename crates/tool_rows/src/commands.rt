@@ -7,23 +7,25 @@ use std::alloc::Global;
 use std::io;
 use std::io::Write;
 use sts_base::{NoMemory, Seq};
-use tool_io::{Folder, MemoryFolder, MemorySink, Sink, SureFolder, SureSink};
+use tool_folder::{Folder, MemoryFolder, SureFolder};
+use tool_io::{MemorySink, Sink, SureSink};
 
 /// The calls of `fetch` and `put` that are to fail, the words, and the text of the file f; the file s is no script, and stands for no arrivals, t is one, and a stands for
 /// arrivals.
 type Row = (u64, u64, &'static [&'static str], &'static str);
 
-const SUM: &str = "serial.writeNumber(2147483647 + 1)";
+/// A program that writes a number.
+pub const SUM: &str = "serial.writeNumber(2147483647 + 1)";
 
 /// A text of an image whose first line has a wrong sum.
-const WRONG_SUM: &str = ":0400000001020304F3\n:00000001FF\n";
+pub const WRONG_SUM: &str = ":0400000001020304F3\n:00000001FF\n";
 
 /// The text of an image that divides 7 by 1 and writes the quotient.
-const SEVEN: &str =
+pub const SEVEN: &str =
     ":10000000803F00200D000000150000000248034959\n:1000100014DF0CDF00DF000007000000010000001B\n:00000001FF\n";
 
 /// A script without entries.
-const EMPTY: &str = "{\"end\":1000,\"events\":[]}";
+pub const EMPTY: &str = "{\"end\":1000,\"events\":[]}";
 
 /// An event that arrives.
 pub const RAISE: &str = "{\"arrivals\":[{\"after\":1,\"do\":\"raise\",\"source\":50,\"value\":7}]}";

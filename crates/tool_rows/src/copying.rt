@@ -37,11 +37,7 @@ fn copied(copies: &Copies, now: u32, word: u32) -> bool {
 }
 
 impl Device for CopyingDevice {
-    ghost log = { λ device. None };
-
-    ghost faults = { λ device. device.faults };
-
-    ghost writes = { λ device. device.writes };
+    ghost account = { λ device. record { log = None; faults = device.faults; writes = device.writes } };
 
     fn logged(&self, _at: usize) -> Option<(u32, u32)> {
         None

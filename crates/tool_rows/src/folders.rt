@@ -4,7 +4,7 @@ use std::alloc::Global;
 use std::io;
 use std::io::{ErrorKind, Write};
 use sts_base::{NoMemory, Seq};
-use tool_io::{FetchFault, Folder, Found, MemoryFolder, SureFolder};
+use tool_folder::{FetchFault, Folder, Found, MemoryFolder, SureFolder};
 
 /// Want of memory, as an error that main ends with.
 pub fn wanting(_: NoMemory) -> io::Error {

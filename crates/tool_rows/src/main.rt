@@ -3,6 +3,7 @@
 //! word is given, the row of that name in `refused` is run alone. Programs of standard input have their flat code written behind the rows.
 #![tactic(auto)]
 
+mod asked;
 mod bigs;
 mod classes;
 mod code;
@@ -30,6 +31,7 @@ fn main(rt: HostRuntime) -> io::Result<()> {
     streams::show(alloc, out)?;
     images::show(alloc, out)?;
     commands::show(alloc, out)?;
+    asked::show(alloc, out)?;
     devices::show(alloc, out)?;
     game::show(alloc, out)?;
     classes::show(alloc, out)?;

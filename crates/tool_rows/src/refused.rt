@@ -10,7 +10,7 @@ use run_tool::sts_main;
 use std::alloc::Global;
 use std::io;
 use std::io::Write;
-use tool_io::MemoryFolder;
+use tool_folder::MemoryFolder;
 
 /// The row's name, its words, and the texts of the files f and s.
 type Row = (

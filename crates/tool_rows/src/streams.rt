@@ -4,7 +4,9 @@ use crate::folders::show_found;
 use std::alloc::Global;
 use std::io;
 use std::io::{ErrorKind, Read, Write};
-use tool_io::{FetchFault, Sink, StdSink, read_up_to};
+use sts_base::NoMemory;
+use tool_folder::{FetchFault, read_up_to};
+use tool_io::{Sink, StdSink};
 
 /// A reader of ten bytes that gives three at a time, and fails so at every other read.
 #[derive(Drop)]
@@ -35,12 +37,12 @@ fn show_read<W: Write>(
     error: ErrorKind,
     limit: usize,
 ) -> io::Result<()> {
-    let reader = Halting {
+    let mut reader = Halting {
         given: 0,
         reads: 0,
         error,
     };
-    match read_up_to(alloc, reader, limit) {
+    match read_up_to(alloc, &mut reader, limit) {
         Ok(found) => show_found(out, &Ok(found)),
         Err(why) if why.kind() == ErrorKind::OutOfMemory => {
             show_found(out, &Err(FetchFault::NoMemory))
@@ -74,15 +76,26 @@ impl<W: Write> Write for Narrow<'_, W> {
     }
 }
 
+/// What a stream answers where no memory is found for its sink.
+fn no_memory(_error: NoMemory) -> io::Error {
+    io::Error::from(ErrorKind::OutOfMemory)
+}
+
 /// Puts each piece to a stream that takes so many bytes. What it took stands between bars, and then how many puts were refused.
-fn show_stream<W: Write>(out: &mut W, room: usize, pieces: &[&str]) -> io::Result<()> {
+fn show_stream<W: Write>(
+    alloc: Global,
+    out: &mut W,
+    room: usize,
+    pieces: &[&str],
+) -> io::Result<()> {
     out.write_all(b"|")?;
     let mut refused = 0u64;
-    let mut sink = StdSink::new(Narrow {
+    let narrow = Narrow {
         below: out,
         room,
         writes: 0,
-    });
+    };
+    let mut sink = StdSink::new(alloc, narrow).map_err(no_memory)?;
     for piece in pieces {
         if sink.put(piece.as_bytes()).is_err() {
             refused = refused.saturating_add(1);
@@ -93,13 +106,14 @@ fn show_stream<W: Write>(out: &mut W, room: usize, pieces: &[&str]) -> io::Resul
 }
 
 /// Puts pieces of a thousand bytes to a stream that takes nothing, until one is refused.
-fn show_full<W: Write>(out: &mut W) -> io::Result<()> {
+fn show_full<W: Write>(alloc: Global, out: &mut W) -> io::Result<()> {
     let mut taken = 0u64;
-    let mut sink = StdSink::new(Narrow {
+    let narrow = Narrow {
         below: out,
         room: 0,
         writes: 0,
-    });
+    };
+    let mut sink = StdSink::new(alloc, narrow).map_err(no_memory)?;
     for _ in 0..100 {
         if sink.put(&[b'x'; 1000]).is_ok() {
             taken = taken.saturating_add(1);
@@ -110,13 +124,13 @@ fn show_full<W: Write>(out: &mut W) -> io::Result<()> {
 }
 
 /// Puts that end no line, one that does, and one behind it; a stream that ends in the middle of a line; and one that takes nothing.
-fn show_streams<W: Write>(out: &mut W) -> io::Result<()> {
-    show_stream(out, 9, &["abc", "", "def"])?;
-    show_stream(out, 9, &["abc", "", "d\n", "ef"])?;
-    show_stream(out, 9, &["abc\n", "\n", "a\nb"])?;
-    show_stream(out, 5, &["ab\n", "cd", "ef\n", "g", ""])?;
-    show_stream(out, 5, &["ab\n", "cd", "ef\n", "g", "\n"])?;
-    show_full(out)
+fn show_streams<W: Write>(alloc: Global, out: &mut W) -> io::Result<()> {
+    show_stream(alloc, out, 9, &["abc", "", "def"])?;
+    show_stream(alloc, out, 9, &["abc", "", "d\n", "ef"])?;
+    show_stream(alloc, out, 9, &["abc\n", "\n", "a\nb"])?;
+    show_stream(alloc, out, 5, &["ab\n", "cd", "ef\n", "g", ""])?;
+    show_stream(alloc, out, 5, &["ab\n", "cd", "ef\n", "g", "\n"])?;
+    show_full(alloc, out)
 }
 
 /// Reads that are short and interrupted are gone on with; other errors end them. So of writes.
@@ -127,5 +141,5 @@ pub fn show<W: Write>(alloc: Global, out: &mut W) -> io::Result<()> {
     show_read(alloc, out, ErrorKind::Interrupted, 0)?;
     show_read(alloc, out, ErrorKind::NotFound, 10)?;
     show_read(alloc, out, ErrorKind::OutOfMemory, 10)?;
-    show_streams(out)
+    show_streams(alloc, out)
 }

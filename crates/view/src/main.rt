@@ -11,7 +11,8 @@ use std::alloc::Global;
 use std::env;
 use std::io::{ErrorKind, Read};
 use std::process::ExitCode;
-use tool_io::{DiskFolder, FetchFault, Folder, Found, PutFailed, Sink, StdSink, read_up_to};
+use tool_folder::{DiskFolder, FetchFault, Folder, Found, read_up_to};
+use tool_io::{PutFailed, Sink, StdSink};
 use transcript_view::{ViewFault, view_page, view_text};
 use view_forms::{Below, NOTES};
 use words::{Asked, read_words};
@@ -45,8 +46,8 @@ fn words_given(rt: &HostRuntime) -> Option<Vec<String>> {
 }
 
 /// All that a reader gives, or the status where there is no memory or it fails.
-fn all_of<F: Read + Drop>(alloc: Global, reader: F) -> Result<Vec<u8>, u8> {
-    match read_up_to(alloc, reader, usize::MAX) {
+fn all_of<F: Read + Drop>(alloc: Global, mut reader: F) -> Result<Vec<u8>, u8> {
+    match read_up_to(alloc, &mut reader, usize::MAX) {
         Ok(Found::Whole(bytes)) => Ok(bytes),
         Ok(_) => Err(NO_MEMORY),
         Err(error) if error.kind() == ErrorKind::OutOfMemory => Err(NO_MEMORY),
@@ -141,14 +142,16 @@ fn main(rt: HostRuntime) -> ExitCode {
     let Some(words) = words_given(&rt) else {
         return ExitCode::from(NO_MEMORY);
     };
-    let mut out = StdSink::new(rt.stdout());
+    let Ok(mut out) = StdSink::new(alloc, rt.stdout()) else {
+        return ExitCode::from(NO_MEMORY);
+    };
     let asked = match read_words(alloc, words.as_slice()) {
         Ok(Some(asked)) => asked,
         Ok(None) => return ExitCode::from(tell(USAGE, &mut out)),
         Err(_) => return ExitCode::from(NO_MEMORY),
     };
     let stdin = rt.stdin();
-    let mut folder = DiskFolder::new(rt);
+    let mut folder = DiskFolder::new(alloc, rt);
     let input = match asked.file {
         Some(name) => file_of(alloc, &mut folder, name),
         None => all_of(alloc, stdin),

@@ -1,8 +1,14 @@
-use Rattle.std.proofs.Common.{subst, Ok}
+use Rattle.std.proofs.Common.{List, subst, Ok, ◌≡◌, refl, inl, le_refl, ap}
 use Rattle.sts_base.specs.Faults.{Rose}
 use Rattle.arrival_file.specs.Verdict.{Tells}
 use Rattle.run_tool.specs.Arrivals.{AnswersArrivals, none_to_arrivals}
 use Rattle.run_tool.proofs.Endings.{if-ok, if-err, text-gives, no-text-gives}
+use Rattle.std.specs.Prelude.{Result, IsErrOf, Err}
+use Rattle.arrival_file.specs.declared.arrival.Arrival.{Arrival}
+use Rattle.run_tool.specs.declared.ending.Ending.{Ending}
+use Rattle.run_tool.specs.declared.ending.Ending.TheVariants.{NoMemory}
+use Rattle.run_tool.specs.Wanted.{OrLacks, WantsFile, never_behind, none_behind}
+use Rattle.run_tool.proofs.Wanting.{asked-more, asked-none, file-more, then-behind}
 use Rattle.run_tool.proofs.arrivals.arrivals_of.Goals as goal
 
 pub returns-in-Ok-clause-arrivals : goal.returns-in-Ok-clause-arrivals
@@ -21,3 +27,31 @@ returns-in-Err-clause-none g c =
     let told = g.F.Folder.holds c.args.folder.now in
     let rose = Rose (g.F.Folder.faults c.args.folder.now) (g.F.Folder.faults c.text_of.new.folder) in
     no-text-gives (AnswersArrivals none_to_arrivals) (told c.args.name.now) rose c.in-Err.ending c.in-Err.ensures.none
+
+pub returns-in-Ok-clause-asked : goal.returns-in-Ok-clause-asked
+returns-in-Ok-clause-asked g c =
+    let asked = g.F.Folder.asked in
+    let holds = g.F.Folder.holds in
+    let faults = g.F.Folder.faults in
+    let old = c.args.folder.now in
+    let new = c.text_of.new.folder in
+    let told = holds old in
+    let rose = Rose (faults old) (faults new) in
+    let lacking = IsErrOf c.arrivals_in.result NoMemory in
+    then-behind asked holds faults old new new lacking c.args.name.now none_behind c.in-Ok.text c.deref.result.now c.in-Ok.ensures.asked c.in-Ok.ensures.text c.deref.ensures.value (le_refl (faults new))
+    (asked-none asked new (OrLacks lacking (none_behind c.deref.result.now)) (inl refl))
+
+pub returns-in-Err-clause-asked : goal.returns-in-Err-clause-asked
+returns-in-Err-clause-asked g c =
+    let asked = g.F.Folder.asked in
+    let holds = g.F.Folder.holds in
+    let faults = g.F.Folder.faults in
+    let old = c.args.folder.now in
+    let new = c.text_of.new.folder in
+    let told = holds old in
+    let rose = Rose (faults old) (faults new) in
+    let stopped = c.in-Err.ending ≡ NoMemory in
+    let result : Result (List Arrival) Ending = Err c.in-Err.ending in
+    let lacking = IsErrOf result NoMemory in
+    asked-more asked old new (WantsFile told rose stopped c.args.name.now never_behind) (WantsFile told rose lacking c.args.name.now none_behind)
+    (λ names h. file-more told told rose rose stopped lacking (λ file. refl) (λ r. r) (λ e. ap (λ x. Err x) e) c.args.name.now never_behind none_behind names (λ text names x. absurd x) h) c.in-Err.ensures.stopped

@@ -13,7 +13,7 @@ returns-in-Ok g c =
     let m = c.args.manner in
     let answers = λ (P : TypedProgram) (texts : List ByteList). RunsProgram P texts default_script m.budget m.stats m.image in
     let b = c.in-Ok.ensures.built in
-    concludes-more g.D.Device.log g.D.Device.faults c.args.places.now.items c.run_big.new.places.items (big_line c.args.size) (answers b.program b.tables.texts) (OverProgram answers c.args.text.now) c.run_big.result
+    concludes-more g.D.Device.account c.args.places.now.items c.run_big.new.places.items (big_line c.args.size) (answers b.program b.tables.texts) (OverProgram answers c.args.text.now) c.run_big.result
     (of-program answers c.args.text.now c.in-Ok.image.items b) (c.run_big.ensures b.program b.tables.texts b.implements)
 
 pub returns-in-Err : goal.returns-in-Err
@@ -21,5 +21,5 @@ returns-in-Err g c =
     let m = c.args.manner in
     let answers = λ (P : TypedProgram) (texts : List ByteList). RunsProgram P texts default_script m.budget m.stats m.image in
     let none = OverProgram none_to_programs c.args.text.now in
-    concludes-more g.D.Device.log g.D.Device.faults c.args.places.now.items c.args.places.now.items (big_line c.args.size) none (OverProgram answers c.args.text.now) c.say_big_refused.result
-    (no-program answers c.args.text.now) (led-concludes g.D.Device.log g.D.Device.faults c.args.places.now.items c.args.places.now.items refl (big_line c.args.size) none c.say_big_refused.result c.say_big_refused.ensures)
+    concludes-more g.D.Device.account c.args.places.now.items c.args.places.now.items (big_line c.args.size) none (OverProgram answers c.args.text.now) c.say_big_refused.result
+    (no-program answers c.args.text.now) (led-concludes g.D.Device.account c.args.places.now.items c.args.places.now.items refl (big_line c.args.size) none c.say_big_refused.result c.say_big_refused.ensures)

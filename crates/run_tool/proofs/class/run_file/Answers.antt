@@ -1,4 +1,4 @@
-use Rattle.std.proofs.Common.{subst, [], List}
+use Rattle.std.proofs.Common.{subst, [], List, ◌≡◌, ◌++◌, refl}
 use Rattle.sts_base.specs.Faults.{Rose}
 use Rattle.tool_io.specs.Putting.{Took}
 use Rattle.tool_io.proofs.Laws.{took-nothing}
@@ -9,6 +9,10 @@ use Rattle.run_tool.specs.ClassReady.{AreReady}
 use Rattle.run_tool.specs.Class.{class_of_sources, RunsClass, RunsFile}
 use Rattle.run_tool.proofs.Endings.{gives-more, gives-after}
 use Rattle.run_tool.proofs.ClassTexts.{ready-runs, not-ready}
+use Rattle.run_tool.specs.declared.ending.Ending.TheVariants.{NoMemory}
+use Rattle.run_tool.specs.Wanted.{HasAsked, WantsBoards, names_of_boards, wants_never, wants_none}
+use Rattle.run_tool.proofs.Wanting.{asked-more, boards-more}
+use Rattle.run_tool.proofs.WantedReadings.{all-read}
 use Rattle.run_tool.proofs.class.run_file.Goals as goal
 
 pub returns-in-Ok-clause-answer : goal.returns-in-Ok-clause-answer
@@ -27,3 +31,35 @@ returns-in-Err-clause-answer g c =
     let rose = Rose (g.F.Folder.faults c.args.folder.now) (g.F.Folder.faults c.boards_of.new.folder) in
     gives-more (OverBoards told rose c.args.class.end 0 c.args.class.boards none_to_all) (RunsFile told rose c.args.budget c.args.class) c.in-Err.ending (λ answer h. not-ready told rose c.args.budget c.args.class answer h)
     (subst (λ (names : List Names). GivesOneOf g.K.Sink.taken g.K.Sink.faults c.args.out.now c.boards_of.new.out (OverBoards told rose c.args.class.end 0 names none_to_all) c.in-Err.ending) c.as_slice.ensures c.in-Err.ensures.none)
+
+pub returns-in-Ok-clause-asked : goal.returns-in-Ok-clause-asked
+returns-in-Ok-clause-asked g c =
+    let asked = g.F.Folder.asked in
+    let holds = g.F.Folder.holds in
+    let faults = g.F.Folder.faults in
+    let old = c.args.folder.now in
+    let new = c.boards_of.new.folder in
+    let told = holds old in
+    let rose = Rose (faults old) (faults new) in
+    let lacking = c.run_boards.result ≡ NoMemory in
+    let class = c.args.class in
+    let ready : AreReady told rose class.end class.boards c.in-Ok.boards = subst (λ (names : List Names). AreReady told rose class.end names c.in-Ok.boards) c.as_slice.ensures c.in-Ok.ensures.ready in (
+      names_of_boards class.boards,
+      subst (λ (names : List Names). asked new ≡ asked old ++ names_of_boards names) c.as_slice.ensures c.in-Ok.ensures.asked,
+      all-read told rose lacking class.end class.boards ready.sources ready.are,
+    )
+
+pub returns-in-Err-clause-asked : goal.returns-in-Err-clause-asked
+returns-in-Err-clause-asked g c =
+    let asked = g.F.Folder.asked in
+    let holds = g.F.Folder.holds in
+    let faults = g.F.Folder.faults in
+    let old = c.args.folder.now in
+    let new = c.boards_of.new.folder in
+    let told = holds old in
+    let rose = Rose (faults old) (faults new) in
+    let lacking = c.in-Err.ending ≡ NoMemory in
+    let class = c.args.class in
+    asked-more asked old new (WantsBoards told rose lacking class.end class.boards wants_never) (WantsBoards told rose lacking class.end class.boards wants_none)
+    (λ names h. boards-more told told rose rose lacking lacking (λ file. refl) (λ r. r) (λ l. l) class.end class.boards wants_never wants_none names (λ names x. absurd x) h)
+    (subst (λ (names : List Names). HasAsked asked old new (WantsBoards told rose lacking class.end names wants_never)) c.as_slice.ensures c.in-Err.ensures.stopped)

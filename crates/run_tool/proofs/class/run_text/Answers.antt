@@ -1,4 +1,4 @@
-use Rattle.std.proofs.Common.{subst, [], inl}
+use Rattle.std.proofs.Common.{subst, [], inl, ◌≡◌}
 use Rattle.sts_base.specs.Faults.{Rose}
 use Rattle.tool_io.specs.Putting.{Took}
 use Rattle.tool_io.proofs.Laws.{took-nothing}
@@ -6,6 +6,10 @@ use Rattle.run_tool.specs.ClassFiles.{AnswersClassFile, none_to_classes}
 use Rattle.run_tool.specs.Class.{RunsFile, RunsClassText}
 use Rattle.run_tool.proofs.Endings.{gives-more, gives-after}
 use Rattle.run_tool.proofs.ClassAnswers.{no-class}
+use Rattle.run_tool.specs.declared.ending.Ending.TheVariants.{NoMemory}
+use Rattle.run_tool.specs.Wanted.{OrLacks, WantsBoards, WantsClass, wants_none}
+use Rattle.run_tool.proofs.Wanting.{asked-more, asked-none}
+use Rattle.run_tool.proofs.WantedReadings.{class-stops}
 use Rattle.run_tool.proofs.class.run_text.Goals as goal
 
 pub returns-in-Ok-clause-answer : goal.returns-in-Ok-clause-answer
@@ -22,3 +26,29 @@ returns-in-Err-clause-answer g c =
     let rose = Rose (g.F.Folder.faults c.args.folder.now) (g.F.Folder.faults c.args.folder.now) in
     let answers = RunsFile told rose c.args.budget in
     gives-more (AnswersClassFile none_to_classes c.args.text.now) (AnswersClassFile answers c.args.text.now) c.in-Err.ending (λ answer h. no-class answers c.args.text.now answer h) c.in-Err.ensures.none
+
+pub returns-in-Ok-clause-asked : goal.returns-in-Ok-clause-asked
+returns-in-Ok-clause-asked g c =
+    let asked = g.F.Folder.asked in
+    let holds = g.F.Folder.holds in
+    let faults = g.F.Folder.faults in
+    let old = c.args.folder.now in
+    let new = c.run_file.new.folder in
+    let told = holds old in
+    let rose = Rose (faults old) (faults new) in
+    let lacking = c.run_file.result ≡ NoMemory in
+    let class = c.in-Ok.class in
+    asked-more asked old new (WantsBoards told rose lacking class.end class.boards wants_none) (OrLacks lacking (WantsClass told rose lacking c.args.text.now))
+    (λ names h. inl (inl (class, c.in-Ok.ensures.class, h))) c.run_file.ensures.asked
+
+pub returns-in-Err-clause-asked : goal.returns-in-Err-clause-asked
+returns-in-Err-clause-asked g c =
+    let asked = g.F.Folder.asked in
+    let holds = g.F.Folder.holds in
+    let faults = g.F.Folder.faults in
+    let old = c.args.folder.now in
+    let new = c.args.folder.now in
+    let told = holds old in
+    let rose = Rose (faults old) (faults new) in
+    let lacking = c.in-Err.ending ≡ NoMemory in
+    asked-none asked old (OrLacks lacking (WantsClass told rose lacking c.args.text.now)) (class-stops told rose c.args.text.now c.in-Err.ending c.in-Err.ensures.none)

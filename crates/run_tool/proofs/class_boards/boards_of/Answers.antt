@@ -1,4 +1,4 @@
-use Rattle.std.proofs.Common.{◌≡◌, ◌∙◌, sym, refl, ap, subst, arith, [], take, length, List}
+use Rattle.std.proofs.Common.{◌∷◌, ◌≡◌, ◌∙◌, sym, refl, ap, subst, arith, [], take, length, List, ◌++◌}
 use Rattle.std.proofs.Math.Seq.{take-length}
 use Rattle.sts_base.specs.Faults.{Rose}
 use Rattle.tool_io.specs.Putting.{Took}
@@ -9,6 +9,10 @@ use Rattle.run_tool.specs.ClassBoards.{OverBoard, OverBoards, none_to_board, non
 use Rattle.run_tool.specs.ClassReady.{AreReady}
 use Rattle.run_tool.proofs.Endings.{gives-more, gives-after}
 use Rattle.run_tool.proofs.ClassRuns.{none-ready, next-ready, next-answered}
+use Rattle.run_tool.specs.declared.ending.Ending.TheVariants.{NoMemory}
+use Rattle.run_tool.specs.Wanted.{names_of_boards}
+use Rattle.run_tool.proofs.Wanting.{more-behind, no-more}
+use Rattle.run_tool.proofs.WantedReadings.{next-wanted, next-names}
 use Rattle.run_tool.proofs.class_boards.boards_of.Goals as goal
 
 pub add-requires : goal.add-requires
@@ -22,6 +26,7 @@ loop-at-init g c =
       λ file. refl,
       omega arith,
       omega arith,
+      no-more (g.F.Folder.asked c.args.folder.now),
     )
 
 pub loop-at-preserved : goal.loop-at-preserved
@@ -38,6 +43,8 @@ loop-at-preserved g c =
       λ file. c.add.ensures.stays file ∙ i.2 file,
       omega (arith, i.3, c.add.ensures.folder_later),
       omega (arith, i.4, c.add.ensures.later),
+      more-behind (g.F.Folder.asked c.args.folder.now) (g.F.Folder.asked c.loop-at.folder) (g.F.Folder.asked c.add.new.folder) (names_of_boards (take c.loop-at.at c.args.names.now))
+          (names_of_boards (c.index-names-at.result ∷ [])) i.5 c.in-Ok.ensures.asked ∙ ap (λ x. g.F.Folder.asked c.args.folder.now ++ x) (sym (next-names c.args.names.now c.loop-at.at c.index-names-at.result c.loop-at-test.true c.index-names-at.is)),
     )
 
 pub returns-in-Err-clause-none : goal.returns-in-Err-clause-none
@@ -60,3 +67,29 @@ returns-clause-ready g c =
     let far : c.loop-at.at ≡ length c.args.names.now = omega (arith, c.loop-at-test.false, c.loop-at.auto.at-end) in
     let all : take c.loop-at.at c.args.names.now ≡ c.args.names.now = ap (λ n. take n c.args.names.now) far ∙ take-length c.args.names.now in
     subst (λ (names : List Names). AreReady (g.F.Folder.holds c.args.folder.now) (Rose failed (g.F.Folder.faults c.loop-at.folder)) c.args.end names c.loop-at.boards) all c.loop-at.invariant.0
+
+pub returns-in-Err-clause-stopped : goal.returns-in-Err-clause-stopped
+returns-in-Err-clause-stopped g c =
+    let asked = g.F.Folder.asked in
+    let holds = g.F.Folder.holds in
+    let faults = g.F.Folder.faults in
+    let old = c.args.folder.now in
+    let new = c.add.new.folder in
+    let told = holds old in
+    let rose = Rose (faults old) (faults new) in
+    let mid = c.loop-at.folder in
+    let i = c.loop-at.invariant in
+    let done = names_of_boards (take c.loop-at.at c.args.names.now) in
+    let h = c.in-Err.ensures.stopped in (
+      done ++ h.0,
+      more-behind (asked old) (asked mid) (asked new) done h.0 i.5 h.1,
+      next-wanted told (holds mid) (Rose (faults old) (faults mid)) (Rose (faults mid) (faults new)) rose c.args.end i.2 (λ r. rose-after (faults old) (faults mid) (faults new) r c.add.ensures.folder_later)
+          (λ r. rose-before (faults old) (faults mid) (faults new) i.3 r) c.args.names.now c.loop-at.at c.index-names-at.result c.loop-at.boards i.0 c.loop-at-test.true c.index-names-at.is (c.in-Err.ending ≡ NoMemory) h.0 h.2,
+    )
+
+pub returns-clause-asked : goal.returns-clause-asked
+returns-clause-asked g c =
+    let asked = g.F.Folder.asked in
+    let far : c.loop-at.at ≡ length c.args.names.now = omega (arith, c.loop-at-test.false, c.loop-at.auto.at-end) in
+    let all : take c.loop-at.at c.args.names.now ≡ c.args.names.now = ap (λ n. take n c.args.names.now) far ∙ take-length c.args.names.now in
+    subst (λ (names : List Names). asked c.loop-at.folder ≡ asked c.args.folder.now ++ names_of_boards names) all c.loop-at.invariant.5

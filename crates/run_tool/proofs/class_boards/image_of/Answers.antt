@@ -1,8 +1,13 @@
-use Rattle.std.proofs.Common.{subst}
+use Rattle.std.proofs.Common.{List, ℕ, subst, ◌≡◌, ◌∷◌, []}
 use Rattle.sts_base.specs.Faults.{Rose}
 use Rattle.sts_whole.specs.Built.{Builds}
 use Rattle.run_tool.specs.ClassBoards.{OverBoardProgram, none_to_boards}
 use Rattle.run_tool.proofs.Endings.{if-ok, if-err, text-gives, no-text-gives}
+use Rattle.run_tool.specs.declared.ending.Ending.TheVariants.{NoMemory}
+use Rattle.run_tool.specs.Completeness.{IsProgramText}
+use Rattle.run_tool.specs.Wanted.{IsRefusedText, Onwards, WantsFile, never_behind, wants_never}
+use Rattle.run_tool.proofs.Wanting.{asked-more, file-fetched, file-missed, on-ok-all}
+use Rattle.run_tool.proofs.WantedReadings.{board-program-stops}
 use Rattle.run_tool.proofs.class_boards.image_of.Goals as goal
 
 pub returns-in-Ok-clause-image : goal.returns-in-Ok-clause-image
@@ -21,3 +26,36 @@ returns-in-Err-clause-none g c =
     let told = g.F.Folder.holds c.args.folder.now in
     let rose = Rose (g.F.Folder.faults c.args.folder.now) (g.F.Folder.faults c.text_of.new.folder) in
     no-text-gives (OverBoardProgram c.args.number none_to_boards) (told c.args.name.now) rose c.in-Err.ending c.in-Err.ensures.none
+
+pub returns-in-Ok-clause-asked : goal.returns-in-Ok-clause-asked
+returns-in-Ok-clause-asked g c = on-ok-all c.image_in.result c.in-Ok.ensures.asked
+
+pub returns-in-Ok-clause-stopped : goal.returns-in-Ok-clause-stopped
+returns-in-Ok-clause-stopped g c =
+    let asked = g.F.Folder.asked in
+    let holds = g.F.Folder.holds in
+    let faults = g.F.Folder.faults in
+    let old = c.args.folder.now in
+    let new = c.text_of.new.folder in
+    let told = holds old in
+    let rose = Rose (faults old) (faults new) in
+    let text = c.deref.result.now in
+    if-err c.image_in.result (λ ending h. (
+      c.args.name.now ∷ [],
+      c.in-Ok.ensures.asked,
+      file-fetched told rose (ending ≡ NoMemory) c.args.name.now (λ t. Onwards (IsProgramText t) (IsRefusedText t) wants_never) c.in-Ok.text text [] c.deref.ensures.value c.in-Ok.ensures.text (board-program-stops wants_never text ending c.args.number h),
+    )) c.image_in.ensures.none
+
+pub returns-in-Err-clause-stopped : goal.returns-in-Err-clause-stopped
+returns-in-Err-clause-stopped g c =
+    let asked = g.F.Folder.asked in
+    let holds = g.F.Folder.holds in
+    let faults = g.F.Folder.faults in
+    let old = c.args.folder.now in
+    let new = c.text_of.new.folder in
+    let told = holds old in
+    let rose = Rose (faults old) (faults new) in
+    let lacking = c.in-Err.ending ≡ NoMemory in
+    let next = λ (t : List ℕ). Onwards (IsProgramText t) (IsRefusedText t) wants_never in
+    asked-more asked old new (WantsFile told rose lacking c.args.name.now never_behind) (WantsFile told rose lacking c.args.name.now next)
+    (λ names h. file-missed told rose lacking c.args.name.now next names h) c.in-Err.ensures.stopped

@@ -1,4 +1,4 @@
-use Rattle.std.proofs.Common.{subst, refl, []}
+use Rattle.std.proofs.Common.{subst, refl, [], ◌≡◌}
 use Rattle.std.specs.Option.{option_map}
 use Rattle.sts_base.specs.Faults.{Rose}
 use Rattle.sts_words.specs.Views.{spoken}
@@ -7,6 +7,10 @@ use Rattle.tool_io.proofs.Laws.{took-nothing}
 use Rattle.run_tool.specs.Run.{RunsProgram}
 use Rattle.run_tool.specs.Scripts.{OverScript, none_to_scripts}
 use Rattle.run_tool.proofs.Endings.{gives-more, concludes-more, concludes-after, says-concludes, no-script, over-script}
+use Rattle.run_tool.specs.declared.ending.Ending.TheVariants.{NoMemory}
+use Rattle.run_tool.specs.Wanted.{WantsScript, names_given, wants_never, wants_none}
+use Rattle.run_tool.proofs.Wanting.{asked-more, script-more}
+use Rattle.run_tool.proofs.WantedReadings.{script-read}
 use Rattle.run_tool.proofs.run.run_named.Goals as goal
 
 pub returns-in-Ok-clause-answer : goal.returns-in-Ok-clause-answer
@@ -16,9 +20,9 @@ returns-in-Ok-clause-answer g c = λ P texts implements.
     let name = option_map spoken c.args.script in
     let m = c.args.manner in
     let may = OverScript told rose name (λ read. RunsProgram P texts read m.budget m.stats m.image) in
-    concludes-after g.D.Device.log g.D.Device.faults c.args.places.now.items c.run_program.new.places.items [] may c.run_program.result
+    concludes-after g.D.Device.account c.args.places.now.items c.run_program.new.places.items [] may c.run_program.result
     (subst (λ x. Took x (g.K.Sink.taken c.script_of.new.out) []) c.in-Ok.ensures.unwritten (took-nothing (g.K.Sink.taken c.script_of.new.out))) c.in-Ok.ensures.later
-    (concludes-more g.D.Device.log g.D.Device.faults c.args.places.now.items c.run_program.new.places.items [] (RunsProgram P texts c.in-Ok.script m.budget m.stats m.image) may c.run_program.result
+    (concludes-more g.D.Device.account c.args.places.now.items c.run_program.new.places.items [] (RunsProgram P texts c.in-Ok.script m.budget m.stats m.image) may c.run_program.result
     (λ answer h. over-script told rose name (λ read. RunsProgram P texts read m.budget m.stats m.image) c.in-Ok.script answer c.in-Ok.ensures.script h) (c.run_program.ensures P texts implements))
 
 pub returns-in-Err-clause-answer : goal.returns-in-Err-clause-answer
@@ -28,5 +32,31 @@ returns-in-Err-clause-answer g c = λ P texts implements.
     let name = option_map spoken c.args.script in
     let m = c.args.manner in
     let may = OverScript told rose name (λ read. RunsProgram P texts read m.budget m.stats m.image) in
-    says-concludes g.D.Device.log g.D.Device.faults c.args.places.now.items c.args.places.now.items refl may c.in-Err.ending
+    says-concludes g.D.Device.account c.args.places.now.items c.args.places.now.items refl may c.in-Err.ending
     (gives-more (OverScript told rose name none_to_scripts) may c.in-Err.ending (λ answer h. no-script told rose name (λ read. RunsProgram P texts read m.budget m.stats m.image) answer h) c.in-Err.ensures.none)
+
+pub returns-in-Ok-clause-asked : goal.returns-in-Ok-clause-asked
+returns-in-Ok-clause-asked g c =
+    let asked = g.F.Folder.asked in
+    let holds = g.F.Folder.holds in
+    let faults = g.F.Folder.faults in
+    let old = c.args.folder.now in
+    let new = c.script_of.new.folder in
+    let told = holds old in
+    let rose = Rose (faults old) (faults new) in
+    let name = option_map spoken c.args.script in
+    (names_given name, c.in-Ok.ensures.asked, script-read told rose (c.run_program.result ≡ NoMemory) name c.in-Ok.script c.in-Ok.ensures.script)
+
+pub returns-in-Err-clause-asked : goal.returns-in-Err-clause-asked
+returns-in-Err-clause-asked g c =
+    let asked = g.F.Folder.asked in
+    let holds = g.F.Folder.holds in
+    let faults = g.F.Folder.faults in
+    let old = c.args.folder.now in
+    let new = c.script_of.new.folder in
+    let told = holds old in
+    let rose = Rose (faults old) (faults new) in
+    let name = option_map spoken c.args.script in
+    let lacking = c.in-Err.ending ≡ NoMemory in
+    asked-more asked old new (WantsScript told rose lacking name wants_never) (WantsScript told rose lacking name wants_none)
+    (λ names h. script-more told told rose rose lacking lacking (λ file. refl) (λ r. r) (λ l. l) name wants_never wants_none names (λ names x. absurd x) h) c.in-Err.ensures.stopped

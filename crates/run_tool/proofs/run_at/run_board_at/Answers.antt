@@ -6,9 +6,9 @@ use Rattle.run_tool.proofs.run_at.run_board_at.Goals as goal
 
 pub returns-in-Ok : goal.returns-in-Ok
 returns-in-Ok g c = λ P texts implements.
-    subst (λ e. Concludes g.K.Sink.taken g.K.Sink.faults c.args.out.now c.run_image_at.new.out g.D.Device.log g.D.Device.faults c.args.places.now.items c.run_image_at.new.places.items []
+    subst (λ e. Concludes g.K.Sink.taken g.K.Sink.faults c.args.out.now c.run_image_at.new.out g.D.Device.account c.args.places.now.items c.run_image_at.new.places.items []
     (RunsProgramAt P texts c.args.script c.args.arrivals.now c.args.budget) e) (sym c.ending_of.ensures)
-    (at-ends g.K.Sink.taken g.K.Sink.faults c.args.out.now c.run_image_at.new.out g.D.Device.log g.D.Device.faults c.args.places.now.items c.run_image_at.new.places.items P texts c.args.image.items implements
+    (at-ends g.K.Sink.taken g.K.Sink.faults c.args.out.now c.run_image_at.new.out g.D.Device.account c.args.places.now.items c.run_image_at.new.places.items P texts c.args.image.items implements
     c.args.script c.args.arrivals.now c.args.budget c.in-Ok.ensures.later c.in-Ok.end (c.in-Ok.ensures.source P texts implements))
 
 pub returns-in-Err : goal.returns-in-Err

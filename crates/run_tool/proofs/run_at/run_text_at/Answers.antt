@@ -1,9 +1,14 @@
-use Rattle.std.proofs.Common.{subst, refl, []}
+use Rattle.std.proofs.Common.{subst, refl, [], ◌≡◌, inl}
 use Rattle.sts_base.specs.Faults.{Rose}
 use Rattle.tool_io.specs.Putting.{Took}
 use Rattle.tool_io.proofs.Laws.{took-nothing}
 use Rattle.run_tool.specs.RunAt.{RunsOutside, RunsTextAt}
 use Rattle.run_tool.proofs.Endings.{concludes-more, concludes-after, says-concludes, no-program-gives, of-program}
+use Rattle.run_tool.specs.declared.ending.Ending.TheVariants.{NoMemory}
+use Rattle.run_tool.specs.Completeness.{IsProgramText}
+use Rattle.run_tool.specs.Wanted.{IsRefusedText, Onwards, OrLacks, WantsOutside}
+use Rattle.run_tool.proofs.Wanting.{asked-more, asked-none}
+use Rattle.run_tool.proofs.WantedReadings.{accepted, program-stops}
 use Rattle.run_tool.proofs.run_at.run_text_at.Goals as goal
 
 pub returns-in-Ok-clause-answer : goal.returns-in-Ok-clause-answer
@@ -13,9 +18,9 @@ returns-in-Ok-clause-answer g c =
     let answers = RunsOutside told rose c.args.outside.script.now c.args.outside.arrivals.now c.args.outside.budget in
     let b = c.in-Ok.ensures.built in
     let may = RunsTextAt told rose c.args.outside.script.now c.args.outside.arrivals.now c.args.outside.budget c.args.text.now in
-    concludes-after g.D.Device.log g.D.Device.faults c.args.places.now.items c.run_outside.new.places.items [] may c.run_outside.result
+    concludes-after g.D.Device.account c.args.places.now.items c.run_outside.new.places.items [] may c.run_outside.result
     (subst (λ x. Took x (g.K.Sink.taken c.image_of.new.out) []) c.in-Ok.ensures.unwritten (took-nothing (g.K.Sink.taken c.image_of.new.out))) c.in-Ok.ensures.later
-    (concludes-more g.D.Device.log g.D.Device.faults c.args.places.now.items c.run_outside.new.places.items [] (answers b.program b.tables.texts) may c.run_outside.result
+    (concludes-more g.D.Device.account c.args.places.now.items c.run_outside.new.places.items [] (answers b.program b.tables.texts) may c.run_outside.result
     (of-program answers c.args.text.now c.in-Ok.image.items b) (c.run_outside.ensures.answer b.program b.tables.texts b.implements))
 
 pub returns-in-Err-clause-answer : goal.returns-in-Err-clause-answer
@@ -23,6 +28,34 @@ returns-in-Err-clause-answer g c =
     let told = g.F.Folder.holds c.args.folder.now in
     let rose = Rose (g.F.Folder.faults c.args.folder.now) (g.F.Folder.faults c.args.folder.now) in
     let answers = RunsOutside told rose c.args.outside.script.now c.args.outside.arrivals.now c.args.outside.budget in
-    says-concludes g.D.Device.log g.D.Device.faults c.args.places.now.items c.args.places.now.items refl
+    says-concludes g.D.Device.account c.args.places.now.items c.args.places.now.items refl
     (RunsTextAt told rose c.args.outside.script.now c.args.outside.arrivals.now c.args.outside.budget c.args.text.now) c.in-Err.ending
     (no-program-gives answers c.args.text.now c.in-Err.ending c.in-Err.ensures.none)
+
+pub returns-in-Ok-clause-asked : goal.returns-in-Ok-clause-asked
+returns-in-Ok-clause-asked g c =
+    let asked = g.F.Folder.asked in
+    let holds = g.F.Folder.holds in
+    let faults = g.F.Folder.faults in
+    let old = c.args.folder.now in
+    let new = c.run_outside.new.folder in
+    let told = holds old in
+    let rose = Rose (faults old) (faults new) in
+    let text = c.args.text.now in
+    let lacking = c.run_outside.result ≡ NoMemory in
+    let next = WantsOutside told rose lacking c.args.outside.script.now c.args.outside.arrivals.now in
+    asked-more asked old new next (OrLacks lacking (Onwards (IsProgramText text) (IsRefusedText text) next)) (λ names h. inl (inl (accepted text c.in-Ok.image.items c.in-Ok.ensures.built, h))) c.run_outside.ensures.asked
+
+pub returns-in-Err-clause-asked : goal.returns-in-Err-clause-asked
+returns-in-Err-clause-asked g c =
+    let asked = g.F.Folder.asked in
+    let holds = g.F.Folder.holds in
+    let faults = g.F.Folder.faults in
+    let old = c.args.folder.now in
+    let new = c.args.folder.now in
+    let told = holds old in
+    let rose = Rose (faults old) (faults new) in
+    let text = c.args.text.now in
+    let lacking = c.in-Err.ending ≡ NoMemory in
+    let next = WantsOutside told rose lacking c.args.outside.script.now c.args.outside.arrivals.now in
+    asked-none asked old (OrLacks lacking (Onwards (IsProgramText text) (IsRefusedText text) next)) (program-stops next text c.in-Err.ending c.in-Err.ensures.none)

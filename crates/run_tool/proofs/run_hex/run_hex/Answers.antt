@@ -1,4 +1,4 @@
-use Rattle.std.proofs.Common.{refl, []}
+use Rattle.std.proofs.Common.{refl, [], ◌≡◌}
 use Rattle.std.specs.Option.{option_map}
 use Rattle.sts_base.specs.Faults.{Rose}
 use Rattle.sts_words.specs.Views.{spoken}
@@ -7,6 +7,9 @@ use Rattle.run_tool.specs.RunHex.{RunsHex}
 use Rattle.run_tool.specs.Files.{AnswersFile}
 use Rattle.run_tool.proofs.Endings.{no-text-gives, concludes-more, text-concludes, says-concludes}
 use Rattle.run_tool.proofs.ImageRuns.{hex-onwards}
+use Rattle.run_tool.specs.declared.ending.Ending.TheVariants.{NoMemory}
+use Rattle.run_tool.specs.Wanted.{IsBrokenText, IsSpelledText, Onwards, OrLacks, WantsFile, WantsScript, never_behind, wants_none}
+use Rattle.run_tool.proofs.Wanting.{asked-more, file-missed, onwards-more, or-more, then-behind, script-more}
 use Rattle.run_tool.proofs.run_hex.run_hex.Goals as goal
 
 pub returns-in-Ok-clause-answer : goal.returns-in-Ok-clause-answer
@@ -17,9 +20,9 @@ returns-in-Ok-clause-answer g c =
     let failed_mid = g.F.Folder.faults c.text_of.new.folder in
     let failed_new = g.F.Folder.faults c.run_hex_text.new.folder in
     let name = option_map spoken c.args.script in
-    text-concludes g.D.Device.log g.D.Device.faults c.args.places.now.items c.run_hex_text.new.places.items (RunsHex told (Rose failed failed_new) name c.args.budget) (told c.args.name.now) (Rose failed failed_new)
+    text-concludes g.D.Device.account c.args.places.now.items c.run_hex_text.new.places.items (RunsHex told (Rose failed failed_new) name c.args.budget) (told c.args.name.now) (Rose failed failed_new)
     c.in-Ok.text c.deref.result.now c.run_hex_text.result c.in-Ok.ensures.unwritten c.in-Ok.ensures.later c.deref.ensures.value c.in-Ok.ensures.text
-    (concludes-more g.D.Device.log g.D.Device.faults c.args.places.now.items c.run_hex_text.new.places.items [] (RunsHex mid (Rose failed_mid failed_new) name c.args.budget c.deref.result.now)
+    (concludes-more g.D.Device.account c.args.places.now.items c.run_hex_text.new.places.items [] (RunsHex mid (Rose failed_mid failed_new) name c.args.budget c.deref.result.now)
     (RunsHex told (Rose failed failed_new) name c.args.budget c.deref.result.now) c.run_hex_text.result
     (λ answer h. hex-onwards mid told (Rose failed_mid failed_new) (Rose failed failed_new) name c.args.budget c.deref.result.now answer c.in-Ok.ensures.stays
     (λ r. rose-before failed failed_mid failed_new c.in-Ok.ensures.folder_later r) h) c.run_hex_text.ensures.answer)
@@ -29,5 +32,41 @@ returns-in-Err-clause-answer g c =
     let told = g.F.Folder.holds c.args.folder.now in
     let rose = Rose (g.F.Folder.faults c.args.folder.now) (g.F.Folder.faults c.text_of.new.folder) in
     let answers = RunsHex told rose (option_map spoken c.args.script) c.args.budget in
-    says-concludes g.D.Device.log g.D.Device.faults c.args.places.now.items c.args.places.now.items refl (AnswersFile answers (told c.args.name.now) rose) c.in-Err.ending
+    says-concludes g.D.Device.account c.args.places.now.items c.args.places.now.items refl (AnswersFile answers (told c.args.name.now) rose) c.in-Err.ending
     (no-text-gives answers (told c.args.name.now) rose c.in-Err.ending c.in-Err.ensures.none)
+
+pub returns-in-Ok-clause-asked : goal.returns-in-Ok-clause-asked
+returns-in-Ok-clause-asked g c =
+    let asked = g.F.Folder.asked in
+    let holds = g.F.Folder.holds in
+    let faults = g.F.Folder.faults in
+    let old = c.args.folder.now in
+    let new = c.run_hex_text.new.folder in
+    let told = holds old in
+    let rose = Rose (faults old) (faults new) in
+    let mid = c.text_of.new.folder in
+    let rose_mid = Rose (faults mid) (faults new) in
+    let rises = λ (r : rose_mid). rose-before (faults old) (faults mid) (faults new) c.in-Ok.ensures.folder_later r in
+    let lacking = c.run_hex_text.result ≡ NoMemory in
+    let text = c.deref.result.now in
+    let next = WantsScript told rose lacking (option_map spoken c.args.script) wants_none in
+    let next_mid = WantsScript (holds mid) rose_mid lacking (option_map spoken c.args.script) wants_none in
+    then-behind asked holds faults old mid new lacking c.args.name.now (λ t. Onwards (IsSpelledText t) (IsBrokenText t) next) c.in-Ok.text text c.in-Ok.ensures.asked c.in-Ok.ensures.text c.deref.ensures.value
+    c.run_hex_text.ensures.folder_later
+    (asked-more asked mid new (OrLacks lacking (Onwards (IsSpelledText text) (IsBrokenText text) next_mid)) (OrLacks lacking (Onwards (IsSpelledText text) (IsBrokenText text) next))
+    (λ names h. or-more lacking lacking (Onwards (IsSpelledText text) (IsBrokenText text) next_mid) (Onwards (IsSpelledText text) (IsBrokenText text) next) names (λ l. l)
+    (λ x. onwards-more (IsSpelledText text) (IsBrokenText text) next_mid next names (λ y. script-more (holds mid) told rose_mid rose lacking lacking c.in-Ok.ensures.stays rises (λ l. l) (option_map spoken c.args.script) wants_none wants_none names (λ names z. z) y) x) h) c.run_hex_text.ensures.asked)
+
+pub returns-in-Err-clause-asked : goal.returns-in-Err-clause-asked
+returns-in-Err-clause-asked g c =
+    let asked = g.F.Folder.asked in
+    let holds = g.F.Folder.holds in
+    let faults = g.F.Folder.faults in
+    let old = c.args.folder.now in
+    let new = c.text_of.new.folder in
+    let told = holds old in
+    let rose = Rose (faults old) (faults new) in
+    let lacking = c.in-Err.ending ≡ NoMemory in
+    let next = WantsScript told rose lacking (option_map spoken c.args.script) wants_none in
+    asked-more asked old new (WantsFile told rose lacking c.args.name.now never_behind) (WantsFile told rose lacking c.args.name.now (λ t. Onwards (IsSpelledText t) (IsBrokenText t) next))
+    (λ names h. file-missed told rose lacking c.args.name.now (λ t. Onwards (IsSpelledText t) (IsBrokenText t) next) names h) c.in-Err.ensures.stopped

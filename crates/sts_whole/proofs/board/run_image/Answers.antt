@@ -15,8 +15,8 @@ returns-in-Ok-clause-ran g c =
     let fs' = g.K.Sink.faults c.run-end.new.out in
     let e = c.run-end.new.self.engine in
     let n = c.run-end.new.self.instructions in
-    let ran : Ran g.D.Device.log g.D.Device.faults c.args.image.items c.args.script c.args.budget e n s t fs fs' given c.run-end.new.self.plugs.places c.run-end.result =
+    let ran : Ran g.D.Device.account c.args.image.items c.args.script c.args.budget e n s t fs fs' given c.run-end.new.self.plugs.places c.run-end.result =
     c.run-end.ensures.ran c.args.image.items c.args.script given c.in-Ok.ensures.mounted c.in-Ok.ensures.plugged.1 in
-    runs_image g.D.Device.log g.D.Device.faults c.args.image.items c.args.script c.args.budget e n s t fs fs' c.args.places.now.items c.close.result.items c.stats-stats.result c.stats-stats.ensures c.run-end.result
-    (subst (λ (l : List (Option g.row.D.Denot)). Ran g.D.Device.log g.D.Device.faults c.args.image.items c.args.script c.args.budget e n s t fs fs' l c.close.result.items c.run-end.result) had
-    (subst (λ (l : List (Option g.row.D.Denot)). Ran g.D.Device.log g.D.Device.faults c.args.image.items c.args.script c.args.budget e n s t fs fs' given l c.run-end.result) (sym c.close.ensures) ran))
+    runs_image g.D.Device.account c.args.image.items c.args.script c.args.budget e n s t fs fs' c.args.places.now.items c.close.result.items c.stats-stats.result c.stats-stats.ensures c.run-end.result
+    (subst (λ (l : List (Option g.row.D.Denot)). Ran g.D.Device.account c.args.image.items c.args.script c.args.budget e n s t fs fs' l c.close.result.items c.run-end.result) had
+    (subst (λ (l : List (Option g.row.D.Denot)). Ran g.D.Device.account c.args.image.items c.args.script c.args.budget e n s t fs fs' given l c.run-end.result) (sym c.close.ensures) ran))

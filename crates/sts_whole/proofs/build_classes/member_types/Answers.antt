@@ -10,4 +10,4 @@ loop-name-preserved c =
     let f = w.member_kind c.args.plan.now c.args.class in
     let names = c.args.names.now in let i = c.loop-name.name-index in
     subst (λ (found : List Ty). value.value_types found ++ map f (drop (i + 1) names) ≡ map f names) (sym c.in_ok-push.ensures.ok)
-    (next_mapped f names i c.loop-name.all c.in_ok-member_type.field-0 c.loop-name-test.true c.loop-name.invariant c.in_ok-member_type.ensures)
+    (next_mapped f names i c.loop-name.all c.member_type.result c.loop-name-test.true c.loop-name.invariant c.member_type.ensures)

@@ -3,4 +3,4 @@ use Rattle.sts_whole.proofs.build_makers.add_kinds.Goals as goal
 
 pub loop-kind-preserved : goal.loop-kind-preserved
 loop-kind-preserved c =
-    value_next c.loop-kind.all c.push.new.self c.in_ok-type_of_values.field-0 _ c.args.takes.now c.loop-kind.kind-index _ c.loop-kind-test.true c.in_ok-type_of_values.ensures c.in_ok-push.ensures.ok c.loop-kind.invariant
+    value_next c.loop-kind.all c.push.new.self c.type_of_values.result _ c.args.takes.now c.loop-kind.kind-index _ c.loop-kind-test.true c.type_of_values.ensures c.in_ok-push.ensures.ok c.loop-kind.invariant

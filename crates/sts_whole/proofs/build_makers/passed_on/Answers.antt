@@ -8,7 +8,7 @@ use Rattle.sts_whole.proofs.build_makers.passed_on.Goals as goal
 pub loop-kind-preserved : goal.loop-kind-preserved
 loop-kind-preserved c =
     passed_next c.args.takes.now c.loop-kind.kind-index c.loop-kind.at c.in_ok-at.at _ c.loop-kind.all c.push.new.self _ (passed_on c.args.first c.args.takes.now) c.loop-kind-test.true
-    (ap (λ q. e.Name q (Param c.loop-kind.at)) c.in_ok-ty.ensures) c.in_ok-push.ensures.ok c.in_ok-at.ensures c.loop-kind.invariant
+    (ap (λ q. e.Name q (Param c.loop-kind.at)) c.type_of_values-ty.ensures) c.in_ok-push.ensures.ok c.in_ok-at.ensures c.loop-kind.invariant
 
 pub returns : goal.returns
 returns c = passed_end c.args.takes.now c.loop-kind.kind-index c.loop-kind.at c.loop-kind.all (passed_on c.args.first c.args.takes.now) c.loop-kind-test.false c.loop-kind.invariant

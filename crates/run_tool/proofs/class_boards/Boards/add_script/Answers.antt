@@ -1,4 +1,4 @@
-use Rattle.std.proofs.Common.{subst, sym, []}
+use Rattle.std.proofs.Common.{subst, sym, [], ◌∷◌, inr, refl}
 use Rattle.sts_base.specs.Faults.{Rose}
 use Rattle.tool_io.specs.Putting.{Took}
 use Rattle.tool_io.proofs.Laws.{took-nothing}
@@ -7,6 +7,7 @@ use Rattle.run_tool.specs.Scripts.{none_to_scripts}
 use Rattle.run_tool.specs.ClassBoards.{OverBoardScript}
 use Rattle.run_tool.proofs.Endings.{if-err}
 use Rattle.run_tool.proofs.ClassAnswers.{on-oks}
+use Rattle.run_tool.proofs.Wanting.{on-ok-all}
 use Rattle.run_tool.proofs.class_boards.Boards.add_script.Goals as goal
 
 pub returns-in-Ok-clause-added : goal.returns-in-Ok-clause-added
@@ -21,3 +22,9 @@ returns-in-Ok-clause-none g c =
     if-err c.push.result
     (λ ending e. subst (λ x. GivesOneOf g.K.Sink.taken g.K.Sink.faults c.args.out.now c.script_of.new.out (OverBoardScript told rose c.args.end c.args.number c.args.name.now none_to_scripts) x) (sym e)
     (record { ends = subst (λ x. Took x taken []) c.in-Ok.ensures.unwritten (took-nothing taken); later = c.in-Ok.ensures.later; cut = λ i. absurd (cc) })) c.push.ensures.memory
+
+pub returns-in-Ok-clause-asked : goal.returns-in-Ok-clause-asked
+returns-in-Ok-clause-asked g c = on-ok-all c.push.result c.in-Ok.ensures.asked
+
+pub returns-in-Ok-clause-stopped : goal.returns-in-Ok-clause-stopped
+returns-in-Ok-clause-stopped g c = if-err c.push.result (λ ending e. (c.args.name.now ∷ [], c.in-Ok.ensures.asked, (refl, inr (e, refl)))) c.push.ensures.memory
