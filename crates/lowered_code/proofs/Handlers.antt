@@ -5,7 +5,7 @@ use Rattle.sts_syntax.specs.declared.typed.Callee.TheVariants as c
 use Rattle.sts_syntax.specs.declared.board_calls.BoardCall.{BoardCall}
 use Rattle.sts_syntax.specs.declared.board_calls.BoardCall.TheVariants as bc
 use Rattle.sts_syntax.specs.TypedTrees as e
-use Rattle.sts_syntax.specs.TypedTrees.{TypedTree, TypedTrees, TypedStatement, TypedStatements, OptionalTypedStatement, TypedDeclaration, TypedRoutine, TypedProgram}
+use Rattle.sts_syntax.specs.TypedTrees.{TypedTree, TypedTrees, TypedStatement, TypedStatements, OptionalTypedStatement, TypedDeclaration, TypedRoutine}
 use Rattle.sts_syntax.specs.BoardTable as b
 use Rattle.sts_syntax.specs.BoardTable.{BoardParameter, row_of}
 use Rattle.sts_syntax.specs.TypeRules.{entry, IsOneOf}

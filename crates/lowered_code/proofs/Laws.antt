@@ -6,3 +6,7 @@ pub use Rattle.lowered_code.proofs.Lengths.{size_positive, IsLong, AreLong, size
 pub use Rattle.lowered_code.proofs.Entries.{entry_front, entry_behind, entry_past, entry_within}
 -- well-typed programs are as lowering needs them
 pub use Rattle.lowered_code.proofs.Typed.{well_typed_fine}
+-- code names only its trees' texts, and its numbers have 32 bits
+pub use Rattle.lowered_code.proofs.Named.{program_named, program_fits}
+-- only parameters are live at entries
+pub use Rattle.lowered_code.proofs.Starts.{program_starts}

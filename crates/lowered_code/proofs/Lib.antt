@@ -8,3 +8,11 @@ mod Formed
 mod Outgoing
 mod Handlers
 mod Programs
+mod Fitting
+mod Named
+mod Owned
+mod Dead
+mod Expressions
+mod Blocks
+mod Starts
+mod WorkedRows

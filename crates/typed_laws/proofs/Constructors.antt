@@ -7,12 +7,12 @@ use Rattle.sts_syntax.specs.Annotations.{Annotation}
 use Rattle.sts_syntax.specs.Types as t
 use Rattle.sts_syntax.specs.Types.{ValueType}
 use Rattle.sts_syntax.specs.TypedTrees as e
-use Rattle.sts_syntax.specs.TypedTrees.{TypedTree, TypedTrees, TypedStatement, TypedStatements, TypedRoutine, ClassEntry, TypedProgram}
+use Rattle.sts_syntax.specs.TypedTrees.{TypedTree, TypedStatement, TypedStatements, TypedRoutine, ClassEntry, TypedProgram}
 use Rattle.sts_syntax.specs.Nodes.{is_among}
 use Rattle.sts_syntax.specs.TypeRules.{entry, GoesTo}
 use Rattle.sts_syntax.specs.WellTyped.{Setting, Has, HasThis, IsTyped, AreSound, AreGiven, parameters_of}
 use Rattle.sts_syntax.specs.WellTyped as w
-use Rattle.sts_syntax.specs.WellTypedPrograms.{IsRoutine, IsBodyOf, base_of_maker, is_maker, setting}
+use Rattle.sts_syntax.specs.WellTypedPrograms.{IsBodyOf, base_of_maker, is_maker, setting}
 use Rattle.sts_syntax.specs.WellTypedPrograms as w'
 use Rattle.sts_syntax.specs.Trees.{Parameter, SuperCall, OptionalTree, Plain, Statements, also, Declaration, Declare, Routine, Does}
 use Rattle.sts_syntax.specs.Programs.{ClassMember, Field, Method, Constructor}

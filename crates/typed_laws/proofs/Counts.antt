@@ -10,7 +10,7 @@ use Rattle.sts_scope.specs.Kinds.{value_type}
 use Rattle.sts_syntax.specs.Types as t
 use Rattle.sts_syntax.specs.Types.{ValueType}
 use Rattle.sts_syntax.specs.TypedTrees as e
-use Rattle.sts_syntax.specs.TypedTrees.{TypedTree, TypedTrees, TypedStatement, TypedStatements, OptionalTypedStatement, TypedDeclaration}
+use Rattle.sts_syntax.specs.TypedTrees.{TypedTree, TypedStatement, TypedDeclaration}
 use Rattle.sts_syntax.specs.BoardTable as board
 use Rattle.sts_syntax.specs.BoardTable.{BoardParameter, row_of, call_named, constant_named}
 use Rattle.sts_syntax.specs.declared.board_calls.BoardCall.{BoardCall}

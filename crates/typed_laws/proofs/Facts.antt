@@ -1,6 +1,6 @@
 -- What a text without a failure says of its declarations.
 use Rattle.std.proofs.Common.{◌≡◌, ℕ, zero, suc, ◌+◌, ◌<◌, ◌≤◌, ◌==◌, ◌||◌, refl, sym, ap, ◌∙◌, subst, Bool, true, false, Option, Some, None, List, [], ◌∷◌, ◌++◌, length, arith}
-use Rattle.std.specs.Prelude.{slice_get, unwrap_or, not, is_some, if◌then◌else◌}
+use Rattle.std.specs.Prelude.{slice_get, unwrap_or, not, is_some}
 use Rattle.sts_base.specs.declared.tables.Tables.{Tables}
 use Rattle.sts_base.specs.declared.refused.Code.TheVariants.{Mismatch, TwiceNamed, ClassCycle, NeedsType, UnknownName}
 use Rattle.sts_syntax.specs.Annotations as s

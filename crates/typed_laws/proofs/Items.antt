@@ -5,7 +5,7 @@ use Rattle.sts_base.specs.declared.refused.Code.TheVariants.{Mismatch}
 use Rattle.sts_syntax.specs.declared.typed.Spot.TheVariants.{Global}
 use Rattle.sts_syntax.specs.Annotations.{Annotation}
 use Rattle.sts_syntax.specs.TypedTrees as e
-use Rattle.sts_syntax.specs.TypedTrees.{TypedTree, TypedTrees, TypedStatement, TypedStatements, TypedDeclaration, TypedRoutine}
+use Rattle.sts_syntax.specs.TypedTrees.{TypedTree, TypedStatement, TypedDeclaration}
 use Rattle.sts_syntax.specs.Trees.{Parameter, Num, Text, Truth, Null, This, Name, Unary, Binary, Both, Either, Choice, Set, Bump, Member, Item, Call, SuperCall, Make, Items, Handler, Trees, Statement, Block, Let, IfOnly, IfElse, While, DoWhile, For, ForOf, Return, Break, Continue, Plain, Empty, Statements, done, also, Declaration, Declare, Declarations, ended, next, Routine, Does}
 use Rattle.sts_syntax.specs.Programs.{ClassMember, Field, Method, Constructor, TopLevel, Class, Function, Main}
 use Rattle.sts_scope.specs.declared.kinds.Kind.{Kind}

@@ -24,3 +24,14 @@ pub mod Whole
 pub mod OwnFunctions
 pub mod Rounds
 pub mod Accepting
+mod FormedTrees
+mod FormedUnits
+mod Named
+mod NamedPrograms
+mod Faultless
+mod Prelude
+mod LibraryRows
+mod LibraryWhole
+mod First
+mod Weights
+pub mod Laws

@@ -1,17 +1,17 @@
 -- All functions of a text and its main program are well typed.
 use Rattle.std.proofs.Common.{◌≡◌, ℕ, zero, suc, ◌+◌, ◌<◌, ◌≤◌, refl, sym, ap, ◌∙◌, subst, Bool, true, false, Option, Some, None, List, [], ◌∷◌, ◌++◌, length, arith, inl, inr, length-append}
-use Rattle.std.specs.Prelude.{slice_get, unwrap_or, if◌then◌else◌}
+use Rattle.std.specs.Prelude.{slice_get, unwrap_or}
 use Rattle.sts_base.specs.declared.tables.Tables.{Tables}
 use Rattle.sts_syntax.specs.Annotations.{Annotation}
 use Rattle.sts_syntax.specs.declared.typed.Spot.TheVariants.{Global}
 use Rattle.sts_syntax.specs.Types.{ValueType}
 use Rattle.sts_syntax.specs.TypedTrees as e
-use Rattle.sts_syntax.specs.TypedTrees.{TypedTree, TypedStatement, TypedStatements, TypedDeclaration, TypedRoutine, TypedProgram}
+use Rattle.sts_syntax.specs.TypedTrees.{TypedTree, TypedStatement, TypedStatements, TypedDeclaration, TypedProgram}
 use Rattle.sts_syntax.specs.TypeRules.{entry}
-use Rattle.sts_syntax.specs.WellTyped.{Setting, HasThis, AreSound}
+use Rattle.sts_syntax.specs.WellTyped.{Setting, AreSound}
 use Rattle.sts_syntax.specs.WellTyped as w
 use Rattle.sts_syntax.specs.WellTypedPrograms as w'
-use Rattle.sts_syntax.specs.WellTypedPrograms.{declared_names, setting}
+use Rattle.sts_syntax.specs.WellTypedPrograms.{declared_names}
 use Rattle.sts_syntax.specs.Trees.{OptionalTree, Statement, Block, Let, IfOnly, IfElse, While, DoWhile, For, ForOf, Return, Break, Continue, Plain, Empty, Declaration, Declare, Declarations, ended, next, Routine, Does}
 use Rattle.sts_syntax.specs.Programs.{ClassMember, TopLevel, Class, Function, Main, Program}
 use Rattle.sts_scope.specs.declared.kinds.Kind.{Kind}
@@ -28,7 +28,7 @@ use Rattle.sts_scope.specs.Entries.{Naming, classes_in, entry as declared_as, it
 use Rattle.sts_scope.specs.Headings.{written_fault, item_fault, headings_fault}
 use Rattle.sts_scope.specs.Lookup.{base_of}
 use Rattle.sts_scope.specs.Places.{Place, outside}
-use Rattle.sts_scope.specs.Rules.{kind_at, maker_takes_of, is_nothing}
+use Rattle.sts_scope.specs.Rules.{kind_at, maker_takes_of}
 use Rattle.sts_scope.specs.Rules as rules
 use Rattle.typed_laws.proofs.Returning.{gives_value}
 use Rattle.type_derive.specs.Returns.{bound}

@@ -10,7 +10,7 @@ use Rattle.sts_syntax.specs.Types as t
 use Rattle.sts_syntax.specs.Types.{ValueType}
 use Rattle.sts_syntax.specs.TypedTrees.{TypedRoutine, ClassEntry, TypedProgram}
 use Rattle.sts_syntax.specs.TypeRules.{entry}
-use Rattle.sts_syntax.specs.WellTyped.{Setting, Has, HasThis, AreSound}
+use Rattle.sts_syntax.specs.WellTyped.{Setting, Has, HasThis}
 use Rattle.sts_syntax.specs.WellTyped as w
 use Rattle.sts_syntax.specs.WellTypedPrograms.{IsRoutine, IsBodyOf, base_of_maker, is_maker, setting}
 use Rattle.sts_syntax.specs.Trees.{Parameter, Statements}

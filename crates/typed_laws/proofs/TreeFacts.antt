@@ -17,6 +17,11 @@ use Rattle.typed_laws.proofs.OneNode.{same_is, same_types}
 use Rattle.typed_laws.proofs.Typed.{last, first}
 use Rattle.typed_laws.proofs.Sites.{improper}
 
+-- nothing, whichever way
+pub nothing_either : (b : Bool) → (if b then t.Nothing else t.Nothing) ≡ t.Nothing
+nothing_either true = refl
+nothing_either false = refl
+
 -- a noted type
 pub noted_is : (o : Option Kind) (u : Kind) → o ≡ Some u → value_type (unwrap_or o nothing) ≡ value_type u
 noted_is o u h = ap (λ (x : Option Kind). value_type (unwrap_or x nothing)) h

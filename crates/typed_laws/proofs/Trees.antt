@@ -51,12 +51,8 @@ use Rattle.typed_laws.proofs.Makings.{Good as Built}
 use Rattle.typed_laws.proofs.Names.{bind_some, some_is, either_some, real, has_part, board_proper}
 use Rattle.typed_laws.proofs.Sites.{seen, Suits, Wanted, suits_given, given_goes, at_block, at_local, IsGood, At, name_good, this_good}
 use Rattle.typed_laws.proofs.Boards.{are_plain, plain_first, plain_rest}
-use Rattle.typed_laws.proofs.TreeFacts.{noted_is, kind_is, parts2, parts3, settable_is, test_is, alone_is, unless_waived, parts4}
+use Rattle.typed_laws.proofs.TreeFacts.{nothing_either, noted_is, kind_is, parts2, parts3, settable_is, test_is, alone_is, unless_waived, parts4}
 use Rattle.typed_laws.proofs.TreeParts.{free_proper, given_proper, seen_as, one, two, function_call, set_good, assign_suits, make_good, make_takes, takes_of_found, takes_of_part, takes_of_made, called_parts, go_parts, go_none, go_more, go_to_parts, items_parts, Asked, called_fault, call_fault, call_type, call_made, plain_serves, served_so, given_to_is, drawing_good, ArgumentsTyped, AskedTyped, member, member_target, super, board_call, member_call, list_is, fits_is, handler_stand, gives_after, Declared, declared_one, declare, first_place, first_gives, declared_more}
-
-nothing_either : (b : Bool) → (if b then t.Nothing else t.Nothing) ≡ t.Nothing
-nothing_either true = refl
-nothing_either false = refl
 
 module _ (tables : Tables) (names : Naming) (k : Known) (numbers : Numbering) (P : TypedProgram) (st : Stands tables k numbers P) where
   abbrev Good : Setting → List ℕ → ValueType → TypedTree → Type 0

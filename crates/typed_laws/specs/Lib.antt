@@ -1,4 +1,5 @@
 pub mod Laws
+pub mod LibraryLaws
 pub mod OwnFunctions
 pub mod Rows
 pub mod Stands

@@ -3,7 +3,7 @@ use Rattle.std.specs.Prelude.{ℕ, pos, zero, suc, false, Option, Some, None, Li
 use Rattle.sts_base.specs.declared.tables.Tables.{Tables}
 use Rattle.sts_syntax.specs.Annotations as s
 use Rattle.sts_syntax.specs.Trees as t
-use Rattle.sts_syntax.specs.Trees.{none, more, absent, present, done, also, ended, next, Declare, Does}
+use Rattle.sts_syntax.specs.Trees.{none, more, present, done, also, ended, next, Declare, Does}
 use Rattle.sts_syntax.specs.Programs.{Field, Method, Class, Function, Main, Program}
 use Rattle.sts_syntax.specs.TypedTrees.{TypedProgram}
 use Rattle.sts_scope.specs.declared.kinds.Kind.{Kind}

@@ -1,9 +1,15 @@
-//! Laws and worked rows of failures and typed trees.
+//! Laws and worked rows of failures and typed trees, and of the prelude's library.
 #![tactic(auto)]
 
+mod formed;
+mod library;
 mod rows;
 mod theorems;
 
+pub use formed::{spelled_programs_are_formed, typed_programs_name_texts_of_their_trees};
+pub use library::{
+    library_is_read, library_leaves_first, prelude_is_library, typed_library_is_light,
+};
 pub use rows::{rows_of_accepted, rows_of_failures, rows_of_functions, rows_of_limits};
 pub use theorems::{
     accepted_texts_are_well_typed, functions_are_those_of_their_declarations, no_failure_has_a_type,

@@ -1,5 +1,0 @@
-mod Trees
-mod Units
-mod Named
-mod NamedPrograms
-pub mod Laws

@@ -1,6 +1,0 @@
-mod Faultless
-mod Prelude
-mod Rows
-mod Whole
-mod First
-mod Weights

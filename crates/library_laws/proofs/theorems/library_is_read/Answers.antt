@@ -1,5 +1,0 @@
-use Rattle.library_laws.proofs.First.{own_names, own_texts, library_read}
-use Rattle.library_laws.proofs.theorems.library_is_read.Goals as goal
-
-pub returns : goal.returns
-returns c = record { names = own_names; texts = own_texts; program = _; read = library_read }

@@ -1,5 +1,0 @@
-use Rattle.library_laws.proofs.Whole.{typed_light}
-use Rattle.library_laws.proofs.theorems.typed_library_is_light.Goals as goal
-
-pub returns : goal.returns
-returns c = λ tokens names texts text kinds n x read derived. typed_light tokens names texts text kinds n x read derived

@@ -1,9 +1,0 @@
-pub mod Laws
-mod Fitting
-mod Named
-mod Owned
-mod Dead
-mod Expressions
-mod Blocks
-mod Starts
-mod WorkedRows

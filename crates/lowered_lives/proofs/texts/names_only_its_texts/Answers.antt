@@ -1,5 +1,0 @@
-use Rattle.lowered_lives.proofs.Named.{program_named}
-use Rattle.lowered_lives.proofs.texts.names_only_its_texts.Goals as goal
-
-pub returns : goal.returns
-returns c = λ P. program_named P

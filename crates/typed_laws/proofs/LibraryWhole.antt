@@ -1,0 +1,52 @@
+-- The four parts together, and that the tokens of the library's text are those that were computed.
+use Rattle.std.proofs.Common.{◌≡◌, ◌≤◌, ℕ, take, List, ◌++◌, Option, refl, sym, ◌∙◌, subst}
+use Rattle.sts_base.specs.Distinct.{IsDistinct}
+use Rattle.sts_base.specs.declared.tables.Tables.{Tables}
+use Rattle.sts_lexer.specs.Tokens.{IsTokenization}
+use Rattle.sts_lexer.specs.declared.token.Token.{Token}
+use Rattle.sts_syntax.specs.BoardTable.{library_size}
+use Rattle.sts_syntax.specs.Programs.{Program}
+use Rattle.sts_syntax.specs.Weights.{routines_weight}
+use Rattle.sts_scope.specs.declared.kinds.Kind.{Kind}
+use Rattle.type_derive.specs.Accepted.{AreDerived, typed}
+use Rattle.type_derive.specs.Libraries.{IsLibrary}
+use Rattle.sts_grammar.specs.Laws.{OneProgram}
+use Rattle.sts_grammar.specs.Texts.{no_entries}
+use Rattle.sts_prelude.specs.Library as l
+use Rattle.sts_prelude.specs.Spelled as spelled
+use Rattle.sts_prelude.specs.declared.text.TheConstants.{LIBRARY}
+use Rattle.sts_prelude.proofs.Laws.{own, own_tokens, own_tokenized, moved, tokens_by, own_tokens_are}
+use Rattle.typed_laws.specs.LibraryLaws.{first}
+use Rattle.typed_laws.proofs.Prelude.{L, formed, faultless}
+use Rattle.typed_laws.proofs.LibraryRows.{rows}
+use Rattle.typed_laws.proofs.Weights.{light}
+use Rattle.typed_laws.proofs.First.{library_first}
+
+unmoved : tokens_by (moved own.names own.names) (moved own.texts own.texts) ≡ own_tokens
+unmoved = refl
+
+computed : (names texts : List (List ℕ)) (text : Program) (kinds : List (Option Kind)) → AreDerived (record { names = own.names ++ names; texts = own.texts ++ texts }) L text kinds
+    → IsLibrary (record { names = own.names ++ names; texts = own.texts ++ texts }) L text kinds
+computed names texts text kinds derived = record { functions = tt; formed = formed; faultless = faultless names texts text kinds derived; rows = rows names texts text kinds derived }
+
+pub prelude_so : (tokens : List Token) (names texts : List (List ℕ)) (text : Program) (kinds : List (Option Kind)) → IsDistinct first.names → IsDistinct first.texts
+    → IsTokenization first LIBRARY.now tokens → AreDerived (record { names = first.names ++ names; texts = first.texts ++ texts }) (l.library tokens) text kinds
+    → IsLibrary (record { names = first.names ++ names; texts = first.texts ++ texts }) (l.library tokens) text kinds
+prelude_so tokens names texts text kinds n x read derived =
+    let is : tokens ≡ own_tokens = own_tokens_are own tokens n x read ∙ unmoved in
+    subst (λ (ts : List Token). IsLibrary (record { names = first.names ++ names; texts = first.texts ++ texts }) (l.library ts) text kinds) (sym is)
+    (computed names texts text kinds
+    (subst (λ (ts : List Token). AreDerived (record { names = first.names ++ names; texts = first.texts ++ texts }) (l.library ts) text kinds) is derived))
+
+pub leaves_first : (one : OneProgram) (new : Tables) (program : Program) → IsDistinct new.names → IsDistinct new.texts → spelled.IsLibrary no_entries new program
+    → (new ≡ first) × (tokens : List Token) × IsTokenization first LIBRARY.now tokens × (program ≡ l.library tokens)
+leaves_first one new program names texts h = let is = library_first one new program names texts h in (is.0, own_tokens, own_tokenized, is.1)
+
+pub typed_light : (tokens : List Token) (names texts : List (List ℕ)) (text : Program) (kinds : List (Option Kind)) → IsDistinct first.names → IsDistinct first.texts
+    → IsTokenization first LIBRARY.now tokens → AreDerived (record { names = first.names ++ names; texts = first.texts ++ texts }) (l.library tokens) text kinds
+    → routines_weight (take library_size (typed (record { names = first.names ++ names; texts = first.texts ++ texts }) (l.library tokens) text kinds).functions) ≤ 600
+typed_light tokens names texts text kinds n x read derived =
+    let is : tokens ≡ own_tokens = own_tokens_are own tokens n x read ∙ unmoved in
+    subst (λ (ts : List Token). routines_weight (take library_size (typed (record { names = first.names ++ names; texts = first.texts ++ texts }) (l.library ts) text kinds).functions) ≤ 600) (sym is)
+    (light names texts text kinds
+    (subst (λ (ts : List Token). AreDerived (record { names = first.names ++ names; texts = first.texts ++ texts }) (l.library ts) text kinds) is derived))
