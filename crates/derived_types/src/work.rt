@@ -1,7 +1,7 @@
 // The work list: which declarations were asked for, which wait for the type of another, and which are to be derived next.
-ghost use Rattle.std.specs.Prelude.{◌≡◌, ℕ, ◌≤◌, ◌<◌, ◌++◌, ◌∷◌, [], true, false, not, length, get_or, set, if◌then◌else◌, OnOk, IfOk, IfNone, IfSome};
+ghost use Rattle.std.specs.Prelude.{◌≡◌, ◌≢◌, ℕ, ◌-◌, ◌≤◌, ◌<◌, ◌⊎◌, ◌++◌, ◌∷◌, [], true, false, not, length, take, get_or, set, if◌then◌else◌, OnOk, IfOk, IfNone, IfSome};
 ghost use Rattle.std.specs.List.{All, Contains};
-ghost use Rattle.derived_types.specs.Work.{AsksFor, IsUntouched, IsOpen, waiters, effort};
+ghost use Rattle.derived_types.specs.Work.{AsksFor, Hears, HasAnswered, IsOpen, IsUntouched, BeginsToWait, Wakes, is_asked, waiters, effort};
 
 use std::alloc::Global;
 use sts_base::NoMemory;
@@ -54,7 +54,8 @@ fn unmark(marks: &mut [bool], d: usize) {
 
 /// Adds one that waits for a declaration.
 fn add_waiter(waiting: &mut Vec<Vec<usize>>, e: usize, d: usize) -> Result<(), NoMemory>
-    ensures waits { OnOk result (e < length waiting.old.items → Contains (waiters waiting.new.items e) d) }
+    ensures here { OnOk result (e < length waiting.old.items → waiters waiting.new.items e ≡ waiters waiting.old.items e ++ d ∷ []) }
+    ensures others { OnOk result ((x : ℕ) → x ≢ e → waiters waiting.new.items x ≡ waiters waiting.old.items x) }
     ensures len { OnOk result (length waiting.new.items ≡ length waiting.old.items) }
 {
     match waiting.get_mut(e) {
@@ -65,7 +66,9 @@ fn add_waiter(waiting: &mut Vec<Vec<usize>>, e: usize, d: usize) -> Result<(), N
 
 /// Takes away those that wait for a declaration.
 fn take_waiters(alloc: Global, waiting: &mut Vec<Vec<usize>>, e: usize) -> Vec<usize>
-    ensures { result.items ≡ waiters waiting.old.items e }
+    ensures taken { result.items ≡ waiters waiting.old.items e }
+    ensures gone { waiters waiting.new.items e ≡ [] }
+    ensures others { (x : ℕ) → x ≢ e → waiters waiting.new.items x ≡ waiters waiting.old.items x }
 {
     match waiting.get_mut(e) {
         None => Vec::new(alloc),
@@ -114,10 +117,12 @@ impl Work {
         })
     }
 
-    /// AsksFor for a declaration, if it wasn't asked for before.
+    /// Asks for a declaration, if it wasn't asked for before.
     fn ask(&mut self, d: usize) -> Result<(), NoMemory>
         ensures asks { OnOk result (AsksFor self.old self.new) }
-        ensures asked { OnOk result (get_or self.new.asked.items d true ≡ true) }
+        ensures asked { OnOk result (is_asked self.new d ≡ true) }
+        ensures one { OnOk result ((self.new.pending.items ≡ self.old.pending.items ++ d ∷ []) ⊎ (self.new.pending.items ≡ self.old.pending.items)) }
+        ensures waiting { self.new.waiting ≡ self.old.waiting }
     {
         if mark(&mut self.asked, d) {
             put(&mut self.pending, d)?;
@@ -129,8 +134,7 @@ impl Work {
 
     /// A declaration asks for another: that one comes first, or it was asked for before and is waited for.
     fn hear_one(&mut self, d: usize, e: usize) -> Result<(), NoMemory>
-        ensures asks { OnOk result (AsksFor self.old self.new) }
-        ensures waits { OnOk result (get_or self.old.asked.items e false ≡ true → e < length self.old.waiting.items → Contains (waiters self.new.waiting.items e) d) }
+        ensures { OnOk result (Hears d (e ∷ []) self.old self.new) }
     {
         if e < self.asked.len() && self.asked[e] {
             add_waiter(&mut self.waiting, e, d)
@@ -141,7 +145,7 @@ impl Work {
 
     /// A declaration asks for others.
     fn hear(&mut self, d: usize, noted: &[usize]) -> Result<(), NoMemory>
-        ensures { OnOk result (AsksFor self.old self.new) }
+        ensures { OnOk result (Hears d noted.now self.old self.new) }
     {
         for i in 0..noted.len() {
             self.hear_one(d, noted[i])?;
@@ -152,7 +156,9 @@ impl Work {
     /// The declaration that is pending last has no type yet, and asked for these: it stays where one of them is asked for first, else it is done.
     pub fn put_off(&mut self, d: usize, noted: &[usize]) -> Result<(), NoMemory>
         requires { 1 ≤ length self.old.pending.items }
-        ensures { OnOk result (effort self.new < effort self.old) }
+        ensures less { OnOk result (effort self.new < effort self.old) }
+        ensures waits { OnOk result (BeginsToWait d noted.now self.old self.new) }
+        ensures asked { OnOk result (All (λ e. is_asked self.new e ≡ true) noted.now) }
     {
         let before = self.pending.len();
         self.hear(d, noted)?;
@@ -164,8 +170,7 @@ impl Work {
 
     /// Wakes one that waited.
     fn wake(&mut self, d: usize) -> Result<(), NoMemory>
-        ensures woken { OnOk result (get_or self.new.is_woken.items d true ≡ true) }
-        ensures stays { OnOk result ((w : ℕ) → get_or self.old.is_woken.items w true ≡ true → get_or self.new.is_woken.items w true ≡ true) }
+        ensures { OnOk result (Wakes (d ∷ []) self.old self.new) }
     {
         if mark(&mut self.is_woken, d) {
             put(&mut self.woken, d)?;
@@ -175,22 +180,31 @@ impl Work {
         }
     }
 
-    /// The declaration that is pending last has a type now: it is done, and those that wait for it are woken.
-    pub fn answer(&mut self, alloc: Global, d: usize) -> Result<(), NoMemory>
-        ensures { OnOk result (All (λ w. get_or self.new.is_woken.items w true ≡ true) (waiters self.old.waiting.items d)) }
+    /// Wakes some that waited.
+    fn wake_all(&mut self, all: &[usize]) -> Result<(), NoMemory>
+        ensures { OnOk result (Wakes all.now self.old self.new) }
     {
-        let _ = self.pending.pop();
-        let all = take_waiters(alloc, &mut self.waiting, d);
         for i in 0..all.len() {
             self.wake(all[i])?;
         }
         Ok(())
     }
 
-    /// AsksFor for the next one in its turn.
+    /// The declaration that is pending last has a type now: it is done, and those that wait for it are woken.
+    pub fn answer(&mut self, alloc: Global, d: usize) -> Result<(), NoMemory>
+        ensures done { OnOk result (HasAnswered d self.old self.new) }
+        ensures wakes { OnOk result (Wakes (waiters self.old.waiting.items d) (record self.old { pending = self.new.pending; waiting = self.new.waiting }) self.new) }
+    {
+        let _ = self.pending.pop();
+        let all = take_waiters(alloc, &mut self.waiting, d);
+        self.wake_all(all.as_slice())
+    }
+
+    /// Asks for the next one in its turn.
     fn ask_next(&mut self) -> Result<(), NoMemory>
         requires { self.old.next < length self.old.asked.items }
-        ensures { OnOk result (effort self.new < effort self.old) }
+        ensures less { OnOk result (effort self.new < effort self.old) }
+        ensures one { OnOk result ((self.new.pending.items ≡ self.old.pending.items ++ self.old.next ∷ []) ⊎ (self.new.pending.items ≡ self.old.pending.items)) }
     {
         let next = self.next;
         self.next = next + 1;
@@ -202,7 +216,8 @@ impl Work {
     pub fn go_on(&mut self) -> Result<(), NoMemory>
         requires more { IsOpen self.old }
         requires none { length self.old.pending.items ≡ 0 }
-        ensures { OnOk result (effort self.new < effort self.old) }
+        ensures less { OnOk result (effort self.new < effort self.old) }
+        ensures one { OnOk result ((d : ℕ) → Contains self.new.pending.items d → Contains self.old.woken.items d ⊎ (d ≡ self.old.next)) }
     {
         match self.woken.pop() {
             Some(d) => {
@@ -217,6 +232,7 @@ impl Work {
     pub fn last(&self) -> Option<usize>
         ensures none { IfNone result (length self.now.pending.items ≡ 0) }
         ensures some { IfSome result (λ d. 1 ≤ length self.now.pending.items) }
+        ensures last { IfSome result (λ d. d ≡ get_or self.now.pending.items (length self.now.pending.items - 1) d) }
     {
         match self.pending.as_slice() {
             [] => None,

@@ -1,6 +1,5 @@
-use Rattle.std.proofs.Common.{length, sym, ◌∙◌, subst}
+use Rattle.std.proofs.Common.{sym, ◌∙◌, subst}
 use Rattle.sts_scope.specs.Values.{value_at}
-use Rattle.type_derive.specs.Derived.{rule}
 use Rattle.derived_types.specs.Origins.{sources}
 use Rattle.derived_types.specs.Underway.{IsUnderway}
 use Rattle.derived_types.proofs.Ruled.{same_rule, keeps}
