@@ -1,11 +1,12 @@
 -- The failure of a node, where its parts have none.
-use Rattle.std.proofs.Common.{◌≡◌, ℕ, zero, suc, ◌+◌, ◌<◌, ◌≤◌, ◌++◌, true, Option, Some, None, List, [], ◌∷◌, length, get_or, drop, refl, sym, ap, ◌∙◌, subst, arith, append_assoc, Result}
+use Rattle.std.proofs.Common.{◌≡◌, ℕ, ℤ, zero, suc, ◌+◌, ◌<◌, ◌≤◌, ◌++◌, true, Option, Some, None, List, [], ◌∷◌, length, get_or, drop, refl, sym, ap, ◌∙◌, subst, arith, append_assoc, Result}
+use Rattle.std.proofs.lemmas.Bool.{false≢true}
 use Rattle.sts_base.specs.declared.refused.Refused.{Refused}
 use Rattle.sts_base.specs.declared.refused.Code.TheVariants.{Mismatch, BadHandler}
 use Rattle.sts_syntax.specs.declared.trees.Expr.{Expr}
 use Rattle.std.specs.Prelude.{IfOk, is_some, if◌then◌else◌}
 use Rattle.sts_base.specs.declared.tables.Tables.{Tables}
-use Rattle.sts_syntax.specs.BoardTable.{BoardParameter, row_of, call_named}
+use Rattle.sts_syntax.specs.BoardTable.{BoardParameter, row_of, call_named, constant_named}
 use Rattle.sts_syntax.specs.declared.board_calls.BoardCall.{BoardCall}
 use Rattle.sts_scope.specs.declared.known.Known.{Known}
 use Rattle.sts_scope.specs.declared.known.Part.{Part}
@@ -14,7 +15,7 @@ use Rattle.sts_scope.specs.declared.known.Found.TheVariants as found
 use Rattle.sts_scope.specs.Kinds.{number}
 use Rattle.sts_scope.specs.Rules.{name_kind, part_of, part_kind as part_kind_of}
 use Rattle.type_derive.specs.Nodes.{own_member, own_called, own_board, own_make, own_super, is_called}
-use Rattle.type_check.specs.Seen.{plain, own_called_kind, called_kind, super_callee, listed_kind}
+use Rattle.type_check.specs.Seen.{plain, member, own_called_kind, called_kind, super_callee, listed_kind}
 use Rattle.type_check.proofs.Calls.{own_called_is, called_is, list_is}
 use Rattle.sts_syntax.specs.Trees.{Tree, Trees, Items, more, Name, Member, Call, Make, SuperCall}
 use Rattle.sts_syntax.specs.Views.{tree, trees}
@@ -29,28 +30,6 @@ use Rattle.type_derive.specs.declared.context.Context.{Context}
 use Rattle.type_check.specs.declared.seen.Seen.{Seen}
 use Rattle.type_derive.specs.Naming.{naming}
 use Rattle.type_check.specs.Contexts.{fault, faults, kinds_of, seen_of}
-
-module _ (c : Context) (p : Place) where
-  pub part_kind : (r : Role) (s : Seen) (x y : Expr) → s ≡ seen_of c p r (tree x) → x ≡ y → s.kind ≡ type_of c.tables.now c.known.now p r (tree y)
-  part_kind r s x y h e = ap (λ (q : Seen). q.kind) h ∙ ap (λ q. type_of c.tables.now c.known.now p r (tree q)) e
-
-  pub part_fault : (r : Role) (x y : Expr) → fault c p r (tree x) ≡ None → x ≡ y → fault c p r (tree y) ≡ None
-  part_fault r x y h e = ap (λ q. fault c p r (tree q)) (sym e) ∙ h
-
-  pub found_one : (r : Role) (e : Tree) (x : Option Fault) (o u : Option Kind) (at : ℕ) (result : Result Seen Refused) →
-      fault c p r e ≡ (x then own u Mismatch at) → x ≡ None → o ≡ u → Finds result (own o Mismatch at) → Finds result (fault c p r e)
-  found_one r e x o u at result h hx ho f = subst (Finds result) (sym (h ∙ ap (λ q. q then own u Mismatch at) hx ∙ ap (λ q. own q Mismatch at) (sym ho))) f
-
-  pub found_two : (r : Role) (e : Tree) (x y : Option Fault) (o u : Option Kind) (at : ℕ) (result : Result Seen Refused) →
-      fault c p r e ≡ (x then y then own u Mismatch at) → x ≡ None → y ≡ None → o ≡ u → Finds result (own o Mismatch at) → Finds result (fault c p r e)
-  found_two r e x y o u at result h hx hy ho f =
-      subst (Finds result) (sym (h ∙ ap (λ q. q then y then own u Mismatch at) hx ∙ ap (λ q. q then own u Mismatch at) hy ∙ ap (λ q. own q Mismatch at) (sym ho))) f
-
-  pub found_three : (r : Role) (e : Tree) (x y z : Option Fault) (o u : Option Kind) (at : ℕ) (result : Result Seen Refused) →
-      fault c p r e ≡ (x then y then z then own u Mismatch at) → x ≡ None → y ≡ None → z ≡ None → o ≡ u → Finds result (own o Mismatch at) → Finds result (fault c p r e)
-  found_three r e x y z o u at result h hx hy hz ho f =
-      subst (Finds result) (sym (h ∙ ap (λ q. q then y then z then own u Mismatch at) hx ∙ ap (λ q. q then z then own u Mismatch at) hy
-      ∙ ap (λ q. q then own u Mismatch at) hz ∙ ap (λ q. own q Mismatch at) (sym ho))) f
 
 behind_is : (bs : List BoardParameter) (i : ℕ) → behind (drop i bs) ≡ drop (i + 1) bs
 behind_is [] i = ap behind (drop_end {A = BoardParameter} [] i (omega arith)) ∙ sym (drop_end {A = BoardParameter} [] (i + 1) (omega arith))
@@ -91,23 +70,32 @@ module _ (c : Context) (p : Place) (bs : List BoardParameter) (all : List Expr) 
 abbrev plain_of : Option Kind → Option Part → Seen
 plain_of kind part = record { kind = kind; part = part }
 
-no_space : (t : Tables) (k : Known) (p : Place) (x m : ℕ) (f : Found) (call : BoardCall) → (space_of t k x f >>= λ s. call_named s (spelling t m)) ≡ Some call → name_kind k p f ≡ None
-no_space t k p x m found.Unknown call h = refl
-no_space t k p x m (found.Local i) call h = cc
-no_space t k p x m (found.Global d) call h = cc
-no_space t k p x m found.Captured call h = refl
-no_space t k p x m (found.Function d) call h = refl
-no_space t k p x m (found.Class d) call h = refl
+apart : {A : Type 0} (v : A) → None ≡ Some v → ⊥
+apart v h = false≢true (ap is_some h)
+
+-- what names a part of the board's interface has no type
+no_space : {A : Type 0} (t : Tables) (k : Known) (p : Place) (x : ℕ) (f : Found) (named : List ℕ → Option A) (v : A) → (space_of t k x f >>= named) ≡ Some v → name_kind k p f ≡ None
+no_space t k p x found.Unknown named v h = refl
+no_space t k p x (found.Local i) named v h = absurd (apart v h)
+no_space t k p x (found.Global d) named v h = absurd (apart v h)
+no_space t k p x found.Captured named v h = refl
+no_space t k p x (found.Function d) named v h = refl
+no_space t k p x (found.Class d) named v h = refl
 
 -- what stands before the dot of a call of the board has no type
 pub no_type : (t : Tables) (k : Known) (p : Place) (at m : ℕ) (a : Tree) (call : BoardCall) → board_callee t k p (Member at a m) ≡ Some call → type_of t k p Free a ≡ None
-no_type t k p at m (Name j x) call h = no_space t k p x m (finds t k p x) call h
-no_type t k p at m _ call h = cc
+no_type t k p at m (Name j x) call h = no_space t k p x (finds t k p x) (λ s. call_named s (spelling t m)) call h
+no_type t k p at m _ call h = absurd (apart call h)
+
+-- nor has what stands before the dot of a constant of the board
+constant_type : (t : Tables) (k : Known) (p : Place) (m : ℕ) (a : Tree) (z : ℤ) → constant_of t k p a m ≡ Some z → type_of t k p Free a ≡ None
+constant_type t k p m (Name j x) z h = no_space t k p x (finds t k p x) (λ s. constant_named s (spelling t m)) z h
+constant_type t k p m _ z h = absurd (apart z h)
 
 pub untyped : (t : Tables) (k : Known) (p : Place) (at m : ℕ) (a : Tree) → is_some (board_callee t k p (Member at a m)) ≡ true → type_of t k p Free a ≡ None
 untyped t k p at m a h = by_call (board_callee t k p (Member at a m)) (no_type t k p at m a) h where
   by_call : (o : Option BoardCall) → ((call : BoardCall) → o ≡ Some call → type_of t k p Free a ≡ None) → is_some o ≡ true → type_of t k p Free a ≡ None
-  by_call None f h = absurd (cc)
+  by_call None f h = absurd (false≢true h)
   by_call (Some call) f h = f call refl
 
 module _ (c : Context) (p : Place) (r : Role) where
@@ -118,17 +106,61 @@ module _ (c : Context) (p : Place) (r : Role) where
       hs ∙ sym (ap (λ o. plain_of (elim o [ Some z ↦ Some number | None ↦ type_of c.tables.now k p Free a >>= λ u. part_kind_of k (part_of names k u m) ]) (type_of c.tables.now k p Free a >>= λ u. Some (part_of names k u m))) hc
       ∙ ap (λ o. plain_of (o >>= λ u. part_kind_of k (part_of names k u m)) (o >>= λ u. Some (part_of names k u m))) ht)
 
+  constant_by : (at m : ℕ) (a : Tree) (s : Seen) (o : Option ℤ) → constant_of c.tables.now c.known.now p a m ≡ o → is_some o ≡ true → s ≡ plain (Some number) → s ≡ seen_of c p r (Member at a m)
+  constant_by at m a s None e h hs = absurd (false≢true h)
+  constant_by at m a s (Some z) e h hs =
+      let t = c.tables.now in
+      let k = c.known.now in
+      hs ∙ sym (ap (λ o. plain_of (elim o [ Some y ↦ Some number | None ↦ type_of t k p Free a >>= λ u. part_kind_of k (part_of t.names k u m) ]) (type_of t k p Free a >>= λ u. Some (part_of t.names k u m))) e
+      ∙ ap (λ o. plain_of (Some number) (o >>= λ u. Some (part_of t.names k u m))) (constant_type t k p m a z e))
+
+  -- a constant of the board
+  pub member_constant : (at m : ℕ) (a : Tree) (s : Seen) → s ≡ plain (Some number) → is_some (constant_of c.tables.now c.known.now p a m) ≡ true → s ≡ seen_of c p r (Member at a m)
+  member_constant at m a s hs h = constant_by at m a s (constant_of c.tables.now c.known.now p a m) refl h hs
+
+  -- the failures of a member of what is no part of the board's interface
+  pub member_is : (at m : ℕ) (a : Tree) → constant_of c.tables.now c.known.now p a m ≡ None → board_callee c.tables.now c.known.now p (Member at a m) ≡ None →
+      fault c p r (Member at a m) ≡ (fault c p Free a then own_member c.tables.now (naming c) c.known.now r (type_of c.tables.now c.known.now p Free a) m at)
+  member_is at m a hc hb =
+      let t = c.tables.now in
+      let k = c.known.now in
+      let rest = fault c p Free a then own_member t (naming c) k r (type_of t k p Free a) m at in
+      ap (λ q. elim q [ Some z ↦ None | None ↦ elim (board_callee t k p (Member at a m)) [ Some call ↦ unless (is_called r) BadHandler at | None ↦ rest ] ]) hc
+      ∙ ap (λ q. elim q [ Some call ↦ unless (is_called r) BadHandler at | None ↦ rest ]) hb
+
   pub member_found : (at m : ℕ) (a : Tree) (o : Option Kind) (result : Result Seen Refused) → constant_of c.tables.now c.known.now p a m ≡ None → board_callee c.tables.now c.known.now p (Member at a m) ≡ None →
       fault c p Free a ≡ None → o ≡ type_of c.tables.now c.known.now p Free a → Finds result (own_member c.tables.now (naming c) c.known.now r o m at) → Finds result (fault c p r (Member at a m))
   member_found at m a o result hc hb hf ho f =
       let t = c.tables.now in
       let k = c.known.now in
       let n = naming c in
-      let rest = fault c p Free a then own_member t n k r (type_of t k p Free a) m at in
-      subst (Finds result) (sym (ap (λ q. elim q [ Some z ↦ None | None ↦ elim (board_callee t k p (Member at a m)) [ Some call ↦ unless (is_called r) BadHandler at | None ↦ rest ] ]) hc
-      ∙ ap (λ q. elim q [ Some call ↦ unless (is_called r) BadHandler at | None ↦ rest ]) hb
-      ∙ ap (λ q. q then own_member t n k r (type_of t k p Free a) m at) hf
+      subst (Finds result) (sym (member_is at m a hc hb ∙ ap (λ q. q then own_member t n k r (type_of t k p Free a) m at) hf
       ∙ ap (λ q. own_member t n k r q m at) (sym ho))) f
+
+  pub member_typed : (at m : ℕ) (a : Tree) (o : Option Kind) (result : Result Seen Refused) → constant_of c.tables.now c.known.now p a m ≡ None → o ≡ type_of c.tables.now c.known.now p Free a →
+      IfOk result (λ s. s ≡ member c.tables.now c.known.now o m) → IfOk result (λ s. s ≡ seen_of c p r (Member at a m))
+  member_typed at m a o result hc ho seen =
+      let t = c.tables.now in
+      let k = c.known.now in
+      subst (λ q. IfOk result (λ s. s ≡ plain_of (elim q [ Some z ↦ Some number | None ↦ type_of t k p Free a >>= λ u. part_kind_of k (part_of t.names k u m) ]) (type_of t k p Free a >>= λ u. Some (part_of t.names k u m)))) (sym hc)
+      (subst (λ q. IfOk result (λ s. s ≡ member t k q m)) ho seen)
+
+  -- the failures of a call of the board, and of any other
+  pub board_call_is : (at : ℕ) (f : Tree) (args : Trees) (call : BoardCall) → board_callee c.tables.now c.known.now p f ≡ Some call →
+      fault c p r (Call at f args) ≡ (faults c p (row_of call).takes args then own_board c.tables.now (naming c) c.known.now p (row_of call).takes args at)
+  board_call_is at f args call hb =
+      let t = c.tables.now in
+      let k = c.known.now in
+      let n = naming c in
+      ap (λ q. elim q [ Some call ↦ faults c p (row_of call).takes args then own_board t n k p (row_of call).takes args at | None ↦ fault c p Called f then faults c p [] args then own_called t n k (callee_of t k p f) (types_of t k p args) at ]) hb
+
+  pub other_call_is : (at : ℕ) (f : Tree) (args : Trees) → board_callee c.tables.now c.known.now p f ≡ None →
+      fault c p r (Call at f args) ≡ (fault c p Called f then faults c p [] args then own_called c.tables.now (naming c) c.known.now (callee_of c.tables.now c.known.now p f) (types_of c.tables.now c.known.now p args) at)
+  other_call_is at f args hb =
+      let t = c.tables.now in
+      let k = c.known.now in
+      let n = naming c in
+      ap (λ q. elim q [ Some call ↦ faults c p (row_of call).takes args then own_board t n k p (row_of call).takes args at | None ↦ fault c p Called f then faults c p [] args then own_called t n k (callee_of t k p f) (types_of t k p args) at ]) hb
 
   pub call_found : (at : ℕ) (f : Tree) (args : Trees) (d : Option Callee) (os : List (Option Kind)) (result : Result Seen Refused) → board_callee c.tables.now c.known.now p f ≡ None →
       fault c p Called f ≡ None → faults c p [] args ≡ None → d ≡ callee_of c.tables.now c.known.now p f → os ≡ kinds_of c p [] args →
@@ -138,8 +170,7 @@ module _ (c : Context) (p : Place) (r : Role) where
       let k = c.known.now in
       let n = naming c in
       let own = own_called t n k (callee_of t k p f) (types_of t k p args) at in
-      subst (Finds result) (sym (ap (λ q. elim q [ Some call ↦ faults c p (row_of call).takes args then own_board t n k p (row_of call).takes args at | None ↦ fault c p Called f then faults c p [] args then own ]) hb
-      ∙ ap (λ q. q then faults c p [] args then own) hf ∙ ap (λ q. q then own) ha ∙ own_called_is t k p n (callee_of t k p f) args at
+      subst (Finds result) (sym (other_call_is at f args hb ∙ ap (λ q. q then faults c p [] args then own) hf ∙ ap (λ q. q then own) ha ∙ own_called_is t k p n (callee_of t k p f) args at
       ∙ ap (λ q. own_called_kind k q (kinds_of c p [] args) at) (sym hd) ∙ ap (λ q. own_called_kind k d q at) (sym ho))) found
 
   pub call_typed : (at : ℕ) (f : Tree) (args : Trees) (d : Option Callee) (os : List (Option Kind)) (result : Result Seen Refused) → board_callee c.tables.now c.known.now p f ≡ None →

@@ -1,53 +1,101 @@
--- A failure that is handed on: it is the first of a node whose earlier parts have none.
-use Rattle.std.proofs.Common.{◌≡◌, Option, Some, None, sym, ap, ◌∙◌, subst, Result, Ok, Err}
-use Rattle.std.specs.Prelude.{IsErr, IsErrAnd}
+-- What a node's answer says: its first failure is that of its parts, in their order, and then its own.
+use Rattle.std.proofs.Common.{◌≡◌, ◌⊎◌, inl, inr, ℕ, Option, None, sym, ap, ◌∙◌, subst, Result, Ok, Err}
+use Rattle.std.specs.declared.alloc.Global.{Global}
+use Rattle.std.specs.declared.boxed.Box.{Box}
+use Rattle.std.specs.Prelude.{IsErr, IsErrAnd, IfOk, OnOk}
 use Rattle.std.proofs.lemmas.Bool.{false≢true}
 use Rattle.sts_base.specs.declared.refused.Refused.{Refused}
 use Rattle.sts_base.specs.declared.refused.Refused.TheVariants.{Program, NoMemory}
+use Rattle.sts_base.specs.declared.refused.Code.{Code}
 use Rattle.sts_syntax.specs.declared.trees.Expr.{Expr}
-use Rattle.sts_syntax.specs.Trees.{Tree}
+use Rattle.sts_syntax.specs.declared.trees.Node.TheVariants as n
+use Rattle.sts_syntax.specs.Trees.{Tree, Both, Either, Statement}
 use Rattle.sts_syntax.specs.Views.{tree}
-use Rattle.sts_scope.specs.Faults.{Fault, ◌then◌, RefusedWith, Finds}
+use Rattle.sts_scope.specs.declared.kinds.Kind.{Kind}
+use Rattle.sts_scope.specs.Faults.{Fault, ◌then◌, own, RefusedWith, Finds}
 use Rattle.sts_scope.specs.Places.{Place}
 use Rattle.type_derive.specs.declared.context.Context.{Context}
 use Rattle.type_derive.specs.declared.roles.Role.{Role}
-use Rattle.type_check.specs.Contexts.{fault}
+use Rattle.type_derive.specs.Typing.{◌>>=◌, type_of}
+use Rattle.type_check.specs.declared.seen.Seen.{Seen}
+use Rattle.type_check.specs.Seen.{plain}
+use Rattle.type_check.proofs.Forms.{both_is, either_is}
+use Rattle.type_check.specs.Contexts.{fault, seen_of, statement_fault, after}
 
 -- what `?` returns of a refusal
 abbrev pub IsHanded : {X : Type 0} → Result X Refused → Refused → Type 0
 IsHanded result why = IsErr result × IsErrAnd result (λ given. given ≡ why)
 
-pub handed : {X : Type 0} (result : Result X Refused) (why : Refused) (x y : Option Fault) → IsHanded result why → RefusedWith why x → y ≡ x → Finds result y
-handed (Ok v) why x y h found is = absurd (false≢true h.0)
-handed (Err given) why x y h found is = subst (λ q. RefusedWith q y) (sym h.1) (subst (RefusedWith why) (sym is) found)
+-- a part's failure that is handed on
+pub handed : {X : Type 0} (result : Result X Refused) (why : Refused) (x : Option Fault) → IsHanded result why → RefusedWith why x → Finds result x
+handed (Ok v) why x h found = absurd (false≢true h.0)
+handed (Err given) why x h found = subst (λ q. RefusedWith q x) (sym h.1) found
 
-pub before : (why : Refused) (x rest : Option Fault) → RefusedWith why x → RefusedWith why (x then rest)
-before (Program code at) x rest found = ap (λ q. q then rest) found
-before NoMemory x rest found = tt
+-- want of memory comes whatever fails
+pub wanting : {X : Type 0} (result : Result X Refused) (why : Refused) (x : Option Fault) → IsHanded result why → why ≡ NoMemory → Finds result x
+wanting result why x h is = handed result why x h (subst (λ q. RefusedWith q x) (sym is) tt)
 
-pub handed_first : {X : Type 0} (result : Result X Refused) (why : Refused) (x rest y : Option Fault) →
-    IsHanded result why → RefusedWith why x → y ≡ (x then rest) → Finds result y
-handed_first result why x rest y h found is = handed result why (x then rest) y h (before why x rest found) is
+-- it comes before what stands behind
+pub handed_first : {X : Type 0} (result : Result X Refused) (why : Refused) (x rest : Option Fault) → IsHanded result why → RefusedWith why x → Finds result (x then rest)
+handed_first (Ok v) why x rest h found = absurd (false≢true h.0)
+handed_first (Err given) (Program code at) x rest h found = subst (λ q. RefusedWith q (x then rest)) (sym h.1) (ap (λ q. q then rest) found)
+handed_first (Err given) NoMemory x rest h found = subst (λ q. RefusedWith q (x then rest)) (sym h.1) tt
 
-pub handed_second : {X : Type 0} (result : Result X Refused) (why : Refused) (w x rest y : Option Fault) →
-    IsHanded result why → w ≡ None → RefusedWith why x → y ≡ (w then x then rest) → Finds result y
-handed_second result why w x rest y h none found is = handed_first result why x rest y h found (is ∙ ap (λ q. q then x then rest) none)
+-- where a part has no failure, that of what stands behind it
+pub past : {X : Type 0} (result : Result X Refused) (x y : Option Fault) → x ≡ None → Finds result y → Finds result (x then y)
+past result x y none found = subst (Finds result) (sym (ap (λ q. q then y) none)) found
 
-pub handed_third : {X : Type 0} (result : Result X Refused) (why : Refused) (v w x rest y : Option Fault) →
-    IsHanded result why → v ≡ None → w ≡ None → RefusedWith why x → y ≡ (v then w then x then rest) → Finds result y
-handed_third result why v w x rest y h nothing none found is = handed_second result why w x rest y h none found (is ∙ ap (λ q. q then w then x then rest) nothing)
+pub nothing_in : (x y : Option Fault) → x ≡ None → y ≡ None → (x then y) ≡ None
+nothing_in x y none nothing = ap (λ q. q then y) none ∙ nothing
 
--- of an expression's first, second and third part, of which the code knows an equal one
-module _ (c : Context) (p : Place) {X : Type 0} (result : Result X Refused) (why : Refused) (y rest : Option Fault) where
-  pub first_part : (r : Role) (a b : Expr) → IsHanded result why → RefusedWith why (fault c p r (tree a)) → a ≡ b → y ≡ (fault c p r (tree b) then rest) → Finds result y
-  first_part r a b h found same is = handed_first result why (fault c p r (tree b)) rest y h (subst (λ q. RefusedWith why (fault c p r (tree q))) same found) is
+-- a node's own, by its type
+pub owned : {X : Type 0} (result : Result X Refused) (o u : Option Kind) (code : Code) (at : ℕ) → o ≡ u → Finds result (own o code at) → Finds result (own u code at)
+owned result o u code at is found = subst (λ q. Finds result (own q code at)) is found
 
-  pub second_part : (w : Option Fault) (r : Role) (a b : Expr) →
-      IsHanded result why → w ≡ None → RefusedWith why (fault c p r (tree a)) → a ≡ b → y ≡ (w then fault c p r (tree b) then rest) → Finds result y
-  second_part w r a b h none found same is =
-      handed_second result why w (fault c p r (tree b)) rest y h none (subst (λ q. RefusedWith why (fault c p r (tree q))) same found) is
+pub sees : (result : Result Seen Refused) (o u : Option Kind) → o ≡ u → IfOk result (λ s. s ≡ plain o) → IfOk result (λ s. s ≡ plain u)
+sees result o u is seen = subst (λ q. IfOk result (λ s. s ≡ plain q)) is seen
 
-  pub third_part : (v w : Option Fault) (r : Role) (a b : Expr) →
-      IsHanded result why → v ≡ None → w ≡ None → RefusedWith why (fault c p r (tree a)) → a ≡ b → y ≡ (v then w then fault c p r (tree b) then rest) → Finds result y
-  third_part v w r a b h nothing none found same is =
-      handed_third result why v w (fault c p r (tree b)) rest y h nothing none (subst (λ q. RefusedWith why (fault c p r (tree q))) same found) is
+-- whatever is given, this holds
+pub on_ok : {X P : Type 0} (result : Result X Refused) → P → OnOk result P
+on_ok (Ok v) holds = holds
+on_ok (Err why) holds = tt
+
+-- of an expression that is made of these parts
+module _ (c : Context) (p : Place) (r : Role) (result : Result Seen Refused) (x y : Tree) where
+  pub finds_as : x ≡ y → Finds result (fault c p r y) → Finds result (fault c p r x)
+  finds_as is found = subst (λ q. Finds result (fault c p r q)) (sym is) found
+
+  pub sees_as : x ≡ y → IfOk result (λ s. s ≡ seen_of c p r y) → IfOk result (λ s. s ≡ seen_of c p r x)
+  sees_as is seen = subst (λ q. IfOk result (λ s. s ≡ seen_of c p r q)) (sym is) seen
+
+-- of `&&` or `||`, of which one fails as the other would
+module _ (c : Context) (p : Place) (r : Role) (result : Result Seen Refused) (e : Expr) (a b : Box Expr Global) (x y : Expr) where
+  pub joined_finds : (e.node ≡ n.Both a b) ⊎ (e.node ≡ n.Either a b) → x ≡ a.value → y ≡ b.value → Finds result (fault c p r (Both e.at (tree x) (tree y))) → Finds result (fault c p r (tree e))
+  joined_finds (inl is) hx hy found = finds_as c p r result (tree e) (Both e.at (tree x) (tree y)) (both_is e a b x y is hx hy) found
+  joined_finds (inr is) hx hy found = finds_as c p r result (tree e) (Either e.at (tree x) (tree y)) (either_is e a b x y is hx hy) found
+
+  pub joined_sees : (e.node ≡ n.Both a b) ⊎ (e.node ≡ n.Either a b) → x ≡ a.value → y ≡ b.value →
+      IfOk result (λ s. s ≡ seen_of c p r (Both e.at (tree x) (tree y))) → IfOk result (λ s. s ≡ seen_of c p r (tree e))
+  joined_sees (inl is) hx hy seen = sees_as c p r result (tree e) (Both e.at (tree x) (tree y)) (both_is e a b x y is hx hy) seen
+  joined_sees (inr is) hx hy seen = sees_as c p r result (tree e) (Either e.at (tree x) (tree y)) (either_is e a b x y is hx hy) seen
+
+-- of a statement
+module _ (c : Context) (p : Place) {X : Type 0} (result : Result X Refused) (x y : Statement) where
+  pub statement_finds_as : x ≡ y → Finds result (statement_fault c p y) → Finds result (statement_fault c p x)
+  statement_finds_as is found = subst (λ q. Finds result (statement_fault c p q)) (sym is) found
+
+  pub place_as : (q : Place) → x ≡ y → OnOk result (q ≡ after c p y) → OnOk result (q ≡ after c p x)
+  place_as q is holds = subst (λ z. OnOk result (q ≡ after c p z)) (sym is) holds
+
+-- the type that the code has of a part
+pub kind_seen : (c : Context) (p : Place) (r : Role) (s : Seen) (x : Expr) → s ≡ seen_of c p r (tree x) → s.kind ≡ type_of c.tables.now c.known.now p r (tree x)
+kind_seen c p r s x h = ap (λ (q : Seen). q.kind) h
+
+-- what is made of the types of two and of three parts
+pub of_two : (f : Kind → Kind → Option Kind) (o u v w : Option Kind) → o ≡ v → u ≡ w → (o >>= λ a. u >>= λ b. f a b) ≡ (v >>= λ a. w >>= λ b. f a b)
+of_two f o u v w h k = ap (λ q. q >>= λ a. u >>= λ b. f a b) h ∙ ap (λ q. v >>= λ a. q >>= λ b. f a b) k
+
+pub of_three : (f : Kind → Kind → Kind → Option Kind) (m o u n v w : Option Kind) → m ≡ n → o ≡ v → u ≡ w →
+    (m >>= λ q. o >>= λ a. u >>= λ b. f q a b) ≡ (n >>= λ q. v >>= λ a. w >>= λ b. f q a b)
+of_three f m o u n v w g h k =
+    ap (λ z. z >>= λ q. o >>= λ a. u >>= λ b. f q a b) g ∙ ap (λ z. n >>= λ q. z >>= λ a. u >>= λ b. f q a b) h ∙ ap (λ z. n >>= λ q. v >>= λ a. z >>= λ b. f q a b) k

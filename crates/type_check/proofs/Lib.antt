@@ -2,6 +2,8 @@ pub mod Handled
 pub mod Calls
 pub mod Found
 pub mod Handed
+pub mod Forms
+pub mod Nested
 pub mod Steps
 pub mod Parts
 pub mod Taking

@@ -1,6 +1,6 @@
 -- Going through statements and declared names.
 use Rattle.std.proofs.Common.{◌≡◌, ℕ, ◌+◌, ◌<◌, Bool, not, Option, Some, None, List, length, get_or, drop, refl, sym, ap, ◌∙◌, subst, Result}
-use Rattle.std.specs.Prelude.{if◌then◌else◌}
+use Rattle.std.specs.Prelude.{is_some, if◌then◌else◌}
 use Rattle.sts_base.specs.declared.refused.Refused.{Refused}
 use Rattle.sts_base.specs.declared.refused.Code.TheVariants.{Mismatch, UnknownName, NeedsType}
 use Rattle.std.specs.declared.alloc.Global.{Global}
@@ -8,14 +8,16 @@ use Rattle.std.specs.declared.boxed.Box.{Box}
 use Rattle.sts_syntax.specs.declared.trees.Expr.{Expr}
 use Rattle.sts_syntax.specs.declared.trees.Form.TheVariants as f
 use Rattle.sts_syntax.specs.declared.trees.Stmt.{Stmt}
-use Rattle.sts_syntax.specs.declared.trees.Binding.{Binding}
+use Rattle.sts_syntax.specs.declared.trees.Binding.{Binding, out-Binding}
 use Rattle.sts_syntax.specs.Annotations.{Annotation}
 use Rattle.sts_syntax.specs.Trees.{Tree, OptionalTree, absent, present, Statement, For, ForOf, Return, OptionalStatement, omitted, written}
-use Rattle.sts_syntax.specs.Views.{tree, statement, statements, declaration, declarations, form_statement, optional_expression}
+use Rattle.sts_syntax.specs.Views.{tree, statement, statements, declaration, declarations, form_statement, optional_expression, optional_annotation}
+use Rattle.sts_syntax.proofs.Laws.{declaration_parts}
 use Rattle.sts_scope.specs.declared.kinds.Kind.{Kind}
 use Rattle.sts_scope.specs.Faults.{Fault, ◌then◌, own, unless, Finds}
 use Rattle.sts_scope.specs.Places.{Place, with, inner}
 use Rattle.sts_scope.specs.Globals.{is_dollar}
+use Rattle.sts_scope.specs.Headings.{written_fault}
 use Rattle.type_derive.specs.declared.roles.Role.{Role}
 use Rattle.type_derive.specs.declared.roles.Role.TheVariants.{Free}
 use Rattle.type_derive.specs.Typing.{type_of}
@@ -29,7 +31,11 @@ use Rattle.type_derive.specs.declared.context.Context.{Context}
 use Rattle.type_check.specs.Bounds as bounds
 use Rattle.type_check.specs.Seen.{is_test, initial_kind}
 use Rattle.type_derive.specs.Naming.{naming}
-use Rattle.type_check.specs.Contexts.{fault, after_first, statement_fault, statements_fault, declaration_fault, declarations_fault, declared, all_declared, after}
+use Rattle.type_check.specs.Contexts.{fault, first_fault, optional_fault, initial_fault, after_first, statement_fault, statements_fault, declaration_fault, declarations_fault, declared, all_declared, after}
+
+pub present_is : (e : Option Expr) → bounds.is_present (optional_expression e) ≡ is_some e
+present_is None = refl
+present_is (Some e) = refl
 
 module _ (c : Context) where
   pub statements_step : (p : Place) (all : List Stmt) (i : ℕ) (s : Stmt) → i < length all → s ≡ get_or all i s →
@@ -87,6 +93,39 @@ module _ (c : Context) where
   own_bound_is p None e at = ap (λ o. own o NeedsType at) (bound_is p None e)
   own_bound_is p (Some a) absent at = refl
   own_bound_is p (Some a) (present e) at = refl
+
+  -- a loop with a test, by the places that the code comes to
+  pub for_step : (p q r : Place) (at : ℕ) (first : OptionalStatement) (test step : OptionalTree) (a : Statement) → q ≡ inner p → r ≡ after_first c q first →
+      statement_fault c p (For at first test step a)
+      ≡ (first_fault c q first then optional_fault c r test then optional_fault c r step then statement_fault c (inner r) a then unless (is_test c.tables.now c.known.now r test) Mismatch at)
+  for_step p q r at first test step a hq hr =
+      let rest = λ (x : Place). optional_fault c x test then optional_fault c x step then statement_fault c (inner x) a then node.test_fault c.tables.now (naming c) c.known.now x test at in
+      ap (λ x. first_fault c x first then rest (after_first c x first)) (sym hq) ∙ ap (λ x. first_fault c q first then rest x) (sym hr)
+      ∙ ap (λ y. first_fault c q first then optional_fault c r test then optional_fault c r step then statement_fault c (inner r) a then y) (test_is r test at)
+
+  -- a declared name, by its parts
+  pub declaration_step : (p : Place) (b : Binding) → declaration_fault c p (declaration b)
+      ≡ (written_fault (naming c) (optional_annotation (out-Binding b).shape)
+      then initial_fault c p (optional_annotation (out-Binding b).shape) (optional_expression (out-Binding b).first)
+      then node.own_local c.tables.now (naming c) c.known.now p (out-Binding b).name (out-Binding b).at
+      then bounds.bound_fault (naming c) c.known.now (optional_annotation (out-Binding b).shape) (is_some (out-Binding b).first)
+      (initial_kind c.tables.now (naming c) c.known.now p (optional_annotation (out-Binding b).shape) (optional_expression (out-Binding b).first)) (out-Binding b).at)
+  declaration_step p b =
+      let shape = optional_annotation (out-Binding b).shape in
+      let first = optional_expression (out-Binding b).first in
+      let local = node.own_local c.tables.now (naming c) c.known.now p (out-Binding b).name (out-Binding b).at in
+      let k = initial_kind c.tables.now (naming c) c.known.now p shape first in
+      ap (declaration_fault c p) (declaration_parts b)
+      ∙ ap (λ o. written_fault (naming c) shape then initial_fault c p shape first then local then o)
+      (own_bound_is p shape first (out-Binding b).at ∙ ap (λ t. bounds.bound_fault (naming c) c.known.now shape t k (out-Binding b).at) (present_is (out-Binding b).first))
+
+  -- behind it
+  pub declared_step : (p : Place) (fixed : Bool) (b : Binding) → declared c p fixed (declaration b)
+      ≡ with p (out-Binding b).name (bounds.bound_kind (naming c) (optional_annotation (out-Binding b).shape)
+      (initial_kind c.tables.now (naming c) c.known.now p (optional_annotation (out-Binding b).shape) (optional_expression (out-Binding b).first))) fixed
+  declared_step p fixed b =
+      ap (declared c p fixed) (declaration_parts b)
+      ∙ ap (λ k. with p (out-Binding b).name k fixed) (bound_is p (optional_annotation (out-Binding b).shape) (optional_expression (out-Binding b).first))
 
   -- a loop through an array
   pub for_of_step : (p q : Place) (at x : ℕ) (fixed : Bool) (list : Tree) (a : Statement) (o : Option Kind) → fault c p Free list ≡ None → o ≡ type_of c.tables.now c.known.now p Free list →

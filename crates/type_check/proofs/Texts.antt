@@ -5,7 +5,6 @@ use Rattle.sts_base.specs.declared.refused.Code.TheVariants.{Mismatch}
 use Rattle.std.specs.Prelude.{is_some, Bool, true, false, ◌&&◌}
 use Rattle.sts_syntax.specs.declared.trees.Body.{Body, out-Body}
 use Rattle.sts_syntax.specs.declared.trees.Binding.{Binding, out-Binding}
-use Rattle.sts_syntax.specs.declared.trees.Expr.{Expr}
 use Rattle.sts_syntax.specs.declared.trees.Stmt.{Stmt}
 use Rattle.sts_syntax.specs.Trees.{Tree, Trees, Statement, Statements, also}
 use Rattle.sts_syntax.specs.Trees as t
@@ -26,14 +25,14 @@ use Rattle.type_derive.specs.Typing.{types_of}
 use Rattle.type_derive.specs.Nodes.{faults, statements_fault}
 use Rattle.type_derive.specs.Passes.{same_kinds, overrides_fault, members_nodes, own_super_call, made_fault, field_fault}
 use Rattle.type_derive.specs.declared.context.Context.{Context}
-use Rattle.type_check.specs.Bounds.{is_present, bound_fault}
+use Rattle.type_check.specs.Bounds.{bound_fault}
 use Rattle.type_derive.specs.Naming.{naming}
 use Rattle.type_check.specs.Contexts.{initial_fault}
 use Rattle.type_derive.specs.Heads.{SuperHead, head_of}
 use Rattle.type_check.specs.Seen.{fit_all, kinds_given, initial_kind}
 use Rattle.type_check.specs.Texts.{override_fault, member_nodes, super_fault, unmade_fault}
 use Rattle.type_check.proofs.Calls.{fits}
-use Rattle.type_check.proofs.Steps.{own_bound_is}
+use Rattle.type_check.proofs.Steps.{own_bound_is, present_is}
 
 pub routine_place : (b : Body) → routine_at (routine b) ≡ (out-Body b).at
 routine_place b = ap routine_at (routine_parts b)
@@ -48,10 +47,6 @@ unlike [] [] h = absurd (h refl)
 unlike [] (t ∷ ts) h = refl
 unlike (s ∷ ss) [] h = refl
 unlike (s ∷ ss) (t ∷ ts) h = and_false (same s t) ∙ ap (λ b. same s t && b) (unlike ss ts (λ e. h (ap suc e)))
-
-present_is : (e : Option Expr) → is_present (optional_expression e) ≡ is_some e
-present_is None = refl
-present_is (Some e) = refl
 
 -- a field or a global, by the parts of its declaration
 pub field_is : (c : Context) (self : This) (b : Binding) → field_fault c.tables.now (naming c) c.known.now self (declaration b)

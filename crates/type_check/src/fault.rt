@@ -22,8 +22,8 @@ use crate::bounds::{
     shape_role,
 };
 use crate::nodes::{
-    board_call_seen, call_seen, callee, is_called, is_served, items_seen, leaf_seen, make_seen,
-    member_seen, settable, super_call_seen,
+    board_call_seen, call_seen, callee, is_called, is_served, items_seen, make_seen, member_seen,
+    name_seen, settable, super_call_seen, this_seen,
 };
 use crate::places::enter_loop;
 use crate::seen::{Seen, always, own, plain};
@@ -39,225 +39,218 @@ use type_derive::{
 
 /// An expression: its first failure, else its type and what stands behind its dot.
 #[cycle(walk)]
-pub fn expression(
-    context: &Context,
-    room: usize,
-    scope: &Scope,
-    role: Role,
-    e: &Expr,
-) -> Result<Seen, Refused>
+pub fn expression(context: &Context, scope: &Scope, role: Role, e: &Expr) -> Result<Seen, Refused>
     ensures found { Finds result (c.fault context.now (place scope.now) role (tree e.now)) }
     ensures seen { IfOk result (λ s. s ≡ c.seen_of context.now (place scope.now) role (tree e.now)) }
 {
-    if room == 0 {
-        return Err(Refused::NoMemory);
-    }
-    let room = room - 1;
     let at = e.at;
     match &e.node {
-        Node::Num(_) | Node::Text(_) | Node::Truth(_) | Node::Null | Node::This | Node::Name(_) => {
-            leaf_seen(context, scope, role, e)
-        }
-        Node::Unary(_, _)
-        | Node::Binary(_, _, _)
-        | Node::Both(_, _)
-        | Node::Either(_, _)
-        | Node::Item(_, _) => operation(context, room, scope, role, e),
-        Node::Choice(_, _, _) => choice(context, room, scope, role, e),
-        Node::Set(_, _, _) => setting(context, room, scope, role, e),
-        Node::Bump {
-            target: _,
-            by: _,
-            after: _,
-        } => bumping(context, room, scope, role, e),
-        Node::Member(_, _) => member(context, room, scope, role, e),
-        Node::Items(all) => items(context, room, scope, role, all.as_slice(), at),
-        Node::Call(f, args) => call(context, room, scope, role, f, args.as_slice(), at),
-        Node::SuperCall(m, args) => super_call(context, room, scope, role, *m, args.as_slice(), at),
-        Node::Make(x, args) => make(context, room, scope, role, *x, args.as_slice(), at),
-        Node::Handler(_) => serving(context, room, scope, role, e),
+        Node::Num(_) => Ok(always(Base::Number)),
+        Node::Text(_) => Ok(always(Base::Text)),
+        Node::Truth(_) => Ok(always(Base::Boolean)),
+        Node::Null => Ok(always(Base::Null)),
+        Node::This => this_seen(scope, at),
+        Node::Name(x) => name_seen(context, scope, role, *x, at),
+        Node::Unary(op, a) => unary(context, scope, role, *op, a, at),
+        Node::Binary(op, a, b) => binary(context, scope, role, *op, a, b, at),
+        Node::Both(a, b) | Node::Either(a, b) => joined(context, scope, role, a, b, at),
+        Node::Item(a, i) => item(context, scope, role, a, i, at),
+        Node::Choice(q, a, b) => choice(context, scope, role, q, a, b, at),
+        Node::Set(op, x, a) => setting(context, scope, role, *op, x, a, at),
+        Node::Bump { target, by, after } => bumping(context, scope, role, target, *by, *after, at),
+        Node::Member(a, m) => member(context, scope, role, e, a, *m),
+        Node::Items(all) => items(context, scope, role, all.as_slice(), at),
+        Node::Call(f, args) => call(context, scope, role, f, args.as_slice(), at),
+        Node::SuperCall(m, args) => super_call(context, scope, role, *m, args.as_slice(), at),
+        Node::Make(x, args) => make(context, scope, role, *x, args.as_slice(), at),
+        Node::Handler(body) => serving(context, scope, role, body, at),
     }
 }
 
-/// An operator with one operand or two.
+/// A prefix operator and its operand.
 #[cycle(walk)]
-fn operation(
+fn unary(
     context: &Context,
-    room: usize,
     scope: &Scope,
     role: Role,
-    e: &Expr,
+    op: u8,
+    a: &Expr,
+    at: u32,
 ) -> Result<Seen, Refused>
-    ensures found { Finds result (c.fault context.now (place scope.now) role (tree e.now)) }
-    ensures seen { IfOk result (λ s. s ≡ c.seen_of context.now (place scope.now) role (tree e.now)) }
+    ensures found { Finds result (c.fault context.now (place scope.now) role (t.Unary at op (tree a.now))) }
+    ensures seen { IfOk result (λ s. s ≡ c.seen_of context.now (place scope.now) role (t.Unary at op (tree a.now))) }
 {
-    let at = e.at;
-    match &e.node {
-        Node::Unary(op, a) => {
-            let s = expression(context, room, scope, Role::Free, a)?;
-            own(prefixed(*op, s.kind), Code::Mismatch, at)
-        }
-        Node::Binary(op, a, b) => {
-            let s = expression(context, room, scope, Role::Free, a)?;
-            let u = expression(context, room, scope, Role::Free, b)?;
-            own(
-                operated(context.known, *op, s.kind, u.kind),
-                Code::Mismatch,
-                at,
-            )
-        }
-        Node::Both(a, b) => {
-            let s = expression(context, room, scope, Role::Free, a)?;
-            let u = expression(context, room, scope, Role::Free, b)?;
-            own(both(s.kind, u.kind), Code::Mismatch, at)
-        }
-        Node::Either(a, b) => {
-            let s = expression(context, room, scope, Role::Free, a)?;
-            let u = expression(context, room, scope, Role::Free, b)?;
-            own(both(s.kind, u.kind), Code::Mismatch, at)
-        }
-        Node::Item(a, i) => {
-            let s = expression(context, room, scope, Role::Free, a)?;
-            let u = expression(context, room, scope, Role::Free, i)?;
-            own(indexed(s.kind, u.kind), Code::Mismatch, at)
-        }
-        _ => Err(Refused::NoMemory),
-    }
+    let s = expression(context, scope, Role::Free, a)?;
+    own(prefixed(op, s.kind), Code::Mismatch, at)
+}
+
+/// An operator between two operands.
+#[cycle(walk)]
+fn binary(
+    context: &Context,
+    scope: &Scope,
+    role: Role,
+    op: u8,
+    a: &Expr,
+    b: &Expr,
+    at: u32,
+) -> Result<Seen, Refused>
+    ensures found { Finds result (c.fault context.now (place scope.now) role (t.Binary at op (tree a.now) (tree b.now))) }
+    ensures seen { IfOk result (λ s. s ≡ c.seen_of context.now (place scope.now) role (t.Binary at op (tree a.now) (tree b.now))) }
+{
+    let s = expression(context, scope, Role::Free, a)?;
+    let u = expression(context, scope, Role::Free, b)?;
+    own(
+        operated(context.known, op, s.kind, u.kind),
+        Code::Mismatch,
+        at,
+    )
+}
+
+/// `&&` and `||`, of which one fails as the other would.
+#[cycle(walk)]
+fn joined(
+    context: &Context,
+    scope: &Scope,
+    role: Role,
+    a: &Expr,
+    b: &Expr,
+    at: u32,
+) -> Result<Seen, Refused>
+    ensures found { Finds result (c.fault context.now (place scope.now) role (t.Both at (tree a.now) (tree b.now))) }
+    ensures seen { IfOk result (λ s. s ≡ c.seen_of context.now (place scope.now) role (t.Both at (tree a.now) (tree b.now))) }
+{
+    let s = expression(context, scope, Role::Free, a)?;
+    let u = expression(context, scope, Role::Free, b)?;
+    own(both(s.kind, u.kind), Code::Mismatch, at)
+}
+
+/// An item of a list.
+#[cycle(walk)]
+fn item(
+    context: &Context,
+    scope: &Scope,
+    role: Role,
+    a: &Expr,
+    i: &Expr,
+    at: u32,
+) -> Result<Seen, Refused>
+    ensures found { Finds result (c.fault context.now (place scope.now) role (t.Item at (tree a.now) (tree i.now))) }
+    ensures seen { IfOk result (λ s. s ≡ c.seen_of context.now (place scope.now) role (t.Item at (tree a.now) (tree i.now))) }
+{
+    let s = expression(context, scope, Role::Free, a)?;
+    let u = expression(context, scope, Role::Free, i)?;
+    own(indexed(s.kind, u.kind), Code::Mismatch, at)
 }
 
 /// A choice.
 #[cycle(walk)]
 fn choice(
     context: &Context,
-    room: usize,
     scope: &Scope,
     role: Role,
-    e: &Expr,
+    q: &Expr,
+    a: &Expr,
+    b: &Expr,
+    at: u32,
 ) -> Result<Seen, Refused>
-    ensures found { Finds result (c.fault context.now (place scope.now) role (tree e.now)) }
-    ensures seen { IfOk result (λ s. s ≡ c.seen_of context.now (place scope.now) role (tree e.now)) }
+    ensures found { Finds result (c.fault context.now (place scope.now) role (t.Choice at (tree q.now) (tree a.now) (tree b.now))) }
+    ensures seen { IfOk result (λ s. s ≡ c.seen_of context.now (place scope.now) role (t.Choice at (tree q.now) (tree a.now) (tree b.now))) }
 {
-    let at = e.at;
-    match &e.node {
-        Node::Choice(q, a, b) => {
-            let v = expression(context, room, scope, Role::Free, q)?;
-            let s = expression(context, room, scope, Role::Free, a)?;
-            let u = expression(context, room, scope, Role::Free, b)?;
-            own(
-                chosen(context.known, v.kind, s.kind, u.kind),
-                Code::Mismatch,
-                at,
-            )
-        }
-        _ => Err(Refused::NoMemory),
-    }
+    let v = expression(context, scope, Role::Free, q)?;
+    let s = expression(context, scope, Role::Free, a)?;
+    let u = expression(context, scope, Role::Free, b)?;
+    own(
+        chosen(context.known, v.kind, s.kind, u.kind),
+        Code::Mismatch,
+        at,
+    )
 }
 
 /// An assignment.
 #[cycle(walk)]
 fn setting(
     context: &Context,
-    room: usize,
     scope: &Scope,
     role: Role,
-    e: &Expr,
+    op: Option<u8>,
+    x: &Expr,
+    a: &Expr,
+    at: u32,
 ) -> Result<Seen, Refused>
-    ensures found { Finds result (c.fault context.now (place scope.now) role (tree e.now)) }
-    ensures seen { IfOk result (λ s. s ≡ c.seen_of context.now (place scope.now) role (tree e.now)) }
+    ensures found { Finds result (c.fault context.now (place scope.now) role (t.Set at op (tree x.now) (tree a.now))) }
+    ensures seen { IfOk result (λ s. s ≡ c.seen_of context.now (place scope.now) role (t.Set at op (tree x.now) (tree a.now))) }
 {
-    let at = e.at;
-    match &e.node {
-        Node::Set(op, x, a) => {
-            let u = expression(context, room, scope, Role::Free, x)?;
-            let s = expression(context, room, scope, Role::Given, a)?;
-            let can = settable(context, scope, x, u.part);
-            own(
-                set_kind(context.known, *op, can, u.kind, s.kind),
-                Code::Mismatch,
-                at,
-            )
-        }
-        _ => Err(Refused::NoMemory),
-    }
+    let u = expression(context, scope, Role::Free, x)?;
+    let s = expression(context, scope, Role::Given, a)?;
+    let can = settable(context, scope, x, u.part);
+    own(
+        set_kind(context.known, op, can, u.kind, s.kind),
+        Code::Mismatch,
+        at,
+    )
 }
 
 /// `++` and `--`.
 #[cycle(walk)]
 fn bumping(
     context: &Context,
-    room: usize,
     scope: &Scope,
     role: Role,
-    e: &Expr,
+    x: &Expr,
+    by: i32,
+    after: bool,
+    at: u32,
 ) -> Result<Seen, Refused>
-    ensures found { Finds result (c.fault context.now (place scope.now) role (tree e.now)) }
-    ensures seen { IfOk result (λ s. s ≡ c.seen_of context.now (place scope.now) role (tree e.now)) }
+    ensures found { Finds result (c.fault context.now (place scope.now) role (t.Bump at (tree x.now) by after)) }
+    ensures seen { IfOk result (λ s. s ≡ c.seen_of context.now (place scope.now) role (t.Bump at (tree x.now) by after)) }
 {
-    let at = e.at;
-    match &e.node {
-        Node::Bump {
-            target,
-            by: _,
-            after: _,
-        } => {
-            let u = expression(context, room, scope, Role::Free, target)?;
-            let can = settable(context, scope, target, u.part);
-            own(bump_kind(can, u.kind), Code::Mismatch, at)
-        }
-        _ => Err(Refused::NoMemory),
-    }
+    let u = expression(context, scope, Role::Free, x)?;
+    let can = settable(context, scope, x, u.part);
+    own(bump_kind(can, u.kind), Code::Mismatch, at)
 }
 
-/// What stands behind a dot.
+/// What stands behind a dot: e is `a.m`.
 #[cycle(walk)]
 fn member(
     context: &Context,
-    room: usize,
     scope: &Scope,
     role: Role,
     e: &Expr,
+    a: &Expr,
+    m: u32,
 ) -> Result<Seen, Refused>
-    ensures found { Finds result (c.fault context.now (place scope.now) role (tree e.now)) }
-    ensures seen { IfOk result (λ s. s ≡ c.seen_of context.now (place scope.now) role (tree e.now)) }
+    requires whole { tree e.now ≡ t.Member e.now.at (tree a.now) m }
+    ensures found { Finds result (c.fault context.now (place scope.now) role (t.Member e.now.at (tree a.now) m)) }
+    ensures seen { IfOk result (λ s. s ≡ c.seen_of context.now (place scope.now) role (t.Member e.now.at (tree a.now) m)) }
 {
     let at = e.at;
-    match &e.node {
-        Node::Member(a, m) => {
-            if constant(context.tables, context.known, scope, a, *m).is_some() {
-                return Ok(always(Base::Number));
-            }
-            if board_callee(context.tables, context.known, scope, e).is_some() {
-                unless(is_called(role), Code::BadHandler, at)?;
-                return Ok(plain(None));
-            }
-            let s = expression(context, room, scope, Role::Free, a)?;
-            member_seen(context, role, s.kind, *m, at)
-        }
-        _ => Err(Refused::NoMemory),
+    if constant(context.tables, context.known, scope, a, m).is_some() {
+        return Ok(always(Base::Number));
     }
+    if board_callee(context.tables, context.known, scope, e).is_some() {
+        unless(is_called(role), Code::BadHandler, at)?;
+        return Ok(plain(None));
+    }
+    let s = expression(context, scope, Role::Free, a)?;
+    member_seen(context, role, s.kind, m, at)
 }
 
 /// A function expression, where it stands.
 #[cycle(walk)]
 fn serving(
     context: &Context,
-    room: usize,
     scope: &Scope,
     role: Role,
-    e: &Expr,
+    body: &Body,
+    at: u32,
 ) -> Result<Seen, Refused>
-    ensures found { Finds result (c.fault context.now (place scope.now) role (tree e.now)) }
-    ensures seen { IfOk result (λ s. s ≡ c.seen_of context.now (place scope.now) role (tree e.now)) }
+    ensures found { Finds result (c.fault context.now (place scope.now) role (t.Handler at (routine body.now))) }
+    ensures seen { IfOk result (λ s. s ≡ c.seen_of context.now (place scope.now) role (t.Handler at (routine body.now))) }
 {
-    let at = e.at;
-    match &e.node {
-        Node::Handler(body) => {
-            let serves = handler(context, room, scope, body)?;
-            unless(serves_there(role, serves), Code::BadHandler, at)?;
-            Ok(plain(None))
-        }
-        _ => Err(Refused::NoMemory),
-    }
+    let serves = handler(context, scope, body)?;
+    unless(serves_there(role, serves), Code::BadHandler, at)?;
+    Ok(plain(None))
 }
 
 /// What the place of an argument does with it.
@@ -297,7 +290,6 @@ fn add(kinds: &mut Seq<Option<Kind>>, kind: Option<Kind>) -> Result<(), Refused>
 #[cycle(walk)]
 pub fn kinds_of(
     context: &Context,
-    room: usize,
     scope: &Scope,
     board: Option<BoardCall>,
     from: usize,
@@ -310,7 +302,7 @@ pub fn kinds_of(
     let takes = taken(board);
     let mut kinds = Seq::new(context.alloc);
     for i in from..all.len() {
-        let s = expression(context, room, scope, role_at(takes, i), &all[i])?;
+        let s = expression(context, scope, role_at(takes, i), &all[i])?;
         add(&mut kinds, s.kind)?;
     }
     Ok(kinds)
@@ -331,7 +323,6 @@ fn empty_kind(role: Role) -> Option<Kind>
 #[cycle(walk)]
 fn items(
     context: &Context,
-    room: usize,
     scope: &Scope,
     role: Role,
     all: &[Expr],
@@ -343,8 +334,8 @@ fn items(
     match all {
         [] => own(empty_kind(role), Code::Mismatch, at),
         [first, ..] => {
-            let s = expression(context, room, scope, Role::Free, first)?;
-            let kinds = kinds_of(context, room, scope, None, 1, all)?;
+            let s = expression(context, scope, Role::Free, first)?;
+            let kinds = kinds_of(context, scope, None, 1, all)?;
             items_seen(context, s.kind, kinds.as_slice(), at)
         }
     }
@@ -354,7 +345,6 @@ fn items(
 #[cycle(walk)]
 fn call(
     context: &Context,
-    room: usize,
     scope: &Scope,
     role: Role,
     f: &Expr,
@@ -366,12 +356,12 @@ fn call(
 {
     match board_callee(context.tables, context.known, scope, f) {
         Some(board) => {
-            let kinds = kinds_of(context, room, scope, Some(board), 0, args)?;
+            let kinds = kinds_of(context, scope, Some(board), 0, args)?;
             board_call_seen(context, scope, board, kinds.as_slice(), args, at)
         }
         None => {
-            let s = expression(context, room, scope, Role::Called, f)?;
-            let kinds = kinds_of(context, room, scope, None, 0, args)?;
+            let s = expression(context, scope, Role::Called, f)?;
+            let kinds = kinds_of(context, scope, None, 0, args)?;
             let called = callee(context, scope, f, s.part);
             call_seen(context, called, kinds.as_slice(), at)
         }
@@ -382,7 +372,6 @@ fn call(
 #[cycle(walk)]
 fn super_call(
     context: &Context,
-    room: usize,
     scope: &Scope,
     role: Role,
     m: Option<u32>,
@@ -392,7 +381,7 @@ fn super_call(
     ensures found { Finds result (c.fault context.now (place scope.now) role (t.SuperCall at m (trees args.now))) }
     ensures seen { IfOk result (λ s. s ≡ c.seen_of context.now (place scope.now) role (t.SuperCall at m (trees args.now))) }
 {
-    let kinds = kinds_of(context, room, scope, None, 0, args)?;
+    let kinds = kinds_of(context, scope, None, 0, args)?;
     match m {
         None => Err(Refused::Program {
             code: Code::Mismatch,
@@ -406,7 +395,6 @@ fn super_call(
 #[cycle(walk)]
 fn make(
     context: &Context,
-    room: usize,
     scope: &Scope,
     role: Role,
     x: u32,
@@ -416,7 +404,7 @@ fn make(
     ensures found { Finds result (c.fault context.now (place scope.now) role (t.Make at x (trees args.now))) }
     ensures seen { IfOk result (λ s. s ≡ c.seen_of context.now (place scope.now) role (t.Make at x (trees args.now))) }
 {
-    let kinds = kinds_of(context, room, scope, None, 0, args)?;
+    let kinds = kinds_of(context, scope, None, 0, args)?;
     make_seen(context, scope, x, kinds.as_slice(), at)
 }
 
@@ -439,7 +427,7 @@ fn serves_there(role: Role, serves: bool) -> bool
 
 /// A function expression: its first failure, else whether it serves.
 #[cycle(walk)]
-fn handler(context: &Context, room: usize, scope: &Scope, body: &Body) -> Result<bool, Refused>
+fn handler(context: &Context, scope: &Scope, body: &Body) -> Result<bool, Refused>
     ensures found { Finds result (c.handler_fault context.now (place scope.now) (routine body.now)) }
     ensures serves { IfOk result (λ b. b ≡ node.serves_itself context.now.tables.now (naming context.now) context.now.known.now (place scope.now) (routine body.now)) }
 {
@@ -453,128 +441,140 @@ fn handler(context: &Context, room: usize, scope: &Scope, body: &Body) -> Result
         body.stmts.as_slice(),
     )?;
     let mut inside = or_no_memory(handler_scope(context, &*scope, body.params.as_slice(), gives))?;
-    statements(context, room, &mut inside, body.stmts.as_slice())?;
+    statements(context, &mut inside, body.stmts.as_slice())?;
     Ok(may_serve(body.params.as_slice(), gives))
 }
 
 /// Statements of a block.
 #[cycle(walk)]
-pub fn statements(
-    context: &Context,
-    room: usize,
-    scope: &mut Scope,
-    all: &[Stmt],
-) -> Result<(), Refused>
+pub fn statements(context: &Context, scope: &mut Scope, all: &[Stmt]) -> Result<(), Refused>
     ensures found { Finds result (c.statements_fault context.now (place scope.old) (statements all.now)) }
     ensures place { OnOk result (Extends (place scope.old) (place scope.new)) }
 {
     for i in 0..all.len() {
-        statement(context, room, scope, &all[i])?;
+        statement(context, scope, &all[i])?;
     }
     Ok(())
 }
 
 /// A statement that has a block of its own.
 #[cycle(walk)]
-fn nested(context: &Context, room: usize, scope: &mut Scope, s: &Stmt) -> Result<(), Refused>
+fn nested(context: &Context, scope: &mut Scope, s: &Stmt) -> Result<(), Refused>
     ensures found { Finds result (c.statement_fault context.now (name.inner (place scope.old)) (statement s.now)) }
     ensures place { OnOk result (place scope.new ≡ place scope.old) }
 {
     let mark = enter(scope);
-    statement(context, room, scope, s)?;
+    statement(context, scope, s)?;
     leave(scope, mark);
     Ok(())
 }
 
 /// Statements that have a block of their own.
 #[cycle(walk)]
-fn block(context: &Context, room: usize, scope: &mut Scope, all: &[Stmt]) -> Result<(), Refused>
+fn block(context: &Context, scope: &mut Scope, all: &[Stmt]) -> Result<(), Refused>
     ensures found { Finds result (c.statements_fault context.now (name.inner (place scope.old)) (statements all.now)) }
     ensures place { OnOk result (place scope.new ≡ place scope.old) }
 {
     let mark = enter(scope);
-    statements(context, room, scope, all)?;
+    statements(context, scope, all)?;
     leave(scope, mark);
     Ok(())
 }
 
 /// A statement.
 #[cycle(walk)]
-pub fn statement(context: &Context, room: usize, scope: &mut Scope, s: &Stmt) -> Result<(), Refused>
+pub fn statement(context: &Context, scope: &mut Scope, s: &Stmt) -> Result<(), Refused>
     ensures found { Finds result (c.statement_fault context.now (place scope.old) (statement s.now)) }
     ensures place { OnOk result (place scope.new ≡ c.after context.now (place scope.old) (statement s.now)) }
 {
-    if room == 0 {
-        return Err(Refused::NoMemory);
-    }
-    let room = room - 1;
     let at = s.at;
     match &s.form {
-        Form::Block(all) => block(context, room, scope, all.as_slice()),
-        Form::Let { fixed, each } => {
-            declarations_fault(context, room, scope, *fixed, each.as_slice())
-        }
-        Form::If(_, _, _) | Form::While(_, _) | Form::DoWhile(_, _) => {
-            tested(context, room, scope, s)
-        }
-        Form::For(first, test, step, a) => {
-            for_loop(context, room, scope, first, test, step, a, at)
-        }
+        Form::Block(all) => block(context, scope, all.as_slice()),
+        Form::Let { fixed, each } => declarations_fault(context, scope, *fixed, each.as_slice()),
+        Form::If(test, a, other) => match other {
+            None => tested(context, scope, test, a, at),
+            Some(b) => if_else(context, scope, test, a, b, at),
+        },
+        Form::While(test, a) => tested(context, scope, test, a, at),
+        Form::DoWhile(a, test) => do_while(context, scope, a, test, at),
+        Form::For(first, test, step, a) => for_loop(context, scope, first, test, step, a, at),
         Form::ForOf {
             fixed,
             name,
             list,
             body,
-        } => for_of(context, room, scope, *fixed, *name, list, body, at),
+        } => for_of(context, scope, *fixed, *name, list, body, at),
         Form::Return(value) => match value {
             None => unless(is_nothing(scope.gives), Code::Mismatch, at),
-            Some(e) => returned(context, room, scope, e, at),
+            Some(e) => returned(context, scope, e, at),
         },
         Form::Break => Ok(()),
         Form::Continue => Ok(()),
         Form::Plain(e) => {
-            expression(context, room, scope, Role::Free, e)?;
+            expression(context, scope, Role::Free, e)?;
             Ok(())
         }
         Form::Empty => Ok(()),
     }
 }
 
-/// `if`, and loops with nothing but a test.
+/// `if` without `else`, and `while`, which fails as that would.
 #[cycle(walk)]
-fn tested(context: &Context, room: usize, scope: &mut Scope, s: &Stmt) -> Result<(), Refused>
-    ensures found { Finds result (c.statement_fault context.now (place scope.old) (statement s.now)) }
-    ensures place { OnOk result (place scope.new ≡ c.after context.now (place scope.old) (statement s.now)) }
+fn tested(
+    context: &Context,
+    scope: &mut Scope,
+    test: &Expr,
+    a: &Stmt,
+    at: u32,
+) -> Result<(), Refused>
+    ensures found { Finds result (c.statement_fault context.now (place scope.old) (t.IfOnly at (tree test.now) (statement a.now))) }
+    ensures place { OnOk result (place scope.new ≡ place scope.old) }
 {
-    let at = s.at;
-    match &s.form {
-        Form::If(test, a, other) => {
-            let s = expression(context, room, scope, Role::Free, test)?;
-            nested(context, room, scope, a)?;
-            if let Some(b) = other {
-                nested(context, room, scope, b)?;
-            }
-            unless(is_boolean(s.kind), Code::Mismatch, at)
-        }
-        Form::While(test, a) => {
-            let s = expression(context, room, scope, Role::Free, test)?;
-            nested(context, room, scope, a)?;
-            unless(is_boolean(s.kind), Code::Mismatch, at)
-        }
-        Form::DoWhile(a, test) => {
-            nested(context, room, scope, a)?;
-            let s = expression(context, room, scope, Role::Free, test)?;
-            unless(is_boolean(s.kind), Code::Mismatch, at)
-        }
-        _ => Err(Refused::NoMemory),
-    }
+    let s = expression(context, scope, Role::Free, test)?;
+    nested(context, scope, a)?;
+    unless(is_boolean(s.kind), Code::Mismatch, at)
+}
+
+/// `if (test) a else b`
+#[cycle(walk)]
+fn if_else(
+    context: &Context,
+    scope: &mut Scope,
+    test: &Expr,
+    a: &Stmt,
+    b: &Stmt,
+    at: u32,
+) -> Result<(), Refused>
+    ensures found { Finds result (c.statement_fault context.now (place scope.old) (t.IfElse at (tree test.now) (statement a.now) (statement b.now))) }
+    ensures place { OnOk result (place scope.new ≡ place scope.old) }
+{
+    let s = expression(context, scope, Role::Free, test)?;
+    nested(context, scope, a)?;
+    nested(context, scope, b)?;
+    unless(is_boolean(s.kind), Code::Mismatch, at)
+}
+
+/// `do a while (test)`
+#[cycle(walk)]
+fn do_while(
+    context: &Context,
+    scope: &mut Scope,
+    a: &Stmt,
+    test: &Expr,
+    at: u32,
+) -> Result<(), Refused>
+    ensures found { Finds result (c.statement_fault context.now (place scope.old) (t.DoWhile at (statement a.now) (tree test.now))) }
+    ensures place { OnOk result (place scope.new ≡ place scope.old) }
+{
+    nested(context, scope, a)?;
+    let s = expression(context, scope, Role::Free, test)?;
+    unless(is_boolean(s.kind), Code::Mismatch, at)
 }
 
 /// `for (first; test; step) s`
 #[cycle(walk)]
 fn for_loop(
     context: &Context,
-    room: usize,
     scope: &mut Scope,
     first: &Option<Box<Stmt>>,
     test: &Option<Expr>,
@@ -586,10 +586,10 @@ fn for_loop(
     ensures place { OnOk result (place scope.new ≡ place scope.old) }
 {
     let mark = enter(scope);
-    first_of(context, room, scope, first)?;
-    let tests = optional(context, room, scope, test)?;
-    optional(context, room, scope, step)?;
-    nested(context, room, scope, a)?;
+    first_of(context, scope, first)?;
+    let tests = optional(context, scope, test)?;
+    optional(context, scope, step)?;
+    nested(context, scope, a)?;
     leave(scope, mark);
     unless(tests, Code::Mismatch, at)?;
     Ok(())
@@ -597,36 +597,26 @@ fn for_loop(
 
 /// What stands first in a `for`, which may be left out.
 #[cycle(walk)]
-fn first_of(
-    context: &Context,
-    room: usize,
-    scope: &mut Scope,
-    first: &Option<Box<Stmt>>,
-) -> Result<(), Refused>
+fn first_of(context: &Context, scope: &mut Scope, first: &Option<Box<Stmt>>) -> Result<(), Refused>
     ensures found { Finds result (c.first_fault context.now (place scope.old) (optional_boxed first.now)) }
     ensures place { OnOk result (place scope.new ≡ c.after_first context.now (place scope.old) (optional_boxed first.now)) }
 {
     match first {
         None => Ok(()),
-        Some(first) => statement(context, room, scope, first),
+        Some(first) => statement(context, scope, first),
     }
 }
 
 /// A test or a step, which may be left out: its first failure, else whether it is left out or a truth value.
 #[cycle(walk)]
-fn optional(
-    context: &Context,
-    room: usize,
-    scope: &Scope,
-    e: &Option<Expr>,
-) -> Result<bool, Refused>
+fn optional(context: &Context, scope: &Scope, e: &Option<Expr>) -> Result<bool, Refused>
     ensures found { Finds result (c.optional_fault context.now (place scope.now) (optional_expression e.now)) }
     ensures tests { IfOk result (λ b. b ≡ is_test context.now.tables.now context.now.known.now (place scope.now) (optional_expression e.now)) }
 {
     match e {
         None => Ok(true),
         Some(e) => {
-            let s = expression(context, room, scope, Role::Free, e)?;
+            let s = expression(context, scope, Role::Free, e)?;
             Ok(is_boolean(s.kind))
         }
     }
@@ -636,7 +626,6 @@ fn optional(
 #[cycle(walk)]
 fn for_of(
     context: &Context,
-    room: usize,
     scope: &mut Scope,
     fixed: bool,
     x: u32,
@@ -647,9 +636,9 @@ fn for_of(
     ensures found { Finds result (c.statement_fault context.now (place scope.old) (t.ForOf at fixed x (tree list.now) (statement a.now))) }
     ensures place { OnOk result (place scope.new ≡ place scope.old) }
 {
-    let s = expression(context, room, scope, Role::Free, list)?;
+    let s = expression(context, scope, Role::Free, list)?;
     let mark = enter_loop(scope, x, s.kind, fixed)?;
-    nested(context, room, scope, a)?;
+    nested(context, scope, a)?;
     leave(scope, mark);
     unless(!is_dollar(context.tables, x), Code::UnknownName, at)?;
     unless(is_list(s.kind), Code::Mismatch, at)?;
@@ -658,10 +647,10 @@ fn for_of(
 
 /// `return` with a value
 #[cycle(walk)]
-fn returned(context: &Context, room: usize, scope: &Scope, e: &Expr, at: u32) -> Result<(), Refused>
+fn returned(context: &Context, scope: &Scope, e: &Expr, at: u32) -> Result<(), Refused>
     ensures { Finds result (c.statement_fault context.now (place scope.now) (t.Return at (t.present (tree e.now)))) }
 {
-    let s = expression(context, room, scope, kind_role(scope.gives), e)?;
+    let s = expression(context, scope, kind_role(scope.gives), e)?;
     unless(fits(context.known, s.kind, scope.gives), Code::Mismatch, at)
 }
 
@@ -669,7 +658,6 @@ fn returned(context: &Context, room: usize, scope: &Scope, e: &Expr, at: u32) ->
 #[cycle(walk)]
 pub fn initial(
     context: &Context,
-    room: usize,
     scope: &Scope,
     shape: &Option<Shape>,
     first: &Option<Expr>,
@@ -683,7 +671,7 @@ pub fn initial(
             if shape.is_none() && is_alone(e) {
                 return Ok(None);
             }
-            let s = expression(context, room, scope, shape_role(shape), e)?;
+            let s = expression(context, scope, shape_role(shape), e)?;
             Ok(s.kind)
         }
     }
@@ -693,7 +681,6 @@ pub fn initial(
 #[cycle(walk)]
 fn declaration_fault(
     context: &Context,
-    room: usize,
     scope: &mut Scope,
     fixed: bool,
     b: &Binding,
@@ -702,7 +689,7 @@ fn declaration_fault(
     ensures place { OnOk result (place scope.new ≡ c.declared context.now (place scope.old) fixed (declaration b.now)) }
 {
     check_written(context.classes, &b.shape)?;
-    let first = initial(context, room, scope, &b.shape, &b.first)?;
+    let first = initial(context, scope, &b.shape, &b.first)?;
     check_local(context, scope, b.name, b.at)?;
     let kind = bound(context, &b.shape, b.first.is_some(), first, b.at)?;
     or_no_memory(declare(scope, b.name, kind, fixed))
@@ -712,7 +699,6 @@ fn declaration_fault(
 #[cycle(walk)]
 fn declarations_fault(
     context: &Context,
-    room: usize,
     scope: &mut Scope,
     fixed: bool,
     each: &[Binding],
@@ -721,7 +707,7 @@ fn declarations_fault(
     ensures place { OnOk result (place scope.new ≡ c.all_declared context.now (place scope.old) fixed (declarations each.now)) }
 {
     for i in 0..each.len() {
-        declaration_fault(context, room, scope, fixed, &each[i])?;
+        declaration_fault(context, scope, fixed, &each[i])?;
     }
     Ok(())
 }

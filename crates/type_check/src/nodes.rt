@@ -7,6 +7,7 @@ ghost use Rattle.sts_scope.specs.Faults as failure;
 ghost use Rattle.sts_scope.specs.Faults.{Finds};
 ghost use Rattle.sts_scope.specs.Kinds as kind;
 ghost use Rattle.sts_scope.specs.Rules as rule;
+ghost use Rattle.sts_scope.specs.Codes as cause;
 ghost use Rattle.type_derive.specs.Nodes as node;
 ghost use Rattle.type_derive.specs.declared.roles.Role.TheVariants as role;
 ghost use Rattle.sts_scope.specs.declared.known.Found.TheVariants as found;
@@ -14,15 +15,14 @@ ghost use Rattle.type_derive.specs.Scopes.{place};
 ghost use Rattle.type_derive.specs.Shown.{shown, all_shown};
 ghost use Rattle.type_derive.specs.Typing as typing;
 ghost use Rattle.type_derive.specs.Typing.{◌>>=◌ as bind};
-ghost use Rattle.type_check.specs.Contexts as c;
 ghost use Rattle.type_derive.specs.Naming.{naming};
 ghost use Rattle.type_check.specs.Seen.{plain, part_at, member, kinds_given, listed_kind, called_kind, own_called_kind, super_callee, board_kind_of};
 
 use crate::arguments::{are_given, call_type, items_kind, lacks_handler};
 use crate::codes::{why_call, why_make, why_name, why_part, why_super, why_this};
-use crate::seen::{Seen, always, own, plain};
+use crate::seen::{Seen, own, plain};
 use sts_base::{Code, Refused};
-use sts_scope::{Base, Found, Kind, Part, or_no_memory, unless};
+use sts_scope::{Found, Kind, Part, or_no_memory, unless};
 use sts_syntax::{BoardCall, Expr, Node};
 use type_derive::{
     Called, Context, Role, Scope, board_kind, constant, gives_of, kind_at, made, name_fixed,
@@ -99,21 +99,12 @@ pub fn name_seen(
     }
 }
 
-/// An expression that has no parts.
-pub fn leaf_seen(context: &Context, scope: &Scope, role: Role, e: &Expr) -> Result<Seen, Refused>
-    ensures found { Finds result (c.fault context.now (place scope.now) role (tree e.now)) }
-    ensures seen { IfOk result (λ s. s ≡ c.seen_of context.now (place scope.now) role (tree e.now)) }
+/// `this`.
+pub fn this_seen(scope: &Scope, at: u32) -> Result<Seen, Refused>
+    ensures found { Finds result (failure.own (rule.this_kind scope.now.this) (cause.why_this scope.now.this) at) }
+    ensures seen { IfOk result (λ s. s ≡ plain (rule.this_kind scope.now.this)) }
 {
-    let at = e.at;
-    match &e.node {
-        Node::Num(_) => Ok(always(Base::Number)),
-        Node::Text(_) => Ok(always(Base::Text)),
-        Node::Truth(_) => Ok(always(Base::Boolean)),
-        Node::Null => Ok(always(Base::Null)),
-        Node::This => own(this_kind(scope.this), why_this(scope.this), at),
-        Node::Name(x) => name_seen(context, scope, role, *x, at),
-        _ => Err(Refused::NoMemory),
-    }
+    own(this_kind(scope.this), why_this(scope.this), at)
 }
 
 /// What may be called behind a dot, where it is called.

@@ -23,16 +23,13 @@ use sts_syntax::{Binding, Body, Expr, Form, Item, Member, Stmt};
 use text_headings::check_written;
 use type_derive::{Context, Scope, head_of, kind_at, outer_scope, routine_scope};
 
-/// How many nodes may stand in one another. A text's tree has at most 256; there is no stack for many more.
-const ROOM: usize = 1000;
-
 /// A field or a global, which is declared outside all functions.
 fn check_field(context: &Context, this: This, b: &Binding) -> Result<(), Refused>
     ensures { Finds result (pass.field_fault context.now.tables.now (naming context.now) context.now.known.now this (declaration b.now)) }
 {
     check_written(context.classes, &b.shape)?;
     let scope = outer_scope(context.alloc, this);
-    let first = initial(context, ROOM, &scope, &b.shape, &b.first)?;
+    let first = initial(context, &scope, &b.shape, &b.first)?;
     let at = b.at;
     bound(context, &b.shape, b.first.is_some(), first, at)?;
     Ok(())
@@ -53,7 +50,7 @@ fn check_outer(context: &Context, s: &Stmt) -> Result<(), Refused>
     ensures { Finds result (c.statement_fault context.now (name.outside this.Nowhere false None) (statement s.now)) }
 {
     let mut scope = outer_scope(context.alloc, This::Nowhere);
-    statement(context, ROOM, &mut scope, s)
+    statement(context, &mut scope, s)
 }
 
 /// A statement of the main program.
@@ -98,7 +95,7 @@ fn check_body(
         gives,
         false,
     ))?;
-    statements(context, ROOM, &mut scope, body.stmts.as_slice())
+    statements(context, &mut scope, body.stmts.as_slice())
 }
 
 /// The call of the base's constructor.
@@ -111,7 +108,7 @@ fn check_super(
 ) -> Result<(), Refused>
     ensures { Finds result (super_fault context.now.tables.now (naming context.now) context.now.known.now (place scope.now) at b (trees args.now)) }
 {
-    let kinds = kinds_of(context, ROOM, scope, None, 0, args)?;
+    let kinds = kinds_of(context, scope, None, 0, args)?;
     let known = context.known;
     unless(
         all_go(known, kinds.as_slice(), known.maker_takes(b)),
@@ -124,7 +121,7 @@ fn check_super(
 fn check_unmade(context: &Context, scope: &mut Scope, at: u32, all: &[Stmt]) -> Result<(), Refused>
     ensures { Finds result (unmade_fault context.now.tables.now (naming context.now) context.now.known.now (place scope.old) at (statements all.now)) }
 {
-    statements(context, ROOM, scope, all)?;
+    statements(context, scope, all)?;
     Err(Refused::Program {
         code: Code::Mismatch,
         at,
@@ -143,7 +140,7 @@ fn check_headed(
     ensures { Finds result (super_fault context.now.tables.now (naming context.now) context.now.known.now (place scope.old) at b (trees args.now) then c.statements_fault context.now (place scope.old) (statements rest.now)) }
 {
     check_super(context, scope, at, b, args)?;
-    statements(context, ROOM, scope, rest)
+    statements(context, scope, rest)
 }
 
 /// The statements of a constructor of a class with the base b.

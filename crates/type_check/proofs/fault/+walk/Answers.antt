@@ -1,252 +1,360 @@
 use Rattle.std.proofs.Common.{◌≡◌, ◌<◌, true, None, length, drop, refl, sym, ap, ◌∙◌, subst, arith}
 use Rattle.std.proofs.lemmas.Grind.{common_steps}
 use Rattle.std.proofs.lemmas.List.{drop-map}
-use Rattle.std.specs.Prelude.{IfOk, OnOk, is_some, if◌then◌else◌}
+use Rattle.std.specs.Prelude.{IfOk, OnOk, is_some, ◌&&◌, if◌then◌else◌}
+use Rattle.sts_base.specs.declared.refused.Code.TheVariants.{Mismatch, BadHandler}
 use Rattle.sts_syntax.specs.BoardViews.{board_parameter}
 use Rattle.sts_syntax.specs.declared.trees.Body.{out-Body}
-use Rattle.sts_syntax.specs.Trees.{Binary, Both, Either, Choice, Set, Bump, Member, Item, Items, Call, SuperCall, Make, For, Does}
+use Rattle.sts_syntax.specs.declared.trees.Form.TheVariants as f
+use Rattle.sts_syntax.specs.Nesting.{nesting, deepest_tree, statement_nesting, routine_nesting}
+use Rattle.sts_syntax.specs.Trees.{Member, Items, SuperCall, Block, Let, For, Does}
 use Rattle.sts_syntax.specs.Views.{tree, trees, node_tree, statement, statements, declarations, form_statement, optional_expression, optional_annotation, parameters}
-use Rattle.sts_scope.specs.Faults.{Finds, ◌then◌}
-use Rattle.sts_scope.specs.Rules.{operate, joined, element, choose, assign, counted}
+use Rattle.sts_scope.specs.Faults.{Finds, ◌then◌, unless, RefusedWith}
+use Rattle.sts_scope.specs.Rules.{operate, element, choose, assign, counted, prefix, is_boolean}
+use Rattle.sts_scope.specs.Rules as rule
 use Rattle.type_derive.specs.declared.roles.Role.TheVariants.{Free, Given}
 use Rattle.type_derive.specs.Scopes.{place}
 use Rattle.type_derive.specs.Typing.{◌>>=◌, type_of, role_of, constant_of, board_callee, settable}
-use Rattle.type_derive.proofs.Laws.{none_if, closed, extends_to, after_extends, block_is, call_is, super_call_is, make_is, items_is}
+use Rattle.type_derive.proofs.Laws.{none_if, closed, extends_to, after_extends, block_is}
 use Rattle.sts_scope.specs.Places.{inner}
 use Rattle.sts_syntax.proofs.Laws.{routine_parts, let_statement}
 use Rattle.type_check.specs.declared.seen.Seen.{Seen}
 use Rattle.type_check.specs.Bounds.{optional_boxed}
+use Rattle.type_check.specs.Seen.{is_test}
 use Rattle.type_derive.specs.Naming.{naming}
-use Rattle.type_derive.specs.Nodes.{serves_itself}
-use Rattle.type_check.specs.Contexts.{fault, seen_of, taken, handler_fault, statement_fault, statements_fault, declarations_fault, all_declared, after}
-use Rattle.type_check.proofs.Found.{part_kind, part_fault, found_one, found_two, found_three, trees_first, args_step, args_kept, kinds_more, untyped, member_board, member_found, call_found, call_typed, make_found, make_typed, super_found, super_typed, items_found, items_typed}
-use Rattle.type_check.proofs.Steps.{return_is, statements_kept, extends_after, for_is, for_of_step, returned_step, returned_found, first_extends}
+use Rattle.type_derive.specs.Nodes.{serves_itself, is_served}
+use Rattle.type_check.specs.Contexts.{fault, seen_of, taken, handler_fault, first_fault, optional_fault, statement_fault, after, after_first}
+use Rattle.type_check.proofs.Forms.{unary_is, binary_is, item_is, choice_is, set_is, bump_is, member_is as member_form, items_is, call_is, super_call_is, make_is, handler_is, if_only_is, if_else_is, while_is, do_while_is, for_of_is}
+use Rattle.type_check.proofs.Found.{trees_first, args_step, args_kept, kinds_more, untyped, member_is, member_board, member_found, member_typed, member_constant, board_call_is, other_call_is, call_found, call_typed, make_found, make_typed, super_found, super_typed, items_found, items_typed}
+use Rattle.type_check.proofs.Nested.{tree_within, statement_within, declaration_within}
+use Rattle.type_check.proofs.Steps.{return_is, statements_kept, extends_after, for_is, for_step, for_of_step, returned_step, returned_found, first_extends}
 use Rattle.std.proofs.lemmas.Result.{IfOk-from_err}
-use Rattle.type_check.proofs.Handed.{first_part, second_part, third_part}
+use Rattle.type_check.proofs.Handed.{handed, handed_first, past, nothing_in, owned, sees, on_ok, kind_seen, of_two, of_three, finds_as, sees_as, joined_finds, joined_sees, statement_finds_as, place_as}
 use Rattle.type_check.proofs.fault.+walk.Goals as goal
 
-pub operation-returns-in_ok-u-in-Binary-clause-found : goal.operation-returns-in_ok-u-in-Binary-clause-found
-operation-returns-in_ok-u-in-Binary-clause-found t c =
+pub expression-returns-in-Num : goal.expression-returns-in-Num
+expression-returns-in-Num t c =
     let z = c.args.context.now in
-    let t' = z.tables.now in
-    let k = z.known.now in
     let p = place c.args.scope.now in
-    let at = c.args.e.now.at in
-    let y0 = c.in-Binary.a.value in
-    let h0 = part_fault z p Free c.deref-in-Binary.result.now y0 c.in_ok-s-in-Binary.ensures.found c.deref-in-Binary.ensures in
-    let k0 = part_kind z p Free c.in_ok-s-in-Binary.s c.deref-in-Binary.result.now y0 c.in_ok-s-in-Binary.ensures.seen c.deref-in-Binary.ensures in
-    let y1 = c.in-Binary.b.value in
-    let h1 = part_fault z p Free c.deref-in-Binary-2.result.now y1 c.in_ok-u-in-Binary.ensures.found c.deref-in-Binary-2.ensures in
-    let k1 = part_kind z p Free c.in_ok-u-in-Binary.u c.deref-in-Binary-2.result.now y1 c.in_ok-u-in-Binary.ensures.seen c.deref-in-Binary-2.ensures in
-    let is = ap (fault z p c.args.role) (ap (node_tree at) c.in-Binary.is) in
-    found_two z p c.args.role (tree c.args.e.now) (fault z p Free (tree y0)) (fault z p Free (tree y1)) c.operated.result (type_of t' k p c.args.role (Binary at c.in-Binary.op (tree y0) (tree y1))) at c.own-in-Binary.result is h0 h1 (c.operated.ensures ∙ ap (λ q. q >>= λ v. c.in_ok-u-in-Binary.u.kind >>= λ w. operate k.classes c.in-Binary.op v w) k0 ∙ ap (λ q. type_of t' k p Free (tree y0) >>= λ v. q >>= λ w. operate k.classes c.in-Binary.op v w) k1) c.own-in-Binary.ensures.found
+    let r = c.args.role in
+    let is = ap (node_tree c.args.e.now.at) c.in-Num.is in
+    record { found = ap (fault z p r) is; seen = c.always.ensures ∙ sym (ap (seen_of z p r) is) }
 
-pub operation-returns-in_ok-u-in-Both-clause-found : goal.operation-returns-in_ok-u-in-Both-clause-found
-operation-returns-in_ok-u-in-Both-clause-found t c =
+pub expression-returns-in-Text : goal.expression-returns-in-Text
+expression-returns-in-Text t c =
     let z = c.args.context.now in
-    let t' = z.tables.now in
-    let k = z.known.now in
     let p = place c.args.scope.now in
-    let at = c.args.e.now.at in
-    let y0 = c.in-Both.a.value in
-    let h0 = part_fault z p Free c.deref-in-Both.result.now y0 c.in_ok-s-in-Both.ensures.found c.deref-in-Both.ensures in
-    let k0 = part_kind z p Free c.in_ok-s-in-Both.s c.deref-in-Both.result.now y0 c.in_ok-s-in-Both.ensures.seen c.deref-in-Both.ensures in
-    let y1 = c.in-Both.b.value in
-    let h1 = part_fault z p Free c.deref-in-Both-2.result.now y1 c.in_ok-u-in-Both.ensures.found c.deref-in-Both-2.ensures in
-    let k1 = part_kind z p Free c.in_ok-u-in-Both.u c.deref-in-Both-2.result.now y1 c.in_ok-u-in-Both.ensures.seen c.deref-in-Both-2.ensures in
-    let is = ap (fault z p c.args.role) (ap (node_tree at) c.in-Both.is) in
-    found_two z p c.args.role (tree c.args.e.now) (fault z p Free (tree y0)) (fault z p Free (tree y1)) c.both.result (type_of t' k p c.args.role (Both at (tree y0) (tree y1))) at c.own-in-Both.result is h0 h1 (c.both.ensures ∙ ap (λ q. q >>= λ v. c.in_ok-u-in-Both.u.kind >>= λ w. joined v w) k0 ∙ ap (λ q. type_of t' k p Free (tree y0) >>= λ v. q >>= λ w. joined v w) k1) c.own-in-Both.ensures.found
+    let r = c.args.role in
+    let is = ap (node_tree c.args.e.now.at) c.in-Text.is in
+    record { found = ap (fault z p r) is; seen = c.always-in-Text.ensures ∙ sym (ap (seen_of z p r) is) }
 
-pub operation-returns-in_ok-u-in-Either-clause-found : goal.operation-returns-in_ok-u-in-Either-clause-found
-operation-returns-in_ok-u-in-Either-clause-found t c =
+pub expression-returns-in-Truth : goal.expression-returns-in-Truth
+expression-returns-in-Truth t c =
     let z = c.args.context.now in
-    let t' = z.tables.now in
-    let k = z.known.now in
     let p = place c.args.scope.now in
-    let at = c.args.e.now.at in
-    let y0 = c.in-Either.a.value in
-    let h0 = part_fault z p Free c.deref-in-Either.result.now y0 c.in_ok-s-in-Either.ensures.found c.deref-in-Either.ensures in
-    let k0 = part_kind z p Free c.in_ok-s-in-Either.s c.deref-in-Either.result.now y0 c.in_ok-s-in-Either.ensures.seen c.deref-in-Either.ensures in
-    let y1 = c.in-Either.b.value in
-    let h1 = part_fault z p Free c.deref-in-Either-2.result.now y1 c.in_ok-u-in-Either.ensures.found c.deref-in-Either-2.ensures in
-    let k1 = part_kind z p Free c.in_ok-u-in-Either.u c.deref-in-Either-2.result.now y1 c.in_ok-u-in-Either.ensures.seen c.deref-in-Either-2.ensures in
-    let is = ap (fault z p c.args.role) (ap (node_tree at) c.in-Either.is) in
-    found_two z p c.args.role (tree c.args.e.now) (fault z p Free (tree y0)) (fault z p Free (tree y1)) c.both-in-Either.result (type_of t' k p c.args.role (Either at (tree y0) (tree y1))) at c.own-in-Either.result is h0 h1 (c.both-in-Either.ensures ∙ ap (λ q. q >>= λ v. c.in_ok-u-in-Either.u.kind >>= λ w. joined v w) k0 ∙ ap (λ q. type_of t' k p Free (tree y0) >>= λ v. q >>= λ w. joined v w) k1) c.own-in-Either.ensures.found
+    let r = c.args.role in
+    let is = ap (node_tree c.args.e.now.at) c.in-Truth.is in
+    record { found = ap (fault z p r) is; seen = c.always-in-Truth.ensures ∙ sym (ap (seen_of z p r) is) }
 
-pub choice-returns-in_ok-u-in-Choice-clause-found : goal.choice-returns-in_ok-u-in-Choice-clause-found
-choice-returns-in_ok-u-in-Choice-clause-found t c =
+pub expression-returns-in-Null : goal.expression-returns-in-Null
+expression-returns-in-Null t c =
     let z = c.args.context.now in
-    let t' = z.tables.now in
-    let k = z.known.now in
     let p = place c.args.scope.now in
-    let at = c.args.e.now.at in
-    let y0 = c.in-Choice.q.value in
-    let h0 = part_fault z p Free c.deref.result.now y0 c.in_ok-v-in-Choice.ensures.found c.deref.ensures in
-    let k0 = part_kind z p Free c.in_ok-v-in-Choice.v c.deref.result.now y0 c.in_ok-v-in-Choice.ensures.seen c.deref.ensures in
-    let y1 = c.in-Choice.a.value in
-    let h1 = part_fault z p Free c.deref-in-Choice.result.now y1 c.in_ok-s-in-Choice.ensures.found c.deref-in-Choice.ensures in
-    let k1 = part_kind z p Free c.in_ok-s-in-Choice.s c.deref-in-Choice.result.now y1 c.in_ok-s-in-Choice.ensures.seen c.deref-in-Choice.ensures in
-    let y2 = c.in-Choice.b.value in
-    let h2 = part_fault z p Free c.deref-in-Choice-2.result.now y2 c.in_ok-u-in-Choice.ensures.found c.deref-in-Choice-2.ensures in
-    let k2 = part_kind z p Free c.in_ok-u-in-Choice.u c.deref-in-Choice-2.result.now y2 c.in_ok-u-in-Choice.ensures.seen c.deref-in-Choice-2.ensures in
-    let is = ap (fault z p c.args.role) (ap (node_tree at) c.in-Choice.is) in
-    found_three z p c.args.role (tree c.args.e.now) (fault z p Free (tree y0)) (fault z p Free (tree y1)) (fault z p Free (tree y2)) c.chosen.result (type_of t' k p c.args.role (Choice at (tree y0) (tree y1) (tree y2))) at c.own.result is h0 h1 h2 (c.chosen.ensures ∙ ap (λ q. q >>= λ o. c.in_ok-s-in-Choice.s.kind >>= λ v. c.in_ok-u-in-Choice.u.kind >>= λ w. choose k.classes o v w) k0 ∙ ap (λ q. type_of t' k p Free (tree y0) >>= λ o. q >>= λ v. c.in_ok-u-in-Choice.u.kind >>= λ w. choose k.classes o v w) k1 ∙ ap (λ q. type_of t' k p Free (tree y0) >>= λ o. type_of t' k p Free (tree y1) >>= λ v. q >>= λ w. choose k.classes o v w) k2) c.own.ensures.found
+    let r = c.args.role in
+    let is = ap (node_tree c.args.e.now.at) c.in-Null.is in
+    record { found = ap (fault z p r) is; seen = c.always-in-Null.ensures ∙ sym (ap (seen_of z p r) is) }
 
-pub setting-returns-in_ok-s-in-Set-clause-found : goal.setting-returns-in_ok-s-in-Set-clause-found
-setting-returns-in_ok-s-in-Set-clause-found t c =
+pub expression-returns-in-This : goal.expression-returns-in-This
+expression-returns-in-This t c =
     let z = c.args.context.now in
-    let t' = z.tables.now in
-    let k = z.known.now in
     let p = place c.args.scope.now in
-    let at = c.args.e.now.at in
-    let y0 = c.in-Set.x.value in
-    let h0 = part_fault z p Free c.deref.result.now y0 c.in_ok-u-in-Set.ensures.found c.deref.ensures in
-    let k0 = part_kind z p Free c.in_ok-u-in-Set.u c.deref.result.now y0 c.in_ok-u-in-Set.ensures.seen c.deref.ensures in
-    let y1 = c.in-Set.a.value in
-    let h1 = part_fault z p Given c.deref-in-Set.result.now y1 c.in_ok-s-in-Set.ensures.found c.deref-in-Set.ensures in
-    let k1 = part_kind z p Given c.in_ok-s-in-Set.s c.deref-in-Set.result.now y1 c.in_ok-s-in-Set.ensures.seen c.deref-in-Set.ensures in
-    let is = ap (fault z p c.args.role) (ap (node_tree at) c.in-Set.is) in
-    found_two z p c.args.role (tree c.args.e.now) (fault z p Free (tree y0)) (fault z p Given (tree y1)) c.set_kind.result (type_of t' k p c.args.role (Set at c.in-Set.op (tree y0) (tree y1))) at c.own.result is h0 h1 (c.set_kind.ensures ∙ ap (λ b. c.in_ok-u-in-Set.u.kind >>= λ v. c.in_ok-s-in-Set.s.kind >>= λ w. if b then assign k.classes c.in-Set.op v w else None) (c.settable-can.ensures ∙ ap (λ q. settable t' k p (tree q)) c.deref-in-Set-2.ensures) ∙ ap (λ q. q >>= λ v. c.in_ok-s-in-Set.s.kind >>= λ w. if settable t' k p (tree y0) then assign k.classes c.in-Set.op v w else None) k0 ∙ ap (λ q. type_of t' k p Free (tree y0) >>= λ v. q >>= λ w. if settable t' k p (tree y0) then assign k.classes c.in-Set.op v w else None) k1) c.own.ensures.found
+    let r = c.args.role in
+    let is = ap (node_tree c.args.e.now.at) c.in-This.is in
+    record { found = finds_as z p r c.this_seen.result _ _ is c.this_seen.ensures.found; seen = sees_as z p r c.this_seen.result _ _ is c.this_seen.ensures.seen }
 
-pub bumping-returns-in_ok-u-in-Bump-clause-found : goal.bumping-returns-in_ok-u-in-Bump-clause-found
-bumping-returns-in_ok-u-in-Bump-clause-found t c =
+pub expression-returns-in-Name : goal.expression-returns-in-Name
+expression-returns-in-Name t c =
     let z = c.args.context.now in
-    let t' = z.tables.now in
-    let k = z.known.now in
     let p = place c.args.scope.now in
-    let at = c.args.e.now.at in
-    let y0 = c.in-Bump.target.value in
-    let h0 = part_fault z p Free c.deref.result.now y0 c.in_ok-u-in-Bump.ensures.found c.deref.ensures in
-    let k0 = part_kind z p Free c.in_ok-u-in-Bump.u c.deref.result.now y0 c.in_ok-u-in-Bump.ensures.seen c.deref.ensures in
-    let is = ap (fault z p c.args.role) (ap (node_tree at) c.in-Bump.is) in
-    found_one z p c.args.role (tree c.args.e.now) (fault z p Free (tree y0)) c.bump_kind.result (type_of t' k p c.args.role (Bump at (tree y0) c.in-Bump.by c.in-Bump.after)) at c.own.result is h0 (c.bump_kind.ensures ∙ ap (λ b. c.in_ok-u-in-Bump.u.kind >>= λ v. if b then counted v else None) (c.settable-can.ensures ∙ ap (λ q. settable t' k p (tree q)) c.deref-in-Bump.ensures) ∙ ap (λ q. q >>= λ v. if settable t' k p (tree y0) then counted v else None) k0) c.own.ensures.found
+    let r = c.args.role in
+    let is = ap (node_tree c.args.e.now.at) c.in-Name.is in
+    record { found = finds_as z p r c.name_seen.result _ _ is c.name_seen.ensures.found; seen = sees_as z p r c.name_seen.result _ _ is c.name_seen.ensures.seen }
 
-pub operation-returns-in_ok-u-in-Item-clause-found : goal.operation-returns-in_ok-u-in-Item-clause-found
-operation-returns-in_ok-u-in-Item-clause-found t c =
+pub expression-returns-in-Unary : goal.expression-returns-in-Unary
+expression-returns-in-Unary t c =
     let z = c.args.context.now in
-    let t' = z.tables.now in
-    let k = z.known.now in
     let p = place c.args.scope.now in
-    let at = c.args.e.now.at in
-    let y0 = c.in-Item.a.value in
-    let h0 = part_fault z p Free c.deref-in-Item.result.now y0 c.in_ok-s-in-Item.ensures.found c.deref-in-Item.ensures in
-    let k0 = part_kind z p Free c.in_ok-s-in-Item.s c.deref-in-Item.result.now y0 c.in_ok-s-in-Item.ensures.seen c.deref-in-Item.ensures in
-    let y1 = c.in-Item.i.value in
-    let h1 = part_fault z p Free c.deref-in-Item-2.result.now y1 c.in_ok-u-in-Item.ensures.found c.deref-in-Item-2.ensures in
-    let k1 = part_kind z p Free c.in_ok-u-in-Item.u c.deref-in-Item-2.result.now y1 c.in_ok-u-in-Item.ensures.seen c.deref-in-Item-2.ensures in
-    let is = ap (fault z p c.args.role) (ap (node_tree at) c.in-Item.is) in
-    found_two z p c.args.role (tree c.args.e.now) (fault z p Free (tree y0)) (fault z p Free (tree y1)) c.indexed.result (type_of t' k p c.args.role (Item at (tree y0) (tree y1))) at c.own-in-Item.result is h0 h1 (c.indexed.ensures ∙ ap (λ q. q >>= λ v. c.in_ok-u-in-Item.u.kind >>= λ w. element v w) k0 ∙ ap (λ q. type_of t' k p Free (tree y0) >>= λ v. q >>= λ w. element v w) k1) c.own-in-Item.ensures.found
+    let r = c.args.role in
+    let is = unary_is c.args.e.now c.in-Unary.op c.in-Unary.a c.deref.result.now c.in-Unary.is c.deref.ensures in
+    record { found = finds_as z p r c.unary.result _ _ is c.unary.ensures.found; seen = sees_as z p r c.unary.result _ _ is c.unary.ensures.seen }
+
+pub expression-returns-in-Binary : goal.expression-returns-in-Binary
+expression-returns-in-Binary t c =
+    let z = c.args.context.now in
+    let p = place c.args.scope.now in
+    let r = c.args.role in
+    let is = binary_is c.args.e.now c.in-Binary.op c.in-Binary.a c.in-Binary.b c.deref-in-Binary.result.now c.deref-in-Binary-2.result.now c.in-Binary.is c.deref-in-Binary.ensures c.deref-in-Binary-2.ensures in
+    record { found = finds_as z p r c.binary.result _ _ is c.binary.ensures.found; seen = sees_as z p r c.binary.result _ _ is c.binary.ensures.seen }
+
+pub expression-returns-in-Both : goal.expression-returns-in-Both
+expression-returns-in-Both t c =
+    let z = c.args.context.now in
+    let p = place c.args.scope.now in
+    let x = c.deref-in-Both.result.now in
+    let y = c.deref-in-Both-2.result.now in
+    record {
+      found = joined_finds z p c.args.role c.joined.result c.args.e.now c.in-Both.a c.in-Both.b x y c.in-Both.is c.deref-in-Both.ensures c.deref-in-Both-2.ensures c.joined.ensures.found;
+      seen = joined_sees z p c.args.role c.joined.result c.args.e.now c.in-Both.a c.in-Both.b x y c.in-Both.is c.deref-in-Both.ensures c.deref-in-Both-2.ensures c.joined.ensures.seen;
+    }
+
+pub expression-returns-in-Item : goal.expression-returns-in-Item
+expression-returns-in-Item t c =
+    let z = c.args.context.now in
+    let p = place c.args.scope.now in
+    let r = c.args.role in
+    let is = item_is c.args.e.now c.in-Item.a c.in-Item.i c.deref-in-Item.result.now c.deref-in-Item-2.result.now c.in-Item.is c.deref-in-Item.ensures c.deref-in-Item-2.ensures in
+    record { found = finds_as z p r c.item.result _ _ is c.item.ensures.found; seen = sees_as z p r c.item.result _ _ is c.item.ensures.seen }
+
+pub expression-returns-in-Choice : goal.expression-returns-in-Choice
+expression-returns-in-Choice t c =
+    let z = c.args.context.now in
+    let p = place c.args.scope.now in
+    let r = c.args.role in
+    let is = choice_is c.args.e.now c.in-Choice.q c.in-Choice.a c.in-Choice.b c.deref-in-Choice.result.now c.deref-in-Choice-2.result.now c.deref-in-Choice-3.result.now c.in-Choice.is c.deref-in-Choice.ensures c.deref-in-Choice-2.ensures c.deref-in-Choice-3.ensures in
+    record { found = finds_as z p r c.choice.result _ _ is c.choice.ensures.found; seen = sees_as z p r c.choice.result _ _ is c.choice.ensures.seen }
+
+pub expression-returns-in-Set : goal.expression-returns-in-Set
+expression-returns-in-Set t c =
+    let z = c.args.context.now in
+    let p = place c.args.scope.now in
+    let r = c.args.role in
+    let is = set_is c.args.e.now c.in-Set.op c.in-Set.x c.in-Set.a c.deref-in-Set.result.now c.deref-in-Set-2.result.now c.in-Set.is c.deref-in-Set.ensures c.deref-in-Set-2.ensures in
+    record { found = finds_as z p r c.setting.result _ _ is c.setting.ensures.found; seen = sees_as z p r c.setting.result _ _ is c.setting.ensures.seen }
+
+pub expression-returns-in-Bump : goal.expression-returns-in-Bump
+expression-returns-in-Bump t c =
+    let z = c.args.context.now in
+    let p = place c.args.scope.now in
+    let r = c.args.role in
+    let is = bump_is c.args.e.now c.in-Bump.target c.in-Bump.by c.in-Bump.after c.deref-in-Bump.result.now c.in-Bump.is c.deref-in-Bump.ensures in
+    record { found = finds_as z p r c.bumping.result _ _ is c.bumping.ensures.found; seen = sees_as z p r c.bumping.result _ _ is c.bumping.ensures.seen }
+
+pub expression-returns-in-Member : goal.expression-returns-in-Member
+expression-returns-in-Member t c =
+    let z = c.args.context.now in
+    let p = place c.args.scope.now in
+    let r = c.args.role in
+    let is = member_form c.args.e.now c.in-Member.a c.in-Member.m c.deref-in-Member.result.now c.in-Member.is c.deref-in-Member.ensures in
+    record { found = finds_as z p r c.member.result _ _ is c.member.ensures.found; seen = sees_as z p r c.member.result _ _ is c.member.ensures.seen }
+
+pub expression-member-requires : goal.expression-member-requires
+expression-member-requires t c = (omega (arith, ap nesting (member_form c.args.e.now c.in-Member.a c.in-Member.m c.deref-in-Member.result.now c.in-Member.is c.deref-in-Member.ensures), c.decreases), member_form c.args.e.now c.in-Member.a c.in-Member.m c.deref-in-Member.result.now c.in-Member.is c.deref-in-Member.ensures)
+
+pub expression-returns-in-Items : goal.expression-returns-in-Items
+expression-returns-in-Items t c =
+    let z = c.args.context.now in
+    let p = place c.args.scope.now in
+    let r = c.args.role in
+    let is = items_is c.args.e.now c.in-Items.all c.as_slice.result.now c.in-Items.is c.as_slice.ensures in
+    record { found = finds_as z p r c.items.result _ _ is c.items.ensures.found; seen = sees_as z p r c.items.result _ _ is c.items.ensures.seen }
+
+pub expression-items-requires : goal.expression-items-requires
+expression-items-requires t c = (omega (arith, ap nesting (items_is c.args.e.now c.in-Items.all c.as_slice.result.now c.in-Items.is c.as_slice.ensures), c.decreases), tt)
+
+pub expression-returns-in-Call : goal.expression-returns-in-Call
+expression-returns-in-Call t c =
+    let z = c.args.context.now in
+    let p = place c.args.scope.now in
+    let r = c.args.role in
+    let is = call_is c.args.e.now c.in-Call.f c.in-Call.args c.as_slice-in-Call.result.now c.deref-in-Call.result.now c.in-Call.is c.deref-in-Call.ensures c.as_slice-in-Call.ensures in
+    record { found = finds_as z p r c.call.result _ _ is c.call.ensures.found; seen = sees_as z p r c.call.result _ _ is c.call.ensures.seen }
+
+pub expression-call-requires : goal.expression-call-requires
+expression-call-requires t c = (omega (arith, ap nesting (call_is c.args.e.now c.in-Call.f c.in-Call.args c.as_slice-in-Call.result.now c.deref-in-Call.result.now c.in-Call.is c.deref-in-Call.ensures c.as_slice-in-Call.ensures), c.decreases), tt)
+
+pub expression-returns-in-SuperCall : goal.expression-returns-in-SuperCall
+expression-returns-in-SuperCall t c =
+    let z = c.args.context.now in
+    let p = place c.args.scope.now in
+    let r = c.args.role in
+    let is = super_call_is c.args.e.now c.in-SuperCall.m c.in-SuperCall.args c.as_slice-in-SuperCall.result.now c.in-SuperCall.is c.as_slice-in-SuperCall.ensures in
+    record { found = finds_as z p r c.super_call.result _ _ is c.super_call.ensures.found; seen = sees_as z p r c.super_call.result _ _ is c.super_call.ensures.seen }
+
+pub expression-super_call-requires : goal.expression-super_call-requires
+expression-super_call-requires t c = (omega (arith, ap nesting (super_call_is c.args.e.now c.in-SuperCall.m c.in-SuperCall.args c.as_slice-in-SuperCall.result.now c.in-SuperCall.is c.as_slice-in-SuperCall.ensures), c.decreases), tt)
+
+pub expression-returns-in-Make : goal.expression-returns-in-Make
+expression-returns-in-Make t c =
+    let z = c.args.context.now in
+    let p = place c.args.scope.now in
+    let r = c.args.role in
+    let is = make_is c.args.e.now c.in-Make.x c.in-Make.args c.as_slice-in-Make.result.now c.in-Make.is c.as_slice-in-Make.ensures in
+    record { found = finds_as z p r c.make.result _ _ is c.make.ensures.found; seen = sees_as z p r c.make.result _ _ is c.make.ensures.seen }
+
+pub expression-make-requires : goal.expression-make-requires
+expression-make-requires t c = (omega (arith, ap nesting (make_is c.args.e.now c.in-Make.x c.in-Make.args c.as_slice-in-Make.result.now c.in-Make.is c.as_slice-in-Make.ensures), c.decreases), tt)
+
+pub expression-returns-in-Handler : goal.expression-returns-in-Handler
+expression-returns-in-Handler t c =
+    let z = c.args.context.now in
+    let p = place c.args.scope.now in
+    let r = c.args.role in
+    let is = handler_is c.args.e.now c.in-Handler.body c.deref-in-Handler.result.now c.in-Handler.is c.deref-in-Handler.ensures in
+    record { found = finds_as z p r c.serving.result _ _ is c.serving.ensures.found; seen = sees_as z p r c.serving.result _ _ is c.serving.ensures.seen }
+
+pub unary-returns : goal.unary-returns
+unary-returns t c =
+    let z = c.args.context.now in
+    let p = place c.args.scope.now in
+    let is = c.prefixed.ensures ∙ ap (λ q. q >>= λ v. prefix c.args.op v) (kind_seen z p Free c.in_ok-s.s c.args.a.now c.in_ok-s.ensures.seen) in
+    record { found = past c.own.result _ _ c.in_ok-s.ensures.found (owned c.own.result _ _ Mismatch c.args.at is c.own.ensures.found); seen = sees c.own.result _ _ is c.own.ensures.seen }
+
+pub unary-returns-in_err-s : goal.unary-returns-in_err-s
+unary-returns-in_err-s t c = record { found = handed_first c.from_residual.result c.in_err-s.field-0.0 _ _ c.from_residual.ensures c.in_err-s.ensures.found; seen = IfOk-from_err c.from_residual.result _ c.from_residual.ensures.0 }
+
+pub binary-returns : goal.binary-returns
+binary-returns t c =
+    let z = c.args.context.now in
+    let p = place c.args.scope.now in
+    let is = c.operated.ensures ∙ of_two (operate z.known.now.classes c.args.op) _ _ _ _ (kind_seen z p Free c.in_ok-s.s c.args.a.now c.in_ok-s.ensures.seen) (kind_seen z p Free c.in_ok-u.u c.args.b.now c.in_ok-u.ensures.seen) in
+    record { found = past c.own.result _ _ c.in_ok-s.ensures.found (past c.own.result _ _ c.in_ok-u.ensures.found (owned c.own.result _ _ Mismatch c.args.at is c.own.ensures.found)); seen = sees c.own.result _ _ is c.own.ensures.seen }
+
+pub joined-returns : goal.joined-returns
+joined-returns t c =
+    let z = c.args.context.now in
+    let p = place c.args.scope.now in
+    let is = c.both.ensures ∙ of_two rule.joined _ _ _ _ (kind_seen z p Free c.in_ok-s.s c.args.a.now c.in_ok-s.ensures.seen) (kind_seen z p Free c.in_ok-u.u c.args.b.now c.in_ok-u.ensures.seen) in
+    record { found = past c.own.result _ _ c.in_ok-s.ensures.found (past c.own.result _ _ c.in_ok-u.ensures.found (owned c.own.result _ _ Mismatch c.args.at is c.own.ensures.found)); seen = sees c.own.result _ _ is c.own.ensures.seen }
+
+pub item-returns : goal.item-returns
+item-returns t c =
+    let z = c.args.context.now in
+    let p = place c.args.scope.now in
+    let is = c.indexed.ensures ∙ of_two element _ _ _ _ (kind_seen z p Free c.in_ok-s.s c.args.a.now c.in_ok-s.ensures.seen) (kind_seen z p Free c.in_ok-u.u c.args.i.now c.in_ok-u.ensures.seen) in
+    record { found = past c.own.result _ _ c.in_ok-s.ensures.found (past c.own.result _ _ c.in_ok-u.ensures.found (owned c.own.result _ _ Mismatch c.args.at is c.own.ensures.found)); seen = sees c.own.result _ _ is c.own.ensures.seen }
+
+pub binary-returns-in_err-s : goal.binary-returns-in_err-s
+binary-returns-in_err-s t c = record { found = handed_first c.from_residual.result c.in_err-s.field-0.0 _ _ c.from_residual.ensures c.in_err-s.ensures.found; seen = IfOk-from_err c.from_residual.result _ c.from_residual.ensures.0 }
+
+pub binary-returns-in_err-u : goal.binary-returns-in_err-u
+binary-returns-in_err-u t c = record { found = past c.from_residual-in_err-u.result _ _ c.in_ok-s.ensures.found (handed_first c.from_residual-in_err-u.result c.in_err-u.field-0.0 _ _ c.from_residual-in_err-u.ensures c.in_err-u.ensures.found); seen = IfOk-from_err c.from_residual-in_err-u.result _ c.from_residual-in_err-u.ensures.0 }
+
+pub joined-returns-in_err-s : goal.joined-returns-in_err-s
+joined-returns-in_err-s t c = record { found = handed_first c.from_residual.result c.in_err-s.field-0.0 _ _ c.from_residual.ensures c.in_err-s.ensures.found; seen = IfOk-from_err c.from_residual.result _ c.from_residual.ensures.0 }
+
+pub joined-returns-in_err-u : goal.joined-returns-in_err-u
+joined-returns-in_err-u t c = record { found = past c.from_residual-in_err-u.result _ _ c.in_ok-s.ensures.found (handed_first c.from_residual-in_err-u.result c.in_err-u.field-0.0 _ _ c.from_residual-in_err-u.ensures c.in_err-u.ensures.found); seen = IfOk-from_err c.from_residual-in_err-u.result _ c.from_residual-in_err-u.ensures.0 }
+
+pub item-returns-in_err-s : goal.item-returns-in_err-s
+item-returns-in_err-s t c = record { found = handed_first c.from_residual.result c.in_err-s.field-0.0 _ _ c.from_residual.ensures c.in_err-s.ensures.found; seen = IfOk-from_err c.from_residual.result _ c.from_residual.ensures.0 }
+
+pub item-returns-in_err-u : goal.item-returns-in_err-u
+item-returns-in_err-u t c = record { found = past c.from_residual-in_err-u.result _ _ c.in_ok-s.ensures.found (handed_first c.from_residual-in_err-u.result c.in_err-u.field-0.0 _ _ c.from_residual-in_err-u.ensures c.in_err-u.ensures.found); seen = IfOk-from_err c.from_residual-in_err-u.result _ c.from_residual-in_err-u.ensures.0 }
+
+pub choice-returns : goal.choice-returns
+choice-returns t c =
+    let z = c.args.context.now in
+    let p = place c.args.scope.now in
+    let is = c.chosen.ensures ∙ of_three (choose z.known.now.classes) _ _ _ _ _ _ (kind_seen z p Free c.in_ok-v.v c.args.q.now c.in_ok-v.ensures.seen) (kind_seen z p Free c.in_ok-s.s c.args.a.now c.in_ok-s.ensures.seen) (kind_seen z p Free c.in_ok-u.u c.args.b.now c.in_ok-u.ensures.seen) in
+    record { found = past c.own.result _ _ c.in_ok-v.ensures.found (past c.own.result _ _ c.in_ok-s.ensures.found (past c.own.result _ _ c.in_ok-u.ensures.found (owned c.own.result _ _ Mismatch c.args.at is c.own.ensures.found))); seen = sees c.own.result _ _ is c.own.ensures.seen }
+
+pub choice-returns-in_err-v : goal.choice-returns-in_err-v
+choice-returns-in_err-v t c = record { found = handed_first c.from_residual.result c.in_err-v.field-0.0 _ _ c.from_residual.ensures c.in_err-v.ensures.found; seen = IfOk-from_err c.from_residual.result _ c.from_residual.ensures.0 }
+
+pub choice-returns-in_err-s : goal.choice-returns-in_err-s
+choice-returns-in_err-s t c = record { found = past c.from_residual-in_err-s.result _ _ c.in_ok-v.ensures.found (handed_first c.from_residual-in_err-s.result c.in_err-s.field-0.0 _ _ c.from_residual-in_err-s.ensures c.in_err-s.ensures.found); seen = IfOk-from_err c.from_residual-in_err-s.result _ c.from_residual-in_err-s.ensures.0 }
+
+pub choice-returns-in_err-u : goal.choice-returns-in_err-u
+choice-returns-in_err-u t c = record { found = past c.from_residual-in_err-u.result _ _ c.in_ok-v.ensures.found (past c.from_residual-in_err-u.result _ _ c.in_ok-s.ensures.found (handed_first c.from_residual-in_err-u.result c.in_err-u.field-0.0 _ _ c.from_residual-in_err-u.ensures c.in_err-u.ensures.found)); seen = IfOk-from_err c.from_residual-in_err-u.result _ c.from_residual-in_err-u.ensures.0 }
+
+pub setting-returns : goal.setting-returns
+setting-returns t c =
+    let z = c.args.context.now in
+    let p = place c.args.scope.now in
+    let is = c.set_kind.ensures ∙ ap (λ b. c.in_ok-u.u.kind >>= λ v. c.in_ok-s.s.kind >>= λ w. if b then assign z.known.now.classes c.args.op v w else None) c.settable-can.ensures
+    ∙ of_two (λ v w. if settable z.tables.now z.known.now p (tree c.args.x.now) then assign z.known.now.classes c.args.op v w else None) _ _ _ _ (kind_seen z p Free c.in_ok-u.u c.args.x.now c.in_ok-u.ensures.seen) (kind_seen z p Given c.in_ok-s.s c.args.a.now c.in_ok-s.ensures.seen) in
+    record { found = past c.own.result _ _ c.in_ok-u.ensures.found (past c.own.result _ _ c.in_ok-s.ensures.found (owned c.own.result _ _ Mismatch c.args.at is c.own.ensures.found)); seen = sees c.own.result _ _ is c.own.ensures.seen }
+
+pub setting-returns-in_err-u : goal.setting-returns-in_err-u
+setting-returns-in_err-u t c = record { found = handed_first c.from_residual.result c.in_err-u.field-0.0 _ _ c.from_residual.ensures c.in_err-u.ensures.found; seen = IfOk-from_err c.from_residual.result _ c.from_residual.ensures.0 }
+
+pub setting-returns-in_err-s : goal.setting-returns-in_err-s
+setting-returns-in_err-s t c = record { found = past c.from_residual-in_err-s.result _ _ c.in_ok-u.ensures.found (handed_first c.from_residual-in_err-s.result c.in_err-s.field-0.0 _ _ c.from_residual-in_err-s.ensures c.in_err-s.ensures.found); seen = IfOk-from_err c.from_residual-in_err-s.result _ c.from_residual-in_err-s.ensures.0 }
+
+pub bumping-returns : goal.bumping-returns
+bumping-returns t c =
+    let z = c.args.context.now in
+    let p = place c.args.scope.now in
+    let is = c.bump_kind.ensures ∙ ap (λ b. c.in_ok-u.u.kind >>= λ v. if b then counted v else None) c.settable-can.ensures
+    ∙ ap (λ q. q >>= λ v. if settable z.tables.now z.known.now p (tree c.args.x.now) then counted v else None) (kind_seen z p Free c.in_ok-u.u c.args.x.now c.in_ok-u.ensures.seen) in
+    record { found = past c.own.result _ _ c.in_ok-u.ensures.found (owned c.own.result _ _ Mismatch c.args.at is c.own.ensures.found); seen = sees c.own.result _ _ is c.own.ensures.seen }
+
+pub bumping-returns-in_err-u : goal.bumping-returns-in_err-u
+bumping-returns-in_err-u t c = record { found = handed_first c.from_residual.result c.in_err-u.field-0.0 _ _ c.from_residual.ensures c.in_err-u.ensures.found; seen = IfOk-from_err c.from_residual.result _ c.from_residual.ensures.0 }
 
 pub member-returns-then-is_some-2-clause-seen : goal.member-returns-then-is_some-2-clause-seen
 member-returns-then-is_some-2-clause-seen t c =
     let z = c.args.context.now in
-    let t' = z.tables.now in
-    let k = z.known.now in
     let p = place c.args.scope.now in
     let at = c.args.e.now.at in
-    let a = tree c.in-Member.a.value in
-    let m = c.in-Member.m in
-    let is = ap (node_tree at) c.in-Member.is in
-    let hc : constant_of t' k p a m ≡ None = none_if _ _ (c.is_some.ensures ∙ ap is_some (c.constant.ensures ∙ ap (λ q. constant_of t' k p (tree q) m) c.deref.ensures)) c.if-is_some.false in
-    let hb : is_some (board_callee t' k p (Member at a m)) ≡ true = ap is_some (sym (c.board_callee.ensures ∙ ap (board_callee t' k p) is)) ∙ sym c.is_some-in-Member.ensures ∙ c.if-is_some-2.true in
-    member_board z p c.args.role at m a c.plain.result c.plain.ensures hc (untyped t' k p at m a hb) ∙ ap (seen_of z p c.args.role) (sym is)
+    let a = tree c.args.a.now in
+    let hc : constant_of z.tables.now z.known.now p a c.args.m ≡ None = none_if _ _ (c.is_some.ensures ∙ ap is_some c.constant.ensures) c.if-is_some.false in
+    let hb : is_some (board_callee z.tables.now z.known.now p (Member at a c.args.m)) ≡ true = ap is_some (sym (c.board_callee.ensures ∙ ap (board_callee z.tables.now z.known.now p) c.requires.whole)) ∙ sym c.is_some-2.ensures ∙ c.if-is_some-2.true in
+    member_board z p c.args.role at c.args.m a c.plain.result c.plain.ensures hc (untyped z.tables.now z.known.now p at c.args.m a hb)
 
-pub member-returns-in_ok-s-in-Member-clause-found : goal.member-returns-in_ok-s-in-Member-clause-found
-member-returns-in_ok-s-in-Member-clause-found t c =
+pub member-returns : goal.member-returns
+member-returns t c =
     let z = c.args.context.now in
-    let t' = z.tables.now in
-    let k = z.known.now in
     let p = place c.args.scope.now in
     let at = c.args.e.now.at in
-    let y = c.in-Member.a.value in
-    let m = c.in-Member.m in
-    let is = ap (node_tree at) c.in-Member.is in
-    let hc : constant_of t' k p (tree y) m ≡ None = none_if _ _ (c.is_some.ensures ∙ ap is_some (c.constant.ensures ∙ ap (λ q. constant_of t' k p (tree q) m) c.deref.ensures)) c.if-is_some.false in
-    let hb : board_callee t' k p (Member at (tree y) m) ≡ None = none_if _ _ (c.is_some-in-Member.ensures ∙ ap is_some (c.board_callee.ensures ∙ ap (board_callee t' k p) is)) c.if-is_some-2.false in
-    subst (λ x. Finds c.member_seen.result (fault z p c.args.role x)) (sym is)
-    (member_found z p c.args.role at m (tree y) c.in_ok-s-in-Member.s.kind c.member_seen.result hc hb
-    (part_fault z p Free c.deref-in-Member.result.now y c.in_ok-s-in-Member.ensures.found c.deref-in-Member.ensures)
-    (part_kind z p Free c.in_ok-s-in-Member.s c.deref-in-Member.result.now y c.in_ok-s-in-Member.ensures.seen c.deref-in-Member.ensures) c.member_seen.ensures.found)
+    let a = tree c.args.a.now in
+    let hc : constant_of z.tables.now z.known.now p a c.args.m ≡ None = none_if _ _ (c.is_some.ensures ∙ ap is_some c.constant.ensures) c.if-is_some.false in
+    let hb : board_callee z.tables.now z.known.now p (Member at a c.args.m) ≡ None = none_if _ _ (c.is_some-2.ensures ∙ ap is_some (c.board_callee.ensures ∙ ap (board_callee z.tables.now z.known.now p) c.requires.whole)) c.if-is_some-2.false in
+    record {
+      found = member_found z p c.args.role at c.args.m a c.in_ok-s.s.kind c.member_seen.result hc hb c.in_ok-s.ensures.found (kind_seen z p Free c.in_ok-s.s c.args.a.now c.in_ok-s.ensures.seen) c.member_seen.ensures.found;
+      seen = member_typed z p c.args.role at c.args.m a c.in_ok-s.s.kind c.member_seen.result hc (kind_seen z p Free c.in_ok-s.s c.args.a.now c.in_ok-s.ensures.seen) c.member_seen.ensures.seen;
+    }
 
-pub expression-returns-in-Items-clause-found : goal.expression-returns-in-Items-clause-found
-expression-returns-in-Items-clause-found t c =
+pub member-returns-in_err-s : goal.member-returns-in_err-s
+member-returns-in_err-s t c =
     let z = c.args.context.now in
-    let t' = z.tables.now in
-    let k = z.known.now in
     let p = place c.args.scope.now in
     let at = c.args.e.now.at in
-    let is = items_is c.args.e.now c.in-Items.all c.in-Items.is ∙ ap (λ xs. Items at (trees xs)) (sym c.as_slice.ensures) in
-    subst (λ x. Finds c.items.result (fault z p c.args.role x)) (sym is) c.items.ensures.found
+    let a = tree c.args.a.now in
+    let hc : constant_of z.tables.now z.known.now p a c.args.m ≡ None = none_if _ _ (c.is_some.ensures ∙ ap is_some c.constant.ensures) c.if-is_some.false in
+    let hb : board_callee z.tables.now z.known.now p (Member at a c.args.m) ≡ None = none_if _ _ (c.is_some-2.ensures ∙ ap is_some (c.board_callee.ensures ∙ ap (board_callee z.tables.now z.known.now p) c.requires.whole)) c.if-is_some-2.false in
+    record {
+      found = subst (Finds c.from_residual-in_err-s.result) (sym (member_is z p c.args.role at c.args.m a hc hb)) (handed_first c.from_residual-in_err-s.result c.in_err-s.field-0.0 _ _ c.from_residual-in_err-s.ensures c.in_err-s.ensures.found);
+      seen = IfOk-from_err c.from_residual-in_err-s.result _ c.from_residual-in_err-s.ensures.0;
+    }
 
-pub expression-returns-in-Items-clause-seen : goal.expression-returns-in-Items-clause-seen
-expression-returns-in-Items-clause-seen t c =
-    let z = c.args.context.now in
-    let t' = z.tables.now in
-    let k = z.known.now in
-    let p = place c.args.scope.now in
-    let at = c.args.e.now.at in
-    let is = items_is c.args.e.now c.in-Items.all c.in-Items.is ∙ ap (λ xs. Items at (trees xs)) (sym c.as_slice.ensures) in
-    subst (λ x. IfOk c.items.result (λ s. s ≡ seen_of z p c.args.role x)) (sym is) c.items.ensures.seen
+pub serving-returns-in_err-serves : goal.serving-returns-in_err-serves
+serving-returns-in_err-serves t c = record { found = handed_first c.from_residual.result c.in_err-serves.field-0.0 _ _ c.from_residual.ensures c.in_err-serves.ensures.found; seen = IfOk-from_err c.from_residual.result _ c.from_residual.ensures.0 }
 
-pub expression-returns-in-Call-clause-found : goal.expression-returns-in-Call-clause-found
-expression-returns-in-Call-clause-found t c =
-    let z = c.args.context.now in
-    let t' = z.tables.now in
-    let k = z.known.now in
-    let p = place c.args.scope.now in
-    let at = c.args.e.now.at in
-    let is = call_is c.args.e.now c.in-Call.f c.in-Call.args c.in-Call.is ∙ ap (λ xs. Call at (tree c.in-Call.f.value) (trees xs)) (sym c.as_slice-in-Call.ensures) ∙ ap (λ g. Call at (tree g) (trees c.as_slice-in-Call.result.now)) (sym c.deref.ensures) in
-    subst (λ x. Finds c.call.result (fault z p c.args.role x)) (sym is) c.call.ensures.found
+pub serving-returns-in_err-unless : goal.serving-returns-in_err-unless
+serving-returns-in_err-unless t c =
+    let eq = c.serves_there.ensures ∙ ap (λ q. is_served c.args.role && q) c.in_ok-serves.ensures.serves in
+    record {
+      found = past c.from_residual-in_err-unless.result _ _ c.in_ok-serves.ensures.found (subst (λ b. Finds c.from_residual-in_err-unless.result (unless b BadHandler c.args.at)) eq (handed c.from_residual-in_err-unless.result c.in_err-unless.field-0.0 _ c.from_residual-in_err-unless.ensures c.in_err-unless.ensures));
+      seen = IfOk-from_err c.from_residual-in_err-unless.result _ c.from_residual-in_err-unless.ensures.0;
+    }
 
-pub expression-returns-in-Call-clause-seen : goal.expression-returns-in-Call-clause-seen
-expression-returns-in-Call-clause-seen t c =
-    let z = c.args.context.now in
-    let t' = z.tables.now in
-    let k = z.known.now in
-    let p = place c.args.scope.now in
-    let at = c.args.e.now.at in
-    let is = call_is c.args.e.now c.in-Call.f c.in-Call.args c.in-Call.is ∙ ap (λ xs. Call at (tree c.in-Call.f.value) (trees xs)) (sym c.as_slice-in-Call.ensures) ∙ ap (λ g. Call at (tree g) (trees c.as_slice-in-Call.result.now)) (sym c.deref.ensures) in
-    subst (λ x. IfOk c.call.result (λ s. s ≡ seen_of z p c.args.role x)) (sym is) c.call.ensures.seen
+pub serving-returns : goal.serving-returns
+serving-returns t c =
+    let eq = c.serves_there.ensures ∙ ap (λ q. is_served c.args.role && q) c.in_ok-serves.ensures.serves in
+    record { found = nothing_in _ _ c.in_ok-serves.ensures.found (ap (λ b. unless b BadHandler c.args.at) (sym eq) ∙ c.in_ok-unless.ensures); seen = c.plain.ensures }
 
-pub expression-returns-in-SuperCall-clause-found : goal.expression-returns-in-SuperCall-clause-found
-expression-returns-in-SuperCall-clause-found t c =
-    let z = c.args.context.now in
-    let t' = z.tables.now in
-    let k = z.known.now in
-    let p = place c.args.scope.now in
-    let at = c.args.e.now.at in
-    let is = super_call_is c.args.e.now c.in-SuperCall.m c.in-SuperCall.args c.in-SuperCall.is ∙ ap (λ xs. SuperCall at c.in-SuperCall.m (trees xs)) (sym c.as_slice-in-SuperCall.ensures) in
-    subst (λ x. Finds c.super_call.result (fault z p c.args.role x)) (sym is) c.super_call.ensures.found
+pub kinds_of-expression-requires : goal.kinds_of-expression-requires
+kinds_of-expression-requires t c = (omega (arith, tree_within c.args.all.now c.loop-i.i c.index-all-i.result (omega arith) c.index-all-i.is, c.decreases), tt)
 
-pub expression-returns-in-SuperCall-clause-seen : goal.expression-returns-in-SuperCall-clause-seen
-expression-returns-in-SuperCall-clause-seen t c =
-    let z = c.args.context.now in
-    let t' = z.tables.now in
-    let k = z.known.now in
-    let p = place c.args.scope.now in
-    let at = c.args.e.now.at in
-    let is = super_call_is c.args.e.now c.in-SuperCall.m c.in-SuperCall.args c.in-SuperCall.is ∙ ap (λ xs. SuperCall at c.in-SuperCall.m (trees xs)) (sym c.as_slice-in-SuperCall.ensures) in
-    subst (λ x. IfOk c.super_call.result (λ s. s ≡ seen_of z p c.args.role x)) (sym is) c.super_call.ensures.seen
+pub statements-statement-requires : goal.statements-statement-requires
+statements-statement-requires t c = (omega (arith, statement_within c.args.all.now c.loop-i.i c.index-all-i.result (omega arith) c.index-all-i.is, c.decreases), tt)
 
-pub expression-returns-in-Make-clause-found : goal.expression-returns-in-Make-clause-found
-expression-returns-in-Make-clause-found t c =
-    let z = c.args.context.now in
-    let t' = z.tables.now in
-    let k = z.known.now in
-    let p = place c.args.scope.now in
-    let at = c.args.e.now.at in
-    let is = make_is c.args.e.now c.in-Make.x c.in-Make.args c.in-Make.is ∙ ap (λ xs. Make at c.in-Make.x (trees xs)) (sym c.as_slice-in-Make.ensures) in
-    subst (λ x. Finds c.make.result (fault z p c.args.role x)) (sym is) c.make.ensures.found
+pub declarations_fault-declaration_fault-requires : goal.declarations_fault-declaration_fault-requires
+declarations_fault-declaration_fault-requires t c = (omega (arith, declaration_within c.args.each.now c.loop-i.i c.index-each-i.result (omega arith) c.index-each-i.is, c.decreases), tt)
 
-pub expression-returns-in-Make-clause-seen : goal.expression-returns-in-Make-clause-seen
-expression-returns-in-Make-clause-seen t c =
-    let z = c.args.context.now in
-    let t' = z.tables.now in
-    let k = z.known.now in
-    let p = place c.args.scope.now in
-    let at = c.args.e.now.at in
-    let is = make_is c.args.e.now c.in-Make.x c.in-Make.args c.in-Make.is ∙ ap (λ xs. Make at c.in-Make.x (trees xs)) (sym c.as_slice-in-Make.ensures) in
-    subst (λ x. IfOk c.make.result (λ s. s ≡ seen_of z p c.args.role x)) (sym is) c.make.ensures.seen
+pub items-expression-requires : goal.items-expression-requires
+items-expression-requires t c = (omega (arith, ap deepest_tree (trees_first c.args.all.now c.first-item.result c.in-len1-up.len_at_least c.first-item.is), c.decreases), tt)
 
 pub call-returns-in_ok-kinds-in-None-clause-found : goal.call-returns-in_ok-kinds-in-None-clause-found
 call-returns-in_ok-kinds-in-None-clause-found t c =
@@ -299,16 +407,6 @@ super_call-returns-clause-seen t c =
     let p = place c.args.scope.now in
     subst (λ o. IfOk c.super_call_seen.result (λ s. s ≡ seen_of z p c.args.role (SuperCall c.args.at o (trees c.args.args.now)))) (sym c.in-Some.is)
     (super_typed z p c.args.role c.args.at c.in-Some.m (trees c.args.args.now) c.as_slice.result.now c.super_call_seen.result (c.as_slice.ensures ∙ c.in_ok-kinds.ensures.kinds) c.super_call_seen.ensures.seen)
-
-pub items-returns-in_err-s-in-len1-up-clause-found : goal.items-returns-in_err-s-in-len1-up-clause-found
-items-returns-in_err-s-in-len1-up-clause-found t c =
-    subst (λ x. Finds c.from_residual.result (fault c.args.context.now (place c.args.scope.now) c.args.role (Items c.args.at x)))
-    (sym (trees_first c.args.all.now c.first-item.result c.in-len1-up.len_at_least c.first-item.is)) (grind (arith, common_steps))
-
-pub items-returns-in_err-kinds-in-len1-up-clause-found : goal.items-returns-in_err-kinds-in-len1-up-clause-found
-items-returns-in_err-kinds-in-len1-up-clause-found t c =
-    subst (λ x. Finds c.from_residual-in_err-kinds-in-len1-up.result (fault c.args.context.now (place c.args.scope.now) c.args.role (Items c.args.at x)))
-    (sym (trees_first c.args.all.now c.first-item.result c.in-len1-up.len_at_least c.first-item.is)) (grind (arith, common_steps))
 
 pub items-returns-in_ok-kinds-in-len1-up-clause-found : goal.items-returns-in_ok-kinds-in-len1-up-clause-found
 items-returns-in_ok-kinds-in-len1-up-clause-found t c =
@@ -428,38 +526,6 @@ nested-returns-clause-place t c =
     c.enter-mark.ensures.place (extends_to q (after z q a) r (after_extends z.tables.now (naming z) z.known.now q a) c.in_ok-statement.ensures.place)
     c.leave.ensures c.enter-mark.ensures.locals c.enter-mark.ensures.block
 
-pub statement-returns-in-Block-clause-found : goal.statement-returns-in-Block-clause-found
-statement-returns-in-Block-clause-found t c =
-    let z = c.args.context.now in
-    let p = place c.args.scope.now in
-    subst (Finds c.block.result)
-    (ap (λ xs. statements_fault z (inner p) (statements xs)) c.as_slice.ensures ∙ sym (ap (statement_fault z p) (block_is c.args.s.now c.in-Block.all c.in-Block.is))) c.block.ensures.found
-
-pub statement-returns-in-Let-clause-found : goal.statement-returns-in-Let-clause-found
-statement-returns-in-Let-clause-found t c =
-    let z = c.args.context.now in
-    let p = place c.args.scope.now in
-    let is = ap (form_statement c.args.s.now.at) c.in-Let.is ∙ let_statement c.args.s.now.at c.in-Let.fixed c.in-Let.each in
-    subst (Finds c.declarations_fault.result)
-    (ap (λ xs. declarations_fault z p c.in-Let.fixed (declarations xs)) c.as_slice-in-Let.ensures ∙ sym (ap (statement_fault z p) is)) c.declarations_fault.ensures.found
-
-pub statement-returns-in-Let-clause-place : goal.statement-returns-in-Let-clause-place
-statement-returns-in-Let-clause-place t c =
-    let z = c.args.context.now in
-    let p = place c.args.scope.now in
-    let is = ap (form_statement c.args.s.now.at) c.in-Let.is ∙ let_statement c.args.s.now.at c.in-Let.fixed c.in-Let.each in
-    subst (λ q. OnOk c.declarations_fault.result (place c.declarations_fault.new.scope ≡ q))
-    (ap (λ xs. all_declared z p c.in-Let.fixed (declarations xs)) c.as_slice-in-Let.ensures ∙ sym (ap (after z p) is)) c.declarations_fault.ensures.place
-
-pub statement-returns-in-For-clause-found : goal.statement-returns-in-For-clause-found
-statement-returns-in-For-clause-found t c =
-    let z = c.args.context.now in
-    let p = place c.args.scope.now in
-    let s = c.args.s.now in
-    subst (Finds c.for_loop.result)
-    (ap (λ y. statement_fault z p (For s.at (optional_boxed c.in-For.first) (optional_expression c.in-For.test) (optional_expression c.in-For.step) (statement y))) c.deref.ensures
-    ∙ sym (ap (statement_fault z p) (for_is s c.in-For.first c.in-For.test c.in-For.step c.in-For.a c.in-For.is))) c.for_loop.ensures.found
-
 pub for_loop-returns-clause-place : goal.for_loop-returns-clause-place
 for_loop-returns-clause-place t c =
     let z = c.args.context.now in
@@ -506,173 +572,8 @@ returned-returns-in_err-s t c =
     let p = place c.args.scope.now in
     subst (Finds c.from_residual.result) (sym (returned_step z p c.args.at (tree c.args.e.now) c.kind_role.result c.kind_role.ensures)) (grind (arith, common_steps))
 
-pub statement-returns-in-Some-clause-found : goal.statement-returns-in-Some-clause-found
-statement-returns-in-Some-clause-found t c =
-    let z = c.args.context.now in
-    let p = place c.args.scope.now in
-    subst (λ x. Finds c.returned.result (statement_fault z p x)) (sym (return_is c.args.s.now c.in-Return.value _ c.in-Return.is c.in-Some.is)) c.returned.ensures
-
-pub operation-returns-in_err-s-in-Unary-clause-seen : goal.operation-returns-in_err-s-in-Unary-clause-seen
-operation-returns-in_err-s-in-Unary-clause-seen t c = IfOk-from_err c.from_residual.result _ c.from_residual.ensures.0
-
-pub operation-returns-in_err-s-in-Unary-clause-found : goal.operation-returns-in_err-s-in-Unary-clause-found
-operation-returns-in_err-s-in-Unary-clause-found t c =
-    let z = c.args.context.now in
-    let p = place c.args.scope.now in
-    first_part z p c.from_residual.result c.in_err-s-in-Unary.field-0.0 _ _ Free c.deref.result.now c.in-Unary.a.value c.from_residual.ensures
-    c.in_err-s-in-Unary.ensures.found c.deref.ensures (ap (fault z p c.args.role) (ap (node_tree c.args.e.now.at) c.in-Unary.is))
-
-pub operation-returns-in_err-s-in-Binary-clause-seen : goal.operation-returns-in_err-s-in-Binary-clause-seen
-operation-returns-in_err-s-in-Binary-clause-seen t c = IfOk-from_err c.from_residual-in_err-s-in-Binary.result _ c.from_residual-in_err-s-in-Binary.ensures.0
-
-pub operation-returns-in_err-s-in-Binary-clause-found : goal.operation-returns-in_err-s-in-Binary-clause-found
-operation-returns-in_err-s-in-Binary-clause-found t c =
-    let z = c.args.context.now in
-    let p = place c.args.scope.now in
-    first_part z p c.from_residual-in_err-s-in-Binary.result c.in_err-s-in-Binary.field-0.0 _ _ Free c.deref-in-Binary.result.now c.in-Binary.a.value c.from_residual-in_err-s-in-Binary.ensures
-    c.in_err-s-in-Binary.ensures.found c.deref-in-Binary.ensures (ap (fault z p c.args.role) (ap (node_tree c.args.e.now.at) c.in-Binary.is))
-
-pub operation-returns-in_err-u-in-Binary-clause-seen : goal.operation-returns-in_err-u-in-Binary-clause-seen
-operation-returns-in_err-u-in-Binary-clause-seen t c = IfOk-from_err c.from_residual-in_err-u-in-Binary.result _ c.from_residual-in_err-u-in-Binary.ensures.0
-
-pub operation-returns-in_err-u-in-Binary-clause-found : goal.operation-returns-in_err-u-in-Binary-clause-found
-operation-returns-in_err-u-in-Binary-clause-found t c =
-    let z = c.args.context.now in
-    let p = place c.args.scope.now in
-    second_part z p c.from_residual-in_err-u-in-Binary.result c.in_err-u-in-Binary.field-0.0 _ _ _ Free c.deref-in-Binary-2.result.now c.in-Binary.b.value c.from_residual-in_err-u-in-Binary.ensures
-    (part_fault z p Free c.deref-in-Binary.result.now c.in-Binary.a.value c.in_ok-s-in-Binary.ensures.found c.deref-in-Binary.ensures) c.in_err-u-in-Binary.ensures.found c.deref-in-Binary-2.ensures (ap (fault z p c.args.role) (ap (node_tree c.args.e.now.at) c.in-Binary.is))
-
-pub operation-returns-in_err-s-in-Both-clause-seen : goal.operation-returns-in_err-s-in-Both-clause-seen
-operation-returns-in_err-s-in-Both-clause-seen t c = IfOk-from_err c.from_residual-in_err-s-in-Both.result _ c.from_residual-in_err-s-in-Both.ensures.0
-
-pub operation-returns-in_err-s-in-Both-clause-found : goal.operation-returns-in_err-s-in-Both-clause-found
-operation-returns-in_err-s-in-Both-clause-found t c =
-    let z = c.args.context.now in
-    let p = place c.args.scope.now in
-    first_part z p c.from_residual-in_err-s-in-Both.result c.in_err-s-in-Both.field-0.0 _ _ Free c.deref-in-Both.result.now c.in-Both.a.value c.from_residual-in_err-s-in-Both.ensures
-    c.in_err-s-in-Both.ensures.found c.deref-in-Both.ensures (ap (fault z p c.args.role) (ap (node_tree c.args.e.now.at) c.in-Both.is))
-
-pub operation-returns-in_err-u-in-Both-clause-seen : goal.operation-returns-in_err-u-in-Both-clause-seen
-operation-returns-in_err-u-in-Both-clause-seen t c = IfOk-from_err c.from_residual-in_err-u-in-Both.result _ c.from_residual-in_err-u-in-Both.ensures.0
-
-pub operation-returns-in_err-u-in-Both-clause-found : goal.operation-returns-in_err-u-in-Both-clause-found
-operation-returns-in_err-u-in-Both-clause-found t c =
-    let z = c.args.context.now in
-    let p = place c.args.scope.now in
-    second_part z p c.from_residual-in_err-u-in-Both.result c.in_err-u-in-Both.field-0.0 _ _ _ Free c.deref-in-Both-2.result.now c.in-Both.b.value c.from_residual-in_err-u-in-Both.ensures
-    (part_fault z p Free c.deref-in-Both.result.now c.in-Both.a.value c.in_ok-s-in-Both.ensures.found c.deref-in-Both.ensures) c.in_err-u-in-Both.ensures.found c.deref-in-Both-2.ensures (ap (fault z p c.args.role) (ap (node_tree c.args.e.now.at) c.in-Both.is))
-
-pub operation-returns-in_err-s-in-Either-clause-seen : goal.operation-returns-in_err-s-in-Either-clause-seen
-operation-returns-in_err-s-in-Either-clause-seen t c = IfOk-from_err c.from_residual-in_err-s-in-Either.result _ c.from_residual-in_err-s-in-Either.ensures.0
-
-pub operation-returns-in_err-s-in-Either-clause-found : goal.operation-returns-in_err-s-in-Either-clause-found
-operation-returns-in_err-s-in-Either-clause-found t c =
-    let z = c.args.context.now in
-    let p = place c.args.scope.now in
-    first_part z p c.from_residual-in_err-s-in-Either.result c.in_err-s-in-Either.field-0.0 _ _ Free c.deref-in-Either.result.now c.in-Either.a.value c.from_residual-in_err-s-in-Either.ensures
-    c.in_err-s-in-Either.ensures.found c.deref-in-Either.ensures (ap (fault z p c.args.role) (ap (node_tree c.args.e.now.at) c.in-Either.is))
-
-pub operation-returns-in_err-u-in-Either-clause-seen : goal.operation-returns-in_err-u-in-Either-clause-seen
-operation-returns-in_err-u-in-Either-clause-seen t c = IfOk-from_err c.from_residual-in_err-u-in-Either.result _ c.from_residual-in_err-u-in-Either.ensures.0
-
-pub operation-returns-in_err-u-in-Either-clause-found : goal.operation-returns-in_err-u-in-Either-clause-found
-operation-returns-in_err-u-in-Either-clause-found t c =
-    let z = c.args.context.now in
-    let p = place c.args.scope.now in
-    second_part z p c.from_residual-in_err-u-in-Either.result c.in_err-u-in-Either.field-0.0 _ _ _ Free c.deref-in-Either-2.result.now c.in-Either.b.value c.from_residual-in_err-u-in-Either.ensures
-    (part_fault z p Free c.deref-in-Either.result.now c.in-Either.a.value c.in_ok-s-in-Either.ensures.found c.deref-in-Either.ensures) c.in_err-u-in-Either.ensures.found c.deref-in-Either-2.ensures (ap (fault z p c.args.role) (ap (node_tree c.args.e.now.at) c.in-Either.is))
-
-pub operation-returns-in_err-s-in-Item-clause-seen : goal.operation-returns-in_err-s-in-Item-clause-seen
-operation-returns-in_err-s-in-Item-clause-seen t c = IfOk-from_err c.from_residual-in_err-s-in-Item.result _ c.from_residual-in_err-s-in-Item.ensures.0
-
-pub operation-returns-in_err-s-in-Item-clause-found : goal.operation-returns-in_err-s-in-Item-clause-found
-operation-returns-in_err-s-in-Item-clause-found t c =
-    let z = c.args.context.now in
-    let p = place c.args.scope.now in
-    first_part z p c.from_residual-in_err-s-in-Item.result c.in_err-s-in-Item.field-0.0 _ _ Free c.deref-in-Item.result.now c.in-Item.a.value c.from_residual-in_err-s-in-Item.ensures
-    c.in_err-s-in-Item.ensures.found c.deref-in-Item.ensures (ap (fault z p c.args.role) (ap (node_tree c.args.e.now.at) c.in-Item.is))
-
-pub operation-returns-in_err-u-in-Item-clause-seen : goal.operation-returns-in_err-u-in-Item-clause-seen
-operation-returns-in_err-u-in-Item-clause-seen t c = IfOk-from_err c.from_residual-in_err-u-in-Item.result _ c.from_residual-in_err-u-in-Item.ensures.0
-
-pub operation-returns-in_err-u-in-Item-clause-found : goal.operation-returns-in_err-u-in-Item-clause-found
-operation-returns-in_err-u-in-Item-clause-found t c =
-    let z = c.args.context.now in
-    let p = place c.args.scope.now in
-    second_part z p c.from_residual-in_err-u-in-Item.result c.in_err-u-in-Item.field-0.0 _ _ _ Free c.deref-in-Item-2.result.now c.in-Item.i.value c.from_residual-in_err-u-in-Item.ensures
-    (part_fault z p Free c.deref-in-Item.result.now c.in-Item.a.value c.in_ok-s-in-Item.ensures.found c.deref-in-Item.ensures) c.in_err-u-in-Item.ensures.found c.deref-in-Item-2.ensures (ap (fault z p c.args.role) (ap (node_tree c.args.e.now.at) c.in-Item.is))
-
-pub choice-returns-in_err-v-in-Choice-clause-seen : goal.choice-returns-in_err-v-in-Choice-clause-seen
-choice-returns-in_err-v-in-Choice-clause-seen t c = IfOk-from_err c.from_residual.result _ c.from_residual.ensures.0
-
-pub choice-returns-in_err-v-in-Choice-clause-found : goal.choice-returns-in_err-v-in-Choice-clause-found
-choice-returns-in_err-v-in-Choice-clause-found t c =
-    let z = c.args.context.now in
-    let p = place c.args.scope.now in
-    first_part z p c.from_residual.result c.in_err-v-in-Choice.field-0.0 _ _ Free c.deref.result.now c.in-Choice.q.value c.from_residual.ensures
-    c.in_err-v-in-Choice.ensures.found c.deref.ensures (ap (fault z p c.args.role) (ap (node_tree c.args.e.now.at) c.in-Choice.is))
-
-pub choice-returns-in_err-s-in-Choice-clause-seen : goal.choice-returns-in_err-s-in-Choice-clause-seen
-choice-returns-in_err-s-in-Choice-clause-seen t c = IfOk-from_err c.from_residual-in_err-s-in-Choice.result _ c.from_residual-in_err-s-in-Choice.ensures.0
-
-pub choice-returns-in_err-s-in-Choice-clause-found : goal.choice-returns-in_err-s-in-Choice-clause-found
-choice-returns-in_err-s-in-Choice-clause-found t c =
-    let z = c.args.context.now in
-    let p = place c.args.scope.now in
-    second_part z p c.from_residual-in_err-s-in-Choice.result c.in_err-s-in-Choice.field-0.0 _ _ _ Free c.deref-in-Choice.result.now c.in-Choice.a.value c.from_residual-in_err-s-in-Choice.ensures
-    (part_fault z p Free c.deref.result.now c.in-Choice.q.value c.in_ok-v-in-Choice.ensures.found c.deref.ensures) c.in_err-s-in-Choice.ensures.found c.deref-in-Choice.ensures (ap (fault z p c.args.role) (ap (node_tree c.args.e.now.at) c.in-Choice.is))
-
-pub choice-returns-in_err-u-in-Choice-clause-seen : goal.choice-returns-in_err-u-in-Choice-clause-seen
-choice-returns-in_err-u-in-Choice-clause-seen t c = IfOk-from_err c.from_residual-in_err-u-in-Choice.result _ c.from_residual-in_err-u-in-Choice.ensures.0
-
-pub choice-returns-in_err-u-in-Choice-clause-found : goal.choice-returns-in_err-u-in-Choice-clause-found
-choice-returns-in_err-u-in-Choice-clause-found t c =
-    let z = c.args.context.now in
-    let p = place c.args.scope.now in
-    third_part z p c.from_residual-in_err-u-in-Choice.result c.in_err-u-in-Choice.field-0.0 _ _ _ _ Free c.deref-in-Choice-2.result.now c.in-Choice.b.value c.from_residual-in_err-u-in-Choice.ensures
-    (part_fault z p Free c.deref.result.now c.in-Choice.q.value c.in_ok-v-in-Choice.ensures.found c.deref.ensures) (part_fault z p Free c.deref-in-Choice.result.now c.in-Choice.a.value c.in_ok-s-in-Choice.ensures.found c.deref-in-Choice.ensures) c.in_err-u-in-Choice.ensures.found c.deref-in-Choice-2.ensures (ap (fault z p c.args.role) (ap (node_tree c.args.e.now.at) c.in-Choice.is))
-
-pub setting-returns-in_err-u-in-Set-clause-seen : goal.setting-returns-in_err-u-in-Set-clause-seen
-setting-returns-in_err-u-in-Set-clause-seen t c = IfOk-from_err c.from_residual.result _ c.from_residual.ensures.0
-
-pub setting-returns-in_err-u-in-Set-clause-found : goal.setting-returns-in_err-u-in-Set-clause-found
-setting-returns-in_err-u-in-Set-clause-found t c =
-    let z = c.args.context.now in
-    let p = place c.args.scope.now in
-    first_part z p c.from_residual.result c.in_err-u-in-Set.field-0.0 _ _ Free c.deref.result.now c.in-Set.x.value c.from_residual.ensures
-    c.in_err-u-in-Set.ensures.found c.deref.ensures (ap (fault z p c.args.role) (ap (node_tree c.args.e.now.at) c.in-Set.is))
-
-pub setting-returns-in_err-s-in-Set-clause-seen : goal.setting-returns-in_err-s-in-Set-clause-seen
-setting-returns-in_err-s-in-Set-clause-seen t c = IfOk-from_err c.from_residual-in_err-s-in-Set.result _ c.from_residual-in_err-s-in-Set.ensures.0
-
-pub setting-returns-in_err-s-in-Set-clause-found : goal.setting-returns-in_err-s-in-Set-clause-found
-setting-returns-in_err-s-in-Set-clause-found t c =
-    let z = c.args.context.now in
-    let p = place c.args.scope.now in
-    second_part z p c.from_residual-in_err-s-in-Set.result c.in_err-s-in-Set.field-0.0 _ _ _ Given c.deref-in-Set.result.now c.in-Set.a.value c.from_residual-in_err-s-in-Set.ensures
-    (part_fault z p Free c.deref.result.now c.in-Set.x.value c.in_ok-u-in-Set.ensures.found c.deref.ensures) c.in_err-s-in-Set.ensures.found c.deref-in-Set.ensures (ap (fault z p c.args.role) (ap (node_tree c.args.e.now.at) c.in-Set.is))
-
-pub bumping-returns-in_err-u-in-Bump-clause-seen : goal.bumping-returns-in_err-u-in-Bump-clause-seen
-bumping-returns-in_err-u-in-Bump-clause-seen t c = IfOk-from_err c.from_residual.result _ c.from_residual.ensures.0
-
-pub bumping-returns-in_err-u-in-Bump-clause-found : goal.bumping-returns-in_err-u-in-Bump-clause-found
-bumping-returns-in_err-u-in-Bump-clause-found t c =
-    let z = c.args.context.now in
-    let p = place c.args.scope.now in
-    first_part z p c.from_residual.result c.in_err-u-in-Bump.field-0.0 _ _ Free c.deref.result.now c.in-Bump.target.value c.from_residual.ensures
-    c.in_err-u-in-Bump.ensures.found c.deref.ensures (ap (fault z p c.args.role) (ap (node_tree c.args.e.now.at) c.in-Bump.is))
-
-pub member-returns-in_err-unless-in-Member-clause-seen : goal.member-returns-in_err-unless-in-Member-clause-seen
-member-returns-in_err-unless-in-Member-clause-seen t c = IfOk-from_err c.from_residual.result _ c.from_residual.ensures.0
-
-pub member-returns-in_err-s-in-Member-clause-seen : goal.member-returns-in_err-s-in-Member-clause-seen
-member-returns-in_err-s-in-Member-clause-seen t c = IfOk-from_err c.from_residual-in_err-s-in-Member.result _ c.from_residual-in_err-s-in-Member.ensures.0
-
-pub serving-returns-in_err-serves-in-Handler-clause-seen : goal.serving-returns-in_err-serves-in-Handler-clause-seen
-serving-returns-in_err-serves-in-Handler-clause-seen t c = IfOk-from_err c.from_residual.result _ c.from_residual.ensures.0
-
-pub serving-returns-in_err-unless-in-Handler-clause-seen : goal.serving-returns-in_err-unless-in-Handler-clause-seen
-serving-returns-in_err-unless-in-Handler-clause-seen t c = IfOk-from_err c.from_residual-in_err-unless-in-Handler.result _ c.from_residual-in_err-unless-in-Handler.ensures.0
+pub member-returns-in_err-unless-clause-seen : goal.member-returns-in_err-unless-clause-seen
+member-returns-in_err-unless-clause-seen t c = IfOk-from_err c.from_residual.result _ c.from_residual.ensures.0
 
 pub kinds_of-returns-in_err-s-clause-kinds : goal.kinds_of-returns-in_err-s-clause-kinds
 kinds_of-returns-in_err-s-clause-kinds t c = IfOk-from_err c.from_residual.result _ c.from_residual.ensures.0
@@ -680,26 +581,8 @@ kinds_of-returns-in_err-s-clause-kinds t c = IfOk-from_err c.from_residual.resul
 pub kinds_of-returns-in_err-add-clause-kinds : goal.kinds_of-returns-in_err-add-clause-kinds
 kinds_of-returns-in_err-add-clause-kinds t c = IfOk-from_err c.from_residual-in_err-add.result _ c.from_residual-in_err-add.ensures.0
 
-pub items-returns-in_err-s-in-len1-up-clause-seen : goal.items-returns-in_err-s-in-len1-up-clause-seen
-items-returns-in_err-s-in-len1-up-clause-seen t c = IfOk-from_err c.from_residual.result _ c.from_residual.ensures.0
-
-pub items-returns-in_err-kinds-in-len1-up-clause-seen : goal.items-returns-in_err-kinds-in-len1-up-clause-seen
-items-returns-in_err-kinds-in-len1-up-clause-seen t c = IfOk-from_err c.from_residual-in_err-kinds-in-len1-up.result _ c.from_residual-in_err-kinds-in-len1-up.ensures.0
-
-pub call-returns-in_err-kinds-in-Some-clause-seen : goal.call-returns-in_err-kinds-in-Some-clause-seen
-call-returns-in_err-kinds-in-Some-clause-seen t c = IfOk-from_err c.from_residual.result _ c.from_residual.ensures.0
-
-pub call-returns-in_err-s-in-None-clause-seen : goal.call-returns-in_err-s-in-None-clause-seen
-call-returns-in_err-s-in-None-clause-seen t c = IfOk-from_err c.from_residual-in_err-s-in-None.result _ c.from_residual-in_err-s-in-None.ensures.0
-
-pub call-returns-in_err-kinds-in-None-clause-seen : goal.call-returns-in_err-kinds-in-None-clause-seen
-call-returns-in_err-kinds-in-None-clause-seen t c = IfOk-from_err c.from_residual-in_err-kinds-in-None.result _ c.from_residual-in_err-kinds-in-None.ensures.0
-
 pub super_call-returns-in_err-kinds-clause-seen : goal.super_call-returns-in_err-kinds-clause-seen
 super_call-returns-in_err-kinds-clause-seen t c = IfOk-from_err c.from_residual.result _ c.from_residual.ensures.0
-
-pub make-returns-in_err-kinds-clause-seen : goal.make-returns-in_err-kinds-clause-seen
-make-returns-in_err-kinds-clause-seen t c = IfOk-from_err c.from_residual.result _ c.from_residual.ensures.0
 
 pub statements-returns-in_err-statement-clause-place : goal.statements-returns-in_err-statement-clause-place
 statements-returns-in_err-statement-clause-place t c = IfOk-from_err c.from_residual.result _ c.from_residual.ensures.0
@@ -709,45 +592,6 @@ nested-returns-in_err-statement-clause-place t c = IfOk-from_err c.from_residual
 
 pub block-returns-in_err-statements-clause-place : goal.block-returns-in_err-statements-clause-place
 block-returns-in_err-statements-clause-place t c = IfOk-from_err c.from_residual.result _ c.from_residual.ensures.0
-
-pub statement-returns-in_err-expression-in-Plain-clause-place : goal.statement-returns-in_err-expression-in-Plain-clause-place
-statement-returns-in_err-expression-in-Plain-clause-place t c = IfOk-from_err c.from_residual.result _ c.from_residual.ensures.0
-
-pub tested-returns-in_err-s-in-If-clause-place : goal.tested-returns-in_err-s-in-If-clause-place
-tested-returns-in_err-s-in-If-clause-place t c = IfOk-from_err c.from_residual.result _ c.from_residual.ensures.0
-
-pub tested-returns-in_err-nested-in-If-clause-place : goal.tested-returns-in_err-nested-in-If-clause-place
-tested-returns-in_err-nested-in-If-clause-place t c = IfOk-from_err c.from_residual-in_err-nested-in-If.result _ c.from_residual-in_err-nested-in-If.ensures.0
-
-pub tested-returns-in_err-s-in-While-clause-place : goal.tested-returns-in_err-s-in-While-clause-place
-tested-returns-in_err-s-in-While-clause-place t c = IfOk-from_err c.from_residual-in_err-s-in-While.result _ c.from_residual-in_err-s-in-While.ensures.0
-
-pub tested-returns-in_err-nested-in-While-clause-place : goal.tested-returns-in_err-nested-in-While-clause-place
-tested-returns-in_err-nested-in-While-clause-place t c = IfOk-from_err c.from_residual-in_err-nested-in-While.result _ c.from_residual-in_err-nested-in-While.ensures.0
-
-pub tested-returns-in_err-nested-in-DoWhile-clause-place : goal.tested-returns-in_err-nested-in-DoWhile-clause-place
-tested-returns-in_err-nested-in-DoWhile-clause-place t c = IfOk-from_err c.from_residual-in_err-nested-in-DoWhile.result _ c.from_residual-in_err-nested-in-DoWhile.ensures.0
-
-pub tested-returns-in_err-s-in-DoWhile-clause-place : goal.tested-returns-in_err-s-in-DoWhile-clause-place
-tested-returns-in_err-s-in-DoWhile-clause-place t c = IfOk-from_err c.from_residual-in_err-s-in-DoWhile.result _ c.from_residual-in_err-s-in-DoWhile.ensures.0
-
-pub for_loop-returns-in_err-first_of-clause-place : goal.for_loop-returns-in_err-first_of-clause-place
-for_loop-returns-in_err-first_of-clause-place t c = IfOk-from_err c.from_residual.result _ c.from_residual.ensures.0
-
-pub for_loop-returns-in_err-tests-clause-place : goal.for_loop-returns-in_err-tests-clause-place
-for_loop-returns-in_err-tests-clause-place t c = IfOk-from_err c.from_residual-in_err-tests.result _ c.from_residual-in_err-tests.ensures.0
-
-pub for_loop-returns-in_err-optional-clause-place : goal.for_loop-returns-in_err-optional-clause-place
-for_loop-returns-in_err-optional-clause-place t c = IfOk-from_err c.from_residual-in_err-optional.result _ c.from_residual-in_err-optional.ensures.0
-
-pub for_loop-returns-in_err-nested-clause-place : goal.for_loop-returns-in_err-nested-clause-place
-for_loop-returns-in_err-nested-clause-place t c = IfOk-from_err c.from_residual-in_err-nested.result _ c.from_residual-in_err-nested.ensures.0
-
-pub for_loop-returns-in_err-unless-clause-place : goal.for_loop-returns-in_err-unless-clause-place
-for_loop-returns-in_err-unless-clause-place t c = IfOk-from_err c.from_residual-in_err-unless.result _ c.from_residual-in_err-unless.ensures.0
-
-pub optional-returns-in_err-s-in-Some-clause-tests : goal.optional-returns-in_err-s-in-Some-clause-tests
-optional-returns-in_err-s-in-Some-clause-tests t c = IfOk-from_err c.from_residual.result _ c.from_residual.ensures.0
 
 pub for_of-returns-in_err-s-clause-place : goal.for_of-returns-in_err-s-clause-place
 for_of-returns-in_err-s-clause-place t c = IfOk-from_err c.from_residual.result _ c.from_residual.ensures.0
@@ -791,26 +635,11 @@ block-returns-clause-place t c = grind (arith, common_steps)
 pub block-returns-in_err-statements-clause-found : goal.block-returns-in_err-statements-clause-found
 block-returns-in_err-statements-clause-found t c = grind (arith, common_steps)
 
-pub bumping-returns-in_ok-u-in-Bump-clause-seen : goal.bumping-returns-in_ok-u-in-Bump-clause-seen
-bumping-returns-in_ok-u-in-Bump-clause-seen t c = grind (arith, common_steps)
-
-pub call-returns-in_err-kinds-in-None-clause-found : goal.call-returns-in_err-kinds-in-None-clause-found
-call-returns-in_err-kinds-in-None-clause-found t c = grind (arith, common_steps)
-
-pub call-returns-in_err-kinds-in-Some-clause-found : goal.call-returns-in_err-kinds-in-Some-clause-found
-call-returns-in_err-kinds-in-Some-clause-found t c = grind (arith, common_steps)
-
-pub call-returns-in_err-s-in-None-clause-found : goal.call-returns-in_err-s-in-None-clause-found
-call-returns-in_err-s-in-None-clause-found t c = grind (arith, common_steps)
-
 pub call-returns-in_ok-kinds-in-Some-clause-found : goal.call-returns-in_ok-kinds-in-Some-clause-found
 call-returns-in_ok-kinds-in-Some-clause-found t c = grind (arith, common_steps)
 
 pub call-returns-in_ok-kinds-in-Some-clause-seen : goal.call-returns-in_ok-kinds-in-Some-clause-seen
 call-returns-in_ok-kinds-in-Some-clause-seen t c = grind (arith, common_steps)
-
-pub choice-returns-in_ok-u-in-Choice-clause-seen : goal.choice-returns-in_ok-u-in-Choice-clause-seen
-choice-returns-in_ok-u-in-Choice-clause-seen t c = grind (arith, common_steps)
 
 pub declarations_fault-loop-i-init : goal.declarations_fault-loop-i-init
 declarations_fault-loop-i-init t c = grind (arith, common_steps)
@@ -826,42 +655,6 @@ declarations_fault-returns-clause-place t c = grind (arith, common_steps)
 
 pub declarations_fault-returns-in_err-declaration_fault-clause-found : goal.declarations_fault-returns-in_err-declaration_fault-clause-found
 declarations_fault-returns-in_err-declaration_fault-clause-found t c = grind (arith, common_steps)
-
-pub expression-returns-then-room-eq0-clause-found : goal.expression-returns-then-room-eq0-clause-found
-expression-returns-then-room-eq0-clause-found t c = grind (arith, common_steps)
-
-pub expression-returns-then-room-eq0-clause-seen : goal.expression-returns-then-room-eq0-clause-seen
-expression-returns-then-room-eq0-clause-seen t c = grind (arith, common_steps)
-
-pub first_of-returns-in-None-clause-found : goal.first_of-returns-in-None-clause-found
-first_of-returns-in-None-clause-found t c = grind (arith, common_steps)
-
-pub first_of-returns-in-None-clause-place : goal.first_of-returns-in-None-clause-place
-first_of-returns-in-None-clause-place t c = grind (arith, common_steps)
-
-pub first_of-returns-in-Some-clause-found : goal.first_of-returns-in-Some-clause-found
-first_of-returns-in-Some-clause-found t c = grind (arith, common_steps)
-
-pub first_of-returns-in-Some-clause-place : goal.first_of-returns-in-Some-clause-place
-first_of-returns-in-Some-clause-place t c = grind (arith, common_steps)
-
-pub for_loop-returns-clause-found : goal.for_loop-returns-clause-found
-for_loop-returns-clause-found t c = grind (arith, common_steps)
-
-pub for_loop-returns-in_err-first_of-clause-found : goal.for_loop-returns-in_err-first_of-clause-found
-for_loop-returns-in_err-first_of-clause-found t c = grind (arith, common_steps)
-
-pub for_loop-returns-in_err-nested-clause-found : goal.for_loop-returns-in_err-nested-clause-found
-for_loop-returns-in_err-nested-clause-found t c = grind (arith, common_steps)
-
-pub for_loop-returns-in_err-optional-clause-found : goal.for_loop-returns-in_err-optional-clause-found
-for_loop-returns-in_err-optional-clause-found t c = grind (arith, common_steps)
-
-pub for_loop-returns-in_err-tests-clause-found : goal.for_loop-returns-in_err-tests-clause-found
-for_loop-returns-in_err-tests-clause-found t c = grind (arith, common_steps)
-
-pub for_loop-returns-in_err-unless-clause-found : goal.for_loop-returns-in_err-unless-clause-found
-for_loop-returns-in_err-unless-clause-found t c = grind (arith, common_steps)
 
 pub for_of-returns-clause-place : goal.for_of-returns-clause-place
 for_of-returns-clause-place t c = grind (arith, common_steps)
@@ -908,14 +701,8 @@ kinds_of-returns-clause-kinds t c = grind (arith, common_steps)
 pub kinds_of-returns-in_err-add-clause-found : goal.kinds_of-returns-in_err-add-clause-found
 kinds_of-returns-in_err-add-clause-found t c = grind (arith, common_steps)
 
-pub make-returns-in_err-kinds-clause-found : goal.make-returns-in_err-kinds-clause-found
-make-returns-in_err-kinds-clause-found t c = grind (arith, common_steps)
-
-pub member-returns-in_err-s-in-Member-clause-found : goal.member-returns-in_err-s-in-Member-clause-found
-member-returns-in_err-s-in-Member-clause-found t c = grind (arith, common_steps)
-
-pub member-returns-in_err-unless-in-Member-clause-found : goal.member-returns-in_err-unless-in-Member-clause-found
-member-returns-in_err-unless-in-Member-clause-found t c = grind (arith, common_steps)
+pub member-returns-in_err-unless-clause-found : goal.member-returns-in_err-unless-clause-found
+member-returns-in_err-unless-clause-found t c = grind (arith, common_steps)
 
 pub member-returns-then-is_some-2-clause-found : goal.member-returns-then-is_some-2-clause-found
 member-returns-then-is_some-2-clause-found t c = grind (arith, common_steps)
@@ -924,115 +711,15 @@ pub member-returns-then-is_some-clause-found : goal.member-returns-then-is_some-
 member-returns-then-is_some-clause-found t c = grind (arith, common_steps)
 
 pub member-returns-then-is_some-clause-seen : goal.member-returns-then-is_some-clause-seen
-member-returns-then-is_some-clause-seen t c = grind (arith, common_steps)
+member-returns-then-is_some-clause-seen t c =
+    let p = place c.args.scope.now in
+    member_constant c.args.context.now p c.args.role c.args.e.now.at c.args.m (tree c.args.a.now) c.always.result c.always.ensures (sym (c.is_some.ensures ∙ ap is_some c.constant.ensures) ∙ c.if-is_some.true)
 
 pub nested-returns-clause-found : goal.nested-returns-clause-found
 nested-returns-clause-found t c = grind (arith, common_steps)
 
 pub nested-returns-in_err-statement-clause-found : goal.nested-returns-in_err-statement-clause-found
 nested-returns-in_err-statement-clause-found t c = grind (arith, common_steps)
-
-pub operation-returns-in_ok-s-in-Unary-clause-found : goal.operation-returns-in_ok-s-in-Unary-clause-found
-operation-returns-in_ok-s-in-Unary-clause-found t c = grind (arith, common_steps)
-
-pub operation-returns-in_ok-s-in-Unary-clause-seen : goal.operation-returns-in_ok-s-in-Unary-clause-seen
-operation-returns-in_ok-s-in-Unary-clause-seen t c = grind (arith, common_steps)
-
-pub operation-returns-in_ok-u-in-Binary-clause-seen : goal.operation-returns-in_ok-u-in-Binary-clause-seen
-operation-returns-in_ok-u-in-Binary-clause-seen t c = grind (arith, common_steps)
-
-pub operation-returns-in_ok-u-in-Both-clause-seen : goal.operation-returns-in_ok-u-in-Both-clause-seen
-operation-returns-in_ok-u-in-Both-clause-seen t c = grind (arith, common_steps)
-
-pub operation-returns-in_ok-u-in-Either-clause-seen : goal.operation-returns-in_ok-u-in-Either-clause-seen
-operation-returns-in_ok-u-in-Either-clause-seen t c = grind (arith, common_steps)
-
-pub operation-returns-in_ok-u-in-Item-clause-seen : goal.operation-returns-in_ok-u-in-Item-clause-seen
-operation-returns-in_ok-u-in-Item-clause-seen t c = grind (arith, common_steps)
-
-pub optional-returns-in-None-clause-found : goal.optional-returns-in-None-clause-found
-optional-returns-in-None-clause-found t c = grind (arith, common_steps)
-
-pub optional-returns-in-None-clause-tests : goal.optional-returns-in-None-clause-tests
-optional-returns-in-None-clause-tests t c = grind (arith, common_steps)
-
-pub optional-returns-in_err-s-in-Some-clause-found : goal.optional-returns-in_err-s-in-Some-clause-found
-optional-returns-in_err-s-in-Some-clause-found t c = grind (arith, common_steps)
-
-pub optional-returns-in_ok-s-in-Some-clause-found : goal.optional-returns-in_ok-s-in-Some-clause-found
-optional-returns-in_ok-s-in-Some-clause-found t c = grind (arith, common_steps)
-
-pub optional-returns-in_ok-s-in-Some-clause-tests : goal.optional-returns-in_ok-s-in-Some-clause-tests
-optional-returns-in_ok-s-in-Some-clause-tests t c = grind (arith, common_steps)
-
-pub serving-returns-in_err-serves-in-Handler-clause-found : goal.serving-returns-in_err-serves-in-Handler-clause-found
-serving-returns-in_err-serves-in-Handler-clause-found t c = grind (arith, common_steps)
-
-pub serving-returns-in_err-unless-in-Handler-clause-found : goal.serving-returns-in_err-unless-in-Handler-clause-found
-serving-returns-in_err-unless-in-Handler-clause-found t c = grind (arith, common_steps)
-
-pub serving-returns-in_ok-unless-in-Handler-clause-found : goal.serving-returns-in_ok-unless-in-Handler-clause-found
-serving-returns-in_ok-unless-in-Handler-clause-found t c = grind (arith, common_steps)
-
-pub serving-returns-in_ok-unless-in-Handler-clause-seen : goal.serving-returns-in_ok-unless-in-Handler-clause-seen
-serving-returns-in_ok-unless-in-Handler-clause-seen t c = grind (arith, common_steps)
-
-pub setting-returns-in_ok-s-in-Set-clause-seen : goal.setting-returns-in_ok-s-in-Set-clause-seen
-setting-returns-in_ok-s-in-Set-clause-seen t c = grind (arith, common_steps)
-
-pub statement-returns-in-Block-clause-place : goal.statement-returns-in-Block-clause-place
-statement-returns-in-Block-clause-place t c = grind (arith, common_steps)
-
-pub statement-returns-in-Break-clause-found : goal.statement-returns-in-Break-clause-found
-statement-returns-in-Break-clause-found t c = grind (arith, common_steps)
-
-pub statement-returns-in-Break-clause-place : goal.statement-returns-in-Break-clause-place
-statement-returns-in-Break-clause-place t c = grind (arith, common_steps)
-
-pub statement-returns-in-Continue-clause-found : goal.statement-returns-in-Continue-clause-found
-statement-returns-in-Continue-clause-found t c = grind (arith, common_steps)
-
-pub statement-returns-in-Continue-clause-place : goal.statement-returns-in-Continue-clause-place
-statement-returns-in-Continue-clause-place t c = grind (arith, common_steps)
-
-pub statement-returns-in-Empty-clause-found : goal.statement-returns-in-Empty-clause-found
-statement-returns-in-Empty-clause-found t c = grind (arith, common_steps)
-
-pub statement-returns-in-Empty-clause-place : goal.statement-returns-in-Empty-clause-place
-statement-returns-in-Empty-clause-place t c = grind (arith, common_steps)
-
-pub statement-returns-in-For-clause-place : goal.statement-returns-in-For-clause-place
-statement-returns-in-For-clause-place t c = grind (arith, common_steps)
-
-pub statement-returns-in-ForOf-clause-found : goal.statement-returns-in-ForOf-clause-found
-statement-returns-in-ForOf-clause-found t c = grind (arith, common_steps)
-
-pub statement-returns-in-ForOf-clause-place : goal.statement-returns-in-ForOf-clause-place
-statement-returns-in-ForOf-clause-place t c = grind (arith, common_steps)
-
-pub statement-returns-in-None-clause-found : goal.statement-returns-in-None-clause-found
-statement-returns-in-None-clause-found t c = grind (arith, common_steps)
-
-pub statement-returns-in-None-clause-place : goal.statement-returns-in-None-clause-place
-statement-returns-in-None-clause-place t c = grind (arith, common_steps)
-
-pub statement-returns-in-Some-clause-place : goal.statement-returns-in-Some-clause-place
-statement-returns-in-Some-clause-place t c = grind (arith, common_steps)
-
-pub statement-returns-in_err-expression-in-Plain-clause-found : goal.statement-returns-in_err-expression-in-Plain-clause-found
-statement-returns-in_err-expression-in-Plain-clause-found t c = grind (arith, common_steps)
-
-pub statement-returns-in_ok-expression-in-Plain-clause-found : goal.statement-returns-in_ok-expression-in-Plain-clause-found
-statement-returns-in_ok-expression-in-Plain-clause-found t c = grind (arith, common_steps)
-
-pub statement-returns-in_ok-expression-in-Plain-clause-place : goal.statement-returns-in_ok-expression-in-Plain-clause-place
-statement-returns-in_ok-expression-in-Plain-clause-place t c = grind (arith, common_steps)
-
-pub statement-returns-then-room-eq0-clause-found : goal.statement-returns-then-room-eq0-clause-found
-statement-returns-then-room-eq0-clause-found t c = grind (arith, common_steps)
-
-pub statement-returns-then-room-eq0-clause-place : goal.statement-returns-then-room-eq0-clause-place
-statement-returns-then-room-eq0-clause-place t c = grind (arith, common_steps)
 
 pub statements-loop-i-init : goal.statements-loop-i-init
 statements-loop-i-init t c = grind (arith, common_steps)
@@ -1055,32 +742,306 @@ super_call-returns-in-None-clause-seen t c = grind (arith, common_steps)
 pub super_call-returns-in_err-kinds-clause-found : goal.super_call-returns-in_err-kinds-clause-found
 super_call-returns-in_err-kinds-clause-found t c = grind (arith, common_steps)
 
-pub tested-returns-in_err-nested-in-DoWhile-clause-found : goal.tested-returns-in_err-nested-in-DoWhile-clause-found
-tested-returns-in_err-nested-in-DoWhile-clause-found t c = grind (arith, common_steps)
+pub items-returns-in_err-s-in-len1-up : goal.items-returns-in_err-s-in-len1-up
+items-returns-in_err-s-in-len1-up t c =
+    let tf = trees_first c.args.all.now c.first-item.result c.in-len1-up.len_at_least c.first-item.is in
+    record {
+      found = subst (λ x. Finds c.from_residual.result (fault c.args.context.now (place c.args.scope.now) c.args.role (Items c.args.at x))) (sym tf) (handed_first c.from_residual.result c.in_err-s-in-len1-up.field-0.0 _ _ c.from_residual.ensures c.in_err-s-in-len1-up.ensures.found);
+      seen = IfOk-from_err c.from_residual.result _ c.from_residual.ensures.0;
+    }
 
-pub tested-returns-in_err-nested-in-If-clause-found : goal.tested-returns-in_err-nested-in-If-clause-found
-tested-returns-in_err-nested-in-If-clause-found t c = grind (arith, common_steps)
+pub items-returns-in_err-kinds-in-len1-up : goal.items-returns-in_err-kinds-in-len1-up
+items-returns-in_err-kinds-in-len1-up t c =
+    let tf = trees_first c.args.all.now c.first-item.result c.in-len1-up.len_at_least c.first-item.is in
+    record {
+      found = subst (λ x. Finds c.from_residual-in_err-kinds-in-len1-up.result (fault c.args.context.now (place c.args.scope.now) c.args.role (Items c.args.at x))) (sym tf) (past c.from_residual-in_err-kinds-in-len1-up.result _ _ c.in_ok-s-in-len1-up.ensures.found (handed_first c.from_residual-in_err-kinds-in-len1-up.result c.in_err-kinds-in-len1-up.field-0.0 _ _ c.from_residual-in_err-kinds-in-len1-up.ensures c.in_err-kinds-in-len1-up.ensures.found));
+      seen = IfOk-from_err c.from_residual-in_err-kinds-in-len1-up.result _ c.from_residual-in_err-kinds-in-len1-up.ensures.0;
+    }
 
-pub tested-returns-in_err-nested-in-While-clause-found : goal.tested-returns-in_err-nested-in-While-clause-found
-tested-returns-in_err-nested-in-While-clause-found t c = grind (arith, common_steps)
+pub make-returns-in_err-kinds : goal.make-returns-in_err-kinds
+make-returns-in_err-kinds t c = record { found = handed_first c.from_residual.result c.in_err-kinds.field-0.0 _ _ c.from_residual.ensures c.in_err-kinds.ensures.found; seen = IfOk-from_err c.from_residual.result _ c.from_residual.ensures.0 }
 
-pub tested-returns-in_err-s-in-DoWhile-clause-found : goal.tested-returns-in_err-s-in-DoWhile-clause-found
-tested-returns-in_err-s-in-DoWhile-clause-found t c = grind (arith, common_steps)
+pub call-returns-in_err-kinds-in-Some : goal.call-returns-in_err-kinds-in-Some
+call-returns-in_err-kinds-in-Some t c =
+    let z = c.args.context.now in
+    let p = place c.args.scope.now in
+    let hb = sym c.board_callee.ensures ∙ c.in-Some.is in
+    record {
+      found = subst (Finds c.from_residual.result) (sym (board_call_is z p c.args.role c.args.at (tree c.args.f.now) (trees c.args.args.now) c.in-Some.board hb)) (handed_first c.from_residual.result c.in_err-kinds-in-Some.field-0.0 _ _ c.from_residual.ensures c.in_err-kinds-in-Some.ensures.found);
+      seen = IfOk-from_err c.from_residual.result _ c.from_residual.ensures.0;
+    }
 
-pub tested-returns-in_err-s-in-If-clause-found : goal.tested-returns-in_err-s-in-If-clause-found
-tested-returns-in_err-s-in-If-clause-found t c = grind (arith, common_steps)
+pub call-returns-in_err-s-in-None : goal.call-returns-in_err-s-in-None
+call-returns-in_err-s-in-None t c =
+    let z = c.args.context.now in
+    let p = place c.args.scope.now in
+    let hb = sym c.board_callee.ensures ∙ c.in-None.is in
+    record {
+      found = subst (Finds c.from_residual-in_err-s-in-None.result) (sym (other_call_is z p c.args.role c.args.at (tree c.args.f.now) (trees c.args.args.now) hb)) (handed_first c.from_residual-in_err-s-in-None.result c.in_err-s-in-None.field-0.0 _ _ c.from_residual-in_err-s-in-None.ensures c.in_err-s-in-None.ensures.found);
+      seen = IfOk-from_err c.from_residual-in_err-s-in-None.result _ c.from_residual-in_err-s-in-None.ensures.0;
+    }
 
-pub tested-returns-in_err-s-in-While-clause-found : goal.tested-returns-in_err-s-in-While-clause-found
-tested-returns-in_err-s-in-While-clause-found t c = grind (arith, common_steps)
+pub call-returns-in_err-kinds-in-None : goal.call-returns-in_err-kinds-in-None
+call-returns-in_err-kinds-in-None t c =
+    let z = c.args.context.now in
+    let p = place c.args.scope.now in
+    let hb = sym c.board_callee.ensures ∙ c.in-None.is in
+    record {
+      found = subst (Finds c.from_residual-in_err-kinds-in-None.result) (sym (other_call_is z p c.args.role c.args.at (tree c.args.f.now) (trees c.args.args.now) hb)) (past c.from_residual-in_err-kinds-in-None.result _ _ c.in_ok-s-in-None.ensures.found (handed_first c.from_residual-in_err-kinds-in-None.result c.in_err-kinds-in-None.field-0.0 _ _ c.from_residual-in_err-kinds-in-None.ensures c.in_err-kinds-in-None.ensures.found));
+      seen = IfOk-from_err c.from_residual-in_err-kinds-in-None.result _ c.from_residual-in_err-kinds-in-None.ensures.0;
+    }
 
-pub tested-returns-in_ok-nested-in-While-clause-found : goal.tested-returns-in_ok-nested-in-While-clause-found
-tested-returns-in_ok-nested-in-While-clause-found t c = grind (arith, common_steps)
+pub statement-returns-in-Block : goal.statement-returns-in-Block
+statement-returns-in-Block t c =
+    let z = c.args.context.now in
+    let p = place c.args.scope.now in
+    let is = block_is c.args.s.now c.in-Block.all c.in-Block.is ∙ ap (λ xs. Block c.args.s.now.at (statements xs)) (sym c.as_slice.ensures) in
+    record { found = statement_finds_as z p c.block.result _ _ is c.block.ensures.found; place = place_as z p c.block.result _ _ (place c.block.new.scope) is c.block.ensures.place }
 
-pub tested-returns-in_ok-nested-in-While-clause-place : goal.tested-returns-in_ok-nested-in-While-clause-place
-tested-returns-in_ok-nested-in-While-clause-place t c = grind (arith, common_steps)
+pub statement-block-requires : goal.statement-block-requires
+statement-block-requires t c = (omega (arith, ap statement_nesting (block_is c.args.s.now c.in-Block.all c.in-Block.is ∙ ap (λ xs. Block c.args.s.now.at (statements xs)) (sym c.as_slice.ensures)), c.decreases), tt)
 
-pub tested-returns-in_ok-s-in-DoWhile-clause-found : goal.tested-returns-in_ok-s-in-DoWhile-clause-found
-tested-returns-in_ok-s-in-DoWhile-clause-found t c = grind (arith, common_steps)
+pub statement-returns-in-Let : goal.statement-returns-in-Let
+statement-returns-in-Let t c =
+    let z = c.args.context.now in
+    let p = place c.args.scope.now in
+    let is = ap (form_statement c.args.s.now.at) c.in-Let.is ∙ let_statement c.args.s.now.at c.in-Let.fixed c.in-Let.each ∙ ap (λ xs. Let c.args.s.now.at c.in-Let.fixed (declarations xs)) (sym c.as_slice-in-Let.ensures) in
+    record { found = statement_finds_as z p c.declarations_fault.result _ _ is c.declarations_fault.ensures.found; place = place_as z p c.declarations_fault.result _ _ (place c.declarations_fault.new.scope) is c.declarations_fault.ensures.place }
 
-pub tested-returns-in_ok-s-in-DoWhile-clause-place : goal.tested-returns-in_ok-s-in-DoWhile-clause-place
-tested-returns-in_ok-s-in-DoWhile-clause-place t c = grind (arith, common_steps)
+pub statement-declarations_fault-requires : goal.statement-declarations_fault-requires
+statement-declarations_fault-requires t c = (omega (arith, ap statement_nesting (ap (form_statement c.args.s.now.at) c.in-Let.is ∙ let_statement c.args.s.now.at c.in-Let.fixed c.in-Let.each ∙ ap (λ xs. Let c.args.s.now.at c.in-Let.fixed (declarations xs)) (sym c.as_slice-in-Let.ensures)), c.decreases), tt)
+
+pub statement-returns-in-None : goal.statement-returns-in-None
+statement-returns-in-None t c =
+    let z = c.args.context.now in
+    let p = place c.args.scope.now in
+    let is = if_only_is c.args.s.now c.in-If.test c.in-If.a c.deref.result.now c.in-If.other c.in-If.is c.in-None.is c.deref.ensures in
+    record { found = statement_finds_as z p c.tested.result _ _ is c.tested.ensures.found; place = place_as z p c.tested.result _ _ (place c.tested.new.scope) is c.tested.ensures.place }
+
+pub statement-tested-requires : goal.statement-tested-requires
+statement-tested-requires t c = (omega (arith, ap statement_nesting (if_only_is c.args.s.now c.in-If.test c.in-If.a c.deref.result.now c.in-If.other c.in-If.is c.in-None.is c.deref.ensures), c.decreases), tt)
+
+pub statement-returns-in-Some : goal.statement-returns-in-Some
+statement-returns-in-Some t c =
+    let z = c.args.context.now in
+    let p = place c.args.scope.now in
+    let is = if_else_is c.args.s.now c.in-If.test c.in-If.a c.deref-in-Some.result.now c.in-If.other c.in-Some.b c.deref-in-Some-2.result.now c.in-If.is c.in-Some.is c.deref-in-Some.ensures c.deref-in-Some-2.ensures in
+    record { found = statement_finds_as z p c.if_else.result _ _ is c.if_else.ensures.found; place = place_as z p c.if_else.result _ _ (place c.if_else.new.scope) is c.if_else.ensures.place }
+
+pub statement-if_else-requires : goal.statement-if_else-requires
+statement-if_else-requires t c = (omega (arith, ap statement_nesting (if_else_is c.args.s.now c.in-If.test c.in-If.a c.deref-in-Some.result.now c.in-If.other c.in-Some.b c.deref-in-Some-2.result.now c.in-If.is c.in-Some.is c.deref-in-Some.ensures c.deref-in-Some-2.ensures), c.decreases), tt)
+
+pub statement-returns-in-While : goal.statement-returns-in-While
+statement-returns-in-While t c =
+    let z = c.args.context.now in
+    let p = place c.args.scope.now in
+    let is = while_is c.args.s.now c.in-While.test c.in-While.a c.deref-in-While.result.now c.in-While.is c.deref-in-While.ensures in
+    record { found = statement_finds_as z p c.tested-in-While.result _ _ is c.tested-in-While.ensures.found; place = place_as z p c.tested-in-While.result _ _ (place c.tested-in-While.new.scope) is c.tested-in-While.ensures.place }
+
+pub statement-returns-in-DoWhile : goal.statement-returns-in-DoWhile
+statement-returns-in-DoWhile t c =
+    let z = c.args.context.now in
+    let p = place c.args.scope.now in
+    let is = do_while_is c.args.s.now c.in-DoWhile.test c.in-DoWhile.a c.deref-in-DoWhile.result.now c.in-DoWhile.is c.deref-in-DoWhile.ensures in
+    record { found = statement_finds_as z p c.do_while.result _ _ is c.do_while.ensures.found; place = place_as z p c.do_while.result _ _ (place c.do_while.new.scope) is c.do_while.ensures.place }
+
+pub statement-returns-in-For : goal.statement-returns-in-For
+statement-returns-in-For t c =
+    let z = c.args.context.now in
+    let p = place c.args.scope.now in
+    let is = for_is c.args.s.now c.in-For.first c.in-For.test c.in-For.step c.in-For.a c.in-For.is ∙ ap (λ y. For c.args.s.now.at (optional_boxed c.in-For.first) (optional_expression c.in-For.test) (optional_expression c.in-For.step) (statement y)) (sym c.deref-in-For.ensures) in
+    record { found = statement_finds_as z p c.for_loop.result _ _ is c.for_loop.ensures.found; place = place_as z p c.for_loop.result _ _ (place c.for_loop.new.scope) is c.for_loop.ensures.place }
+
+pub statement-for_loop-requires : goal.statement-for_loop-requires
+statement-for_loop-requires t c = (omega (arith, ap statement_nesting (for_is c.args.s.now c.in-For.first c.in-For.test c.in-For.step c.in-For.a c.in-For.is ∙ ap (λ y. For c.args.s.now.at (optional_boxed c.in-For.first) (optional_expression c.in-For.test) (optional_expression c.in-For.step) (statement y)) (sym c.deref-in-For.ensures)), c.decreases), tt)
+
+pub statement-returns-in-ForOf : goal.statement-returns-in-ForOf
+statement-returns-in-ForOf t c =
+    let z = c.args.context.now in
+    let p = place c.args.scope.now in
+    let is = for_of_is c.args.s.now c.in-ForOf.list c.in-ForOf.body c.deref-in-ForOf.result.now c.in-ForOf.fixed c.in-ForOf.name c.in-ForOf.is c.deref-in-ForOf.ensures in
+    record { found = statement_finds_as z p c.for_of.result _ _ is c.for_of.ensures.found; place = place_as z p c.for_of.result _ _ (place c.for_of.new.scope) is c.for_of.ensures.place }
+
+pub statement-returns-in-Break : goal.statement-returns-in-Break
+statement-returns-in-Break t c =
+    let z = c.args.context.now in
+    let p = place c.args.scope.now in
+    let is = ap (form_statement c.args.s.now.at) c.in-Break.is in
+    record { found = ap (statement_fault z p) is; place = sym (ap (after z p) is) }
+
+pub statement-returns-in-Continue : goal.statement-returns-in-Continue
+statement-returns-in-Continue t c =
+    let z = c.args.context.now in
+    let p = place c.args.scope.now in
+    let is = ap (form_statement c.args.s.now.at) c.in-Continue.is in
+    record { found = ap (statement_fault z p) is; place = sym (ap (after z p) is) }
+
+pub statement-returns-in-Empty : goal.statement-returns-in-Empty
+statement-returns-in-Empty t c =
+    let z = c.args.context.now in
+    let p = place c.args.scope.now in
+    let is = ap (form_statement c.args.s.now.at) c.in-Empty.is in
+    record { found = ap (statement_fault z p) is; place = sym (ap (after z p) is) }
+
+pub statement-returns-in-Some-value : goal.statement-returns-in-Some-value
+statement-returns-in-Some-value t c =
+    let z = c.args.context.now in
+    let p = place c.args.scope.now in
+    let is = return_is c.args.s.now c.in-Return.value _ c.in-Return.is c.in-Some-value.is in
+    record { found = statement_finds_as z p c.returned.result _ _ is c.returned.ensures; place = on_ok c.returned.result (sym (ap (after z p) is)) }
+
+pub statement-returned-requires : goal.statement-returned-requires
+statement-returned-requires t c = (omega (arith, ap statement_nesting (return_is c.args.s.now c.in-Return.value _ c.in-Return.is c.in-Some-value.is), c.decreases), tt)
+
+pub statement-returns-in-None-value : goal.statement-returns-in-None-value
+statement-returns-in-None-value t c =
+    let z = c.args.context.now in
+    let p = place c.args.scope.now in
+    let is = ap (form_statement c.args.s.now.at) (c.in-Return.is ∙ ap f.Return c.in-None-value.is) in
+    record { found = statement_finds_as z p c.unless.result _ _ is (subst (λ b. Finds c.unless.result (unless b Mismatch c.args.s.now.at)) c.is_nothing.ensures c.unless.ensures); place = on_ok c.unless.result (sym (ap (after z p) is)) }
+
+pub statement-returns-in_err-expression-in-Plain : goal.statement-returns-in_err-expression-in-Plain
+statement-returns-in_err-expression-in-Plain t c =
+    let z = c.args.context.now in
+    let p = place c.args.scope.now in
+    let is = ap (form_statement c.args.s.now.at) c.in-Plain.is in
+    record { found = statement_finds_as z p c.from_residual.result _ _ is (handed c.from_residual.result c.in_err-expression-in-Plain.field-0.0 _ c.from_residual.ensures c.in_err-expression-in-Plain.ensures.found); place = IfOk-from_err c.from_residual.result _ c.from_residual.ensures.0 }
+
+pub statement-returns-in_ok-expression-in-Plain : goal.statement-returns-in_ok-expression-in-Plain
+statement-returns-in_ok-expression-in-Plain t c =
+    let z = c.args.context.now in
+    let p = place c.args.scope.now in
+    let is = ap (form_statement c.args.s.now.at) c.in-Plain.is in
+    record { found = ap (statement_fault z p) is ∙ c.in_ok-expression-in-Plain.ensures.found; place = sym (ap (after z p) is) }
+
+pub tested-returns : goal.tested-returns
+tested-returns t c =
+    let z = c.args.context.now in
+    let p = place c.args.scope.now in
+    let eq = c.is_boolean.ensures ∙ ap is_boolean (kind_seen z p Free c.in_ok-s.s c.args.test.now c.in_ok-s.ensures.seen) in
+    record { found = past c.unless.result _ _ c.in_ok-s.ensures.found (past c.unless.result _ _ c.in_ok-nested.ensures.found (subst (λ b. Finds c.unless.result (unless b Mismatch c.args.at)) eq c.unless.ensures)); place = on_ok c.unless.result c.in_ok-nested.ensures.place }
+
+pub tested-returns-in_err-s : goal.tested-returns-in_err-s
+tested-returns-in_err-s t c = record { found = handed_first c.from_residual.result c.in_err-s.field-0.0 _ _ c.from_residual.ensures c.in_err-s.ensures.found; place = IfOk-from_err c.from_residual.result _ c.from_residual.ensures.0 }
+
+pub tested-returns-in_err-nested : goal.tested-returns-in_err-nested
+tested-returns-in_err-nested t c = record { found = past c.from_residual-in_err-nested.result _ _ c.in_ok-s.ensures.found (handed_first c.from_residual-in_err-nested.result c.in_err-nested.field-0.0 _ _ c.from_residual-in_err-nested.ensures c.in_err-nested.ensures.found); place = IfOk-from_err c.from_residual-in_err-nested.result _ c.from_residual-in_err-nested.ensures.0 }
+
+pub if_else-returns : goal.if_else-returns
+if_else-returns t c =
+    let z = c.args.context.now in
+    let p = place c.args.scope.now in
+    let eq = c.is_boolean.ensures ∙ ap is_boolean (kind_seen z p Free c.in_ok-s.s c.args.test.now c.in_ok-s.ensures.seen) in
+    let f2 = ap (λ q. statement_fault z (inner q) (statement c.args.b.now)) (sym c.in_ok-nested.ensures.place) ∙ c.in_ok-nested-2.ensures.found in
+    record { found = past c.unless.result _ _ c.in_ok-s.ensures.found (past c.unless.result _ _ c.in_ok-nested.ensures.found (past c.unless.result _ _ f2 (subst (λ b. Finds c.unless.result (unless b Mismatch c.args.at)) eq c.unless.ensures))); place = on_ok c.unless.result (c.in_ok-nested-2.ensures.place ∙ c.in_ok-nested.ensures.place) }
+
+pub if_else-returns-in_err-s : goal.if_else-returns-in_err-s
+if_else-returns-in_err-s t c = record { found = handed_first c.from_residual.result c.in_err-s.field-0.0 _ _ c.from_residual.ensures c.in_err-s.ensures.found; place = IfOk-from_err c.from_residual.result _ c.from_residual.ensures.0 }
+
+pub if_else-returns-in_err-nested : goal.if_else-returns-in_err-nested
+if_else-returns-in_err-nested t c = record { found = past c.from_residual-in_err-nested.result _ _ c.in_ok-s.ensures.found (handed_first c.from_residual-in_err-nested.result c.in_err-nested.field-0.0 _ _ c.from_residual-in_err-nested.ensures c.in_err-nested.ensures.found); place = IfOk-from_err c.from_residual-in_err-nested.result _ c.from_residual-in_err-nested.ensures.0 }
+
+pub if_else-returns-in_err-nested-2 : goal.if_else-returns-in_err-nested-2
+if_else-returns-in_err-nested-2 t c =
+    let z = c.args.context.now in
+    record { found = past c.from_residual-in_err-nested-2.result _ _ c.in_ok-s.ensures.found (past c.from_residual-in_err-nested-2.result _ _ c.in_ok-nested.ensures.found (handed_first c.from_residual-in_err-nested-2.result c.in_err-nested-2.field-0.0 _ _ c.from_residual-in_err-nested-2.ensures (subst (λ q. RefusedWith c.in_err-nested-2.field-0.0 (statement_fault z (inner q) (statement c.args.b.now))) c.in_ok-nested.ensures.place c.in_err-nested-2.ensures.found))); place = IfOk-from_err c.from_residual-in_err-nested-2.result _ c.from_residual-in_err-nested-2.ensures.0 }
+
+pub do_while-returns : goal.do_while-returns
+do_while-returns t c =
+    let z = c.args.context.now in
+    let p = place c.args.scope.now in
+    let same = c.in_ok-nested.ensures.place in
+    let eq = c.is_boolean.ensures ∙ ap is_boolean (kind_seen z (place c.nested.new.scope) Free c.in_ok-s.s c.args.test.now c.in_ok-s.ensures.seen ∙ ap (λ q. type_of z.tables.now z.known.now q Free (tree c.args.test.now)) same) in
+    record { found = past c.unless.result _ _ c.in_ok-nested.ensures.found (past c.unless.result _ _ (ap (λ q. fault z q Free (tree c.args.test.now)) (sym same) ∙ c.in_ok-s.ensures.found) (subst (λ b. Finds c.unless.result (unless b Mismatch c.args.at)) eq c.unless.ensures)); place = on_ok c.unless.result same }
+
+pub do_while-returns-in_err-nested : goal.do_while-returns-in_err-nested
+do_while-returns-in_err-nested t c = record { found = handed_first c.from_residual.result c.in_err-nested.field-0.0 _ _ c.from_residual.ensures c.in_err-nested.ensures.found; place = IfOk-from_err c.from_residual.result _ c.from_residual.ensures.0 }
+
+pub do_while-returns-in_err-s : goal.do_while-returns-in_err-s
+do_while-returns-in_err-s t c =
+    let z = c.args.context.now in
+    record { found = past c.from_residual-in_err-s.result _ _ c.in_ok-nested.ensures.found (handed_first c.from_residual-in_err-s.result c.in_err-s.field-0.0 _ _ c.from_residual-in_err-s.ensures (subst (λ q. RefusedWith c.in_err-s.field-0.0 (fault z q Free (tree c.args.test.now))) c.in_ok-nested.ensures.place c.in_err-s.ensures.found)); place = IfOk-from_err c.from_residual-in_err-s.result _ c.from_residual-in_err-s.ensures.0 }
+
+pub for_loop-returns-in_err-first_of : goal.for_loop-returns-in_err-first_of
+for_loop-returns-in_err-first_of t c =
+    let z = c.args.context.now in
+    let p = place c.args.scope.now in
+    let step = for_step z p (place c.enter-mark.new.scope) _ c.args.at (optional_boxed c.args.first.now) (optional_expression c.args.test.now) (optional_expression c.args.step.now) (statement c.args.a.now) c.enter-mark.ensures.place refl in
+    record { found = subst (Finds c.from_residual.result) (sym step) (handed_first c.from_residual.result c.in_err-first_of.field-0.0 _ _ c.from_residual.ensures c.in_err-first_of.ensures.found); place = IfOk-from_err c.from_residual.result _ c.from_residual.ensures.0 }
+
+pub for_loop-returns-in_err-tests : goal.for_loop-returns-in_err-tests
+for_loop-returns-in_err-tests t c =
+    let z = c.args.context.now in
+    let p = place c.args.scope.now in
+    let step = for_step z p (place c.enter-mark.new.scope) (place c.first_of.new.scope) c.args.at (optional_boxed c.args.first.now) (optional_expression c.args.test.now) (optional_expression c.args.step.now) (statement c.args.a.now) c.enter-mark.ensures.place c.in_ok-first_of.ensures.place in
+    record { found = subst (Finds c.from_residual-in_err-tests.result) (sym step) (past c.from_residual-in_err-tests.result _ _ c.in_ok-first_of.ensures.found (handed_first c.from_residual-in_err-tests.result c.in_err-tests.field-0.0 _ _ c.from_residual-in_err-tests.ensures c.in_err-tests.ensures.found)); place = IfOk-from_err c.from_residual-in_err-tests.result _ c.from_residual-in_err-tests.ensures.0 }
+
+pub for_loop-returns-in_err-optional : goal.for_loop-returns-in_err-optional
+for_loop-returns-in_err-optional t c =
+    let z = c.args.context.now in
+    let p = place c.args.scope.now in
+    let step = for_step z p (place c.enter-mark.new.scope) (place c.first_of.new.scope) c.args.at (optional_boxed c.args.first.now) (optional_expression c.args.test.now) (optional_expression c.args.step.now) (statement c.args.a.now) c.enter-mark.ensures.place c.in_ok-first_of.ensures.place in
+    record { found = subst (Finds c.from_residual-in_err-optional.result) (sym step) (past c.from_residual-in_err-optional.result _ _ c.in_ok-first_of.ensures.found (past c.from_residual-in_err-optional.result _ _ c.in_ok-tests.ensures.found (handed_first c.from_residual-in_err-optional.result c.in_err-optional.field-0.0 _ _ c.from_residual-in_err-optional.ensures c.in_err-optional.ensures.found))); place = IfOk-from_err c.from_residual-in_err-optional.result _ c.from_residual-in_err-optional.ensures.0 }
+
+pub for_loop-returns-in_err-nested : goal.for_loop-returns-in_err-nested
+for_loop-returns-in_err-nested t c =
+    let z = c.args.context.now in
+    let p = place c.args.scope.now in
+    let step = for_step z p (place c.enter-mark.new.scope) (place c.first_of.new.scope) c.args.at (optional_boxed c.args.first.now) (optional_expression c.args.test.now) (optional_expression c.args.step.now) (statement c.args.a.now) c.enter-mark.ensures.place c.in_ok-first_of.ensures.place in
+    record { found = subst (Finds c.from_residual-in_err-nested.result) (sym step) (past c.from_residual-in_err-nested.result _ _ c.in_ok-first_of.ensures.found (past c.from_residual-in_err-nested.result _ _ c.in_ok-tests.ensures.found (past c.from_residual-in_err-nested.result _ _ c.in_ok-optional.ensures.found (handed_first c.from_residual-in_err-nested.result c.in_err-nested.field-0.0 _ _ c.from_residual-in_err-nested.ensures c.in_err-nested.ensures.found)))); place = IfOk-from_err c.from_residual-in_err-nested.result _ c.from_residual-in_err-nested.ensures.0 }
+
+pub for_loop-returns-in_err-unless : goal.for_loop-returns-in_err-unless
+for_loop-returns-in_err-unless t c =
+    let z = c.args.context.now in
+    let p = place c.args.scope.now in
+    let step = for_step z p (place c.enter-mark.new.scope) (place c.first_of.new.scope) c.args.at (optional_boxed c.args.first.now) (optional_expression c.args.test.now) (optional_expression c.args.step.now) (statement c.args.a.now) c.enter-mark.ensures.place c.in_ok-first_of.ensures.place in
+    record { found = subst (Finds c.from_residual-in_err-unless.result) (sym step) (past c.from_residual-in_err-unless.result _ _ c.in_ok-first_of.ensures.found (past c.from_residual-in_err-unless.result _ _ c.in_ok-tests.ensures.found (past c.from_residual-in_err-unless.result _ _ c.in_ok-optional.ensures.found (past c.from_residual-in_err-unless.result _ _ c.in_ok-nested.ensures.found (handed c.from_residual-in_err-unless.result c.in_err-unless.field-0.0 _ c.from_residual-in_err-unless.ensures (subst (λ b. RefusedWith c.in_err-unless.field-0.0 (unless b Mismatch c.args.at)) c.in_ok-tests.ensures.tests c.in_err-unless.ensures)))))); place = IfOk-from_err c.from_residual-in_err-unless.result _ c.from_residual-in_err-unless.ensures.0 }
+
+pub for_loop-returns-clause-found : goal.for_loop-returns-clause-found
+for_loop-returns-clause-found t c =
+    let z = c.args.context.now in
+    let p = place c.args.scope.now in
+    let step = for_step z p (place c.enter-mark.new.scope) (place c.first_of.new.scope) c.args.at (optional_boxed c.args.first.now) (optional_expression c.args.test.now) (optional_expression c.args.step.now) (statement c.args.a.now) c.enter-mark.ensures.place c.in_ok-first_of.ensures.place in
+    step ∙ nothing_in _ _ c.in_ok-first_of.ensures.found (nothing_in _ _ c.in_ok-tests.ensures.found (nothing_in _ _ c.in_ok-optional.ensures.found (nothing_in _ _ c.in_ok-nested.ensures.found (ap (λ b. unless b Mismatch c.args.at) (sym c.in_ok-tests.ensures.tests) ∙ c.in_ok-unless.ensures))))
+
+pub first_of-returns-in-Some : goal.first_of-returns-in-Some
+first_of-returns-in-Some t c =
+    let z = c.args.context.now in
+    let p = place c.args.scope.now in
+    record {
+      found = subst (Finds c.statement.result) (ap (λ y. statement_fault z p (statement y)) c.deref.ensures ∙ sym (ap (λ o. first_fault z p (optional_boxed o)) c.in-Some.is)) c.statement.ensures.found;
+      place = subst (λ q. OnOk c.statement.result (place c.statement.new.scope ≡ q)) (ap (λ y. after z p (statement y)) c.deref.ensures ∙ sym (ap (λ o. after_first z p (optional_boxed o)) c.in-Some.is)) c.statement.ensures.place;
+    }
+
+pub first_of-returns-in-None : goal.first_of-returns-in-None
+first_of-returns-in-None t c =
+    let z = c.args.context.now in
+    let p = place c.args.scope.now in
+    record { found = ap (λ o. first_fault z p (optional_boxed o)) c.in-None.is; place = sym (ap (λ o. after_first z p (optional_boxed o)) c.in-None.is) }
+
+pub optional-returns-in-None : goal.optional-returns-in-None
+optional-returns-in-None t c =
+    let z = c.args.context.now in
+    let p = place c.args.scope.now in
+    record { found = ap (λ o. optional_fault z p (optional_expression o)) c.in-None.is; tests = sym (ap (λ o. is_test z.tables.now z.known.now p (optional_expression o)) c.in-None.is) }
+
+pub optional-returns-in_ok-s-in-Some : goal.optional-returns-in_ok-s-in-Some
+optional-returns-in_ok-s-in-Some t c =
+    let z = c.args.context.now in
+    let p = place c.args.scope.now in
+    record {
+      found = ap (λ o. optional_fault z p (optional_expression o)) c.in-Some.is ∙ c.in_ok-s-in-Some.ensures.found;
+      tests = c.is_boolean.ensures ∙ ap is_boolean (kind_seen z p Free c.in_ok-s-in-Some.s c.in-Some.e c.in_ok-s-in-Some.ensures.seen) ∙ sym (ap (λ o. is_test z.tables.now z.known.now p (optional_expression o)) c.in-Some.is);
+    }
+
+pub optional-returns-in_err-s-in-Some : goal.optional-returns-in_err-s-in-Some
+optional-returns-in_err-s-in-Some t c =
+    let z = c.args.context.now in
+    let p = place c.args.scope.now in
+    record {
+      found = subst (Finds c.from_residual.result) (sym (ap (λ o. optional_fault z p (optional_expression o)) c.in-Some.is)) (handed c.from_residual.result c.in_err-s-in-Some.field-0.0 _ c.from_residual.ensures c.in_err-s-in-Some.ensures.found);
+      tests = IfOk-from_err c.from_residual.result _ c.from_residual.ensures.0;
+    }
+
+pub handler-statements-requires : goal.handler-statements-requires
+handler-statements-requires t c = let h = ap routine_nesting (routine_parts c.args.body.now) in (grind (arith, common_steps, h), tt)
