@@ -1,99 +1,82 @@
--- Typed trees of leaves, choices and members.
-use Rattle.std.proofs.Common.{◌≡◌, ◌∷◌, ◌+◌, ℕ, ℤ, Bool, List, [], ◌++◌, length, Option, Some, None, refl, sym, ap, ◌∙◌}
-use Rattle.std.proofs.lemmas.List.{append-nil}
+-- Typed trees of leaves, handlers and members.
+use Rattle.std.proofs.Common.{◌≡◌, ◌∷◌, ◌+◌, ℕ, ℤ, Bool, List, [], ◌++◌, length, Option, Some, None, refl, sym, ap, ◌∙◌, subst, arith, append-nil, add-zero}
+use Rattle.std.specs.declared.alloc.Global.{Global}
+use Rattle.std.specs.declared.boxed.Box.{Box}
+use Rattle.sts_syntax.specs.declared.trees.Body.{Body}
+use Rattle.sts_syntax.specs.declared.trees.Expr.{Expr}
+use Rattle.sts_syntax.specs.declared.trees.Node.TheVariants as n
 use Rattle.sts_syntax.specs.Types as t
+use Rattle.sts_syntax.specs.Types.{ValueType, value_types}
 use Rattle.sts_syntax.specs.TypedTrees as e
-use Rattle.sts_syntax.specs.Types.{ValueType}
 use Rattle.sts_syntax.specs.TypedTrees.{TypedTree, TypedRoutine}
-use Rattle.sts_syntax.specs.Trees.{Tree, Num, Text, Truth, Null, This, Name, Choice, Member, Handler, Routine}
+use Rattle.sts_syntax.specs.TypedViews.{typed_routines}
+use Rattle.sts_syntax.specs.Trees.{Tree, Num, Text, Truth, Null, This, Name, Member, Handler, Routine}
+use Rattle.sts_syntax.specs.Views.{tree, node_tree, routine}
 use Rattle.sts_scope.specs.declared.kinds.Kind.{Kind}
 use Rattle.sts_scope.specs.Kinds.{number, boolean, text, null}
 use Rattle.sts_scope.specs.Rules as rule
 use Rattle.type_derive.specs.Built as b
-use Rattle.type_derive.specs.Making.{Making, pure, ◌>=>◌}
+use Rattle.type_derive.specs.Making.{Made, Making, pure, ◌>=>◌}
 use Rattle.type_derive.specs.Typing as typing
 use Rattle.type_derive.specs.Typing.{◌>>=◌}
 use Rattle.typed_trees.specs.declared.build_places.Builder.{Builder}
 use Rattle.typed_trees.specs.declared.build_places.Plan.{Plan}
-use Rattle.typed_trees.specs.Steps.{IsBuilt}
+use Rattle.typed_trees.specs.Steps.{IsBuilt, handler_step}
 use Rattle.typed_trees.specs.Functions as functions
-use Rattle.typed_trees.specs.Sites.{tree_made, body_made, tree_kind, two_made, three_made, noted, made_of, spot_of, member_read, part_behind, class_behind}
-use Rattle.typed_trees.proofs.Made.{alone, same as same_made}
-use Rattle.typed_trees.proofs.Pieces.{stays, via_at}
+use Rattle.typed_trees.specs.Sites.{tree_made, body_made, tree_kind, noted, made_of, spot_of, member_read, part_behind, class_behind}
+use Rattle.typed_trees.proofs.Made.{alone}
+use Rattle.typed_trees.proofs.Pieces.{stays, via, via_at}
 
-pub num_made : (p : Plan) (s : b.Site) (g : Option Kind) (at : ℕ) (v : ℤ) (m n : ℕ) → tree_made p s g (Num at v) m n
-    ≡ made_of (e.Num t.Number v) [] []
+leaf_built : (p : Plan) (st : b.Site) (g : Option Kind) (x y : Tree) (r it : TypedTree) (c : Builder) → x ≡ y → pure r ≡ tree_made p st g y → it ≡ r → IsBuilt c c (tree_made p st g x) it
+leaf_built p st g x y r it c is made node = via c c (pure r) (tree_made p st g x) r it (made ∙ sym (ap (tree_made p st g) is)) (sym node) (stays c r)
+
+pub num_built : (p : Plan) (st : b.Site) (g : Option Kind) (x : Expr) (v : ℤ) (c : Builder) (it : TypedTree) → x.node ≡ n.Num v → it ≡ e.Num t.Number v → IsBuilt c c (tree_made p st g (tree x)) it
 unfolding tree_made tree_kind
-num_made p s g at v m n = refl
+num_built p st g x v c it is node = leaf_built p st g (tree x) (Num x.at v) (e.Num t.Number v) it c (ap (node_tree x.at) is) refl node
 
-pub num_kind : (p : Plan) (s : b.Site) (g : Option Kind) (at : ℕ) (v : ℤ) → tree_kind p s g (Num at v)
-    ≡ Some number
+pub num_kind : (p : Plan) (st : b.Site) (g : Option Kind) (x : Expr) (v : ℤ) (k : Option Kind) → x.node ≡ n.Num v → k ≡ Some number → k ≡ tree_kind p st g (tree x)
+unfolding tree_kind
+num_kind p st g x v k is kind = kind ∙ sym (ap (λ q. tree_kind p st g (node_tree x.at q)) is)
+
+pub text_built : (p : Plan) (st : b.Site) (g : Option Kind) (x : Expr) (v : ℕ) (c : Builder) (it : TypedTree) → x.node ≡ n.Text v → it ≡ e.Text t.Text v → IsBuilt c c (tree_made p st g (tree x)) it
 unfolding tree_made tree_kind
-num_kind p s g at v = refl
+text_built p st g x v c it is node = leaf_built p st g (tree x) (Text x.at v) (e.Text t.Text v) it c (ap (node_tree x.at) is) refl node
 
-pub text_made : (p : Plan) (s : b.Site) (g : Option Kind) (at v : ℕ) (m n : ℕ) → tree_made p s g (Text at v) m n
-    ≡ made_of (e.Text t.Text v) [] []
+pub text_kind : (p : Plan) (st : b.Site) (g : Option Kind) (x : Expr) (v : ℕ) (k : Option Kind) → x.node ≡ n.Text v → k ≡ Some text → k ≡ tree_kind p st g (tree x)
+unfolding tree_kind
+text_kind p st g x v k is kind = kind ∙ sym (ap (λ q. tree_kind p st g (node_tree x.at q)) is)
+
+pub truth_built : (p : Plan) (st : b.Site) (g : Option Kind) (x : Expr) (v : Bool) (c : Builder) (it : TypedTree) → x.node ≡ n.Truth v → it ≡ e.Truth t.Boolean v → IsBuilt c c (tree_made p st g (tree x)) it
 unfolding tree_made tree_kind
-text_made p s g at v m n = refl
+truth_built p st g x v c it is node = leaf_built p st g (tree x) (Truth x.at v) (e.Truth t.Boolean v) it c (ap (node_tree x.at) is) refl node
 
-pub text_kind : (p : Plan) (s : b.Site) (g : Option Kind) (at v : ℕ) → tree_kind p s g (Text at v)
-    ≡ Some text
+pub truth_kind : (p : Plan) (st : b.Site) (g : Option Kind) (x : Expr) (v : Bool) (k : Option Kind) → x.node ≡ n.Truth v → k ≡ Some boolean → k ≡ tree_kind p st g (tree x)
+unfolding tree_kind
+truth_kind p st g x v k is kind = kind ∙ sym (ap (λ q. tree_kind p st g (node_tree x.at q)) is)
+
+pub null_built : (p : Plan) (st : b.Site) (g : Option Kind) (x : Expr) (c : Builder) (it : TypedTree) → x.node ≡ n.Null → it ≡ e.Null t.NullType → IsBuilt c c (tree_made p st g (tree x)) it
 unfolding tree_made tree_kind
-text_kind p s g at v = refl
+null_built p st g x c it is node = leaf_built p st g (tree x) (Null x.at) (e.Null t.NullType) it c (ap (node_tree x.at) is) refl node
 
-pub truth_made : (p : Plan) (s : b.Site) (g : Option Kind) (at : ℕ) (v : Bool) (m n : ℕ) → tree_made p s g (Truth at v) m n
-    ≡ made_of (e.Truth t.Boolean v) [] []
+pub null_kind : (p : Plan) (st : b.Site) (g : Option Kind) (x : Expr) (k : Option Kind) → x.node ≡ n.Null → k ≡ Some null → k ≡ tree_kind p st g (tree x)
+unfolding tree_kind
+null_kind p st g x k is kind = kind ∙ sym (ap (λ q. tree_kind p st g (node_tree x.at q)) is)
+
+pub this_built : (p : Plan) (st : b.Site) (g : Option Kind) (x : Expr) (c : Builder) (it : TypedTree) → x.node ≡ n.This → it ≡ e.This (noted (rule.this_kind st.place.this)) → IsBuilt c c (tree_made p st g (tree x)) it
 unfolding tree_made tree_kind
-truth_made p s g at v m n = refl
+this_built p st g x c it is node = leaf_built p st g (tree x) (This x.at) (e.This (noted (rule.this_kind st.place.this))) it c (ap (node_tree x.at) is) refl node
 
-pub truth_kind : (p : Plan) (s : b.Site) (g : Option Kind) (at : ℕ) (v : Bool) → tree_kind p s g (Truth at v)
-    ≡ Some boolean
+pub this_kind : (p : Plan) (st : b.Site) (g : Option Kind) (x : Expr) (k : Option Kind) → x.node ≡ n.This → k ≡ rule.this_kind st.place.this → k ≡ tree_kind p st g (tree x)
+unfolding tree_kind
+this_kind p st g x k is kind = kind ∙ sym (ap (λ q. tree_kind p st g (node_tree x.at q)) is)
+
+pub name_built : (p : Plan) (st : b.Site) (g : Option Kind) (x : Expr) (v : ℕ) (c : Builder) (it : TypedTree) → x.node ≡ n.Name v → it ≡ e.Name (noted (rule.name_kind p.known.now st.place (typing.finds p.tables.now p.known.now st.place v))) (spot_of p st (typing.finds p.tables.now p.known.now st.place v)) → IsBuilt c c (tree_made p st g (tree x)) it
 unfolding tree_made tree_kind
-truth_kind p s g at v = refl
+name_built p st g x v c it is node = leaf_built p st g (tree x) (Name x.at v) (e.Name (noted (rule.name_kind p.known.now st.place (typing.finds p.tables.now p.known.now st.place v))) (spot_of p st (typing.finds p.tables.now p.known.now st.place v))) it c (ap (node_tree x.at) is) refl node
 
-pub null_made : (p : Plan) (s : b.Site) (g : Option Kind) (at : ℕ) (m n : ℕ) → tree_made p s g (Null at) m n
-    ≡ made_of (e.Null t.NullType) [] []
-unfolding tree_made tree_kind
-null_made p s g at m n = refl
-
-pub null_kind : (p : Plan) (s : b.Site) (g : Option Kind) (at : ℕ) → tree_kind p s g (Null at)
-    ≡ Some null
-unfolding tree_made tree_kind
-null_kind p s g at = refl
-
-pub this_made : (p : Plan) (s : b.Site) (g : Option Kind) (at : ℕ) (m n : ℕ) → tree_made p s g (This at) m n
-    ≡ made_of (e.This (noted (tree_kind p s g (This at)))) [] []
-unfolding tree_made tree_kind
-this_made p s g at m n = refl
-
-pub this_kind : (p : Plan) (s : b.Site) (g : Option Kind) (at : ℕ) → tree_kind p s g (This at)
-    ≡ rule.this_kind s.place.this
-unfolding tree_made tree_kind
-this_kind p s g at = refl
-
-pub name_made : (p : Plan) (s : b.Site) (g : Option Kind) (at v : ℕ) (m n : ℕ) → tree_made p s g (Name at v) m n
-    ≡ made_of (e.Name (noted (tree_kind p s g (Name at v))) (spot_of p s (typing.finds p.tables.now p.known.now s.place v))) [] []
-unfolding tree_made tree_kind
-name_made p s g at v m n = refl
-
-pub name_kind : (p : Plan) (s : b.Site) (g : Option Kind) (at v : ℕ) → tree_kind p s g (Name at v)
-    ≡ rule.name_kind p.known.now s.place (typing.finds p.tables.now p.known.now s.place v)
-unfolding tree_made tree_kind
-name_kind p s g at v = refl
-
-pub choice_made : (p : Plan) (s : b.Site) (g : Option Kind) (at : ℕ) (q a c : Tree) (m n : ℕ) → tree_made p s g (Choice at q a c) m n
-    ≡ made_of (e.Choice (noted (tree_kind p s g (Choice at q a c))) (three_made p s (Choice at q a c) m n).it.test (three_made p s (Choice at q a c) m n).it.parts.first (three_made p s (Choice at q a c) m n).it.parts.second) (three_made p s (Choice at q a c) m n).locals (three_made p s (Choice at q a c) m n).routines
-unfolding tree_made two_made three_made tree_kind
-choice_made p s g at q a c m n =
-    let z = tree_made p s None q m n in
-    let w = two_made p s (Choice at q a c) (m + length z.locals) (n + length z.routines) in
-    same_made (e.Choice (noted (tree_kind p s g (Choice at q a c))) z.it w.it.first w.it.second) (z.locals ++ w.locals) (z.locals ++ (w.locals ++ [])) (z.routines ++ w.routines) (z.routines ++ (w.routines ++ []))
-    (ap (λ r. z.locals ++ r) (sym (append-nil w.locals))) (ap (λ r. z.routines ++ r) (sym (append-nil w.routines)))
-
-pub choice_kind : (p : Plan) (s : b.Site) (g : Option Kind) (at : ℕ) (q a c : Tree) → tree_kind p s g (Choice at q a c)
-    ≡ (tree_kind p s None q >>= λ w. tree_kind p s None a >>= λ u. tree_kind p s None c >>= λ v. rule.choose p.known.now.classes w u v)
-unfolding tree_made tree_kind
-choice_kind p s g at q a c = refl
+pub name_kind : (p : Plan) (st : b.Site) (g : Option Kind) (x : Expr) (v : ℕ) (k : Option Kind) → x.node ≡ n.Name v → k ≡ rule.name_kind p.known.now st.place (typing.finds p.tables.now p.known.now st.place v) → k ≡ tree_kind p st g (tree x)
+unfolding tree_kind
+name_kind p st g x v k is kind = kind ∙ sym (ap (λ q. tree_kind p st g (node_tree x.at q)) is)
 
 pub constant_made : (p : Plan) (s : b.Site) (g : Option Kind) (at : ℕ) (a : Tree) (x m n : ℕ) (z : ℤ) → typing.constant_of p.tables.now p.known.now s.place a x ≡ Some z → tree_made p s g (Member at a x) m n ≡ made_of (e.Num t.Number z) [] []
 unfolding tree_made tree_kind
@@ -123,70 +106,51 @@ pub member_kind : (p : Plan) (s : b.Site) (g : Option Kind) (at : ℕ) (a : Tree
 unfolding tree_kind
 member_kind p s g at a x h = ap (λ (o : Option ℤ). elim o [ Some z ↦ Some number | None ↦ tree_kind p s None a >>= λ u. rule.part_kind p.known.now (rule.part_of p.tables.now.names p.known.now u x) ]) h
 
-pub num_locals : (p : Plan) (s : b.Site) (g : Option Kind) (at : ℕ) (v : ℤ) (m n : ℕ) (us : List ValueType) → us ≡ us ++ (tree_made p s g (Num at v) m n).locals
-unfolding tree_made
-num_locals p s g at v m n us = sym (append-nil us)
-
-pub num_routines : (p : Plan) (s : b.Site) (g : Option Kind) (at : ℕ) (v : ℤ) (m n : ℕ) (rs : List TypedRoutine) → rs ≡ rs ++ (tree_made p s g (Num at v) m n).routines
-unfolding tree_made
-num_routines p s g at v m n rs = sym (append-nil rs)
-
-pub text_locals : (p : Plan) (s : b.Site) (g : Option Kind) (at v : ℕ) (m n : ℕ) (us : List ValueType) → us ≡ us ++ (tree_made p s g (Text at v) m n).locals
-unfolding tree_made
-text_locals p s g at v m n us = sym (append-nil us)
-
-pub text_routines : (p : Plan) (s : b.Site) (g : Option Kind) (at v : ℕ) (m n : ℕ) (rs : List TypedRoutine) → rs ≡ rs ++ (tree_made p s g (Text at v) m n).routines
-unfolding tree_made
-text_routines p s g at v m n rs = sym (append-nil rs)
-
-pub truth_locals : (p : Plan) (s : b.Site) (g : Option Kind) (at : ℕ) (v : Bool) (m n : ℕ) (us : List ValueType) → us ≡ us ++ (tree_made p s g (Truth at v) m n).locals
-unfolding tree_made
-truth_locals p s g at v m n us = sym (append-nil us)
-
-pub truth_routines : (p : Plan) (s : b.Site) (g : Option Kind) (at : ℕ) (v : Bool) (m n : ℕ) (rs : List TypedRoutine) → rs ≡ rs ++ (tree_made p s g (Truth at v) m n).routines
-unfolding tree_made
-truth_routines p s g at v m n rs = sym (append-nil rs)
-
-pub null_locals : (p : Plan) (s : b.Site) (g : Option Kind) (at : ℕ) (m n : ℕ) (us : List ValueType) → us ≡ us ++ (tree_made p s g (Null at) m n).locals
-unfolding tree_made
-null_locals p s g at m n us = sym (append-nil us)
-
-pub null_routines : (p : Plan) (s : b.Site) (g : Option Kind) (at : ℕ) (m n : ℕ) (rs : List TypedRoutine) → rs ≡ rs ++ (tree_made p s g (Null at) m n).routines
-unfolding tree_made
-null_routines p s g at m n rs = sym (append-nil rs)
-
-pub this_locals : (p : Plan) (s : b.Site) (g : Option Kind) (at : ℕ) (m n : ℕ) (us : List ValueType) → us ≡ us ++ (tree_made p s g (This at) m n).locals
-unfolding tree_made
-this_locals p s g at m n us = sym (append-nil us)
-
-pub this_routines : (p : Plan) (s : b.Site) (g : Option Kind) (at : ℕ) (m n : ℕ) (rs : List TypedRoutine) → rs ≡ rs ++ (tree_made p s g (This at) m n).routines
-unfolding tree_made
-this_routines p s g at m n rs = sym (append-nil rs)
-
-pub name_locals : (p : Plan) (s : b.Site) (g : Option Kind) (at v : ℕ) (m n : ℕ) (us : List ValueType) → us ≡ us ++ (tree_made p s g (Name at v) m n).locals
-unfolding tree_made
-name_locals p s g at v m n us = sym (append-nil us)
-
-pub name_routines : (p : Plan) (s : b.Site) (g : Option Kind) (at v : ℕ) (m n : ℕ) (rs : List TypedRoutine) → rs ≡ rs ++ (tree_made p s g (Name at v) m n).routines
-unfolding tree_made
-name_routines p s g at v m n rs = sym (append-nil rs)
-
-pub handler_made : (p : Plan) (s : b.Site) (g : Option Kind) (at : ℕ) (r : Routine) (m n : ℕ) → tree_made p s g (Handler at r) m n
-    ≡ made_of (e.Handler t.Nothing n) [] ((functions.routine p [] t.Nothing (body_made p s r) n).it ∷ (functions.routine p [] t.Nothing (body_made p s r) n).routines)
-unfolding tree_made body_made
-handler_made p s g at r m n = refl
-
-pub handler_kind : (p : Plan) (s : b.Site) (g : Option Kind) (at : ℕ) (r : Routine) → tree_kind p s g (Handler at r) ≡ None
-unfolding tree_kind
-handler_kind p s g at r = refl
-
-pub handler_locals : (p : Plan) (s : b.Site) (g : Option Kind) (at : ℕ) (r : Routine) (m n : ℕ) (us : List ValueType) → us ≡ us ++ (tree_made p s g (Handler at r) m n).locals
-unfolding tree_made
-handler_locals p s g at r m n us = sym (append-nil us)
-
 -- a constant of the board
-pub constant_built : (p : Plan) (s : b.Site) (g : Option Kind) (at : ℕ) (a x : Tree) (m : ℕ) (z : ℤ) (c : Builder) (it : TypedTree) → x ≡ Member at a m → typing.constant_of p.tables.now p.known.now s.place a m ≡ Some z
-    → it ≡ e.Num t.Number z → IsBuilt c c (tree_made p s g x) it
-constant_built p s g at a x m z c it is h node =
-    via_at c c (pure (e.Num t.Number z)) (tree_made p s g x) (e.Num t.Number z) it
-    (sym (ap (λ (q : Tree). tree_made p s g q c.local c.function) is ∙ constant_made p s g at a m c.local c.function z h)) (sym node) (stays c (e.Num t.Number z))
+pub constant_built : (p : Plan) (st : b.Site) (g : Option Kind) (x : Expr) (a : Box Expr Global) (m : ℕ) (a' : Expr) (z : ℤ) (c : Builder) (it : TypedTree)
+    → x.node ≡ n.Member a m → a' ≡ a.value → typing.constant_of p.tables.now p.known.now st.place (tree a') m ≡ Some z → it ≡ e.Num t.Number z → IsBuilt c c (tree_made p st g (tree x)) it
+constant_built p st g x a m a' z c it is same h node =
+    let made : tree_made p st g (Member x.at (tree a') m) c.local c.function ≡ made_of (e.Num t.Number z) [] [] = constant_made p st g x.at (tree a') m c.local c.function z h in
+    let whole : tree x ≡ Member x.at (tree a') m = ap (node_tree x.at) is ∙ ap (λ (y : Expr). Member x.at (tree y) m) (sym same) in
+    via_at c c (pure (e.Num t.Number z)) (tree_made p st g (tree x)) (e.Num t.Number z) it (sym (ap (λ (q : Tree). tree_made p st g q c.local c.function) whole ∙ made)) (sym node) (stays c (e.Num t.Number z))
+
+pub constant_noted : (p : Plan) (st : b.Site) (g : Option Kind) (x : Expr) (a : Box Expr Global) (m : ℕ) (a' : Expr) (z : ℤ) (k : Option Kind)
+    → x.node ≡ n.Member a m → a' ≡ a.value → typing.constant_of p.tables.now p.known.now st.place (tree a') m ≡ Some z → k ≡ Some number → k ≡ tree_kind p st g (tree x)
+constant_noted p st g x a m a' z k is same h kind =
+    kind ∙ sym (constant_kind p st g x.at (tree a') m z h) ∙ sym (ap (tree_kind p st g) (ap (node_tree x.at) is ∙ ap (λ (y : Expr). Member x.at (tree y) m) (sym same)))
+
+-- a handler
+handler_is : (p : Plan) (st : b.Site) (g : Option Kind) (at : ℕ) (r : Routine) → handler_step p st r ≡ tree_made p st g (Handler at r)
+unfolding tree_made body_made handler_step
+handler_is p st g at r = refl
+
+handler_tree : (x : Expr) (a : Box Body Global) (a' : Body) → x.node ≡ n.Handler a → a' ≡ a.value → tree x ≡ Handler x.at (routine a')
+handler_tree x a a' is same = ap (node_tree x.at) is ∙ ap (λ (y : Body). Handler x.at (routine y)) (sym same)
+
+pub handler_built : (p : Plan) (st : b.Site) (g : Option Kind) (x : Expr) (a : Box Body Global) (a' : Body) (c d : Builder) (it : TypedTree)
+    → x.node ≡ n.Handler a → a' ≡ a.value → IsBuilt c d (handler_step p st (routine a')) it → IsBuilt c d (tree_made p st g (tree x)) it
+handler_built p st g x a a' c d it is same built =
+    subst (λ (f : Making TypedTree). IsBuilt c d f it) (handler_is p st g x.at (routine a') ∙ sym (ap (tree_made p st g) (handler_tree x a a' is same))) built
+
+pub handler_kind : (p : Plan) (st : b.Site) (g : Option Kind) (x : Expr) (a : Box Body Global) (k : Option Kind) → x.node ≡ n.Handler a → k ≡ None → k ≡ tree_kind p st g (tree x)
+unfolding tree_kind
+handler_kind p st g x a k is kind = kind ∙ sym (ap (λ q. tree_kind p st g (node_tree x.at q)) is)
+
+-- its function stands behind those that are there, and those in it behind that one
+pub handler_joined : (p : Plan) (st : b.Site) (r : Routine) (c d : Builder) (own : TypedRoutine) (inner : List TypedRoutine) (it : TypedTree)
+    → it ≡ e.Handler t.Nothing c.function → own ≡ (functions.routine p [] t.Nothing (body_made p st r) c.function).it → inner ≡ (functions.routine p [] t.Nothing (body_made p st r) c.function).routines
+    → value_types d.locals ≡ value_types c.locals → typed_routines d.routines ≡ typed_routines c.routines ++ (own ∷ inner) → d.local ≡ c.local
+    → d.function ≡ c.function + 1 + length (functions.routine p [] t.Nothing (body_made p st r) c.function).routines → IsBuilt c d (handler_step p st r) it
+unfolding handler_step
+handler_joined p st r c d own inner it node first others locals all local behind =
+    let R : Made TypedRoutine = functions.routine p [] t.Nothing (body_made p st r) c.function in
+    let function : d.function ≡ c.function + length (R.it ∷ R.routines) = omega (arith, behind) in (
+      node,
+      (
+        locals ∙ sym (append-nil (value_types c.locals)),
+        (
+          all ∙ ap (λ (x : TypedRoutine). typed_routines c.routines ++ (x ∷ inner)) first ∙ ap (λ (xs : List TypedRoutine). typed_routines c.routines ++ (R.it ∷ xs)) others,
+          (local ∙ sym (add-zero c.local), function),
+        ),
+      ),
+    )

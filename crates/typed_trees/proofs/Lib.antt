@@ -6,6 +6,7 @@ pub mod GivenTrees
 pub mod Globals
 pub mod Leaves
 pub mod Made
+pub mod Operators
 pub mod Passed
 pub mod Pieces
 pub mod Runs

@@ -7,20 +7,20 @@ use Rattle.sts_syntax.specs.declared.trees.Expr.{Expr}
 use Rattle.sts_syntax.specs.declared.trees.Node.TheVariants as node
 use Rattle.sts_syntax.specs.declared.typed.TypedExpr.{TypedExpr}
 use Rattle.sts_syntax.specs.Types.{ValueType}
-use Rattle.sts_syntax.specs.Trees.{Tree, Member, Set}
+use Rattle.sts_syntax.specs.Trees.{Tree, Member}
 use Rattle.sts_syntax.specs.TypedTrees.{TypedTree}
 use Rattle.sts_syntax.specs.TypedViews.{typed_tree}
 use Rattle.sts_syntax.specs.Views.{tree, node_tree}
 use Rattle.sts_scope.specs.declared.kinds.Kind.{Kind}
 use Rattle.sts_scope.specs.declared.known.Part.{Part}
 use Rattle.sts_scope.specs.declared.known.Part.TheVariants as part
-use Rattle.sts_scope.specs.Kinds.{nothing, is_array, class_of}
+use Rattle.sts_scope.specs.Kinds.{is_array, class_of}
 use Rattle.sts_scope.specs.Rules as rule
 use Rattle.type_derive.specs.Built as b
 use Rattle.type_derive.specs.Typing as typing
 use Rattle.type_derive.specs.Typing.{◌>>=◌}
 use Rattle.typed_trees.specs.declared.build_places.Plan.{Plan}
-use Rattle.typed_trees.specs.Sites.{tree_made, tree_kind, two_made, noted, member_read, part_behind, class_behind}
+use Rattle.typed_trees.specs.Sites.{tree_made, tree_kind, noted, member_read, part_behind, class_behind}
 use Rattle.typed_trees.specs.Targets.{reads_field, IsBuiltOf}
 use Rattle.typed_trees.proofs.Leaves.{constant_made, member_made}
 
@@ -59,11 +59,6 @@ member_target p s x a m t is h =
     let e : tree x ≡ Member x.at (tree a.value) m = ap (node_tree x.at) is in
     let P : Tree → Type 0 = λ q. IsBuiltOf p s q t → reads_field t ≡ typing.settable p.tables.now p.known.now s.place q in
     subst P (sym e) (field_settable p s x.at (tree a.value) m t) h
-
--- the target of an assignment was built first
-pub first_target : (p : Plan) (s : b.Site) (at : ℕ) (op : Option ℕ) (x a y : Tree) (m n : ℕ) (t : TypedTree) → y ≡ Set at op x a → t ≡ (two_made p s y m n).it.first → IsBuiltOf p s x t
-unfolding two_made
-first_target p s at op x a y m n t is h = (m, n, h ∙ ap (λ q. (two_made p s q m n).it.first) is)
 
 -- the same of what is read through pointers
 pub target_read : (p : Plan) (s : b.Site) (x y : Expr) (t u : TypedExpr) → y ≡ x → u ≡ t → IsBuiltOf p s (tree x) (typed_tree t) → IsBuiltOf p s (tree y) (typed_tree u)

@@ -1,5 +1,6 @@
 pub mod Calls
 pub mod Sites
+pub mod Operators
 pub mod Targets
 pub mod Steps
 pub mod Functions

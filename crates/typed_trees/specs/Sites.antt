@@ -1,8 +1,8 @@
 -- The definitions of typed trees, over what the builder knows.
-use Rattle.std.specs.Prelude.{◌≡◌, ℕ, Bool, Option, Some, None, List, length, unwrap_or}
+use Rattle.std.specs.Prelude.{◌≡◌, ℕ, Bool, Option, List, length, unwrap_or}
 use Rattle.sts_syntax.specs.Annotations.{Annotation}
 use Rattle.sts_syntax.specs.BoardTable.{BoardParameter}
-use Rattle.sts_syntax.specs.Trees.{Tree, Binary, Both, Either, Choice, Item, Set, Trees, OptionalTree, Statement, Statements, OptionalStatement, Declarations, Routine}
+use Rattle.sts_syntax.specs.Trees.{Tree, Trees, OptionalTree, Statement, Statements, OptionalStatement, Declarations, Routine}
 use Rattle.sts_syntax.specs.Types.{ValueType}
 use Rattle.sts_syntax.specs.TypedTrees.{none, more, TypedTree, TypedTrees, TypedStatement, TypedStatements, OptionalTypedStatement, TypedDeclaration, TypedRoutine}
 use Rattle.sts_scope.specs.declared.kinds.Kind.{Kind}
@@ -16,7 +16,7 @@ use Rattle.sts_scope.specs.Lookup.{is_field}
 use Rattle.sts_scope.specs.Values.{value_at}
 use Rattle.type_derive.specs.declared.roles.Role.{Role}
 use Rattle.type_derive.specs.Built as b
-use Rattle.type_derive.specs.Making.{Made, Making, pure, ◌>=>◌}
+use Rattle.type_derive.specs.Making.{Made, Making}
 use Rattle.type_derive.specs.Nodes.{kind_role}
 use Rattle.sts_scope.specs.Numbers.{is_method}
 use Rattle.type_derive.specs.Scopes.{place}
@@ -24,13 +24,6 @@ use Rattle.type_derive.specs.Typing as typing
 use Rattle.typed_numbers.specs.Building.{numbering_of, names_upto, globals_from}
 use Rattle.typed_trees.specs.declared.build_places.Plan.{Plan}
 use Rattle.typed_trees.specs.declared.build_places.Site.{Site}
-
-pub record Two (A : Type 0) : Type 0 where
-  pub first : A
-  pub second : A
-
-abbrev pub two : {A : Type 0} → A → A → Two A
-two a c = record { first = a; second = c }
 
 abbrev pub made_of : {A : Type 0} → A → List ValueType → List TypedRoutine → Made A
 made_of x locals routines = record { it = x; locals = locals; routines = routines }
@@ -60,48 +53,6 @@ tree_made p = b.made_tree p.tables.now (naming p) p.known.now (numbering_of p.nu
 -- the type that is noted where this one was found, or none
 abbrev pub noted : Option Kind → ValueType
 noted of = value_type (unwrap_or of nothing)
-
--- the operands of an expression that has two, those of a choice behind its test, and the type that is given to the second one's place
-abbrev pub first_of : Tree → Tree
-first_of (Binary at op a c) = a
-first_of (Both at a c) = a
-first_of (Either at a c) = a
-first_of (Item at a c) = a
-first_of (Set at op a c) = a
-first_of (Choice at q a c) = a
-first_of x = x
-
-abbrev pub second_of : Tree → Tree
-second_of (Binary at op a c) = c
-second_of (Both at a c) = c
-second_of (Either at a c) = c
-second_of (Item at a c) = c
-second_of (Set at op a c) = c
-second_of (Choice at q a c) = c
-second_of x = x
-
-abbrev pub second_given : Plan → b.Site → Tree → Option Kind
-second_given p s (Set at op a c) = Some (unwrap_or (tree_kind p s None a) nothing)
-second_given p s x = None
-
--- they are made one behind the other
-unfoldable pub two_made : Plan → b.Site → Tree → Making (Two TypedTree)
-two_made p s x = tree_made p s None (first_of x) >=> λ a. tree_made p s (second_given p s x) (second_of x) >=> λ c. pure (two a c)
-
--- a choice's test, and the two behind it
-pub record Three : Type 0 where
-  pub test : TypedTree
-  pub parts : Two TypedTree
-
-abbrev pub three : TypedTree → Two TypedTree → Three
-three z w = record { test = z; parts = w }
-
-abbrev pub test_of : Tree → Tree
-test_of (Choice at q a c) = q
-test_of x = x
-
-unfoldable pub three_made : Plan → b.Site → Tree → Making Three
-three_made p s x = tree_made p s None (test_of x) >=> λ z. two_made p s x >=> λ w. pure (three z w)
 
 unfoldable pub given_made : Plan → b.Site → List Kind → Trees → Making TypedTrees
 given_made p = b.made_given p.tables.now (naming p) p.known.now (numbering_of p.numbers.now)

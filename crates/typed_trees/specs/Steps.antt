@@ -1,17 +1,17 @@
 -- What a builder has behind a piece that it made.
-use Rattle.std.specs.Prelude.{◌≡◌, ◌+◌, ◌++◌, length, Option, Some, None, if◌then◌else◌}
+use Rattle.std.specs.Prelude.{◌≡◌, ◌+◌, ◌++◌, length, Bool, true, false, Option, Some, None, if◌then◌else◌}
 use Rattle.sts_syntax.specs.Annotations.{Annotation}
 use Rattle.sts_syntax.specs.Trees as t
 use Rattle.sts_syntax.specs.Trees.{Tree, OptionalTree, Statement, Declaration, Routine, Does}
 use Rattle.sts_syntax.specs.Types.{value_types}
-use Rattle.sts_syntax.specs.TypedTrees.{TypedDeclaration, TypedStatement, OptionalTypedStatement, For, Empty}
+use Rattle.sts_syntax.specs.TypedTrees.{TypedTree, TypedDeclaration, TypedStatement, OptionalTypedStatement, For, Empty}
 use Rattle.sts_syntax.specs.TypedViews.{typed_routines}
 use Rattle.sts_scope.specs.declared.kinds.Kind.{Kind}
 use Rattle.type_derive.specs.Built as b
 use Rattle.type_derive.specs.Returns.{is_alone}
 use Rattle.type_derive.specs.Making.{Making, pure, ◌>=>◌}
 use Rattle.typed_numbers.specs.Building.{numbering_of}
-use Rattle.typed_trees.specs.Sites.{naming, optional_made, statement_made}
+use Rattle.typed_trees.specs.Sites.{naming, body_made, optional_made, statement_made}
 use Rattle.typed_trees.specs.declared.build_places.Plan.{Plan}
 use Rattle.typed_trees.specs.declared.build_places.Builder.{Builder}
 
@@ -26,6 +26,29 @@ IsBuilt b c make it =
 
 unfoldable pub local_made : Plan → b.Site → Declaration → Making TypedDeclaration
 local_made p = b.made_local p.tables.now (naming p) p.known.now (numbering_of p.numbers.now)
+
+-- a handler, whose function is numbered as the next one
+unfoldable pub handler_step : Plan → b.Site → Routine → Making TypedTree
+handler_step p s r = b.handler_made p.tables.now (naming p) p.known.now (numbering_of p.numbers.now) (body_made p s r)
+
+-- which statement it is
+abbrev pub is_if : Statement → Bool
+is_if (t.IfOnly at test a) = true
+is_if (t.IfElse at test a other) = true
+is_if a = false
+
+abbrev pub is_while : Statement → Bool
+is_while (t.While at test a) = true
+is_while (t.DoWhile at a test) = true
+is_while a = false
+
+abbrev pub is_for : Statement → Bool
+is_for (t.For at first test step a) = true
+is_for a = false
+
+abbrev pub is_for_of : Statement → Bool
+is_for_of (t.ForOf at fixed x list a) = true
+is_for_of a = false
 
 -- a loop behind what it begins with
 unfoldable pub turns_of : Plan → b.Site → OptionalTypedStatement → OptionalTree → OptionalTree → Statement → Making TypedStatement

@@ -10,7 +10,7 @@ ghost use Rattle.typed_trees.specs.Sites as s;
 ghost use Rattle.typed_trees.specs.Steps as steps;
 
 use crate::build_places::{Plan, Site};
-use sts_base::NoMemory;
+use sts_base::{NoMemory, Refused};
 use sts_scope::Kind;
 use sts_syntax::{Body, Spot};
 use type_derive::{Context, Mark, declare, enter, handler_result, handler_scope, leave};
@@ -86,7 +86,8 @@ pub fn handler_site<'a>(plan: &Plan, site: &'a Site<'a>, body: &Body) -> Result<
     let all = body.stmts.as_slice();
     let gives = match handler_result(&context, &site.scope, params, &body.gives, all) {
         Ok(gives) => gives,
-        Err(_) => return Err(NoMemory),
+        Err(Refused::NoMemory) => return Err(NoMemory),
+        Err(_) => unreachable!(),
     };
     let scope = handler_scope(&context, &site.scope, params, gives)?;
     let spots = site.spots.inside(plan.alloc)?;

@@ -1,7 +1,6 @@
 // Typed nodes that hold a list of expressions: arrays, `new`, and calls. What they are is settled before their parts are built.
-ghost use Rattle.std.specs.Prelude.{◌≡◌, ◌+◌, ◌++◌, length, IfOk, OnOk};
-ghost use Rattle.sts_syntax.specs.Types.{value_types};
-ghost use Rattle.sts_syntax.specs.TypedViews.{typed_tree, typed_trees, typed_routines};
+ghost use Rattle.std.specs.Prelude.{◌≡◌, true, IfOk};
+ghost use Rattle.sts_syntax.specs.TypedViews.{typed_tree, typed_trees};
 ghost use Rattle.sts_syntax.specs.Views.{tree, trees};
 ghost use Rattle.typed_trees.specs.Calls as call;
 ghost use Rattle.typed_trees.specs.Sites as s;
@@ -9,8 +8,7 @@ ghost use Rattle.typed_trees.specs.Sites.{IsPlan};
 ghost use Rattle.typed_trees.specs.Steps.{IsBuilt};
 
 use crate::build_arguments::{Planned, Takes, amiss, plan_argument};
-use crate::build_heads::{Head, has_object, head_node, head_of, node_type, takes_of};
-use crate::build_nodes::kind_of;
+use crate::build_heads::{Head, has_object, listed, noted_list, takes_of};
 use crate::build_places::{Builder, Noted, Plan, Site};
 use crate::build_trees::build_tree;
 use sts_base::{NoMemory, Seq};
@@ -96,7 +94,8 @@ fn build_passed(
     head: Head,
     e: &Expr,
 ) -> Result<Seq<TypedExpr>, NoMemory>
-    requires { IsPlan plan.now }
+    requires plan { IsPlan plan.now }
+    requires list { call.has_list (tree e.now) ≡ true }
     ensures { IfOk result (λ r. IsBuilt builder.old builder.new (call.passed_made plan.now (s.site site.now) head (tree e.now)) (typed_trees r)) }
 {
     let takes = takes_of(&*plan, &head);
@@ -111,7 +110,7 @@ fn build_passed(
             let object = build_object(plan, site, builder, has_object(head), f)?;
             build_arguments(plan, site, builder, takes, args.as_slice(), object)
         }
-        _ => Err(NoMemory),
+        _ => unreachable!(),
     }
 }
 
@@ -124,25 +123,20 @@ pub fn build_call(
     given: Option<Kind>,
     e: &Expr,
 ) -> Result<Noted, NoMemory>
-    requires { IsPlan plan.now }
-    ensures made { IfOk result (λ r. typed_tree r.tree ≡ (s.tree_made plan.now (s.site site.now) given (tree e.now) builder.old.local builder.old.function).it) }
+    requires plan { IsPlan plan.now }
+    requires list { call.has_list (tree e.now) ≡ true }
+    ensures built { IfOk result (λ r. IsBuilt builder.old builder.new (s.tree_made plan.now (s.site site.now) given (tree e.now)) (typed_tree r.tree)) }
     ensures kind { IfOk result (λ r. r.kind ≡ s.tree_kind plan.now (s.site site.now) given (tree e.now)) }
-    ensures locals { OnOk result (value_types builder.new.locals ≡ value_types builder.old.locals ++ (s.tree_made plan.now (s.site site.now) given (tree e.now) builder.old.local builder.old.function).locals) }
-    ensures routines { OnOk result (typed_routines builder.new.routines ≡ typed_routines builder.old.routines ++ (s.tree_made plan.now (s.site site.now) given (tree e.now) builder.old.local builder.old.function).routines) }
-    ensures local { OnOk result (builder.new.local ≡ builder.old.local + length (s.tree_made plan.now (s.site site.now) given (tree e.now) builder.old.local builder.old.function).locals) }
-    ensures function { OnOk result (builder.new.function ≡ builder.old.function + length (s.tree_made plan.now (s.site site.now) given (tree e.now) builder.old.local builder.old.function).routines) }
 {
-    let kind = kind_of(plan, site, given, e)?;
-    match head_of(plan, site, e)? {
+    let list = listed(plan, site, given, e)?;
+    match list.head {
         None => Ok(Noted {
             tree: amiss(),
-            kind,
+            kind: list.kind,
         }),
         Some(head) => {
             let args = build_passed(plan, site, builder, head, e)?;
-            let ty = node_type(given, kind, e);
-            let tree = head_node(plan, ty, head, args)?;
-            Ok(Noted { tree, kind })
+            noted_list(plan, list, head, args)
         }
     }
 }

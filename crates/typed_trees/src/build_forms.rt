@@ -19,10 +19,8 @@ pub fn beside<A: Drop, B: Drop>(kept: A, other: Result<B, NoMemory>) -> Result<(
     ensures kept { IfOk result (λ both. both.0 ≡ kept) }
     ensures other { IfOk result (λ both. other ≡ Ok both.1) }
 {
-    match other {
-        Ok(other) => Ok((kept, other)),
-        Err(_) => Err(NoMemory),
-    }
+    let other = other?;
+    Ok((kept, other))
 }
 
 /// A block of statements.

@@ -1,5 +1,5 @@
 // Nodes that hold a list of expressions: what they are, and the nodes themselves.
-ghost use Rattle.std.specs.Prelude.{◌≡◌, true, IfOk};
+ghost use Rattle.std.specs.Prelude.{◌≡◌, IfOk};
 ghost use Rattle.sts_syntax.specs.BoardTable.{row_of};
 ghost use Rattle.sts_syntax.specs.Types.{value_type};
 ghost use Rattle.sts_syntax.specs.TypedTrees as typed;
@@ -13,7 +13,7 @@ ghost use Rattle.typed_trees.specs.Sites.{IsPlan};
 use crate::build_arguments::{Takes, routine_of};
 use crate::build_nodes::{kind_of, noted_type, or_nothing};
 use crate::build_numbers::routine_number;
-use crate::build_places::{Plan, Site};
+use crate::build_places::{Noted, Plan, Site};
 use crate::build_spots::{class_behind, part_behind, slot_number};
 use sts_base::{NoMemory, Seq};
 use sts_scope::{Base, Found, Kind, Part, flat};
@@ -37,11 +37,33 @@ pub enum Head {
     Behind(Part, u32, u32),
 }
 
+/// A node with a list, before its parts are built.
+#[derive(Clone, Copy)]
+pub struct ListNode {
+    /// what it is; none where the tree has a failure
+    pub head: Option<Head>,
+    /// its type, if it has one
+    pub kind: Option<Kind>,
+    /// the type that it is noted to have
+    pub ty: Ty,
+}
+
+/// A node with a list, before its parts are built.
+pub fn listed(plan: &Plan, site: &Site, given: Option<Kind>, e: &Expr) -> Result<ListNode, NoMemory>
+    ensures head { IfOk result (λ l. l.head ≡ call.head_of plan.now (s.site site.now) (tree e.now)) }
+    ensures kind { IfOk result (λ l. l.kind ≡ s.tree_kind plan.now (s.site site.now) given (tree e.now)) }
+    ensures noted { IfOk result (λ l. value_type l.ty ≡ call.type_noted given l.kind (tree e.now)) }
+{
+    let kind = kind_of(plan, site, given, e)?;
+    let head = head_of(plan, site, e)?;
+    let ty = node_type(given, kind, e);
+    Ok(ListNode { head, kind, ty })
+}
+
 /// What a node with a list is. It is none where the tree has a failure. A node without one is none of these.
 #[tactic(auto, unfolding(crate::specs::Calls::head_of))]
-pub fn head_of(plan: &Plan, site: &Site, e: &Expr) -> Result<Option<Head>, NoMemory>
-    ensures head { IfOk result (λ h. h ≡ call.head_of plan.now (s.site site.now) (tree e.now)) }
-    ensures list { IfOk result (λ h. call.has_list (tree e.now) ≡ true) }
+fn head_of(plan: &Plan, site: &Site, e: &Expr) -> Result<Option<Head>, NoMemory>
+    ensures { IfOk result (λ h. h ≡ call.head_of plan.now (s.site site.now) (tree e.now)) }
 {
     let known = plan.known;
     match &e.node {
@@ -58,7 +80,7 @@ pub fn head_of(plan: &Plan, site: &Site, e: &Expr) -> Result<Option<Head>, NoMem
             Some(call) => Ok(Some(Head::Board(call))),
             None => called_head(plan, site, f),
         },
-        _ => Err(NoMemory),
+        _ => Ok(None),
     }
 }
 
@@ -211,12 +233,7 @@ fn call_node(ty: Ty, callee: Callee, args: Seq<TypedExpr>) -> TypedExpr
 
 /// The node, of its type and its list.
 #[tactic(auto, using(sts_syntax::proofs::Laws::typed_items_tree, sts_syntax::proofs::Laws::typed_super_call_tree))]
-pub fn head_node(
-    plan: &Plan,
-    ty: Ty,
-    head: Head,
-    args: Seq<TypedExpr>,
-) -> Result<TypedExpr, NoMemory>
+fn head_node(plan: &Plan, ty: Ty, head: Head, args: Seq<TypedExpr>) -> Result<TypedExpr, NoMemory>
     requires { IsPlan plan.now }
     ensures { IfOk result (λ r. typed_tree r ≡ call.head_node plan.now (value_type ty) head (typed_trees args)) }
 {
@@ -242,8 +259,26 @@ pub fn head_node(
     }
 }
 
+/// The node and its type, once its list is built.
+pub fn noted_list(
+    plan: &Plan,
+    list: ListNode,
+    head: Head,
+    args: Seq<TypedExpr>,
+) -> Result<Noted, NoMemory>
+    requires { IsPlan plan.now }
+    ensures tree { IfOk result (λ r. typed_tree r.tree ≡ call.head_node plan.now (value_type list.ty) head (typed_trees args)) }
+    ensures kind { IfOk result (λ r. r.kind ≡ list.kind) }
+{
+    let tree = head_node(plan, list.ty, head, args)?;
+    Ok(Noted {
+        tree,
+        kind: list.kind,
+    })
+}
+
 /// The type that such a node is noted to have, of its own type: `[]` has that of its place.
-pub fn node_type(given: Option<Kind>, kind: Option<Kind>, e: &Expr) -> Ty
+fn node_type(given: Option<Kind>, kind: Option<Kind>, e: &Expr) -> Ty
     ensures { value_type result ≡ call.type_noted given kind (tree e.now) }
 {
     match &e.node {

@@ -1,62 +1,80 @@
 // Typed expressions that have no parts, and members that are read.
-ghost use Rattle.std.specs.Prelude.{◌≡◌, ◌+◌, ◌++◌, length, IfOk, OnOk, Some, None};
+ghost use Rattle.std.specs.Prelude.{◌≡◌, IfOk, Some};
 ghost use Rattle.sts_syntax.specs.Types as value;
-ghost use Rattle.sts_syntax.specs.Types.{value_type, value_types};
+ghost use Rattle.sts_syntax.specs.Types.{value_type};
 ghost use Rattle.sts_syntax.specs.TypedTrees as e;
-ghost use Rattle.sts_syntax.specs.TypedViews.{typed_tree, typed_routines};
-ghost use Rattle.sts_syntax.specs.Views.{tree};
+ghost use Rattle.sts_syntax.specs.TypedViews.{typed_tree};
 ghost use Rattle.sts_scope.specs.Kinds as kind;
 ghost use Rattle.sts_scope.specs.Rules as rule;
+ghost use Rattle.type_derive.specs.Scopes.{place};
+ghost use Rattle.type_derive.specs.Typing as typing;
 ghost use Rattle.type_derive.specs.Typing.{◌>>=◌ as bind};
 ghost use Rattle.typed_trees.specs.Sites as s;
 ghost use Rattle.typed_trees.specs.Sites.{IsPlan};
 
-use crate::build_nodes::{Three, noted, noted_type};
-use crate::build_operators::{build_part, build_two};
-use crate::build_places::{Builder, Noted, Plan, Site};
+use crate::build_nodes::{Part as Operand, noted, noted_type};
+use crate::build_places::{Noted, Plan, Site};
 use crate::build_spots::{class_behind, field_number, part_behind, spot_of};
 use sts_base::NoMemory;
 use sts_scope::{Base, Kind, Part, flat};
-use sts_syntax::{Expr, Node, Ty, TypedExpr, TypedNode};
-use type_derive::{chosen, constant, name_found, name_kind, part_kind, part_of, this_kind};
+use sts_syntax::{Ty, TypedExpr, TypedNode};
+use type_derive::{name_found, name_kind, part_kind, part_of, this_kind};
 
-/// An expression that has no parts.
-#[tactic(auto, using(crate::proofs::Leaves::num_made, crate::proofs::Leaves::num_kind, crate::proofs::Leaves::num_locals, crate::proofs::Leaves::num_routines, crate::proofs::Leaves::text_made, crate::proofs::Leaves::text_kind, crate::proofs::Leaves::text_locals, crate::proofs::Leaves::text_routines, crate::proofs::Leaves::truth_made, crate::proofs::Leaves::truth_kind, crate::proofs::Leaves::truth_locals, crate::proofs::Leaves::truth_routines, crate::proofs::Leaves::null_made, crate::proofs::Leaves::null_kind, crate::proofs::Leaves::null_locals, crate::proofs::Leaves::null_routines, crate::proofs::Leaves::this_made, crate::proofs::Leaves::this_kind, crate::proofs::Leaves::this_locals, crate::proofs::Leaves::this_routines, crate::proofs::Leaves::name_made, crate::proofs::Leaves::name_kind, crate::proofs::Leaves::name_locals, crate::proofs::Leaves::name_routines))]
-pub fn build_leaf(
-    plan: &Plan,
-    site: &Site,
-    builder: &mut Builder,
-    given: Option<Kind>,
-    e: &Expr,
-) -> Result<Noted, NoMemory>
-    requires { IsPlan plan.now }
-    ensures made { IfOk result (λ r. typed_tree r.tree ≡ (s.tree_made plan.now (s.site site.now) given (tree e.now) builder.old.local builder.old.function).it) }
-    ensures kind { IfOk result (λ r. r.kind ≡ s.tree_kind plan.now (s.site site.now) given (tree e.now)) }
-    ensures locals { OnOk result (value_types builder.new.locals ≡ value_types builder.old.locals ++ (s.tree_made plan.now (s.site site.now) given (tree e.now) builder.old.local builder.old.function).locals) }
-    ensures routines { OnOk result (typed_routines builder.new.routines ≡ typed_routines builder.old.routines ++ (s.tree_made plan.now (s.site site.now) given (tree e.now) builder.old.local builder.old.function).routines) }
-    ensures local { OnOk result (builder.new.local ≡ builder.old.local + length (s.tree_made plan.now (s.site site.now) given (tree e.now) builder.old.local builder.old.function).locals) }
-    ensures function { OnOk result (builder.new.function ≡ builder.old.function + length (s.tree_made plan.now (s.site site.now) given (tree e.now) builder.old.local builder.old.function).routines) }
+/// A number, or a constant of the board.
+pub fn number_leaf(z: i32) -> Noted
+    ensures tree { typed_tree result.tree ≡ e.Num value.Number z }
+    ensures kind { result.kind ≡ Some kind.number }
 {
-    let known = plan.known;
-    match &e.node {
-        Node::Num(v) => Ok(noted(Ty::NUMBER, TypedNode::Num(*v), Some(flat(Base::Number)))),
-        Node::Text(v) => Ok(noted(Ty::TEXT, TypedNode::Text(*v), Some(flat(Base::Text)))),
-        Node::Truth(v) => Ok(noted(Ty::BOOLEAN, TypedNode::Truth(*v), Some(flat(Base::Boolean)))),
-        Node::Null => Ok(noted(Ty::NULL, TypedNode::Null, Some(flat(Base::Null)))),
-        Node::This => {
-            let kind = this_kind(site.scope.this);
-            let ty = noted_type(kind);
-            Ok(noted(ty, TypedNode::This, kind))
-        }
-        Node::Name(x) => {
-            let found = name_found(plan.tables, known, &site.scope, *x);
-            let kind = name_kind(known, &site.scope, found);
-            let at = spot_of(plan, site, found)?;
-            let ty = noted_type(kind);
-            Ok(noted(ty, TypedNode::Name(at), kind))
-        }
-        _ => Err(NoMemory),
-    }
+    noted(Ty::NUMBER, TypedNode::Num(z), Some(flat(Base::Number)))
+}
+
+/// A text.
+pub fn text_leaf(text: u32) -> Noted
+    ensures tree { typed_tree result.tree ≡ e.Text value.Text text }
+    ensures kind { result.kind ≡ Some kind.text }
+{
+    noted(Ty::TEXT, TypedNode::Text(text), Some(flat(Base::Text)))
+}
+
+/// `true` or `false`
+pub fn truth_leaf(truth: bool) -> Noted
+    ensures tree { typed_tree result.tree ≡ e.Truth value.Boolean truth }
+    ensures kind { result.kind ≡ Some kind.boolean }
+{
+    noted(
+        Ty::BOOLEAN,
+        TypedNode::Truth(truth),
+        Some(flat(Base::Boolean)),
+    )
+}
+
+/// `null`
+pub fn null_leaf() -> Noted
+    ensures tree { typed_tree result.tree ≡ e.Null value.NullType }
+    ensures kind { result.kind ≡ Some kind.null }
+{
+    noted(Ty::NULL, TypedNode::Null, Some(flat(Base::Null)))
+}
+
+/// `this`
+pub fn this_leaf(site: &Site) -> Noted
+    ensures tree { typed_tree result.tree ≡ e.This (s.noted (rule.this_kind (place site.now.scope).this)) }
+    ensures kind { result.kind ≡ rule.this_kind (place site.now.scope).this }
+{
+    let kind = this_kind(site.scope.this);
+    noted(noted_type(kind), TypedNode::This, kind)
+}
+
+/// A name.
+pub fn name_leaf(plan: &Plan, site: &Site, x: u32) -> Result<Noted, NoMemory>
+    requires { IsPlan plan.now }
+    ensures tree { IfOk result (λ r. typed_tree r.tree ≡ e.Name (s.noted (rule.name_kind plan.now.known.now (place site.now.scope) (typing.finds plan.now.tables.now plan.now.known.now (place site.now.scope) x))) (s.spot_of plan.now (s.site site.now) (typing.finds plan.now.tables.now plan.now.known.now (place site.now.scope) x))) }
+    ensures kind { IfOk result (λ r. r.kind ≡ rule.name_kind plan.now.known.now (place site.now.scope) (typing.finds plan.now.tables.now plan.now.known.now (place site.now.scope) x)) }
+{
+    let found = name_found(plan.tables, plan.known, &site.scope, x);
+    let kind = name_kind(plan.known, &site.scope, found);
+    let at = spot_of(plan, site, found)?;
+    Ok(noted(noted_type(kind), TypedNode::Name(at), kind))
 }
 
 /// The type of a member that is read, of what has a type or none.
@@ -67,14 +85,6 @@ fn read_kind(plan: &Plan, of: Option<Kind>, name: u32) -> Option<Kind>
         None => None,
         Some(u) => part_kind(plan.known, part_of(plan.tables, plan.known, u, name)),
     }
-}
-
-/// A constant of the board.
-fn constant_node(z: i32) -> Noted
-    ensures tree { typed_tree result.tree ≡ e.Num value.Number z }
-    ensures kind { result.kind ≡ Some kind.number }
-{
-    noted(Ty::NUMBER, TypedNode::Num(z), Some(flat(Base::Number)))
 }
 
 /// A member that is read.
@@ -105,96 +115,15 @@ fn member_read(
     }
 }
 
-/// A member that is read.
-#[cycle(build)]
-#[tactic(auto, using(crate::proofs::Leaves::member_made, crate::proofs::Leaves::member_kind))]
-pub fn build_member(
-    plan: &Plan,
-    site: &Site,
-    builder: &mut Builder,
-    given: Option<Kind>,
-    e: &Expr,
-) -> Result<Noted, NoMemory>
+/// A member that is read, of its object.
+pub fn read_of(plan: &Plan, name: u32, x: Operand) -> Result<Noted, NoMemory>
     requires { IsPlan plan.now }
-    ensures made { IfOk result (λ r. typed_tree r.tree ≡ (s.tree_made plan.now (s.site site.now) given (tree e.now) builder.old.local builder.old.function).it) }
-    ensures kind { IfOk result (λ r. r.kind ≡ s.tree_kind plan.now (s.site site.now) given (tree e.now)) }
-    ensures locals { OnOk result (value_types builder.new.locals ≡ value_types builder.old.locals ++ (s.tree_made plan.now (s.site site.now) given (tree e.now) builder.old.local builder.old.function).locals) }
-    ensures routines { OnOk result (typed_routines builder.new.routines ≡ typed_routines builder.old.routines ++ (s.tree_made plan.now (s.site site.now) given (tree e.now) builder.old.local builder.old.function).routines) }
-    ensures local { OnOk result (builder.new.local ≡ builder.old.local + length (s.tree_made plan.now (s.site site.now) given (tree e.now) builder.old.local builder.old.function).locals) }
-    ensures function { OnOk result (builder.new.function ≡ builder.old.function + length (s.tree_made plan.now (s.site site.now) given (tree e.now) builder.old.local builder.old.function).routines) }
+    ensures tree { IfOk result (λ r. typed_tree r.tree ≡ s.member_read plan.now (s.noted (bind x.kind (λ u. rule.part_kind plan.now.known.now (rule.part_of plan.now.tables.now.names plan.now.known.now u name)))) (s.part_behind plan.now x.kind name) (s.class_behind x.kind) name (typed_tree x.tree.value)) }
+    ensures kind { IfOk result (λ r. r.kind ≡ bind x.kind (λ u. rule.part_kind plan.now.known.now (rule.part_of plan.now.tables.now.names plan.now.known.now u name))) }
 {
-    match &e.node {
-        Node::Member(a, m) => {
-            if let Some(z) = constant(plan.tables, plan.known, &site.scope, a, *m) {
-                return Ok(constant_node(z));
-            }
-            let x = build_part(plan, site, builder, None, a)?;
-            let kind = read_kind(plan, x.kind, *m);
-            let ty = noted_type(kind);
-            let part = part_behind(plan, x.kind, *m);
-            let tree = member_read(plan, ty, part, class_behind(x.kind), *m, x.tree)?;
-            Ok(Noted { tree, kind })
-        }
-        _ => Err(NoMemory),
-    }
-}
-
-/// The parts of a choice, one behind the other.
-#[cycle(build)]
-#[tactic(auto, unfolding(crate::specs::Sites::three_made))]
-fn build_three(plan: &Plan, site: &Site, builder: &mut Builder, e: &Expr) -> Result<Three, NoMemory>
-    requires { IsPlan plan.now }
-    ensures test { IfOk result (λ r. typed_tree r.test.tree.value ≡ (s.three_made plan.now (s.site site.now) (tree e.now) builder.old.local builder.old.function).it.test) }
-    ensures first { IfOk result (λ r. typed_tree r.parts.first.tree.value ≡ (s.three_made plan.now (s.site site.now) (tree e.now) builder.old.local builder.old.function).it.parts.first) }
-    ensures second { IfOk result (λ r. typed_tree r.parts.second.tree.value ≡ (s.three_made plan.now (s.site site.now) (tree e.now) builder.old.local builder.old.function).it.parts.second) }
-    ensures test_kind { IfOk result (λ r. r.test.kind ≡ s.tree_kind plan.now (s.site site.now) None (s.test_of (tree e.now))) }
-    ensures first_kind { IfOk result (λ r. r.parts.first.kind ≡ s.tree_kind plan.now (s.site site.now) None (s.first_of (tree e.now))) }
-    ensures second_kind { IfOk result (λ r. r.parts.second.kind ≡ s.tree_kind plan.now (s.site site.now) (s.second_given plan.now (s.site site.now) (tree e.now)) (s.second_of (tree e.now))) }
-    ensures locals { OnOk result (value_types builder.new.locals ≡ value_types builder.old.locals ++ (s.three_made plan.now (s.site site.now) (tree e.now) builder.old.local builder.old.function).locals) }
-    ensures routines { OnOk result (typed_routines builder.new.routines ≡ typed_routines builder.old.routines ++ (s.three_made plan.now (s.site site.now) (tree e.now) builder.old.local builder.old.function).routines) }
-    ensures local { OnOk result (builder.new.local ≡ builder.old.local + length (s.three_made plan.now (s.site site.now) (tree e.now) builder.old.local builder.old.function).locals) }
-    ensures function { OnOk result (builder.new.function ≡ builder.old.function + length (s.three_made plan.now (s.site site.now) (tree e.now) builder.old.local builder.old.function).routines) }
-{
-    match &e.node {
-        Node::Choice(q, _, _) => {
-            let test = build_part(plan, site, builder, None, q)?;
-            let parts = build_two(plan, site, builder, e)?;
-            Ok(Three { test, parts })
-        }
-        _ => Err(NoMemory),
-    }
-}
-
-/// A choice.
-#[cycle(build)]
-#[tactic(auto, using(crate::proofs::Leaves::choice_made, crate::proofs::Leaves::choice_kind))]
-pub fn build_choice(
-    plan: &Plan,
-    site: &Site,
-    builder: &mut Builder,
-    given: Option<Kind>,
-    e: &Expr,
-) -> Result<Noted, NoMemory>
-    requires { IsPlan plan.now }
-    ensures made { IfOk result (λ r. typed_tree r.tree ≡ (s.tree_made plan.now (s.site site.now) given (tree e.now) builder.old.local builder.old.function).it) }
-    ensures kind { IfOk result (λ r. r.kind ≡ s.tree_kind plan.now (s.site site.now) given (tree e.now)) }
-    ensures locals { OnOk result (value_types builder.new.locals ≡ value_types builder.old.locals ++ (s.tree_made plan.now (s.site site.now) given (tree e.now) builder.old.local builder.old.function).locals) }
-    ensures routines { OnOk result (typed_routines builder.new.routines ≡ typed_routines builder.old.routines ++ (s.tree_made plan.now (s.site site.now) given (tree e.now) builder.old.local builder.old.function).routines) }
-    ensures local { OnOk result (builder.new.local ≡ builder.old.local + length (s.tree_made plan.now (s.site site.now) given (tree e.now) builder.old.local builder.old.function).locals) }
-    ensures function { OnOk result (builder.new.function ≡ builder.old.function + length (s.tree_made plan.now (s.site site.now) given (tree e.now) builder.old.local builder.old.function).routines) }
-{
-    match &e.node {
-        Node::Choice(_, _, _) => {
-            let three = build_three(plan, site, builder, e)?;
-            let (test, parts) = (three.test, three.parts);
-            let kind = chosen(plan.known, test.kind, parts.first.kind, parts.second.kind);
-            let ty = noted_type(kind);
-            Ok(noted(
-                ty,
-                TypedNode::Choice(test.tree, parts.first.tree, parts.second.tree),
-                kind,
-            ))
-        }
-        _ => Err(NoMemory),
-    }
+    let kind = read_kind(plan, x.kind, name);
+    let part = part_behind(plan, x.kind, name);
+    let class = class_behind(x.kind);
+    let tree = member_read(plan, noted_type(kind), part, class, name, x.tree)?;
+    Ok(Noted { tree, kind })
 }

@@ -22,20 +22,6 @@ pub struct Part {
     pub kind: Option<Kind>,
 }
 
-/// Two of them.
-#[derive(Drop)]
-pub struct Parts {
-    pub first: Part,
-    pub second: Part,
-}
-
-/// The test of a choice, and the two behind it.
-#[derive(Drop)]
-pub struct Three {
-    pub test: Part,
-    pub parts: Parts,
-}
-
 /// A value in a box of its own.
 pub fn boxed<T: Drop>(alloc: Global, value: T) -> Result<Box<T>, NoMemory>
     ensures { IfOk result (λ b. b.value ≡ value) }

@@ -1,11 +1,13 @@
 // Handlers: each one's function stands before those that stand in it.
-ghost use Rattle.std.specs.Prelude.{◌≡◌, ◌+◌, ◌++◌, [], length, IfOk, OnOk};
+ghost use Rattle.std.specs.Prelude.{◌≡◌, ◌+◌, [], length, IfOk, None};
 ghost use Rattle.sts_syntax.specs.Types as value;
 ghost use Rattle.sts_syntax.specs.TypedViews.{typed_tree, typed_routine, typed_routines};
-ghost use Rattle.sts_syntax.specs.Views.{tree, routine};
+ghost use Rattle.sts_syntax.specs.Views.{routine};
 ghost use Rattle.typed_trees.specs.Sites as s;
 ghost use Rattle.typed_trees.specs.Sites.{IsPlan};
 ghost use Rattle.typed_trees.specs.Functions as functions;
+ghost use Rattle.typed_trees.specs.Steps as steps;
+ghost use Rattle.typed_trees.specs.Steps.{IsBuilt};
 
 use crate::build_functions::{Function, add};
 use crate::build_nodes::noted;
@@ -13,8 +15,7 @@ use crate::build_places::{Builder, Noted, Plan, Site};
 use crate::build_statements::build_body;
 use lent_lists::Gathered;
 use sts_base::{NoMemory, Seq};
-use sts_scope::Kind;
-use sts_syntax::{Body, Expr, Node, Ty, TypedBody, TypedNode};
+use sts_syntax::{Body, Ty, TypedBody, TypedNode};
 use typed_numbers::one_more;
 
 /// A handler's function, those that stand in it, and the number behind them.
@@ -61,31 +62,20 @@ fn build_inner(plan: &Plan, site: &Site, n: u32, body: &Body) -> Result<Inner, N
 }
 
 /// A handler.
-#[tactic(auto, using(crate::proofs::Leaves::handler_made, crate::proofs::Leaves::handler_kind, crate::proofs::Leaves::handler_locals))]
 #[cycle(build)]
 pub fn build_handler(
     plan: &Plan,
     site: &Site,
     builder: &mut Builder,
-    given: Option<Kind>,
-    e: &Expr,
+    body: &Body,
 ) -> Result<Noted, NoMemory>
     requires { IsPlan plan.now }
-    ensures made { IfOk result (λ r. typed_tree r.tree ≡ (s.tree_made plan.now (s.site site.now) given (tree e.now) builder.old.local builder.old.function).it) }
-    ensures kind { IfOk result (λ r. r.kind ≡ s.tree_kind plan.now (s.site site.now) given (tree e.now)) }
-    ensures locals { OnOk result (value.value_types builder.new.locals ≡ value.value_types builder.old.locals ++ (s.tree_made plan.now (s.site site.now) given (tree e.now) builder.old.local builder.old.function).locals) }
-    ensures routines { OnOk result (typed_routines builder.new.routines ≡ typed_routines builder.old.routines ++ (s.tree_made plan.now (s.site site.now) given (tree e.now) builder.old.local builder.old.function).routines) }
-    ensures local { OnOk result (builder.new.local ≡ builder.old.local + length (s.tree_made plan.now (s.site site.now) given (tree e.now) builder.old.local builder.old.function).locals) }
-    ensures function { OnOk result (builder.new.function ≡ builder.old.function + length (s.tree_made plan.now (s.site site.now) given (tree e.now) builder.old.local builder.old.function).routines) }
+    ensures built { IfOk result (λ r. IsBuilt builder.old builder.new (steps.handler_step plan.now (s.site site.now) (routine body.now)) (typed_tree r.tree)) }
+    ensures kind { IfOk result (λ r. r.kind ≡ None) }
 {
-    match &e.node {
-        Node::Handler(body) => {
-            let n = builder.function;
-            let inner = build_inner(plan, site, n, body)?;
-            add(&mut builder.routines, inner.function)?;
-            builder.function = inner.behind;
-            Ok(noted(Ty::NOTHING, TypedNode::Handler(n), None))
-        }
-        _ => Err(NoMemory),
-    }
+    let n = builder.function;
+    let inner = build_inner(plan, site, n, body)?;
+    add(&mut builder.routines, inner.function)?;
+    builder.function = inner.behind;
+    Ok(noted(Ty::NOTHING, TypedNode::Handler(n), None))
 }

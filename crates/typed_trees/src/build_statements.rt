@@ -1,9 +1,8 @@
 // Typed statements. Behind each of them the site is the one of what follows it.
-ghost use Rattle.std.specs.Prelude.{◌≡◌, ◌+◌, ◌++◌, length, IfOk, OnOk};
-ghost use Rattle.sts_syntax.specs.Types.{value_types};
+ghost use Rattle.std.specs.Prelude.{◌≡◌, true, IfOk, OnOk};
 ghost use Rattle.sts_syntax.specs.TypedTrees as t;
 ghost use Rattle.sts_syntax.specs.TypedTrees.{OptionalTypedStatement};
-ghost use Rattle.sts_syntax.specs.TypedViews.{optional_typed_tree, typed_statement, typed_statements, typed_routines};
+ghost use Rattle.sts_syntax.specs.TypedViews.{optional_typed_tree, typed_statement, typed_statements};
 ghost use Rattle.sts_syntax.specs.Views.{routine, statement, statements};
 ghost use Rattle.type_derive.specs.Built as b;
 ghost use Rattle.typed_trees.specs.Sites as s;
@@ -30,11 +29,7 @@ pub fn build_body(
     body: &Body,
 ) -> Result<Seq<TypedStmt>, NoMemory>
     requires { IsPlan plan.now }
-    ensures made { IfOk result (λ r. typed_statements r ≡ (s.body_made plan.now (s.site site.now) (routine body.now) builder.old.local builder.old.function).it) }
-    ensures locals { OnOk result (value_types builder.new.locals ≡ value_types builder.old.locals ++ (s.body_made plan.now (s.site site.now) (routine body.now) builder.old.local builder.old.function).locals) }
-    ensures routines { OnOk result (typed_routines builder.new.routines ≡ typed_routines builder.old.routines ++ (s.body_made plan.now (s.site site.now) (routine body.now) builder.old.local builder.old.function).routines) }
-    ensures local { OnOk result (builder.new.local ≡ builder.old.local + length (s.body_made plan.now (s.site site.now) (routine body.now) builder.old.local builder.old.function).locals) }
-    ensures function { OnOk result (builder.new.function ≡ builder.old.function + length (s.body_made plan.now (s.site site.now) (routine body.now) builder.old.local builder.old.function).routines) }
+    ensures { IfOk result (λ r. IsBuilt builder.old builder.new (s.body_made plan.now (s.site site.now) (routine body.now)) (typed_statements r)) }
 {
     let mut inside = handler_site(plan, &*site, body)?;
     build_statements(plan, &mut inside, builder, body.stmts.as_slice())
@@ -74,12 +69,13 @@ fn build_turns(
     builder: &mut Builder,
     all: &Stmt,
 ) -> Result<Turns, NoMemory>
-    requires { IsPlan plan.now }
+    requires plan { IsPlan plan.now }
+    requires form { steps.is_for (statement all.now) ≡ true }
     ensures built { IfOk result (λ r. (first : OptionalTypedStatement) → IsBuilt builder.old builder.new (steps.turns_made plan.now (s.site site.old) first (statement all.now)) (t.For first (optional_typed_tree r.test) (optional_typed_tree r.step) (typed_statement r.body.value))) }
     ensures site { OnOk result (s.site site.new ≡ s.site site.old) }
 {
     let Form::For(_, test, step, a) = &all.form else {
-        return Err(NoMemory);
+        unreachable!();
     };
     let test = build_value(plan, site, builder, None, test)?;
     let (test, step) = beside(test, build_value(plan, site, builder, None, step))?;
@@ -96,7 +92,8 @@ fn build_if(
     builder: &mut Builder,
     a: &Stmt,
 ) -> Result<TypedStmt, NoMemory>
-    requires { IsPlan plan.now }
+    requires plan { IsPlan plan.now }
+    requires form { steps.is_if (statement a.now) ≡ true }
     ensures built { IfOk result (λ r. IsBuilt builder.old builder.new (s.statement_made plan.now (s.site site.old) (statement a.now)) (typed_statement r)) }
     ensures site { OnOk result (s.site site.new ≡ s.behind plan.now builder.old.local (s.site site.old) (statement a.now)) }
 {
@@ -112,7 +109,7 @@ fn build_if(
                 }
             }
         }
-        _ => Err(NoMemory),
+        _ => unreachable!(),
     }
 }
 
@@ -125,7 +122,8 @@ fn build_while(
     builder: &mut Builder,
     a: &Stmt,
 ) -> Result<TypedStmt, NoMemory>
-    requires { IsPlan plan.now }
+    requires plan { IsPlan plan.now }
+    requires form { steps.is_while (statement a.now) ≡ true }
     ensures built { IfOk result (λ r. IsBuilt builder.old builder.new (s.statement_made plan.now (s.site site.old) (statement a.now)) (typed_statement r)) }
     ensures site { OnOk result (s.site site.new ≡ s.behind plan.now builder.old.local (s.site site.old) (statement a.now)) }
 {
@@ -140,7 +138,7 @@ fn build_while(
             let (a, test) = beside(a, build_tree(plan, site, builder, None, test))?;
             Ok(TypedStmt::DoWhile(a, test.tree))
         }
-        _ => Err(NoMemory),
+        _ => unreachable!(),
     }
 }
 
@@ -153,7 +151,8 @@ fn build_for(
     builder: &mut Builder,
     a: &Stmt,
 ) -> Result<TypedStmt, NoMemory>
-    requires { IsPlan plan.now }
+    requires plan { IsPlan plan.now }
+    requires form { steps.is_for (statement a.now) ≡ true }
     ensures built { IfOk result (λ r. IsBuilt builder.old builder.new (s.statement_made plan.now (s.site site.old) (statement a.now)) (typed_statement r)) }
     ensures site { OnOk result (s.site site.new ≡ s.behind plan.now builder.old.local (s.site site.old) (statement a.now)) }
 {
@@ -175,7 +174,7 @@ fn build_for(
                 }
             }
         }
-        _ => Err(NoMemory),
+        _ => unreachable!(),
     }
 }
 
@@ -188,7 +187,8 @@ fn build_for_of(
     builder: &mut Builder,
     a: &Stmt,
 ) -> Result<TypedStmt, NoMemory>
-    requires { IsPlan plan.now }
+    requires plan { IsPlan plan.now }
+    requires form { steps.is_for_of (statement a.now) ≡ true }
     ensures built { IfOk result (λ r. IsBuilt builder.old builder.new (s.statement_made plan.now (s.site site.old) (statement a.now)) (typed_statement r)) }
     ensures site { OnOk result (s.site site.new ≡ s.behind plan.now builder.old.local (s.site site.old) (statement a.now)) }
 {
@@ -214,7 +214,7 @@ fn build_for_of(
                 body,
             })
         }
-        _ => Err(NoMemory),
+        _ => unreachable!(),
     }
 }
 
@@ -278,12 +278,8 @@ pub fn build_statements(
     all: &[Stmt],
 ) -> Result<Seq<TypedStmt>, NoMemory>
     requires { IsPlan plan.now }
-    ensures made { IfOk result (λ r. typed_statements r ≡ (s.statements_made plan.now (s.site site.old) (statements all.now) builder.old.local builder.old.function).it) }
-    ensures locals { OnOk result (value_types builder.new.locals ≡ value_types builder.old.locals ++ (s.statements_made plan.now (s.site site.old) (statements all.now) builder.old.local builder.old.function).locals) }
-    ensures routines { OnOk result (typed_routines builder.new.routines ≡ typed_routines builder.old.routines ++ (s.statements_made plan.now (s.site site.old) (statements all.now) builder.old.local builder.old.function).routines) }
-    ensures local { OnOk result (builder.new.local ≡ builder.old.local + length (s.statements_made plan.now (s.site site.old) (statements all.now) builder.old.local builder.old.function).locals) }
-    ensures function { OnOk result (builder.new.function ≡ builder.old.function + length (s.statements_made plan.now (s.site site.old) (statements all.now) builder.old.local builder.old.function).routines) }
-    ensures site { OnOk result (s.site site.new ≡ (s.site site.old)) }
+    ensures built { IfOk result (λ r. IsBuilt builder.old builder.new (s.statements_made plan.now (s.site site.old) (statements all.now)) (typed_statements r)) }
+    ensures site { OnOk result (s.site site.new ≡ s.site site.old) }
 {
     let around = mark(site);
     let mut made = Seq::new(plan.alloc);

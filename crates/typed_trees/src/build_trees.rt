@@ -5,16 +5,22 @@ ghost use Rattle.sts_syntax.specs.TypedViews.{typed_tree, typed_trees, typed_rou
 ghost use Rattle.sts_syntax.specs.Views.{tree, trees};
 ghost use Rattle.typed_trees.specs.Sites as s;
 ghost use Rattle.typed_trees.specs.Sites.{IsPlan};
+ghost use Rattle.typed_trees.specs.Steps.{IsBuilt};
 
 use crate::build_arguments::Takes;
 use crate::build_calls::{build_arguments, build_call};
-use crate::build_members::{build_choice, build_leaf, build_member};
-use crate::build_operators::{build_operation, build_prefix, build_set};
+use crate::build_forms::beside;
+use crate::build_members::{
+    name_leaf, null_leaf, number_leaf, read_of, text_leaf, this_leaf, truth_leaf,
+};
+use crate::build_operators::{Operator, build_last, build_part, bump_of, prefix_of};
 use crate::build_places::{Builder, Noted, Plan, Site};
 use crate::build_routines::build_handler;
+use crate::build_targets::may_be_set;
 use sts_base::{NoMemory, Seq};
 use sts_scope::Kind;
 use sts_syntax::{Expr, Node, TypedExpr};
+use type_derive::constant;
 
 /// A typed expression, to whose place a type may be given.
 #[cycle(build)]
@@ -26,25 +32,59 @@ pub fn build_tree(
     e: &Expr,
 ) -> Result<Noted, NoMemory>
     requires { IsPlan plan.now }
-    ensures made { IfOk result (λ r. typed_tree r.tree ≡ (s.tree_made plan.now (s.site site.now) given (tree e.now) builder.old.local builder.old.function).it) }
-    ensures locals { OnOk result (value_types builder.new.locals ≡ value_types builder.old.locals ++ (s.tree_made plan.now (s.site site.now) given (tree e.now) builder.old.local builder.old.function).locals) }
-    ensures routines { OnOk result (typed_routines builder.new.routines ≡ typed_routines builder.old.routines ++ (s.tree_made plan.now (s.site site.now) given (tree e.now) builder.old.local builder.old.function).routines) }
-    ensures local { OnOk result (builder.new.local ≡ builder.old.local + length (s.tree_made plan.now (s.site site.now) given (tree e.now) builder.old.local builder.old.function).locals) }
-    ensures function { OnOk result (builder.new.function ≡ builder.old.function + length (s.tree_made plan.now (s.site site.now) given (tree e.now) builder.old.local builder.old.function).routines) }
+    ensures built { IfOk result (λ r. IsBuilt builder.old builder.new (s.tree_made plan.now (s.site site.now) given (tree e.now)) (typed_tree r.tree)) }
     ensures kind { IfOk result (λ r. r.kind ≡ s.tree_kind plan.now (s.site site.now) given (tree e.now)) }
 {
     match &e.node {
-        Node::Unary(_, _) => build_prefix(plan, site, builder, given, e),
-        Node::Binary(_, _, _) | Node::Both(_, _) | Node::Either(_, _) | Node::Item(_, _) => {
-            build_operation(plan, site, builder, given, e)
+        Node::Num(v) => Ok(number_leaf(*v)),
+        Node::Text(v) => Ok(text_leaf(*v)),
+        Node::Truth(v) => Ok(truth_leaf(*v)),
+        Node::Null => Ok(null_leaf()),
+        Node::This => Ok(this_leaf(site)),
+        Node::Name(x) => name_leaf(plan, site, *x),
+        Node::Unary(op, a) => {
+            let x = build_part(plan, site, builder, None, a)?;
+            Ok(prefix_of(*op, x))
         }
-        Node::Set(_, _, _) | Node::Bump { .. } => build_set(plan, site, builder, given, e),
-        Node::Num(_) | Node::Text(_) | Node::Truth(_) | Node::Null | Node::This | Node::Name(_) => {
-            build_leaf(plan, site, builder, given, e)
+        Node::Binary(op, a, b) => {
+            let x = build_part(plan, site, builder, None, a)?;
+            build_last(plan, site, builder, b, Operator::Binary(*op), x)
         }
-        Node::Member(_, _) => build_member(plan, site, builder, given, e),
-        Node::Handler(_) => build_handler(plan, site, builder, given, e),
-        Node::Choice(_, _, _) => build_choice(plan, site, builder, given, e),
+        Node::Both(a, b) => {
+            let x = build_part(plan, site, builder, None, a)?;
+            build_last(plan, site, builder, b, Operator::Both, x)
+        }
+        Node::Either(a, b) => {
+            let x = build_part(plan, site, builder, None, a)?;
+            build_last(plan, site, builder, b, Operator::Either, x)
+        }
+        Node::Item(a, b) => {
+            let x = build_part(plan, site, builder, None, a)?;
+            build_last(plan, site, builder, b, Operator::Item, x)
+        }
+        Node::Set(op, a, b) => {
+            let x = build_part(plan, site, builder, None, a)?;
+            let can = may_be_set(plan, site, a, &x.tree);
+            build_last(plan, site, builder, b, Operator::Set(*op, can), x)
+        }
+        Node::Choice(q, a, b) => {
+            let test = build_part(plan, site, builder, None, q)?;
+            let (test, x) = beside(test, build_part(plan, site, builder, None, a))?;
+            build_last(plan, site, builder, b, Operator::Choice(test), x)
+        }
+        Node::Bump { target, by, after } => {
+            let x = build_part(plan, site, builder, None, target)?;
+            let can = may_be_set(plan, site, target, &x.tree);
+            Ok(bump_of(*by, *after, can, x))
+        }
+        Node::Member(a, m) => match constant(plan.tables, plan.known, &site.scope, a, *m) {
+            Some(z) => Ok(number_leaf(z)),
+            None => {
+                let x = build_part(plan, site, builder, None, a)?;
+                read_of(plan, *m, x)
+            }
+        },
+        Node::Handler(body) => build_handler(plan, site, builder, body),
         Node::Call(_, _) | Node::SuperCall(_, _) | Node::Make(_, _) | Node::Items(_) => {
             build_call(plan, site, builder, given, e)
         }

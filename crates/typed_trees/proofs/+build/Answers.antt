@@ -13,13 +13,15 @@ use Rattle.sts_syntax.specs.declared.typed.Spot.TheVariants.{Local}
 use Rattle.sts_scope.specs.Places.{inner, with}
 use Rattle.sts_syntax.specs.TypedTrees as e
 use Rattle.sts_syntax.specs.TypedTrees.{TypedStatements}
-use Rattle.sts_syntax.specs.TypedViews.{optional_typed_tree, typed_declarations, typed_tree, typed_trees, typed_statement, typed_statements, typed_routines}
-use Rattle.sts_syntax.specs.Views.{tree, trees, optional_expression, optional_annotation, declarations, statement, statements, node_tree}
+use Rattle.sts_syntax.specs.TypedViews.{optional_typed_tree, typed_declarations, typed_tree, typed_trees, typed_statement, typed_statements, typed_routine, typed_routines}
+use Rattle.sts_syntax.specs.Views.{tree, trees, optional_expression, optional_annotation, declarations, statement, statements, routine, node_tree}
 use Rattle.type_derive.specs.Built as b
 use Rattle.type_derive.specs.Making.{Making, pure, ◌>=>◌, a_local}
 use Rattle.type_derive.specs.Returns as derive
 use Rattle.type_derive.specs.Scopes.{place}
 use Rattle.typed_numbers.specs.Building.{numbering_of}
+use Rattle.typed_trees.specs.declared.build_nodes.Part.{Part}
+use Rattle.typed_trees.specs.declared.build_operators.Operator.TheVariants as o
 use Rattle.typed_trees.specs.Calls as call
 use Rattle.typed_trees.specs.Sites as s
 use Rattle.typed_trees.specs.Steps as steps
@@ -29,14 +31,14 @@ use Rattle.typed_trees.proofs.Blocks.{Grown, grown_not, grown_is, grown_further,
 use Rattle.typed_trees.proofs.GivenTrees.{arguments_begin, arguments_step, arguments_end}
 use Rattle.typed_trees.proofs.Passed.{head_built, none_built}
 use Rattle.typed_numbers.proofs.Laws.{block_is, let_is, items_is, make_is, super_call_is, call_is}
-use Rattle.typed_trees.proofs.Forms.{if_only_is, if_else_is, while_is, do_while_is, for_is, for_first_is, for_of_is, return_is, plain_is, of_two, of_three, optional_is, turns_is, three_locals, from_ok}
+use Rattle.typed_trees.proofs.Forms.{if_only_is, if_else_is, while_is, do_while_is, for_is, for_first_is, for_of_is, return_is, plain_is, of_two, of_three, optional_is, turns_is, three_locals, from_ok, value_built, first_built}
 use Rattle.typed_trees.proofs.Pieces.{then, stays, last, via, drop_all}
 use Rattle.sts_scope.specs.Entries.{written_kind}
 use Rattle.typed_trees.proofs.Runs.{body_is, bound_is, NamesGo, StatementsGo, names_step, names_here, names_end, statements_step, statements_end}
 use Rattle.sts_syntax.specs.declared.trees.Expr.{Expr}
-use Rattle.type_derive.specs.Typing as typing
-use Rattle.typed_trees.proofs.Leaves.{constant_kind, constant_built}
-use Rattle.typed_trees.proofs.Targets.{first_target, target_read}
+use Rattle.typed_trees.proofs.Leaves.{num_built, num_kind, text_built, text_kind, truth_built, truth_kind, null_built, null_kind, this_built, this_kind, name_built, name_kind, constant_built, constant_noted, handler_built, handler_kind, handler_joined}
+use Rattle.typed_trees.proofs.Operators.{last_built, unary_built, unary_kind, bump_built, bump_kind, read_built, read_kind, binary_is, both_is, either_is, item_is, set_is, two_built, two_kind, choice_built, choice_kind}
+use Rattle.typed_trees.proofs.Targets.{target_read}
 use Rattle.typed_trees.proofs.+build.Goals as goal
 
 pub build_locals::build_initial-returns-in_ok-noted-in-Some-clause-kind : goal.build_locals::build_initial-returns-in_ok-noted-in-Some-clause-kind
@@ -93,36 +95,6 @@ build_locals::build_locals-returns-clause-site t c =
     site_is st.place st.place st.spots (st.spots ++ []) refl (sym (append-nil st.spots))
     ∙ ap (λ (zs : List Binding). s.behind p c.loop-i.builder.local st (u.Let 0 c.args.fixed (declarations zs))) (sym (drop_all xs c.loop-i.i le)) ∙ c.loop-i.invariant.here
 
-pub build_statements::build_body-returns-clause-made : goal.build_statements::build_body-returns-clause-made
-build_statements::build_body-returns-clause-made t c =
-    let B = c.args.builder.now in
-    subst (λ (f : Making TypedStatements). IfOk c.build_statements.result (λ r. typed_statements r ≡ (f B.local B.function).it))
-    (body_is c.args.plan.now (s.site c.args.site.now) (s.site c.in_ok-inside.inside) c.args.body.now c.as_slice.result.now c.in_ok-inside.ensures c.as_slice.ensures) c.build_statements.ensures.made
-
-pub build_statements::build_body-returns-clause-locals : goal.build_statements::build_body-returns-clause-locals
-build_statements::build_body-returns-clause-locals t c =
-    let B = c.args.builder.now in
-    subst (λ (f : Making TypedStatements). OnOk c.build_statements.result (value_types c.build_statements.new.builder.locals ≡ value_types B.locals ++ (f B.local B.function).locals))
-    (body_is c.args.plan.now (s.site c.args.site.now) (s.site c.in_ok-inside.inside) c.args.body.now c.as_slice.result.now c.in_ok-inside.ensures c.as_slice.ensures) c.build_statements.ensures.locals
-
-pub build_statements::build_body-returns-clause-routines : goal.build_statements::build_body-returns-clause-routines
-build_statements::build_body-returns-clause-routines t c =
-    let B = c.args.builder.now in
-    subst (λ (f : Making TypedStatements). OnOk c.build_statements.result (typed_routines c.build_statements.new.builder.routines ≡ typed_routines B.routines ++ (f B.local B.function).routines))
-    (body_is c.args.plan.now (s.site c.args.site.now) (s.site c.in_ok-inside.inside) c.args.body.now c.as_slice.result.now c.in_ok-inside.ensures c.as_slice.ensures) c.build_statements.ensures.routines
-
-pub build_statements::build_body-returns-clause-local : goal.build_statements::build_body-returns-clause-local
-build_statements::build_body-returns-clause-local t c =
-    let B = c.args.builder.now in
-    subst (λ (f : Making TypedStatements). OnOk c.build_statements.result (c.build_statements.new.builder.local ≡ B.local + length (f B.local B.function).locals))
-    (body_is c.args.plan.now (s.site c.args.site.now) (s.site c.in_ok-inside.inside) c.args.body.now c.as_slice.result.now c.in_ok-inside.ensures c.as_slice.ensures) c.build_statements.ensures.local
-
-pub build_statements::build_body-returns-clause-function : goal.build_statements::build_body-returns-clause-function
-build_statements::build_body-returns-clause-function t c =
-    let B = c.args.builder.now in
-    subst (λ (f : Making TypedStatements). OnOk c.build_statements.result (c.build_statements.new.builder.function ≡ B.function + length (f B.local B.function).routines))
-    (body_is c.args.plan.now (s.site c.args.site.now) (s.site c.in_ok-inside.inside) c.args.body.now c.as_slice.result.now c.in_ok-inside.ensures c.as_slice.ensures) c.build_statements.ensures.function
-
 pub build_statements::build_branch-returns-clause-site : goal.build_statements::build_branch-returns-clause-site
 build_statements::build_branch-returns-clause-site t c =
     let p = c.args.plan.now in
@@ -151,7 +123,7 @@ build_statements::build_statement-returns-in_ok-all-in-Block-clause-built t c =
     let inner : IsBuilt b0 b1 made all =
     via b0 b1 (s.statements_made p (s.site c.begin-around.new.site) (statements c.as_slice.result.now)) made all all
     (ap (λ z. s.statements_made p z (statements c.as_slice.result.now)) c.begin-around.ensures.site ∙ ap (λ (xs : List Stmt). s.statements_made p (b.in_block S) (statements xs)) c.as_slice.ensures)
-    refl (h.made, (h.locals, (h.routines, (h.local, h.function)))) in
+    refl h.built in
     via b0 b1 (s.statement_made p S (u.Block c.args.a.now.at (statements c.in-Block.all))) (s.statement_made p S (statement c.args.a.now)) (e.Block all) (typed_statement c.block_of.result)
     (sym (ap (s.statement_made p S) is)) (sym c.block_of.ensures) (last b0 b1 made (λ xs. e.Block xs) all inner)
 
@@ -199,7 +171,7 @@ build_statements::build_if-returns-in-None-clause-built t c =
     let is = if_only_is a c.in-If.test c.in-If.a (c.in-If.is ∙ ap (λ o. form.If c.in-If.test c.in-If.a o) c.in-None.is) in
     via b0 b2 (s.statement_made p S (u.IfOnly a.at (tree c.in-If.test) (statement c.in-If.a.value))) (s.statement_made p S (statement a)) (e.IfOnly q x) (e.IfOnly (typed_tree c.in_ok-test-in-If-2.test) x)
     (sym (ap (s.statement_made p S) is)) (sym (ap (λ (z : TypedExpr). e.IfOnly (typed_tree z) x) c.in_ok-test-in-If-2.ensures.kept))
-    (of_two b0 b1 b2 (s.tree_made p S None (tree c.in-If.test)) body (λ y z. e.IfOnly y z) q x (h.made, (h.locals, (h.routines, (h.local, h.function)))) branch)
+    (of_two b0 b1 b2 (s.tree_made p S None (tree c.in-If.test)) body (λ y z. e.IfOnly y z) q x h.built branch)
 
 pub build_statements::build_if-returns-in_ok-test-in-Some-clause-built : goal.build_statements::build_if-returns-in_ok-test-in-Some-clause-built
 unfolding s.statement_made s.tree_made
@@ -231,7 +203,7 @@ build_statements::build_if-returns-in_ok-test-in-Some-clause-built t c =
     via b0 b3 (s.statement_made p S (u.IfElse a.at (tree c.in-If.test) (statement c.in-If.a.value) (statement c.in-Some.b.value))) (s.statement_made p S (statement a))
     (e.IfElse q x y) (e.IfElse (typed_tree c.in_ok-test-in-Some.test) (typed_statement c.in_ok-test-in-Some.a.value) y)
     (sym (ap (s.statement_made p S) is)) (sym (ap (λ z. e.IfElse (typed_tree z) (typed_statement c.in_ok-test-in-Some.a.value) y) k1 ∙ ap (λ z. e.IfElse q (typed_statement z.value) y) k2))
-    (of_three b0 b1 b2 b3 (s.tree_made p S None (tree c.in-If.test)) body other (λ k l m. e.IfElse k l m) q x y (h.made, (h.locals, (h.routines, (h.local, h.function)))) branch third)
+    (of_three b0 b1 b2 b3 (s.tree_made p S None (tree c.in-If.test)) body other (λ k l m. e.IfElse k l m) q x y h.built branch third)
 
 pub build_statements::build_while-returns-in_ok-test-in-While-2-clause-built : goal.build_statements::build_while-returns-in_ok-test-in-While-2-clause-built
 unfolding s.statement_made s.tree_made
@@ -251,7 +223,7 @@ build_statements::build_while-returns-in_ok-test-in-While-2-clause-built t c =
     let is = while_is a c.in-While.test c.in-While.a c.in-While.is in
     via b0 b2 (s.statement_made p S (u.While a.at (tree c.in-While.test) (statement c.in-While.a.value))) (s.statement_made p S (statement a)) (e.While q x) (e.While (typed_tree c.in_ok-test-in-While-2.test) x)
     (sym (ap (s.statement_made p S) is)) (sym (ap (λ (z : TypedExpr). e.While (typed_tree z) x) c.in_ok-test-in-While-2.ensures.kept))
-    (of_two b0 b1 b2 (s.tree_made p S None (tree c.in-While.test)) body (λ y z. e.While y z) q x (h.made, (h.locals, (h.routines, (h.local, h.function)))) branch)
+    (of_two b0 b1 b2 (s.tree_made p S None (tree c.in-While.test)) body (λ y z. e.While y z) q x h.built branch)
 
 pub build_statements::build_while-returns-in_ok-a-in-DoWhile-2-clause-built : goal.build_statements::build_while-returns-in_ok-a-in-DoWhile-2-clause-built
 unfolding s.statement_made s.tree_made
@@ -274,16 +246,7 @@ build_statements::build_while-returns-in_ok-a-in-DoWhile-2-clause-built t c =
     let T = c.in_ok-a-in-DoWhile-2.test in
     let R = c.build_tree-in-DoWhile.result in
     let h = c.build_tree-in-DoWhile.ensures in
-    let tests : IsBuilt b1 b2 f0 q = (
-      from_ok R T (λ r. typed_tree r.tree ≡ (f0 b1.local b1.function).it) o h.made,
-      (
-        from_ok R T (λ r. value_types b2.locals ≡ value_types b1.locals ++ (f0 b1.local b1.function).locals) o h.locals,
-        (
-          from_ok R T (λ r. typed_routines b2.routines ≡ typed_routines b1.routines ++ (f0 b1.local b1.function).routines) o h.routines,
-          (from_ok R T (λ r. b2.local ≡ b1.local + length (f0 b1.local b1.function).locals) o h.local, from_ok R T (λ r. b2.function ≡ b1.function + length (f0 b1.local b1.function).routines) o h.function),
-        ),
-      ),
-    ) in
+    let tests : IsBuilt b1 b2 f0 q = from_ok R T (λ r. IsBuilt b1 b2 f0 (typed_tree r.tree)) o h.built in
     let is = do_while_is a c.in-DoWhile.a c.in-DoWhile.test c.in-DoWhile.is in
     via b0 b2 (s.statement_made p S (u.DoWhile a.at (statement c.in-DoWhile.a.value) (tree c.in-DoWhile.test))) (s.statement_made p S (statement a)) (e.DoWhile x q) (e.DoWhile (typed_statement c.in_ok-a-in-DoWhile-2.a.value) q)
     (sym (ap (s.statement_made p S) is)) (sym (ap (λ z. e.DoWhile (typed_statement z.value) q) c.in_ok-a-in-DoWhile-2.ensures.kept))
@@ -375,9 +338,9 @@ build_statements::build_for-returns-in_ok-first-in-Some-3-clause-site t c =
     c.begin-around.ensures.locals c.begin-around.ensures.block c.begin-around.ensures.spots
     ∙ site_is S.place S.place S.spots (S.spots ++ []) refl (sym (append-nil S.spots)) ∙ sym (ap (s.behind p m S) is)
 
-pub build_statements::build_for_of-returns-in_ok-list-in-ForOf-4-clause-built : goal.build_statements::build_for_of-returns-in_ok-list-in-ForOf-4-clause-built
+pub build_statements::build_for_of-returns-clause-built : goal.build_statements::build_for_of-returns-clause-built
 unfolding s.statement_made s.tree_made s.tree_kind
-build_statements::build_for_of-returns-in_ok-list-in-ForOf-4-clause-built t c =
+build_statements::build_for_of-returns-clause-built t c =
     let p = c.args.plan.now in
     let S = s.site c.args.site.now in
     let b0 = c.args.builder.now in
@@ -429,7 +392,7 @@ build_statements::build_for_of-returns-in_ok-list-in-ForOf-4-clause-built t c =
     (last b2 b3 (s.statement_made p inside A) (λ q. e.ForOf fixed (Local b1.local) l q) y body) in
     let all : IsBuilt b0 b3 (s.statement_made p S (u.ForOf a.at fixed x L A)) z0 =
     then b0 b1 b3 (s.tree_made p S None L) tail
-    l z0 (h.made, (h.locals, (h.routines, (h.local, h.function)))) rest in
+    l z0 h.built rest in
     let is = for_of_is a fixed x c.in-ForOf.list c.in-ForOf.body c.in-ForOf.is in
     let kept = c.in_ok-list-in-ForOf-4.ensures.kept ∙ c.in_ok-list-in-ForOf-3.ensures.kept ∙ c.in_ok-list-in-ForOf-2.ensures.kept in
     via b0 b3 (s.statement_made p S (u.ForOf a.at fixed x L A)) (s.statement_made p S (statement a)) z0 (e.ForOf fixed (Local i) (typed_tree c.in_ok-list-in-ForOf-4.list) y)
@@ -460,7 +423,7 @@ build_statements::build_statement-returns-in_ok-e-in-Plain-clause-built t c =
     let r = typed_tree c.in_ok-e-in-Plain.e.tree in
     let h = c.in_ok-e-in-Plain.ensures in
     via b0 b1 (s.statement_made p S (u.Plain a.at v)) (s.statement_made p S (statement a)) (e.Plain r) (e.Plain r) (sym (ap (s.statement_made p S) (plain_is a c.in-Plain.e c.in-Plain.is))) refl
-    (last b0 b1 (s.tree_made p S None v) (λ x. e.Plain x) r (h.made, (h.locals, (h.routines, (h.local, h.function)))))
+    (last b0 b1 (s.tree_made p S None v) (λ x. e.Plain x) r h.built)
 
 pub build_statements::build_statements-loop-i-init : goal.build_statements::build_statements-loop-i-init
 build_statements::build_statements-loop-i-init t c =
@@ -490,40 +453,12 @@ build_statements::build_statements-loop-i-preserved t c =
           (grown_is st (s.behind p m st a) st' (grown_behind p.tables.now (s.naming p) p.known.now (numbering_of p.numbers.now) m st a) c.in_ok-a.ensures.site);
     }
 
-pub build_statements::build_statements-returns-clause-made : goal.build_statements::build_statements-returns-clause-made
-build_statements::build_statements-returns-clause-made t c =
+pub build_statements::build_statements-returns-clause-built : goal.build_statements::build_statements-returns-clause-built
+build_statements::build_statements-returns-clause-built t c =
     let p = c.args.plan.now in
     let xs = c.args.all.now in
     let le : length xs ≤ c.loop-i.i = omega arith in
-    (statements_end p xs c.loop-i.i (s.site c.loop-i.site) c.args.builder.now c.loop-i.builder (s.statements_made p (s.site c.args.site.now) (statements xs)) c.loop-i.made le c.loop-i.invariant.go).0
-
-pub build_statements::build_statements-returns-clause-locals : goal.build_statements::build_statements-returns-clause-locals
-build_statements::build_statements-returns-clause-locals t c =
-    let p = c.args.plan.now in
-    let xs = c.args.all.now in
-    let le : length xs ≤ c.loop-i.i = omega arith in
-    (statements_end p xs c.loop-i.i (s.site c.loop-i.site) c.args.builder.now c.loop-i.builder (s.statements_made p (s.site c.args.site.now) (statements xs)) c.loop-i.made le c.loop-i.invariant.go).1.0
-
-pub build_statements::build_statements-returns-clause-routines : goal.build_statements::build_statements-returns-clause-routines
-build_statements::build_statements-returns-clause-routines t c =
-    let p = c.args.plan.now in
-    let xs = c.args.all.now in
-    let le : length xs ≤ c.loop-i.i = omega arith in
-    (statements_end p xs c.loop-i.i (s.site c.loop-i.site) c.args.builder.now c.loop-i.builder (s.statements_made p (s.site c.args.site.now) (statements xs)) c.loop-i.made le c.loop-i.invariant.go).1.1.0
-
-pub build_statements::build_statements-returns-clause-local : goal.build_statements::build_statements-returns-clause-local
-build_statements::build_statements-returns-clause-local t c =
-    let p = c.args.plan.now in
-    let xs = c.args.all.now in
-    let le : length xs ≤ c.loop-i.i = omega arith in
-    (statements_end p xs c.loop-i.i (s.site c.loop-i.site) c.args.builder.now c.loop-i.builder (s.statements_made p (s.site c.args.site.now) (statements xs)) c.loop-i.made le c.loop-i.invariant.go).1.1.1.0
-
-pub build_statements::build_statements-returns-clause-function : goal.build_statements::build_statements-returns-clause-function
-build_statements::build_statements-returns-clause-function t c =
-    let p = c.args.plan.now in
-    let xs = c.args.all.now in
-    let le : length xs ≤ c.loop-i.i = omega arith in
-    (statements_end p xs c.loop-i.i (s.site c.loop-i.site) c.args.builder.now c.loop-i.builder (s.statements_made p (s.site c.args.site.now) (statements xs)) c.loop-i.made le c.loop-i.invariant.go).1.1.1.1
+    (statements_end p xs c.loop-i.i (s.site c.loop-i.site) c.args.builder.now c.loop-i.builder (s.statements_made p (s.site c.args.site.now) (statements xs)) c.loop-i.made le c.loop-i.invariant.go)
 
 pub build_statements::build_statements-returns-clause-site : goal.build_statements::build_statements-returns-clause-site
 build_statements::build_statements-returns-clause-site t c =
@@ -559,54 +494,6 @@ build_statements::build_turns-returns-clause-built t c = λ first.
     (sym (ap (λ w. e.For first (optional_typed_tree w) (optional_typed_tree c.in_ok-test-3.step) z) k1 ∙ ap (λ w. e.For first x (optional_typed_tree w) z) k2))
     (of_three b0 b1 b2 b3 (s.optional_made p S t1) (s.optional_made p S t2) (s.statement_made p (b.in_block S) A) (λ q i k. e.For first q i k) x y z one two three)
 
--- a member that is a constant of the board
-pub build_members::build_member-returns-in-Some-clause-made : goal.build_members::build_member-returns-in-Some-clause-made
-build_members::build_member-returns-in-Some-clause-made t c =
-    let p = c.args.plan.now in let st = s.site c.args.site.now in let a = tree c.in-Member.a.value in
-    let h : typing.constant_of p.tables.now p.known.now st.place a c.in-Member.m ≡ Some c.in-Some.z =
-    sym (c.constant.ensures ∙ ap (λ (x : Expr). typing.constant_of p.tables.now p.known.now st.place (tree x) c.in-Member.m) c.deref.ensures) ∙ c.in-Some.is in
-    let b0 = c.args.builder.now in
-    let k : (s.tree_made p st c.args.given (tree c.args.e.now) b0.local b0.function).it ≡ e.Num v.Number c.in-Some.z =
-    sym ((constant_built p st c.args.given c.args.e.now.at a (tree c.args.e.now) c.in-Member.m c.in-Some.z c.args.builder.now (e.Num v.Number c.in-Some.z) (ap (node_tree c.args.e.now.at) c.in-Member.is) h refl).0) in
-    search (rules, k)
-
-pub build_members::build_member-returns-in-Some-clause-locals : goal.build_members::build_member-returns-in-Some-clause-locals
-build_members::build_member-returns-in-Some-clause-locals t c =
-    let p = c.args.plan.now in let st = s.site c.args.site.now in let a = tree c.in-Member.a.value in
-    let h : typing.constant_of p.tables.now p.known.now st.place a c.in-Member.m ≡ Some c.in-Some.z =
-    sym (c.constant.ensures ∙ ap (λ (x : Expr). typing.constant_of p.tables.now p.known.now st.place (tree x) c.in-Member.m) c.deref.ensures) ∙ c.in-Some.is in
-    (constant_built p st c.args.given c.args.e.now.at a (tree c.args.e.now) c.in-Member.m c.in-Some.z c.args.builder.now (e.Num v.Number c.in-Some.z) (ap (node_tree c.args.e.now.at) c.in-Member.is) h refl).1.0
-
-pub build_members::build_member-returns-in-Some-clause-routines : goal.build_members::build_member-returns-in-Some-clause-routines
-build_members::build_member-returns-in-Some-clause-routines t c =
-    let p = c.args.plan.now in let st = s.site c.args.site.now in let a = tree c.in-Member.a.value in
-    let h : typing.constant_of p.tables.now p.known.now st.place a c.in-Member.m ≡ Some c.in-Some.z =
-    sym (c.constant.ensures ∙ ap (λ (x : Expr). typing.constant_of p.tables.now p.known.now st.place (tree x) c.in-Member.m) c.deref.ensures) ∙ c.in-Some.is in
-    (constant_built p st c.args.given c.args.e.now.at a (tree c.args.e.now) c.in-Member.m c.in-Some.z c.args.builder.now (e.Num v.Number c.in-Some.z) (ap (node_tree c.args.e.now.at) c.in-Member.is) h refl).1.1.0
-
-pub build_members::build_member-returns-in-Some-clause-local : goal.build_members::build_member-returns-in-Some-clause-local
-build_members::build_member-returns-in-Some-clause-local t c =
-    let p = c.args.plan.now in let st = s.site c.args.site.now in let a = tree c.in-Member.a.value in
-    let h : typing.constant_of p.tables.now p.known.now st.place a c.in-Member.m ≡ Some c.in-Some.z =
-    sym (c.constant.ensures ∙ ap (λ (x : Expr). typing.constant_of p.tables.now p.known.now st.place (tree x) c.in-Member.m) c.deref.ensures) ∙ c.in-Some.is in
-    (constant_built p st c.args.given c.args.e.now.at a (tree c.args.e.now) c.in-Member.m c.in-Some.z c.args.builder.now (e.Num v.Number c.in-Some.z) (ap (node_tree c.args.e.now.at) c.in-Member.is) h refl).1.1.1.0
-
-pub build_members::build_member-returns-in-Some-clause-function : goal.build_members::build_member-returns-in-Some-clause-function
-build_members::build_member-returns-in-Some-clause-function t c =
-    let p = c.args.plan.now in let st = s.site c.args.site.now in let a = tree c.in-Member.a.value in
-    let h : typing.constant_of p.tables.now p.known.now st.place a c.in-Member.m ≡ Some c.in-Some.z =
-    sym (c.constant.ensures ∙ ap (λ (x : Expr). typing.constant_of p.tables.now p.known.now st.place (tree x) c.in-Member.m) c.deref.ensures) ∙ c.in-Some.is in
-    (constant_built p st c.args.given c.args.e.now.at a (tree c.args.e.now) c.in-Member.m c.in-Some.z c.args.builder.now (e.Num v.Number c.in-Some.z) (ap (node_tree c.args.e.now.at) c.in-Member.is) h refl).1.1.1.1
-
-pub build_members::build_member-returns-in-Some-clause-kind : goal.build_members::build_member-returns-in-Some-clause-kind
-build_members::build_member-returns-in-Some-clause-kind t c =
-    let p = c.args.plan.now in let st = s.site c.args.site.now in let g = c.args.given in let old = c.args.builder.now in let a = tree c.in-Member.a.value in
-    let node : tree c.args.e.now ≡ Member c.args.e.now.at a c.in-Member.m = ap (node_tree c.args.e.now.at) c.in-Member.is in
-    let h : typing.constant_of p.tables.now p.known.now st.place a c.in-Member.m ≡ Some c.in-Some.z =
-    sym (c.constant.ensures ∙ ap (λ (x : Expr). typing.constant_of p.tables.now p.known.now st.place (tree x) c.in-Member.m) c.deref.ensures) ∙ c.in-Some.is in
-    c.constant_node.ensures.kind ∙ sym (constant_kind p st g c.args.e.now.at a c.in-Member.m c.in-Some.z h) ∙ ap (λ (q : Tree). s.tree_kind p st g q) (sym node)
-
--- lists of expressions
 pub build_calls::build_arguments-loop-i-init : goal.build_calls::build_arguments-loop-i-init
 build_calls::build_arguments-loop-i-init t c = arguments_begin c.args.plan.now (s.site c.args.site.now) (call.places c.args.takes) c.args.args.now c.args.builder.now c.args.first
 
@@ -651,7 +538,7 @@ build_calls::build_object-returns-in_ok-push-in-Member t c =
     let a = tree c.in-Member.a.value in
     let node : f ≡ Member c.args.f.now.at a c.in-Member.field-1 = ap (node_tree c.args.f.now.at) c.in-Member.is in
     let object : IsBuilt b0 b1 (s.tree_made p st None a) x = via b0 b1 (s.tree_made p st None (tree c.deref.result.now)) (s.tree_made p st None a) x x (ap (λ (z : Expr). s.tree_made p st None (tree z)) c.deref.ensures) refl
-    (h.made, (h.locals, (h.routines, (h.local, h.function)))) in
+    h.built in
     via b0 b1 (call.object_made p st true (Member c.args.f.now.at a c.in-Member.field-1)) (call.object_made p st c.args.wanted f) (e.more x e.none) (typed_trees c.push.new.self)
     (ap (λ z. call.object_made p st true z) (sym node) ∙ ap (λ w. call.object_made p st w f) (sym c.if-wanted.true))
     (sym (ap typed_trees (c.in_ok-push-in-Member.ensures.ok ∙ ap (λ (q : List TypedExpr). q ++ c.in_ok-x-in-Member.x.tree ∷ []) c.new-all.ensures)))
@@ -719,71 +606,6 @@ build_calls::build_passed-returns-in_ok-object-in-Call t c =
     (then b0 b1 b2 (call.object_made p st (call.has_object h) f) (λ zs. call.behind_made p st (call.head_places p h) zs args) ys (typed_trees r) object
     (via b1 b2 (call.behind_made p st (call.places c.takes_of-takes.result) ys (trees c.as_slice-in-Call.result.now)) (call.behind_made p st (call.head_places p h) ys args) (typed_trees r) (typed_trees r) list refl built)))
     c.build_arguments-in-Call.ensures
-
-pub build_calls::build_call-returns-in-None-clause-made : goal.build_calls::build_call-returns-in-None-clause-made
-build_calls::build_call-returns-in-None-clause-made t c =
-    (none_built c.args.plan.now (s.site c.args.site.now) c.args.given (tree c.args.e.now) c.args.builder.now (typed_tree c.amiss.result) (sym c.in_ok-head_of.ensures.head ∙ c.in-None.is) c.in_ok-head_of.ensures.list c.amiss.ensures).0
-
-pub build_calls::build_call-returns-in-None-clause-locals : goal.build_calls::build_call-returns-in-None-clause-locals
-build_calls::build_call-returns-in-None-clause-locals t c =
-    (none_built c.args.plan.now (s.site c.args.site.now) c.args.given (tree c.args.e.now) c.args.builder.now (typed_tree c.amiss.result) (sym c.in_ok-head_of.ensures.head ∙ c.in-None.is) c.in_ok-head_of.ensures.list c.amiss.ensures).1.0
-
-pub build_calls::build_call-returns-in-None-clause-routines : goal.build_calls::build_call-returns-in-None-clause-routines
-build_calls::build_call-returns-in-None-clause-routines t c =
-    (none_built c.args.plan.now (s.site c.args.site.now) c.args.given (tree c.args.e.now) c.args.builder.now (typed_tree c.amiss.result) (sym c.in_ok-head_of.ensures.head ∙ c.in-None.is) c.in_ok-head_of.ensures.list c.amiss.ensures).1.1.0
-
-pub build_calls::build_call-returns-in-None-clause-local : goal.build_calls::build_call-returns-in-None-clause-local
-build_calls::build_call-returns-in-None-clause-local t c =
-    (none_built c.args.plan.now (s.site c.args.site.now) c.args.given (tree c.args.e.now) c.args.builder.now (typed_tree c.amiss.result) (sym c.in_ok-head_of.ensures.head ∙ c.in-None.is) c.in_ok-head_of.ensures.list c.amiss.ensures).1.1.1.0
-
-pub build_calls::build_call-returns-in-None-clause-function : goal.build_calls::build_call-returns-in-None-clause-function
-build_calls::build_call-returns-in-None-clause-function t c =
-    (none_built c.args.plan.now (s.site c.args.site.now) c.args.given (tree c.args.e.now) c.args.builder.now (typed_tree c.amiss.result) (sym c.in_ok-head_of.ensures.head ∙ c.in-None.is) c.in_ok-head_of.ensures.list c.amiss.ensures).1.1.1.1
-
-pub build_calls::build_call-returns-in_ok-tree-in-Some-clause-made : goal.build_calls::build_call-returns-in_ok-tree-in-Some-clause-made
-build_calls::build_call-returns-in_ok-tree-in-Some-clause-made t c =
-    let x = tree c.args.e.now in
-    (head_built c.args.plan.now (s.site c.args.site.now) c.args.given x c.in-Some.head (v.value_type c.node_type-ty.result) c.args.builder.now c.build_passed.new.builder (typed_trees c.in_ok-args-in-Some.args) (typed_tree c.in_ok-tree-in-Some.tree)
-    (sym c.in_ok-head_of.ensures.head ∙ c.in-Some.is) c.in_ok-head_of.ensures.list (c.node_type-ty.ensures ∙ ap (λ k. call.type_noted c.args.given k x) c.in_ok-kind.ensures) c.in_ok-tree-in-Some.ensures c.in_ok-args-in-Some.ensures).0
-
-pub build_calls::build_call-returns-in_ok-tree-in-Some-clause-locals : goal.build_calls::build_call-returns-in_ok-tree-in-Some-clause-locals
-build_calls::build_call-returns-in_ok-tree-in-Some-clause-locals t c =
-    let x = tree c.args.e.now in
-    (head_built c.args.plan.now (s.site c.args.site.now) c.args.given x c.in-Some.head (v.value_type c.node_type-ty.result) c.args.builder.now c.build_passed.new.builder (typed_trees c.in_ok-args-in-Some.args) (typed_tree c.in_ok-tree-in-Some.tree)
-    (sym c.in_ok-head_of.ensures.head ∙ c.in-Some.is) c.in_ok-head_of.ensures.list (c.node_type-ty.ensures ∙ ap (λ k. call.type_noted c.args.given k x) c.in_ok-kind.ensures) c.in_ok-tree-in-Some.ensures c.in_ok-args-in-Some.ensures).1.0
-
-pub build_calls::build_call-returns-in_ok-tree-in-Some-clause-routines : goal.build_calls::build_call-returns-in_ok-tree-in-Some-clause-routines
-build_calls::build_call-returns-in_ok-tree-in-Some-clause-routines t c =
-    let x = tree c.args.e.now in
-    (head_built c.args.plan.now (s.site c.args.site.now) c.args.given x c.in-Some.head (v.value_type c.node_type-ty.result) c.args.builder.now c.build_passed.new.builder (typed_trees c.in_ok-args-in-Some.args) (typed_tree c.in_ok-tree-in-Some.tree)
-    (sym c.in_ok-head_of.ensures.head ∙ c.in-Some.is) c.in_ok-head_of.ensures.list (c.node_type-ty.ensures ∙ ap (λ k. call.type_noted c.args.given k x) c.in_ok-kind.ensures) c.in_ok-tree-in-Some.ensures c.in_ok-args-in-Some.ensures).1.1.0
-
-pub build_calls::build_call-returns-in_ok-tree-in-Some-clause-local : goal.build_calls::build_call-returns-in_ok-tree-in-Some-clause-local
-build_calls::build_call-returns-in_ok-tree-in-Some-clause-local t c =
-    let x = tree c.args.e.now in
-    (head_built c.args.plan.now (s.site c.args.site.now) c.args.given x c.in-Some.head (v.value_type c.node_type-ty.result) c.args.builder.now c.build_passed.new.builder (typed_trees c.in_ok-args-in-Some.args) (typed_tree c.in_ok-tree-in-Some.tree)
-    (sym c.in_ok-head_of.ensures.head ∙ c.in-Some.is) c.in_ok-head_of.ensures.list (c.node_type-ty.ensures ∙ ap (λ k. call.type_noted c.args.given k x) c.in_ok-kind.ensures) c.in_ok-tree-in-Some.ensures c.in_ok-args-in-Some.ensures).1.1.1.0
-
-pub build_calls::build_call-returns-in_ok-tree-in-Some-clause-function : goal.build_calls::build_call-returns-in_ok-tree-in-Some-clause-function
-build_calls::build_call-returns-in_ok-tree-in-Some-clause-function t c =
-    let x = tree c.args.e.now in
-    (head_built c.args.plan.now (s.site c.args.site.now) c.args.given x c.in-Some.head (v.value_type c.node_type-ty.result) c.args.builder.now c.build_passed.new.builder (typed_trees c.in_ok-args-in-Some.args) (typed_tree c.in_ok-tree-in-Some.tree)
-    (sym c.in_ok-head_of.ensures.head ∙ c.in-Some.is) c.in_ok-head_of.ensures.list (c.node_type-ty.ensures ∙ ap (λ k. call.type_noted c.args.given k x) c.in_ok-kind.ensures) c.in_ok-tree-in-Some.ensures c.in_ok-args-in-Some.ensures).1.1.1.1
-
-pub build_statements::build_body-returns-in_err-inside-clause-made : goal.build_statements::build_body-returns-in_err-inside-clause-made
-build_statements::build_body-returns-in_err-inside-clause-made t c = IfOk-from_err c.from_residual.result _ c.from_residual.ensures.0
-
-pub build_statements::build_body-returns-in_err-inside-clause-locals : goal.build_statements::build_body-returns-in_err-inside-clause-locals
-build_statements::build_body-returns-in_err-inside-clause-locals t c = IfOk-from_err c.from_residual.result _ c.from_residual.ensures.0
-
-pub build_statements::build_body-returns-in_err-inside-clause-routines : goal.build_statements::build_body-returns-in_err-inside-clause-routines
-build_statements::build_body-returns-in_err-inside-clause-routines t c = IfOk-from_err c.from_residual.result _ c.from_residual.ensures.0
-
-pub build_statements::build_body-returns-in_err-inside-clause-local : goal.build_statements::build_body-returns-in_err-inside-clause-local
-build_statements::build_body-returns-in_err-inside-clause-local t c = IfOk-from_err c.from_residual.result _ c.from_residual.ensures.0
-
-pub build_statements::build_body-returns-in_err-inside-clause-function : goal.build_statements::build_body-returns-in_err-inside-clause-function
-build_statements::build_body-returns-in_err-inside-clause-function t c = IfOk-from_err c.from_residual.result _ c.from_residual.ensures.0
 
 pub build_statements::build_branch-returns-in_err-made-clause-built : goal.build_statements::build_branch-returns-in_err-made-clause-built
 build_statements::build_branch-returns-in_err-made-clause-built t c = IfOk-from_err c.from_residual.result _ c.from_residual.ensures.0
@@ -923,38 +745,14 @@ build_statements::build_statement-returns-in_err-e-in-Plain-clause-built t c = I
 pub build_statements::build_statement-returns-in_err-e-in-Plain-clause-site : goal.build_statements::build_statement-returns-in_err-e-in-Plain-clause-site
 build_statements::build_statement-returns-in_err-e-in-Plain-clause-site t c = IfOk-from_err c.from_residual-in_err-e-in-Plain.result _ c.from_residual-in_err-e-in-Plain.ensures.0
 
-pub build_statements::build_statements-returns-in_err-a-clause-made : goal.build_statements::build_statements-returns-in_err-a-clause-made
-build_statements::build_statements-returns-in_err-a-clause-made t c = IfOk-from_err c.from_residual.result _ c.from_residual.ensures.0
-
-pub build_statements::build_statements-returns-in_err-a-clause-locals : goal.build_statements::build_statements-returns-in_err-a-clause-locals
-build_statements::build_statements-returns-in_err-a-clause-locals t c = IfOk-from_err c.from_residual.result _ c.from_residual.ensures.0
-
-pub build_statements::build_statements-returns-in_err-a-clause-routines : goal.build_statements::build_statements-returns-in_err-a-clause-routines
-build_statements::build_statements-returns-in_err-a-clause-routines t c = IfOk-from_err c.from_residual.result _ c.from_residual.ensures.0
-
-pub build_statements::build_statements-returns-in_err-a-clause-local : goal.build_statements::build_statements-returns-in_err-a-clause-local
-build_statements::build_statements-returns-in_err-a-clause-local t c = IfOk-from_err c.from_residual.result _ c.from_residual.ensures.0
-
-pub build_statements::build_statements-returns-in_err-a-clause-function : goal.build_statements::build_statements-returns-in_err-a-clause-function
-build_statements::build_statements-returns-in_err-a-clause-function t c = IfOk-from_err c.from_residual.result _ c.from_residual.ensures.0
+pub build_statements::build_statements-returns-in_err-a-clause-built : goal.build_statements::build_statements-returns-in_err-a-clause-built
+build_statements::build_statements-returns-in_err-a-clause-built t c = IfOk-from_err c.from_residual.result _ c.from_residual.ensures.0
 
 pub build_statements::build_statements-returns-in_err-a-clause-site : goal.build_statements::build_statements-returns-in_err-a-clause-site
 build_statements::build_statements-returns-in_err-a-clause-site t c = IfOk-from_err c.from_residual.result _ c.from_residual.ensures.0
 
-pub build_statements::build_statements-returns-in_err-push-clause-made : goal.build_statements::build_statements-returns-in_err-push-clause-made
-build_statements::build_statements-returns-in_err-push-clause-made t c = IfOk-from_err c.from_residual-in_err-push.result _ c.from_residual-in_err-push.ensures.0
-
-pub build_statements::build_statements-returns-in_err-push-clause-locals : goal.build_statements::build_statements-returns-in_err-push-clause-locals
-build_statements::build_statements-returns-in_err-push-clause-locals t c = IfOk-from_err c.from_residual-in_err-push.result _ c.from_residual-in_err-push.ensures.0
-
-pub build_statements::build_statements-returns-in_err-push-clause-routines : goal.build_statements::build_statements-returns-in_err-push-clause-routines
-build_statements::build_statements-returns-in_err-push-clause-routines t c = IfOk-from_err c.from_residual-in_err-push.result _ c.from_residual-in_err-push.ensures.0
-
-pub build_statements::build_statements-returns-in_err-push-clause-local : goal.build_statements::build_statements-returns-in_err-push-clause-local
-build_statements::build_statements-returns-in_err-push-clause-local t c = IfOk-from_err c.from_residual-in_err-push.result _ c.from_residual-in_err-push.ensures.0
-
-pub build_statements::build_statements-returns-in_err-push-clause-function : goal.build_statements::build_statements-returns-in_err-push-clause-function
-build_statements::build_statements-returns-in_err-push-clause-function t c = IfOk-from_err c.from_residual-in_err-push.result _ c.from_residual-in_err-push.ensures.0
+pub build_statements::build_statements-returns-in_err-push-clause-built : goal.build_statements::build_statements-returns-in_err-push-clause-built
+build_statements::build_statements-returns-in_err-push-clause-built t c = IfOk-from_err c.from_residual-in_err-push.result _ c.from_residual-in_err-push.ensures.0
 
 pub build_statements::build_statements-returns-in_err-push-clause-site : goal.build_statements::build_statements-returns-in_err-push-clause-site
 build_statements::build_statements-returns-in_err-push-clause-site t c = IfOk-from_err c.from_residual-in_err-push.result _ c.from_residual-in_err-push.ensures.0
@@ -976,371 +774,6 @@ build_calls::build_object-returns-in_err-push-in-Member t c = IfOk-from_err c.fr
 
 pub build_calls::build_passed-returns-in_err-object-in-Call : goal.build_calls::build_passed-returns-in_err-object-in-Call
 build_calls::build_passed-returns-in_err-object-in-Call t c = IfOk-from_err c.from_residual.result _ c.from_residual.ensures.0
-
-pub build_calls::build_call-returns-in_err-kind-clause-made : goal.build_calls::build_call-returns-in_err-kind-clause-made
-build_calls::build_call-returns-in_err-kind-clause-made t c = IfOk-from_err c.from_residual.result _ c.from_residual.ensures.0
-
-pub build_calls::build_call-returns-in_err-kind-clause-kind : goal.build_calls::build_call-returns-in_err-kind-clause-kind
-build_calls::build_call-returns-in_err-kind-clause-kind t c = IfOk-from_err c.from_residual.result _ c.from_residual.ensures.0
-
-pub build_calls::build_call-returns-in_err-kind-clause-locals : goal.build_calls::build_call-returns-in_err-kind-clause-locals
-build_calls::build_call-returns-in_err-kind-clause-locals t c = IfOk-from_err c.from_residual.result _ c.from_residual.ensures.0
-
-pub build_calls::build_call-returns-in_err-kind-clause-routines : goal.build_calls::build_call-returns-in_err-kind-clause-routines
-build_calls::build_call-returns-in_err-kind-clause-routines t c = IfOk-from_err c.from_residual.result _ c.from_residual.ensures.0
-
-pub build_calls::build_call-returns-in_err-kind-clause-local : goal.build_calls::build_call-returns-in_err-kind-clause-local
-build_calls::build_call-returns-in_err-kind-clause-local t c = IfOk-from_err c.from_residual.result _ c.from_residual.ensures.0
-
-pub build_calls::build_call-returns-in_err-kind-clause-function : goal.build_calls::build_call-returns-in_err-kind-clause-function
-build_calls::build_call-returns-in_err-kind-clause-function t c = IfOk-from_err c.from_residual.result _ c.from_residual.ensures.0
-
-pub build_calls::build_call-returns-in_err-head_of-clause-made : goal.build_calls::build_call-returns-in_err-head_of-clause-made
-build_calls::build_call-returns-in_err-head_of-clause-made t c = IfOk-from_err c.from_residual-in_err-head_of.result _ c.from_residual-in_err-head_of.ensures.0
-
-pub build_calls::build_call-returns-in_err-head_of-clause-kind : goal.build_calls::build_call-returns-in_err-head_of-clause-kind
-build_calls::build_call-returns-in_err-head_of-clause-kind t c = IfOk-from_err c.from_residual-in_err-head_of.result _ c.from_residual-in_err-head_of.ensures.0
-
-pub build_calls::build_call-returns-in_err-head_of-clause-locals : goal.build_calls::build_call-returns-in_err-head_of-clause-locals
-build_calls::build_call-returns-in_err-head_of-clause-locals t c = IfOk-from_err c.from_residual-in_err-head_of.result _ c.from_residual-in_err-head_of.ensures.0
-
-pub build_calls::build_call-returns-in_err-head_of-clause-routines : goal.build_calls::build_call-returns-in_err-head_of-clause-routines
-build_calls::build_call-returns-in_err-head_of-clause-routines t c = IfOk-from_err c.from_residual-in_err-head_of.result _ c.from_residual-in_err-head_of.ensures.0
-
-pub build_calls::build_call-returns-in_err-head_of-clause-local : goal.build_calls::build_call-returns-in_err-head_of-clause-local
-build_calls::build_call-returns-in_err-head_of-clause-local t c = IfOk-from_err c.from_residual-in_err-head_of.result _ c.from_residual-in_err-head_of.ensures.0
-
-pub build_calls::build_call-returns-in_err-head_of-clause-function : goal.build_calls::build_call-returns-in_err-head_of-clause-function
-build_calls::build_call-returns-in_err-head_of-clause-function t c = IfOk-from_err c.from_residual-in_err-head_of.result _ c.from_residual-in_err-head_of.ensures.0
-
-pub build_calls::build_call-returns-in_err-args-in-Some-clause-made : goal.build_calls::build_call-returns-in_err-args-in-Some-clause-made
-build_calls::build_call-returns-in_err-args-in-Some-clause-made t c = IfOk-from_err c.from_residual-in_err-args-in-Some.result _ c.from_residual-in_err-args-in-Some.ensures.0
-
-pub build_calls::build_call-returns-in_err-args-in-Some-clause-kind : goal.build_calls::build_call-returns-in_err-args-in-Some-clause-kind
-build_calls::build_call-returns-in_err-args-in-Some-clause-kind t c = IfOk-from_err c.from_residual-in_err-args-in-Some.result _ c.from_residual-in_err-args-in-Some.ensures.0
-
-pub build_calls::build_call-returns-in_err-args-in-Some-clause-locals : goal.build_calls::build_call-returns-in_err-args-in-Some-clause-locals
-build_calls::build_call-returns-in_err-args-in-Some-clause-locals t c = IfOk-from_err c.from_residual-in_err-args-in-Some.result _ c.from_residual-in_err-args-in-Some.ensures.0
-
-pub build_calls::build_call-returns-in_err-args-in-Some-clause-routines : goal.build_calls::build_call-returns-in_err-args-in-Some-clause-routines
-build_calls::build_call-returns-in_err-args-in-Some-clause-routines t c = IfOk-from_err c.from_residual-in_err-args-in-Some.result _ c.from_residual-in_err-args-in-Some.ensures.0
-
-pub build_calls::build_call-returns-in_err-args-in-Some-clause-local : goal.build_calls::build_call-returns-in_err-args-in-Some-clause-local
-build_calls::build_call-returns-in_err-args-in-Some-clause-local t c = IfOk-from_err c.from_residual-in_err-args-in-Some.result _ c.from_residual-in_err-args-in-Some.ensures.0
-
-pub build_calls::build_call-returns-in_err-args-in-Some-clause-function : goal.build_calls::build_call-returns-in_err-args-in-Some-clause-function
-build_calls::build_call-returns-in_err-args-in-Some-clause-function t c = IfOk-from_err c.from_residual-in_err-args-in-Some.result _ c.from_residual-in_err-args-in-Some.ensures.0
-
-pub build_calls::build_call-returns-in_err-tree-in-Some-clause-made : goal.build_calls::build_call-returns-in_err-tree-in-Some-clause-made
-build_calls::build_call-returns-in_err-tree-in-Some-clause-made t c = IfOk-from_err c.from_residual-in_err-tree-in-Some.result _ c.from_residual-in_err-tree-in-Some.ensures.0
-
-pub build_calls::build_call-returns-in_err-tree-in-Some-clause-kind : goal.build_calls::build_call-returns-in_err-tree-in-Some-clause-kind
-build_calls::build_call-returns-in_err-tree-in-Some-clause-kind t c = IfOk-from_err c.from_residual-in_err-tree-in-Some.result _ c.from_residual-in_err-tree-in-Some.ensures.0
-
-pub build_calls::build_call-returns-in_err-tree-in-Some-clause-locals : goal.build_calls::build_call-returns-in_err-tree-in-Some-clause-locals
-build_calls::build_call-returns-in_err-tree-in-Some-clause-locals t c = IfOk-from_err c.from_residual-in_err-tree-in-Some.result _ c.from_residual-in_err-tree-in-Some.ensures.0
-
-pub build_calls::build_call-returns-in_err-tree-in-Some-clause-routines : goal.build_calls::build_call-returns-in_err-tree-in-Some-clause-routines
-build_calls::build_call-returns-in_err-tree-in-Some-clause-routines t c = IfOk-from_err c.from_residual-in_err-tree-in-Some.result _ c.from_residual-in_err-tree-in-Some.ensures.0
-
-pub build_calls::build_call-returns-in_err-tree-in-Some-clause-local : goal.build_calls::build_call-returns-in_err-tree-in-Some-clause-local
-build_calls::build_call-returns-in_err-tree-in-Some-clause-local t c = IfOk-from_err c.from_residual-in_err-tree-in-Some.result _ c.from_residual-in_err-tree-in-Some.ensures.0
-
-pub build_calls::build_call-returns-in_err-tree-in-Some-clause-function : goal.build_calls::build_call-returns-in_err-tree-in-Some-clause-function
-build_calls::build_call-returns-in_err-tree-in-Some-clause-function t c = IfOk-from_err c.from_residual-in_err-tree-in-Some.result _ c.from_residual-in_err-tree-in-Some.ensures.0
-
-pub build_operators::build_part-returns-in_err-x-clause-made : goal.build_operators::build_part-returns-in_err-x-clause-made
-build_operators::build_part-returns-in_err-x-clause-made t c = IfOk-from_err c.from_residual.result _ c.from_residual.ensures.0
-
-pub build_operators::build_part-returns-in_err-x-clause-kind : goal.build_operators::build_part-returns-in_err-x-clause-kind
-build_operators::build_part-returns-in_err-x-clause-kind t c = IfOk-from_err c.from_residual.result _ c.from_residual.ensures.0
-
-pub build_operators::build_part-returns-in_err-x-clause-locals : goal.build_operators::build_part-returns-in_err-x-clause-locals
-build_operators::build_part-returns-in_err-x-clause-locals t c = IfOk-from_err c.from_residual.result _ c.from_residual.ensures.0
-
-pub build_operators::build_part-returns-in_err-x-clause-routines : goal.build_operators::build_part-returns-in_err-x-clause-routines
-build_operators::build_part-returns-in_err-x-clause-routines t c = IfOk-from_err c.from_residual.result _ c.from_residual.ensures.0
-
-pub build_operators::build_part-returns-in_err-x-clause-local : goal.build_operators::build_part-returns-in_err-x-clause-local
-build_operators::build_part-returns-in_err-x-clause-local t c = IfOk-from_err c.from_residual.result _ c.from_residual.ensures.0
-
-pub build_operators::build_part-returns-in_err-x-clause-function : goal.build_operators::build_part-returns-in_err-x-clause-function
-build_operators::build_part-returns-in_err-x-clause-function t c = IfOk-from_err c.from_residual.result _ c.from_residual.ensures.0
-
-pub build_operators::build_part-returns-in_err-boxed-clause-made : goal.build_operators::build_part-returns-in_err-boxed-clause-made
-build_operators::build_part-returns-in_err-boxed-clause-made t c = IfOk-from_err c.from_residual-in_err-boxed.result _ c.from_residual-in_err-boxed.ensures.0
-
-pub build_operators::build_part-returns-in_err-boxed-clause-kind : goal.build_operators::build_part-returns-in_err-boxed-clause-kind
-build_operators::build_part-returns-in_err-boxed-clause-kind t c = IfOk-from_err c.from_residual-in_err-boxed.result _ c.from_residual-in_err-boxed.ensures.0
-
-pub build_operators::build_part-returns-in_err-boxed-clause-locals : goal.build_operators::build_part-returns-in_err-boxed-clause-locals
-build_operators::build_part-returns-in_err-boxed-clause-locals t c = IfOk-from_err c.from_residual-in_err-boxed.result _ c.from_residual-in_err-boxed.ensures.0
-
-pub build_operators::build_part-returns-in_err-boxed-clause-routines : goal.build_operators::build_part-returns-in_err-boxed-clause-routines
-build_operators::build_part-returns-in_err-boxed-clause-routines t c = IfOk-from_err c.from_residual-in_err-boxed.result _ c.from_residual-in_err-boxed.ensures.0
-
-pub build_operators::build_part-returns-in_err-boxed-clause-local : goal.build_operators::build_part-returns-in_err-boxed-clause-local
-build_operators::build_part-returns-in_err-boxed-clause-local t c = IfOk-from_err c.from_residual-in_err-boxed.result _ c.from_residual-in_err-boxed.ensures.0
-
-pub build_operators::build_part-returns-in_err-boxed-clause-function : goal.build_operators::build_part-returns-in_err-boxed-clause-function
-build_operators::build_part-returns-in_err-boxed-clause-function t c = IfOk-from_err c.from_residual-in_err-boxed.result _ c.from_residual-in_err-boxed.ensures.0
-
-pub build_operators::build_operation-returns-in_err-parts-in-Binary-clause-made : goal.build_operators::build_operation-returns-in_err-parts-in-Binary-clause-made
-build_operators::build_operation-returns-in_err-parts-in-Binary-clause-made t c = IfOk-from_err c.from_residual.result _ c.from_residual.ensures.0
-
-pub build_operators::build_operation-returns-in_err-parts-in-Binary-clause-kind : goal.build_operators::build_operation-returns-in_err-parts-in-Binary-clause-kind
-build_operators::build_operation-returns-in_err-parts-in-Binary-clause-kind t c = IfOk-from_err c.from_residual.result _ c.from_residual.ensures.0
-
-pub build_operators::build_operation-returns-in_err-parts-in-Binary-clause-locals : goal.build_operators::build_operation-returns-in_err-parts-in-Binary-clause-locals
-build_operators::build_operation-returns-in_err-parts-in-Binary-clause-locals t c = IfOk-from_err c.from_residual.result _ c.from_residual.ensures.0
-
-pub build_operators::build_operation-returns-in_err-parts-in-Binary-clause-routines : goal.build_operators::build_operation-returns-in_err-parts-in-Binary-clause-routines
-build_operators::build_operation-returns-in_err-parts-in-Binary-clause-routines t c = IfOk-from_err c.from_residual.result _ c.from_residual.ensures.0
-
-pub build_operators::build_operation-returns-in_err-parts-in-Binary-clause-local : goal.build_operators::build_operation-returns-in_err-parts-in-Binary-clause-local
-build_operators::build_operation-returns-in_err-parts-in-Binary-clause-local t c = IfOk-from_err c.from_residual.result _ c.from_residual.ensures.0
-
-pub build_operators::build_operation-returns-in_err-parts-in-Binary-clause-function : goal.build_operators::build_operation-returns-in_err-parts-in-Binary-clause-function
-build_operators::build_operation-returns-in_err-parts-in-Binary-clause-function t c = IfOk-from_err c.from_residual.result _ c.from_residual.ensures.0
-
-pub build_operators::build_operation-returns-in_err-parts-in-Both-clause-made : goal.build_operators::build_operation-returns-in_err-parts-in-Both-clause-made
-build_operators::build_operation-returns-in_err-parts-in-Both-clause-made t c = IfOk-from_err c.from_residual-in_err-parts-in-Both.result _ c.from_residual-in_err-parts-in-Both.ensures.0
-
-pub build_operators::build_operation-returns-in_err-parts-in-Both-clause-kind : goal.build_operators::build_operation-returns-in_err-parts-in-Both-clause-kind
-build_operators::build_operation-returns-in_err-parts-in-Both-clause-kind t c = IfOk-from_err c.from_residual-in_err-parts-in-Both.result _ c.from_residual-in_err-parts-in-Both.ensures.0
-
-pub build_operators::build_operation-returns-in_err-parts-in-Both-clause-locals : goal.build_operators::build_operation-returns-in_err-parts-in-Both-clause-locals
-build_operators::build_operation-returns-in_err-parts-in-Both-clause-locals t c = IfOk-from_err c.from_residual-in_err-parts-in-Both.result _ c.from_residual-in_err-parts-in-Both.ensures.0
-
-pub build_operators::build_operation-returns-in_err-parts-in-Both-clause-routines : goal.build_operators::build_operation-returns-in_err-parts-in-Both-clause-routines
-build_operators::build_operation-returns-in_err-parts-in-Both-clause-routines t c = IfOk-from_err c.from_residual-in_err-parts-in-Both.result _ c.from_residual-in_err-parts-in-Both.ensures.0
-
-pub build_operators::build_operation-returns-in_err-parts-in-Both-clause-local : goal.build_operators::build_operation-returns-in_err-parts-in-Both-clause-local
-build_operators::build_operation-returns-in_err-parts-in-Both-clause-local t c = IfOk-from_err c.from_residual-in_err-parts-in-Both.result _ c.from_residual-in_err-parts-in-Both.ensures.0
-
-pub build_operators::build_operation-returns-in_err-parts-in-Both-clause-function : goal.build_operators::build_operation-returns-in_err-parts-in-Both-clause-function
-build_operators::build_operation-returns-in_err-parts-in-Both-clause-function t c = IfOk-from_err c.from_residual-in_err-parts-in-Both.result _ c.from_residual-in_err-parts-in-Both.ensures.0
-
-pub build_operators::build_operation-returns-in_err-parts-in-Either-clause-made : goal.build_operators::build_operation-returns-in_err-parts-in-Either-clause-made
-build_operators::build_operation-returns-in_err-parts-in-Either-clause-made t c = IfOk-from_err c.from_residual-in_err-parts-in-Either.result _ c.from_residual-in_err-parts-in-Either.ensures.0
-
-pub build_operators::build_operation-returns-in_err-parts-in-Either-clause-kind : goal.build_operators::build_operation-returns-in_err-parts-in-Either-clause-kind
-build_operators::build_operation-returns-in_err-parts-in-Either-clause-kind t c = IfOk-from_err c.from_residual-in_err-parts-in-Either.result _ c.from_residual-in_err-parts-in-Either.ensures.0
-
-pub build_operators::build_operation-returns-in_err-parts-in-Either-clause-locals : goal.build_operators::build_operation-returns-in_err-parts-in-Either-clause-locals
-build_operators::build_operation-returns-in_err-parts-in-Either-clause-locals t c = IfOk-from_err c.from_residual-in_err-parts-in-Either.result _ c.from_residual-in_err-parts-in-Either.ensures.0
-
-pub build_operators::build_operation-returns-in_err-parts-in-Either-clause-routines : goal.build_operators::build_operation-returns-in_err-parts-in-Either-clause-routines
-build_operators::build_operation-returns-in_err-parts-in-Either-clause-routines t c = IfOk-from_err c.from_residual-in_err-parts-in-Either.result _ c.from_residual-in_err-parts-in-Either.ensures.0
-
-pub build_operators::build_operation-returns-in_err-parts-in-Either-clause-local : goal.build_operators::build_operation-returns-in_err-parts-in-Either-clause-local
-build_operators::build_operation-returns-in_err-parts-in-Either-clause-local t c = IfOk-from_err c.from_residual-in_err-parts-in-Either.result _ c.from_residual-in_err-parts-in-Either.ensures.0
-
-pub build_operators::build_operation-returns-in_err-parts-in-Either-clause-function : goal.build_operators::build_operation-returns-in_err-parts-in-Either-clause-function
-build_operators::build_operation-returns-in_err-parts-in-Either-clause-function t c = IfOk-from_err c.from_residual-in_err-parts-in-Either.result _ c.from_residual-in_err-parts-in-Either.ensures.0
-
-pub build_operators::build_operation-returns-in_err-parts-in-Item-clause-made : goal.build_operators::build_operation-returns-in_err-parts-in-Item-clause-made
-build_operators::build_operation-returns-in_err-parts-in-Item-clause-made t c = IfOk-from_err c.from_residual-in_err-parts-in-Item.result _ c.from_residual-in_err-parts-in-Item.ensures.0
-
-pub build_operators::build_operation-returns-in_err-parts-in-Item-clause-kind : goal.build_operators::build_operation-returns-in_err-parts-in-Item-clause-kind
-build_operators::build_operation-returns-in_err-parts-in-Item-clause-kind t c = IfOk-from_err c.from_residual-in_err-parts-in-Item.result _ c.from_residual-in_err-parts-in-Item.ensures.0
-
-pub build_operators::build_operation-returns-in_err-parts-in-Item-clause-locals : goal.build_operators::build_operation-returns-in_err-parts-in-Item-clause-locals
-build_operators::build_operation-returns-in_err-parts-in-Item-clause-locals t c = IfOk-from_err c.from_residual-in_err-parts-in-Item.result _ c.from_residual-in_err-parts-in-Item.ensures.0
-
-pub build_operators::build_operation-returns-in_err-parts-in-Item-clause-routines : goal.build_operators::build_operation-returns-in_err-parts-in-Item-clause-routines
-build_operators::build_operation-returns-in_err-parts-in-Item-clause-routines t c = IfOk-from_err c.from_residual-in_err-parts-in-Item.result _ c.from_residual-in_err-parts-in-Item.ensures.0
-
-pub build_operators::build_operation-returns-in_err-parts-in-Item-clause-local : goal.build_operators::build_operation-returns-in_err-parts-in-Item-clause-local
-build_operators::build_operation-returns-in_err-parts-in-Item-clause-local t c = IfOk-from_err c.from_residual-in_err-parts-in-Item.result _ c.from_residual-in_err-parts-in-Item.ensures.0
-
-pub build_operators::build_operation-returns-in_err-parts-in-Item-clause-function : goal.build_operators::build_operation-returns-in_err-parts-in-Item-clause-function
-build_operators::build_operation-returns-in_err-parts-in-Item-clause-function t c = IfOk-from_err c.from_residual-in_err-parts-in-Item.result _ c.from_residual-in_err-parts-in-Item.ensures.0
-
-pub build_operators::build_prefix-returns-in_err-x-in-Unary-clause-made : goal.build_operators::build_prefix-returns-in_err-x-in-Unary-clause-made
-build_operators::build_prefix-returns-in_err-x-in-Unary-clause-made t c = IfOk-from_err c.from_residual.result _ c.from_residual.ensures.0
-
-pub build_operators::build_prefix-returns-in_err-x-in-Unary-clause-kind : goal.build_operators::build_prefix-returns-in_err-x-in-Unary-clause-kind
-build_operators::build_prefix-returns-in_err-x-in-Unary-clause-kind t c = IfOk-from_err c.from_residual.result _ c.from_residual.ensures.0
-
-pub build_operators::build_prefix-returns-in_err-x-in-Unary-clause-locals : goal.build_operators::build_prefix-returns-in_err-x-in-Unary-clause-locals
-build_operators::build_prefix-returns-in_err-x-in-Unary-clause-locals t c = IfOk-from_err c.from_residual.result _ c.from_residual.ensures.0
-
-pub build_operators::build_prefix-returns-in_err-x-in-Unary-clause-routines : goal.build_operators::build_prefix-returns-in_err-x-in-Unary-clause-routines
-build_operators::build_prefix-returns-in_err-x-in-Unary-clause-routines t c = IfOk-from_err c.from_residual.result _ c.from_residual.ensures.0
-
-pub build_operators::build_prefix-returns-in_err-x-in-Unary-clause-local : goal.build_operators::build_prefix-returns-in_err-x-in-Unary-clause-local
-build_operators::build_prefix-returns-in_err-x-in-Unary-clause-local t c = IfOk-from_err c.from_residual.result _ c.from_residual.ensures.0
-
-pub build_operators::build_prefix-returns-in_err-x-in-Unary-clause-function : goal.build_operators::build_prefix-returns-in_err-x-in-Unary-clause-function
-build_operators::build_prefix-returns-in_err-x-in-Unary-clause-function t c = IfOk-from_err c.from_residual.result _ c.from_residual.ensures.0
-
-pub build_operators::build_set-may_be_set-can-requires : goal.build_operators::build_set-may_be_set-can-requires
-build_operators::build_set-may_be_set-can-requires t c =
-    let p = c.args.plan.now in
-    let st = s.site c.args.site.now in
-    let b0 = c.args.builder.now in
-    let at = c.args.e.now.at in
-    let x = c.in-Set.x.value in
-    let built = c.in_ok-parts-in-Set.parts.first.tree.value in
-    let h = first_target p st at c.in-Set.op (tree x) (tree c.in-Set.field-2.value) (tree c.args.e.now) b0.local b0.function (typed_tree built) (ap (node_tree at) c.in-Set.is) c.in_ok-parts-in-Set.ensures.first in
-    target_read p st x c.deref.result.now built c.deref-in-Set.result.now c.deref.ensures c.deref-in-Set.ensures h
-
-pub build_operators::build_set-may_be_set-can-requires-in-Bump : goal.build_operators::build_set-may_be_set-can-requires-in-Bump
-build_operators::build_set-may_be_set-can-requires-in-Bump t c =
-    let b0 = c.args.builder.now in
-    target_read c.args.plan.now (s.site c.args.site.now) c.deref-in-Bump.result.now c.deref-in-Bump-2.result.now c.in_ok-x-in-Bump.x.tree.value c.deref-in-Bump-3.result.now
-    (c.deref-in-Bump-2.ensures ∙ sym c.deref-in-Bump.ensures) c.deref-in-Bump-3.ensures (b0.local, b0.function, c.in_ok-x-in-Bump.ensures.made)
-
-pub build_operators::build_set-returns-in_err-parts-in-Set-clause-made : goal.build_operators::build_set-returns-in_err-parts-in-Set-clause-made
-build_operators::build_set-returns-in_err-parts-in-Set-clause-made t c = IfOk-from_err c.from_residual.result _ c.from_residual.ensures.0
-
-pub build_operators::build_set-returns-in_err-parts-in-Set-clause-kind : goal.build_operators::build_set-returns-in_err-parts-in-Set-clause-kind
-build_operators::build_set-returns-in_err-parts-in-Set-clause-kind t c = IfOk-from_err c.from_residual.result _ c.from_residual.ensures.0
-
-pub build_operators::build_set-returns-in_err-parts-in-Set-clause-locals : goal.build_operators::build_set-returns-in_err-parts-in-Set-clause-locals
-build_operators::build_set-returns-in_err-parts-in-Set-clause-locals t c = IfOk-from_err c.from_residual.result _ c.from_residual.ensures.0
-
-pub build_operators::build_set-returns-in_err-parts-in-Set-clause-routines : goal.build_operators::build_set-returns-in_err-parts-in-Set-clause-routines
-build_operators::build_set-returns-in_err-parts-in-Set-clause-routines t c = IfOk-from_err c.from_residual.result _ c.from_residual.ensures.0
-
-pub build_operators::build_set-returns-in_err-parts-in-Set-clause-local : goal.build_operators::build_set-returns-in_err-parts-in-Set-clause-local
-build_operators::build_set-returns-in_err-parts-in-Set-clause-local t c = IfOk-from_err c.from_residual.result _ c.from_residual.ensures.0
-
-pub build_operators::build_set-returns-in_err-parts-in-Set-clause-function : goal.build_operators::build_set-returns-in_err-parts-in-Set-clause-function
-build_operators::build_set-returns-in_err-parts-in-Set-clause-function t c = IfOk-from_err c.from_residual.result _ c.from_residual.ensures.0
-
-pub build_operators::build_set-returns-in_err-x-in-Bump-clause-made : goal.build_operators::build_set-returns-in_err-x-in-Bump-clause-made
-build_operators::build_set-returns-in_err-x-in-Bump-clause-made t c = IfOk-from_err c.from_residual-in_err-x-in-Bump.result _ c.from_residual-in_err-x-in-Bump.ensures.0
-
-pub build_operators::build_set-returns-in_err-x-in-Bump-clause-kind : goal.build_operators::build_set-returns-in_err-x-in-Bump-clause-kind
-build_operators::build_set-returns-in_err-x-in-Bump-clause-kind t c = IfOk-from_err c.from_residual-in_err-x-in-Bump.result _ c.from_residual-in_err-x-in-Bump.ensures.0
-
-pub build_operators::build_set-returns-in_err-x-in-Bump-clause-locals : goal.build_operators::build_set-returns-in_err-x-in-Bump-clause-locals
-build_operators::build_set-returns-in_err-x-in-Bump-clause-locals t c = IfOk-from_err c.from_residual-in_err-x-in-Bump.result _ c.from_residual-in_err-x-in-Bump.ensures.0
-
-pub build_operators::build_set-returns-in_err-x-in-Bump-clause-routines : goal.build_operators::build_set-returns-in_err-x-in-Bump-clause-routines
-build_operators::build_set-returns-in_err-x-in-Bump-clause-routines t c = IfOk-from_err c.from_residual-in_err-x-in-Bump.result _ c.from_residual-in_err-x-in-Bump.ensures.0
-
-pub build_operators::build_set-returns-in_err-x-in-Bump-clause-local : goal.build_operators::build_set-returns-in_err-x-in-Bump-clause-local
-build_operators::build_set-returns-in_err-x-in-Bump-clause-local t c = IfOk-from_err c.from_residual-in_err-x-in-Bump.result _ c.from_residual-in_err-x-in-Bump.ensures.0
-
-pub build_operators::build_set-returns-in_err-x-in-Bump-clause-function : goal.build_operators::build_set-returns-in_err-x-in-Bump-clause-function
-build_operators::build_set-returns-in_err-x-in-Bump-clause-function t c = IfOk-from_err c.from_residual-in_err-x-in-Bump.result _ c.from_residual-in_err-x-in-Bump.ensures.0
-
-pub build_members::build_member-returns-in_err-x-in-Member-clause-made : goal.build_members::build_member-returns-in_err-x-in-Member-clause-made
-build_members::build_member-returns-in_err-x-in-Member-clause-made t c = IfOk-from_err c.from_residual.result _ c.from_residual.ensures.0
-
-pub build_members::build_member-returns-in_err-x-in-Member-clause-kind : goal.build_members::build_member-returns-in_err-x-in-Member-clause-kind
-build_members::build_member-returns-in_err-x-in-Member-clause-kind t c = IfOk-from_err c.from_residual.result _ c.from_residual.ensures.0
-
-pub build_members::build_member-returns-in_err-x-in-Member-clause-locals : goal.build_members::build_member-returns-in_err-x-in-Member-clause-locals
-build_members::build_member-returns-in_err-x-in-Member-clause-locals t c = IfOk-from_err c.from_residual.result _ c.from_residual.ensures.0
-
-pub build_members::build_member-returns-in_err-x-in-Member-clause-routines : goal.build_members::build_member-returns-in_err-x-in-Member-clause-routines
-build_members::build_member-returns-in_err-x-in-Member-clause-routines t c = IfOk-from_err c.from_residual.result _ c.from_residual.ensures.0
-
-pub build_members::build_member-returns-in_err-x-in-Member-clause-local : goal.build_members::build_member-returns-in_err-x-in-Member-clause-local
-build_members::build_member-returns-in_err-x-in-Member-clause-local t c = IfOk-from_err c.from_residual.result _ c.from_residual.ensures.0
-
-pub build_members::build_member-returns-in_err-x-in-Member-clause-function : goal.build_members::build_member-returns-in_err-x-in-Member-clause-function
-build_members::build_member-returns-in_err-x-in-Member-clause-function t c = IfOk-from_err c.from_residual.result _ c.from_residual.ensures.0
-
-pub build_members::build_member-returns-in_err-tree-in-Member-clause-made : goal.build_members::build_member-returns-in_err-tree-in-Member-clause-made
-build_members::build_member-returns-in_err-tree-in-Member-clause-made t c = IfOk-from_err c.from_residual-in_err-tree-in-Member.result _ c.from_residual-in_err-tree-in-Member.ensures.0
-
-pub build_members::build_member-returns-in_err-tree-in-Member-clause-kind : goal.build_members::build_member-returns-in_err-tree-in-Member-clause-kind
-build_members::build_member-returns-in_err-tree-in-Member-clause-kind t c = IfOk-from_err c.from_residual-in_err-tree-in-Member.result _ c.from_residual-in_err-tree-in-Member.ensures.0
-
-pub build_members::build_member-returns-in_err-tree-in-Member-clause-locals : goal.build_members::build_member-returns-in_err-tree-in-Member-clause-locals
-build_members::build_member-returns-in_err-tree-in-Member-clause-locals t c = IfOk-from_err c.from_residual-in_err-tree-in-Member.result _ c.from_residual-in_err-tree-in-Member.ensures.0
-
-pub build_members::build_member-returns-in_err-tree-in-Member-clause-routines : goal.build_members::build_member-returns-in_err-tree-in-Member-clause-routines
-build_members::build_member-returns-in_err-tree-in-Member-clause-routines t c = IfOk-from_err c.from_residual-in_err-tree-in-Member.result _ c.from_residual-in_err-tree-in-Member.ensures.0
-
-pub build_members::build_member-returns-in_err-tree-in-Member-clause-local : goal.build_members::build_member-returns-in_err-tree-in-Member-clause-local
-build_members::build_member-returns-in_err-tree-in-Member-clause-local t c = IfOk-from_err c.from_residual-in_err-tree-in-Member.result _ c.from_residual-in_err-tree-in-Member.ensures.0
-
-pub build_members::build_member-returns-in_err-tree-in-Member-clause-function : goal.build_members::build_member-returns-in_err-tree-in-Member-clause-function
-build_members::build_member-returns-in_err-tree-in-Member-clause-function t c = IfOk-from_err c.from_residual-in_err-tree-in-Member.result _ c.from_residual-in_err-tree-in-Member.ensures.0
-
-pub build_members::build_three-returns-in_err-test-in-Choice-clause-test : goal.build_members::build_three-returns-in_err-test-in-Choice-clause-test
-build_members::build_three-returns-in_err-test-in-Choice-clause-test t c = IfOk-from_err c.from_residual.result _ c.from_residual.ensures.0
-
-pub build_members::build_three-returns-in_err-test-in-Choice-clause-first : goal.build_members::build_three-returns-in_err-test-in-Choice-clause-first
-build_members::build_three-returns-in_err-test-in-Choice-clause-first t c = IfOk-from_err c.from_residual.result _ c.from_residual.ensures.0
-
-pub build_members::build_three-returns-in_err-test-in-Choice-clause-second : goal.build_members::build_three-returns-in_err-test-in-Choice-clause-second
-build_members::build_three-returns-in_err-test-in-Choice-clause-second t c = IfOk-from_err c.from_residual.result _ c.from_residual.ensures.0
-
-pub build_members::build_three-returns-in_err-test-in-Choice-clause-test_kind : goal.build_members::build_three-returns-in_err-test-in-Choice-clause-test_kind
-build_members::build_three-returns-in_err-test-in-Choice-clause-test_kind t c = IfOk-from_err c.from_residual.result _ c.from_residual.ensures.0
-
-pub build_members::build_three-returns-in_err-test-in-Choice-clause-first_kind : goal.build_members::build_three-returns-in_err-test-in-Choice-clause-first_kind
-build_members::build_three-returns-in_err-test-in-Choice-clause-first_kind t c = IfOk-from_err c.from_residual.result _ c.from_residual.ensures.0
-
-pub build_members::build_three-returns-in_err-test-in-Choice-clause-second_kind : goal.build_members::build_three-returns-in_err-test-in-Choice-clause-second_kind
-build_members::build_three-returns-in_err-test-in-Choice-clause-second_kind t c = IfOk-from_err c.from_residual.result _ c.from_residual.ensures.0
-
-pub build_members::build_three-returns-in_err-test-in-Choice-clause-locals : goal.build_members::build_three-returns-in_err-test-in-Choice-clause-locals
-build_members::build_three-returns-in_err-test-in-Choice-clause-locals t c = IfOk-from_err c.from_residual.result _ c.from_residual.ensures.0
-
-pub build_members::build_three-returns-in_err-test-in-Choice-clause-routines : goal.build_members::build_three-returns-in_err-test-in-Choice-clause-routines
-build_members::build_three-returns-in_err-test-in-Choice-clause-routines t c = IfOk-from_err c.from_residual.result _ c.from_residual.ensures.0
-
-pub build_members::build_three-returns-in_err-test-in-Choice-clause-local : goal.build_members::build_three-returns-in_err-test-in-Choice-clause-local
-build_members::build_three-returns-in_err-test-in-Choice-clause-local t c = IfOk-from_err c.from_residual.result _ c.from_residual.ensures.0
-
-pub build_members::build_three-returns-in_err-test-in-Choice-clause-function : goal.build_members::build_three-returns-in_err-test-in-Choice-clause-function
-build_members::build_three-returns-in_err-test-in-Choice-clause-function t c = IfOk-from_err c.from_residual.result _ c.from_residual.ensures.0
-
-pub build_members::build_three-returns-in_err-parts-in-Choice-clause-test : goal.build_members::build_three-returns-in_err-parts-in-Choice-clause-test
-build_members::build_three-returns-in_err-parts-in-Choice-clause-test t c = IfOk-from_err c.from_residual-in_err-parts-in-Choice.result _ c.from_residual-in_err-parts-in-Choice.ensures.0
-
-pub build_members::build_three-returns-in_err-parts-in-Choice-clause-first : goal.build_members::build_three-returns-in_err-parts-in-Choice-clause-first
-build_members::build_three-returns-in_err-parts-in-Choice-clause-first t c = IfOk-from_err c.from_residual-in_err-parts-in-Choice.result _ c.from_residual-in_err-parts-in-Choice.ensures.0
-
-pub build_members::build_three-returns-in_err-parts-in-Choice-clause-second : goal.build_members::build_three-returns-in_err-parts-in-Choice-clause-second
-build_members::build_three-returns-in_err-parts-in-Choice-clause-second t c = IfOk-from_err c.from_residual-in_err-parts-in-Choice.result _ c.from_residual-in_err-parts-in-Choice.ensures.0
-
-pub build_members::build_three-returns-in_err-parts-in-Choice-clause-test_kind : goal.build_members::build_three-returns-in_err-parts-in-Choice-clause-test_kind
-build_members::build_three-returns-in_err-parts-in-Choice-clause-test_kind t c = IfOk-from_err c.from_residual-in_err-parts-in-Choice.result _ c.from_residual-in_err-parts-in-Choice.ensures.0
-
-pub build_members::build_three-returns-in_err-parts-in-Choice-clause-first_kind : goal.build_members::build_three-returns-in_err-parts-in-Choice-clause-first_kind
-build_members::build_three-returns-in_err-parts-in-Choice-clause-first_kind t c = IfOk-from_err c.from_residual-in_err-parts-in-Choice.result _ c.from_residual-in_err-parts-in-Choice.ensures.0
-
-pub build_members::build_three-returns-in_err-parts-in-Choice-clause-second_kind : goal.build_members::build_three-returns-in_err-parts-in-Choice-clause-second_kind
-build_members::build_three-returns-in_err-parts-in-Choice-clause-second_kind t c = IfOk-from_err c.from_residual-in_err-parts-in-Choice.result _ c.from_residual-in_err-parts-in-Choice.ensures.0
-
-pub build_members::build_three-returns-in_err-parts-in-Choice-clause-locals : goal.build_members::build_three-returns-in_err-parts-in-Choice-clause-locals
-build_members::build_three-returns-in_err-parts-in-Choice-clause-locals t c = IfOk-from_err c.from_residual-in_err-parts-in-Choice.result _ c.from_residual-in_err-parts-in-Choice.ensures.0
-
-pub build_members::build_three-returns-in_err-parts-in-Choice-clause-routines : goal.build_members::build_three-returns-in_err-parts-in-Choice-clause-routines
-build_members::build_three-returns-in_err-parts-in-Choice-clause-routines t c = IfOk-from_err c.from_residual-in_err-parts-in-Choice.result _ c.from_residual-in_err-parts-in-Choice.ensures.0
-
-pub build_members::build_three-returns-in_err-parts-in-Choice-clause-local : goal.build_members::build_three-returns-in_err-parts-in-Choice-clause-local
-build_members::build_three-returns-in_err-parts-in-Choice-clause-local t c = IfOk-from_err c.from_residual-in_err-parts-in-Choice.result _ c.from_residual-in_err-parts-in-Choice.ensures.0
-
-pub build_members::build_three-returns-in_err-parts-in-Choice-clause-function : goal.build_members::build_three-returns-in_err-parts-in-Choice-clause-function
-build_members::build_three-returns-in_err-parts-in-Choice-clause-function t c = IfOk-from_err c.from_residual-in_err-parts-in-Choice.result _ c.from_residual-in_err-parts-in-Choice.ensures.0
-
-pub build_members::build_choice-returns-in_err-three-in-Choice-clause-made : goal.build_members::build_choice-returns-in_err-three-in-Choice-clause-made
-build_members::build_choice-returns-in_err-three-in-Choice-clause-made t c = IfOk-from_err c.from_residual.result _ c.from_residual.ensures.0
-
-pub build_members::build_choice-returns-in_err-three-in-Choice-clause-kind : goal.build_members::build_choice-returns-in_err-three-in-Choice-clause-kind
-build_members::build_choice-returns-in_err-three-in-Choice-clause-kind t c = IfOk-from_err c.from_residual.result _ c.from_residual.ensures.0
-
-pub build_members::build_choice-returns-in_err-three-in-Choice-clause-locals : goal.build_members::build_choice-returns-in_err-three-in-Choice-clause-locals
-build_members::build_choice-returns-in_err-three-in-Choice-clause-locals t c = IfOk-from_err c.from_residual.result _ c.from_residual.ensures.0
-
-pub build_members::build_choice-returns-in_err-three-in-Choice-clause-routines : goal.build_members::build_choice-returns-in_err-three-in-Choice-clause-routines
-build_members::build_choice-returns-in_err-three-in-Choice-clause-routines t c = IfOk-from_err c.from_residual.result _ c.from_residual.ensures.0
-
-pub build_members::build_choice-returns-in_err-three-in-Choice-clause-local : goal.build_members::build_choice-returns-in_err-three-in-Choice-clause-local
-build_members::build_choice-returns-in_err-three-in-Choice-clause-local t c = IfOk-from_err c.from_residual.result _ c.from_residual.ensures.0
-
-pub build_members::build_choice-returns-in_err-three-in-Choice-clause-function : goal.build_members::build_choice-returns-in_err-three-in-Choice-clause-function
-build_members::build_choice-returns-in_err-three-in-Choice-clause-function t c = IfOk-from_err c.from_residual.result _ c.from_residual.ensures.0
 
 pub build_locals::build_value-returns-in_err-e-in-Some : goal.build_locals::build_value-returns-in_err-e-in-Some
 build_locals::build_value-returns-in_err-e-in-Some t c = IfOk-from_err c.from_residual.result _ c.from_residual.ensures.0
@@ -1405,38 +838,255 @@ build_routines::build_inner-returns-in_err-stmts-clause-inner t c = IfOk-from_er
 pub build_routines::build_inner-returns-in_err-stmts-clause-behind : goal.build_routines::build_inner-returns-in_err-stmts-clause-behind
 build_routines::build_inner-returns-in_err-stmts-clause-behind t c = IfOk-from_err c.from_residual-in_err-stmts.result _ c.from_residual-in_err-stmts.ensures.0
 
-pub build_routines::build_handler-returns-in_err-inner-in-Handler-clause-made : goal.build_routines::build_handler-returns-in_err-inner-in-Handler-clause-made
-build_routines::build_handler-returns-in_err-inner-in-Handler-clause-made t c = IfOk-from_err c.from_residual.result _ c.from_residual.ensures.0
+pub build_trees::build_tree-returns-in-Num-clause-built : goal.build_trees::build_tree-returns-in-Num-clause-built
+build_trees::build_tree-returns-in-Num-clause-built t c = let h : typed_tree c.number_leaf.result.tree ≡ e.Num v.Number c.in-Num.v = search rules in num_built c.args.plan.now (s.site c.args.site.now) c.args.given c.args.e.now c.in-Num.v c.args.builder.now (typed_tree c.number_leaf.result.tree) c.in-Num.is h
 
-pub build_routines::build_handler-returns-in_err-inner-in-Handler-clause-kind : goal.build_routines::build_handler-returns-in_err-inner-in-Handler-clause-kind
-build_routines::build_handler-returns-in_err-inner-in-Handler-clause-kind t c = IfOk-from_err c.from_residual.result _ c.from_residual.ensures.0
+pub build_trees::build_tree-returns-in-Num-clause-kind : goal.build_trees::build_tree-returns-in-Num-clause-kind
+build_trees::build_tree-returns-in-Num-clause-kind t c = num_kind c.args.plan.now (s.site c.args.site.now) c.args.given c.args.e.now c.in-Num.v c.number_leaf.result.kind c.in-Num.is c.number_leaf.ensures.kind
 
-pub build_routines::build_handler-returns-in_err-inner-in-Handler-clause-locals : goal.build_routines::build_handler-returns-in_err-inner-in-Handler-clause-locals
-build_routines::build_handler-returns-in_err-inner-in-Handler-clause-locals t c = IfOk-from_err c.from_residual.result _ c.from_residual.ensures.0
+pub build_trees::build_tree-returns-in-Text-clause-built : goal.build_trees::build_tree-returns-in-Text-clause-built
+build_trees::build_tree-returns-in-Text-clause-built t c = text_built c.args.plan.now (s.site c.args.site.now) c.args.given c.args.e.now c.in-Text.v c.args.builder.now (typed_tree c.text_leaf.result.tree) c.in-Text.is c.text_leaf.ensures.tree
 
-pub build_routines::build_handler-returns-in_err-inner-in-Handler-clause-routines : goal.build_routines::build_handler-returns-in_err-inner-in-Handler-clause-routines
-build_routines::build_handler-returns-in_err-inner-in-Handler-clause-routines t c = IfOk-from_err c.from_residual.result _ c.from_residual.ensures.0
+pub build_trees::build_tree-returns-in-Text-clause-kind : goal.build_trees::build_tree-returns-in-Text-clause-kind
+build_trees::build_tree-returns-in-Text-clause-kind t c = text_kind c.args.plan.now (s.site c.args.site.now) c.args.given c.args.e.now c.in-Text.v c.text_leaf.result.kind c.in-Text.is c.text_leaf.ensures.kind
 
-pub build_routines::build_handler-returns-in_err-inner-in-Handler-clause-local : goal.build_routines::build_handler-returns-in_err-inner-in-Handler-clause-local
-build_routines::build_handler-returns-in_err-inner-in-Handler-clause-local t c = IfOk-from_err c.from_residual.result _ c.from_residual.ensures.0
+pub build_trees::build_tree-returns-in-Truth-clause-built : goal.build_trees::build_tree-returns-in-Truth-clause-built
+build_trees::build_tree-returns-in-Truth-clause-built t c = truth_built c.args.plan.now (s.site c.args.site.now) c.args.given c.args.e.now c.in-Truth.v c.args.builder.now (typed_tree c.truth_leaf.result.tree) c.in-Truth.is c.truth_leaf.ensures.tree
 
-pub build_routines::build_handler-returns-in_err-inner-in-Handler-clause-function : goal.build_routines::build_handler-returns-in_err-inner-in-Handler-clause-function
-build_routines::build_handler-returns-in_err-inner-in-Handler-clause-function t c = IfOk-from_err c.from_residual.result _ c.from_residual.ensures.0
+pub build_trees::build_tree-returns-in-Truth-clause-kind : goal.build_trees::build_tree-returns-in-Truth-clause-kind
+build_trees::build_tree-returns-in-Truth-clause-kind t c = truth_kind c.args.plan.now (s.site c.args.site.now) c.args.given c.args.e.now c.in-Truth.v c.truth_leaf.result.kind c.in-Truth.is c.truth_leaf.ensures.kind
 
-pub build_routines::build_handler-returns-in_err-add-in-Handler-clause-made : goal.build_routines::build_handler-returns-in_err-add-in-Handler-clause-made
-build_routines::build_handler-returns-in_err-add-in-Handler-clause-made t c = IfOk-from_err c.from_residual-in_err-add-in-Handler.result _ c.from_residual-in_err-add-in-Handler.ensures.0
+pub build_trees::build_tree-returns-in-Null-clause-built : goal.build_trees::build_tree-returns-in-Null-clause-built
+build_trees::build_tree-returns-in-Null-clause-built t c = null_built c.args.plan.now (s.site c.args.site.now) c.args.given c.args.e.now c.args.builder.now (typed_tree c.null_leaf.result.tree) c.in-Null.is c.null_leaf.ensures.tree
 
-pub build_routines::build_handler-returns-in_err-add-in-Handler-clause-kind : goal.build_routines::build_handler-returns-in_err-add-in-Handler-clause-kind
-build_routines::build_handler-returns-in_err-add-in-Handler-clause-kind t c = IfOk-from_err c.from_residual-in_err-add-in-Handler.result _ c.from_residual-in_err-add-in-Handler.ensures.0
+pub build_trees::build_tree-returns-in-Null-clause-kind : goal.build_trees::build_tree-returns-in-Null-clause-kind
+build_trees::build_tree-returns-in-Null-clause-kind t c = null_kind c.args.plan.now (s.site c.args.site.now) c.args.given c.args.e.now c.null_leaf.result.kind c.in-Null.is c.null_leaf.ensures.kind
 
-pub build_routines::build_handler-returns-in_err-add-in-Handler-clause-locals : goal.build_routines::build_handler-returns-in_err-add-in-Handler-clause-locals
-build_routines::build_handler-returns-in_err-add-in-Handler-clause-locals t c = IfOk-from_err c.from_residual-in_err-add-in-Handler.result _ c.from_residual-in_err-add-in-Handler.ensures.0
+pub build_trees::build_tree-returns-in-This-clause-built : goal.build_trees::build_tree-returns-in-This-clause-built
+build_trees::build_tree-returns-in-This-clause-built t c = this_built c.args.plan.now (s.site c.args.site.now) c.args.given c.args.e.now c.args.builder.now (typed_tree c.this_leaf.result.tree) c.in-This.is c.this_leaf.ensures.tree
 
-pub build_routines::build_handler-returns-in_err-add-in-Handler-clause-routines : goal.build_routines::build_handler-returns-in_err-add-in-Handler-clause-routines
-build_routines::build_handler-returns-in_err-add-in-Handler-clause-routines t c = IfOk-from_err c.from_residual-in_err-add-in-Handler.result _ c.from_residual-in_err-add-in-Handler.ensures.0
+pub build_trees::build_tree-returns-in-This-clause-kind : goal.build_trees::build_tree-returns-in-This-clause-kind
+build_trees::build_tree-returns-in-This-clause-kind t c = this_kind c.args.plan.now (s.site c.args.site.now) c.args.given c.args.e.now c.this_leaf.result.kind c.in-This.is c.this_leaf.ensures.kind
 
-pub build_routines::build_handler-returns-in_err-add-in-Handler-clause-local : goal.build_routines::build_handler-returns-in_err-add-in-Handler-clause-local
-build_routines::build_handler-returns-in_err-add-in-Handler-clause-local t c = IfOk-from_err c.from_residual-in_err-add-in-Handler.result _ c.from_residual-in_err-add-in-Handler.ensures.0
+pub build_trees::build_tree-returns-in-Name-clause-built : goal.build_trees::build_tree-returns-in-Name-clause-built
+build_trees::build_tree-returns-in-Name-clause-built t c = IfOk-weaker c.name_leaf.result _ _ (λ r h. name_built c.args.plan.now (s.site c.args.site.now) c.args.given c.args.e.now c.in-Name.x c.args.builder.now (typed_tree r.tree) c.in-Name.is h) c.name_leaf.ensures.tree
 
-pub build_routines::build_handler-returns-in_err-add-in-Handler-clause-function : goal.build_routines::build_handler-returns-in_err-add-in-Handler-clause-function
-build_routines::build_handler-returns-in_err-add-in-Handler-clause-function t c = IfOk-from_err c.from_residual-in_err-add-in-Handler.result _ c.from_residual-in_err-add-in-Handler.ensures.0
+pub build_trees::build_tree-returns-in-Name-clause-kind : goal.build_trees::build_tree-returns-in-Name-clause-kind
+build_trees::build_tree-returns-in-Name-clause-kind t c = IfOk-weaker c.name_leaf.result _ _ (λ r h. name_kind c.args.plan.now (s.site c.args.site.now) c.args.given c.args.e.now c.in-Name.x r.kind c.in-Name.is h) c.name_leaf.ensures.kind
+
+pub build_trees::build_tree-returns-in_ok-x-in-Unary-clause-built : goal.build_trees::build_tree-returns-in_ok-x-in-Unary-clause-built
+build_trees::build_tree-returns-in_ok-x-in-Unary-clause-built t c = unary_built c.args.plan.now (s.site c.args.site.now) c.args.given c.args.e.now c.in-Unary.op c.in-Unary.a c.deref.result.now c.args.builder.now c.build_part.new.builder c.in_ok-x-in-Unary.x (typed_tree c.prefix_of.result.tree) c.in-Unary.is c.deref.ensures c.in_ok-x-in-Unary.ensures.kind c.prefix_of.ensures.tree c.in_ok-x-in-Unary.ensures.built
+
+pub build_trees::build_tree-returns-in_ok-x-in-Unary-clause-kind : goal.build_trees::build_tree-returns-in_ok-x-in-Unary-clause-kind
+build_trees::build_tree-returns-in_ok-x-in-Unary-clause-kind t c = unary_kind c.args.plan.now (s.site c.args.site.now) c.args.given c.args.e.now c.in-Unary.op c.in-Unary.a c.deref.result.now c.in_ok-x-in-Unary.x.kind c.prefix_of.result.kind c.in-Unary.is c.deref.ensures c.in_ok-x-in-Unary.ensures.kind c.prefix_of.ensures.kind
+
+pub build_trees::build_tree-returns-in_err-x-in-Unary-clause-built : goal.build_trees::build_tree-returns-in_err-x-in-Unary-clause-built
+build_trees::build_tree-returns-in_err-x-in-Unary-clause-built t c = IfOk-from_err c.from_residual.result _ c.from_residual.ensures.0
+
+pub build_trees::build_tree-returns-in_err-x-in-Unary-clause-kind : goal.build_trees::build_tree-returns-in_err-x-in-Unary-clause-kind
+build_trees::build_tree-returns-in_err-x-in-Unary-clause-kind t c = IfOk-from_err c.from_residual.result _ c.from_residual.ensures.0
+
+pub build_trees::build_tree-returns-in_ok-x-in-Binary-clause-built : goal.build_trees::build_tree-returns-in_ok-x-in-Binary-clause-built
+build_trees::build_tree-returns-in_ok-x-in-Binary-clause-built t c = IfOk-weaker c.build_last.result _ _ (λ r h. two_built c.args.plan.now (s.site c.args.site.now) c.args.given (o.Binary c.in-Binary.op) (tree c.args.e.now) (tree c.deref-in-Binary.result.now) (tree c.deref-in-Binary-2.result.now) c.args.builder.now c.build_part-in-Binary.new.builder c.build_last.new.builder c.in_ok-x-in-Binary.x.kind (typed_tree c.in_ok-x-in-Binary.x.tree.value) (typed_tree r.tree) (binary_is c.args.plan.now (s.site c.args.site.now) c.args.given c.args.e.now c.in-Binary.op c.in-Binary.a c.in-Binary.b c.deref-in-Binary.result.now c.deref-in-Binary-2.result.now c.in-Binary.is c.deref-in-Binary.ensures c.deref-in-Binary-2.ensures) c.in_ok-x-in-Binary.ensures.kind c.in_ok-x-in-Binary.ensures.built h) c.build_last.ensures.built
+
+pub build_trees::build_tree-returns-in_ok-x-in-Binary-clause-kind : goal.build_trees::build_tree-returns-in_ok-x-in-Binary-clause-kind
+build_trees::build_tree-returns-in_ok-x-in-Binary-clause-kind t c = IfOk-weaker c.build_last.result _ _ (λ r h. two_kind c.args.plan.now (s.site c.args.site.now) c.args.given (o.Binary c.in-Binary.op) (tree c.args.e.now) (tree c.deref-in-Binary.result.now) (tree c.deref-in-Binary-2.result.now) c.in_ok-x-in-Binary.x.kind r.kind (binary_is c.args.plan.now (s.site c.args.site.now) c.args.given c.args.e.now c.in-Binary.op c.in-Binary.a c.in-Binary.b c.deref-in-Binary.result.now c.deref-in-Binary-2.result.now c.in-Binary.is c.deref-in-Binary.ensures c.deref-in-Binary-2.ensures) c.in_ok-x-in-Binary.ensures.kind h) c.build_last.ensures.kind
+
+pub build_trees::build_tree-returns-in_err-x-in-Binary-clause-built : goal.build_trees::build_tree-returns-in_err-x-in-Binary-clause-built
+build_trees::build_tree-returns-in_err-x-in-Binary-clause-built t c = IfOk-from_err c.from_residual-in_err-x-in-Binary.result _ c.from_residual-in_err-x-in-Binary.ensures.0
+
+pub build_trees::build_tree-returns-in_err-x-in-Binary-clause-kind : goal.build_trees::build_tree-returns-in_err-x-in-Binary-clause-kind
+build_trees::build_tree-returns-in_err-x-in-Binary-clause-kind t c = IfOk-from_err c.from_residual-in_err-x-in-Binary.result _ c.from_residual-in_err-x-in-Binary.ensures.0
+
+pub build_trees::build_tree-returns-in_ok-x-in-Both-clause-built : goal.build_trees::build_tree-returns-in_ok-x-in-Both-clause-built
+build_trees::build_tree-returns-in_ok-x-in-Both-clause-built t c = IfOk-weaker c.build_last-in-Both.result _ _ (λ r h. two_built c.args.plan.now (s.site c.args.site.now) c.args.given o.Both (tree c.args.e.now) (tree c.deref-in-Both.result.now) (tree c.deref-in-Both-2.result.now) c.args.builder.now c.build_part-in-Both.new.builder c.build_last-in-Both.new.builder c.in_ok-x-in-Both.x.kind (typed_tree c.in_ok-x-in-Both.x.tree.value) (typed_tree r.tree) (both_is c.args.plan.now (s.site c.args.site.now) c.args.given c.args.e.now c.in-Both.a c.in-Both.b c.deref-in-Both.result.now c.deref-in-Both-2.result.now c.in-Both.is c.deref-in-Both.ensures c.deref-in-Both-2.ensures) c.in_ok-x-in-Both.ensures.kind c.in_ok-x-in-Both.ensures.built h) c.build_last-in-Both.ensures.built
+
+pub build_trees::build_tree-returns-in_ok-x-in-Both-clause-kind : goal.build_trees::build_tree-returns-in_ok-x-in-Both-clause-kind
+build_trees::build_tree-returns-in_ok-x-in-Both-clause-kind t c = IfOk-weaker c.build_last-in-Both.result _ _ (λ r h. two_kind c.args.plan.now (s.site c.args.site.now) c.args.given o.Both (tree c.args.e.now) (tree c.deref-in-Both.result.now) (tree c.deref-in-Both-2.result.now) c.in_ok-x-in-Both.x.kind r.kind (both_is c.args.plan.now (s.site c.args.site.now) c.args.given c.args.e.now c.in-Both.a c.in-Both.b c.deref-in-Both.result.now c.deref-in-Both-2.result.now c.in-Both.is c.deref-in-Both.ensures c.deref-in-Both-2.ensures) c.in_ok-x-in-Both.ensures.kind h) c.build_last-in-Both.ensures.kind
+
+pub build_trees::build_tree-returns-in_err-x-in-Both-clause-built : goal.build_trees::build_tree-returns-in_err-x-in-Both-clause-built
+build_trees::build_tree-returns-in_err-x-in-Both-clause-built t c = IfOk-from_err c.from_residual-in_err-x-in-Both.result _ c.from_residual-in_err-x-in-Both.ensures.0
+
+pub build_trees::build_tree-returns-in_err-x-in-Both-clause-kind : goal.build_trees::build_tree-returns-in_err-x-in-Both-clause-kind
+build_trees::build_tree-returns-in_err-x-in-Both-clause-kind t c = IfOk-from_err c.from_residual-in_err-x-in-Both.result _ c.from_residual-in_err-x-in-Both.ensures.0
+
+pub build_trees::build_tree-returns-in_ok-x-in-Either-clause-built : goal.build_trees::build_tree-returns-in_ok-x-in-Either-clause-built
+build_trees::build_tree-returns-in_ok-x-in-Either-clause-built t c = IfOk-weaker c.build_last-in-Either.result _ _ (λ r h. two_built c.args.plan.now (s.site c.args.site.now) c.args.given o.Either (tree c.args.e.now) (tree c.deref-in-Either.result.now) (tree c.deref-in-Either-2.result.now) c.args.builder.now c.build_part-in-Either.new.builder c.build_last-in-Either.new.builder c.in_ok-x-in-Either.x.kind (typed_tree c.in_ok-x-in-Either.x.tree.value) (typed_tree r.tree) (either_is c.args.plan.now (s.site c.args.site.now) c.args.given c.args.e.now c.in-Either.a c.in-Either.b c.deref-in-Either.result.now c.deref-in-Either-2.result.now c.in-Either.is c.deref-in-Either.ensures c.deref-in-Either-2.ensures) c.in_ok-x-in-Either.ensures.kind c.in_ok-x-in-Either.ensures.built h) c.build_last-in-Either.ensures.built
+
+pub build_trees::build_tree-returns-in_ok-x-in-Either-clause-kind : goal.build_trees::build_tree-returns-in_ok-x-in-Either-clause-kind
+build_trees::build_tree-returns-in_ok-x-in-Either-clause-kind t c = IfOk-weaker c.build_last-in-Either.result _ _ (λ r h. two_kind c.args.plan.now (s.site c.args.site.now) c.args.given o.Either (tree c.args.e.now) (tree c.deref-in-Either.result.now) (tree c.deref-in-Either-2.result.now) c.in_ok-x-in-Either.x.kind r.kind (either_is c.args.plan.now (s.site c.args.site.now) c.args.given c.args.e.now c.in-Either.a c.in-Either.b c.deref-in-Either.result.now c.deref-in-Either-2.result.now c.in-Either.is c.deref-in-Either.ensures c.deref-in-Either-2.ensures) c.in_ok-x-in-Either.ensures.kind h) c.build_last-in-Either.ensures.kind
+
+pub build_trees::build_tree-returns-in_err-x-in-Either-clause-built : goal.build_trees::build_tree-returns-in_err-x-in-Either-clause-built
+build_trees::build_tree-returns-in_err-x-in-Either-clause-built t c = IfOk-from_err c.from_residual-in_err-x-in-Either.result _ c.from_residual-in_err-x-in-Either.ensures.0
+
+pub build_trees::build_tree-returns-in_err-x-in-Either-clause-kind : goal.build_trees::build_tree-returns-in_err-x-in-Either-clause-kind
+build_trees::build_tree-returns-in_err-x-in-Either-clause-kind t c = IfOk-from_err c.from_residual-in_err-x-in-Either.result _ c.from_residual-in_err-x-in-Either.ensures.0
+
+pub build_trees::build_tree-returns-in_ok-x-in-Item-clause-built : goal.build_trees::build_tree-returns-in_ok-x-in-Item-clause-built
+build_trees::build_tree-returns-in_ok-x-in-Item-clause-built t c = IfOk-weaker c.build_last-in-Item.result _ _ (λ r h. two_built c.args.plan.now (s.site c.args.site.now) c.args.given o.Item (tree c.args.e.now) (tree c.deref-in-Item.result.now) (tree c.deref-in-Item-2.result.now) c.args.builder.now c.build_part-in-Item.new.builder c.build_last-in-Item.new.builder c.in_ok-x-in-Item.x.kind (typed_tree c.in_ok-x-in-Item.x.tree.value) (typed_tree r.tree) (item_is c.args.plan.now (s.site c.args.site.now) c.args.given c.args.e.now c.in-Item.a c.in-Item.b c.deref-in-Item.result.now c.deref-in-Item-2.result.now c.in-Item.is c.deref-in-Item.ensures c.deref-in-Item-2.ensures) c.in_ok-x-in-Item.ensures.kind c.in_ok-x-in-Item.ensures.built h) c.build_last-in-Item.ensures.built
+
+pub build_trees::build_tree-returns-in_ok-x-in-Item-clause-kind : goal.build_trees::build_tree-returns-in_ok-x-in-Item-clause-kind
+build_trees::build_tree-returns-in_ok-x-in-Item-clause-kind t c = IfOk-weaker c.build_last-in-Item.result _ _ (λ r h. two_kind c.args.plan.now (s.site c.args.site.now) c.args.given o.Item (tree c.args.e.now) (tree c.deref-in-Item.result.now) (tree c.deref-in-Item-2.result.now) c.in_ok-x-in-Item.x.kind r.kind (item_is c.args.plan.now (s.site c.args.site.now) c.args.given c.args.e.now c.in-Item.a c.in-Item.b c.deref-in-Item.result.now c.deref-in-Item-2.result.now c.in-Item.is c.deref-in-Item.ensures c.deref-in-Item-2.ensures) c.in_ok-x-in-Item.ensures.kind h) c.build_last-in-Item.ensures.kind
+
+pub build_trees::build_tree-returns-in_err-x-in-Item-clause-built : goal.build_trees::build_tree-returns-in_err-x-in-Item-clause-built
+build_trees::build_tree-returns-in_err-x-in-Item-clause-built t c = IfOk-from_err c.from_residual-in_err-x-in-Item.result _ c.from_residual-in_err-x-in-Item.ensures.0
+
+pub build_trees::build_tree-returns-in_err-x-in-Item-clause-kind : goal.build_trees::build_tree-returns-in_err-x-in-Item-clause-kind
+build_trees::build_tree-returns-in_err-x-in-Item-clause-kind t c = IfOk-from_err c.from_residual-in_err-x-in-Item.result _ c.from_residual-in_err-x-in-Item.ensures.0
+
+pub build_trees::build_tree-returns-in_ok-x-in-Set-clause-built : goal.build_trees::build_tree-returns-in_ok-x-in-Set-clause-built
+build_trees::build_tree-returns-in_ok-x-in-Set-clause-built t c = IfOk-weaker c.build_last-in-Set.result _ _ (λ r h. two_built c.args.plan.now (s.site c.args.site.now) c.args.given (o.Set c.in-Set.op c.may_be_set-can.result) (tree c.args.e.now) (tree c.deref-in-Set.result.now) (tree c.deref-in-Set-4.result.now) c.args.builder.now c.build_part-in-Set.new.builder c.build_last-in-Set.new.builder c.in_ok-x-in-Set.x.kind (typed_tree c.in_ok-x-in-Set.x.tree.value) (typed_tree r.tree) (set_is c.args.plan.now (s.site c.args.site.now) c.args.given c.args.e.now c.in-Set.op c.in-Set.a c.in-Set.b c.deref-in-Set.result.now c.deref-in-Set-2.result.now c.deref-in-Set-4.result.now c.may_be_set-can.result c.in-Set.is c.deref-in-Set.ensures c.deref-in-Set-2.ensures c.deref-in-Set-4.ensures c.may_be_set-can.ensures) c.in_ok-x-in-Set.ensures.kind c.in_ok-x-in-Set.ensures.built h) c.build_last-in-Set.ensures.built
+
+pub build_trees::build_tree-returns-in_ok-x-in-Set-clause-kind : goal.build_trees::build_tree-returns-in_ok-x-in-Set-clause-kind
+build_trees::build_tree-returns-in_ok-x-in-Set-clause-kind t c = IfOk-weaker c.build_last-in-Set.result _ _ (λ r h. two_kind c.args.plan.now (s.site c.args.site.now) c.args.given (o.Set c.in-Set.op c.may_be_set-can.result) (tree c.args.e.now) (tree c.deref-in-Set.result.now) (tree c.deref-in-Set-4.result.now) c.in_ok-x-in-Set.x.kind r.kind (set_is c.args.plan.now (s.site c.args.site.now) c.args.given c.args.e.now c.in-Set.op c.in-Set.a c.in-Set.b c.deref-in-Set.result.now c.deref-in-Set-2.result.now c.deref-in-Set-4.result.now c.may_be_set-can.result c.in-Set.is c.deref-in-Set.ensures c.deref-in-Set-2.ensures c.deref-in-Set-4.ensures c.may_be_set-can.ensures) c.in_ok-x-in-Set.ensures.kind h) c.build_last-in-Set.ensures.kind
+
+pub build_trees::build_tree-returns-in_err-x-in-Set-clause-built : goal.build_trees::build_tree-returns-in_err-x-in-Set-clause-built
+build_trees::build_tree-returns-in_err-x-in-Set-clause-built t c = IfOk-from_err c.from_residual-in_err-x-in-Set.result _ c.from_residual-in_err-x-in-Set.ensures.0
+
+pub build_trees::build_tree-returns-in_err-x-in-Set-clause-kind : goal.build_trees::build_tree-returns-in_err-x-in-Set-clause-kind
+build_trees::build_tree-returns-in_err-x-in-Set-clause-kind t c = IfOk-from_err c.from_residual-in_err-x-in-Set.result _ c.from_residual-in_err-x-in-Set.ensures.0
+
+pub build_trees::build_tree-may_be_set-can-requires : goal.build_trees::build_tree-may_be_set-can-requires
+build_trees::build_tree-may_be_set-can-requires t c = target_read c.args.plan.now (s.site c.args.site.now) c.deref-in-Set.result.now c.deref-in-Set-2.result.now c.in_ok-x-in-Set.x.tree.value c.deref-in-Set-3.result.now (c.deref-in-Set-2.ensures ∙ sym c.deref-in-Set.ensures) c.deref-in-Set-3.ensures (c.args.builder.now.local, c.args.builder.now.function, c.in_ok-x-in-Set.ensures.built.0)
+
+pub build_trees::build_tree-returns-in_ok-test-in-Choice-2-clause-built : goal.build_trees::build_tree-returns-in_ok-test-in-Choice-2-clause-built
+build_trees::build_tree-returns-in_ok-test-in-Choice-2-clause-built t c =
+    let k = c.in_ok-test-in-Choice-2.ensures.kept in let q = c.args.plan.now in let st = (s.site c.args.site.now) in let R = c.build_part-in-Choice-2.result in let X = c.in_ok-test-in-Choice-2.x in let o2 = c.in_ok-test-in-Choice-2.ensures.other in
+    IfOk-weaker c.build_last-in-Choice.result _ _ (λ r h. choice_built q st c.args.given c.args.e.now c.in-Choice.q c.in-Choice.a c.in-Choice.b c.deref-in-Choice.result.now c.deref-in-Choice-2.result.now c.deref-in-Choice-3.result.now c.args.builder.now c.build_part-in-Choice.new.builder c.build_part-in-Choice-2.new.builder c.build_last-in-Choice.new.builder c.in_ok-test-in-Choice-2.test X.kind (typed_tree X.tree.value) (typed_tree r.tree)
+    c.in-Choice.is c.deref-in-Choice.ensures c.deref-in-Choice-2.ensures c.deref-in-Choice-3.ensures (ap (λ (z : Part). z.kind) k ∙ c.in_ok-test-in-Choice.ensures.kind) (from_ok R X (λ z. z.kind ≡ s.tree_kind q st None (tree c.deref-in-Choice-2.result.now)) o2 c.build_part-in-Choice-2.ensures.kind)
+    (subst (λ (z : Part). IsBuilt c.args.builder.now c.build_part-in-Choice.new.builder (s.tree_made q st None (tree c.deref-in-Choice.result.now)) (typed_tree z.tree.value)) (sym k) c.in_ok-test-in-Choice.ensures.built)
+    (from_ok R X (λ z. IsBuilt c.build_part-in-Choice.new.builder c.build_part-in-Choice-2.new.builder (s.tree_made q st None (tree c.deref-in-Choice-2.result.now)) (typed_tree z.tree.value)) o2 c.build_part-in-Choice-2.ensures.built) h) c.build_last-in-Choice.ensures.built
+
+pub build_trees::build_tree-returns-in_ok-test-in-Choice-2-clause-kind : goal.build_trees::build_tree-returns-in_ok-test-in-Choice-2-clause-kind
+build_trees::build_tree-returns-in_ok-test-in-Choice-2-clause-kind t c =
+    let k = c.in_ok-test-in-Choice-2.ensures.kept in let q = c.args.plan.now in let st = (s.site c.args.site.now) in let R = c.build_part-in-Choice-2.result in let X = c.in_ok-test-in-Choice-2.x in let o2 = c.in_ok-test-in-Choice-2.ensures.other in
+    IfOk-weaker c.build_last-in-Choice.result _ _ (λ r h. choice_kind q st c.args.given c.args.e.now c.in-Choice.q c.in-Choice.a c.in-Choice.b c.deref-in-Choice.result.now c.deref-in-Choice-2.result.now c.deref-in-Choice-3.result.now c.in_ok-test-in-Choice-2.test X.kind r.kind c.in-Choice.is c.deref-in-Choice.ensures c.deref-in-Choice-2.ensures c.deref-in-Choice-3.ensures (ap (λ (z : Part). z.kind) k ∙ c.in_ok-test-in-Choice.ensures.kind) (from_ok R X (λ z. z.kind ≡ s.tree_kind q st None (tree c.deref-in-Choice-2.result.now)) o2 c.build_part-in-Choice-2.ensures.kind) h) c.build_last-in-Choice.ensures.kind
+
+pub build_trees::build_tree-returns-in_err-test-in-Choice-clause-built : goal.build_trees::build_tree-returns-in_err-test-in-Choice-clause-built
+build_trees::build_tree-returns-in_err-test-in-Choice-clause-built t c = IfOk-from_err c.from_residual-in_err-test-in-Choice.result _ c.from_residual-in_err-test-in-Choice.ensures.0
+
+pub build_trees::build_tree-returns-in_err-test-in-Choice-clause-kind : goal.build_trees::build_tree-returns-in_err-test-in-Choice-clause-kind
+build_trees::build_tree-returns-in_err-test-in-Choice-clause-kind t c = IfOk-from_err c.from_residual-in_err-test-in-Choice.result _ c.from_residual-in_err-test-in-Choice.ensures.0
+
+pub build_trees::build_tree-returns-in_err-test-in-Choice-2-clause-built : goal.build_trees::build_tree-returns-in_err-test-in-Choice-2-clause-built
+build_trees::build_tree-returns-in_err-test-in-Choice-2-clause-built t c = IfOk-from_err c.from_residual-in_err-test-in-Choice-2.result _ c.from_residual-in_err-test-in-Choice-2.ensures.0
+
+pub build_trees::build_tree-returns-in_err-test-in-Choice-2-clause-kind : goal.build_trees::build_tree-returns-in_err-test-in-Choice-2-clause-kind
+build_trees::build_tree-returns-in_err-test-in-Choice-2-clause-kind t c = IfOk-from_err c.from_residual-in_err-test-in-Choice-2.result _ c.from_residual-in_err-test-in-Choice-2.ensures.0
+
+pub build_trees::build_tree-returns-in_ok-x-in-Bump-clause-built : goal.build_trees::build_tree-returns-in_ok-x-in-Bump-clause-built
+build_trees::build_tree-returns-in_ok-x-in-Bump-clause-built t c = let h : typed_tree c.bump_of.result.tree ≡ e.Bump v.Number (typed_tree c.in_ok-x-in-Bump.x.tree.value) c.in-Bump.by c.in-Bump.after = search rules in bump_built c.args.plan.now (s.site c.args.site.now) c.args.given c.args.e.now c.in-Bump.target c.in-Bump.by c.in-Bump.after c.deref-in-Bump.result.now c.args.builder.now c.build_part-in-Bump.new.builder c.in_ok-x-in-Bump.x (typed_tree c.bump_of.result.tree) c.in-Bump.is c.deref-in-Bump.ensures h c.in_ok-x-in-Bump.ensures.built
+
+pub build_trees::build_tree-returns-in_ok-x-in-Bump-clause-kind : goal.build_trees::build_tree-returns-in_ok-x-in-Bump-clause-kind
+build_trees::build_tree-returns-in_ok-x-in-Bump-clause-kind t c = bump_kind c.args.plan.now (s.site c.args.site.now) c.args.given c.args.e.now c.in-Bump.target c.in-Bump.by c.in-Bump.after c.deref-in-Bump.result.now c.deref-in-Bump-2.result.now c.in_ok-x-in-Bump.x.kind c.bump_of.result.kind c.may_be_set-can-in-Bump.result c.in-Bump.is c.deref-in-Bump.ensures c.deref-in-Bump-2.ensures c.in_ok-x-in-Bump.ensures.kind c.may_be_set-can-in-Bump.ensures c.bump_of.ensures.kind
+
+pub build_trees::build_tree-returns-in_err-x-in-Bump-clause-built : goal.build_trees::build_tree-returns-in_err-x-in-Bump-clause-built
+build_trees::build_tree-returns-in_err-x-in-Bump-clause-built t c = IfOk-from_err c.from_residual-in_err-x-in-Bump.result _ c.from_residual-in_err-x-in-Bump.ensures.0
+
+pub build_trees::build_tree-returns-in_err-x-in-Bump-clause-kind : goal.build_trees::build_tree-returns-in_err-x-in-Bump-clause-kind
+build_trees::build_tree-returns-in_err-x-in-Bump-clause-kind t c = IfOk-from_err c.from_residual-in_err-x-in-Bump.result _ c.from_residual-in_err-x-in-Bump.ensures.0
+
+pub build_trees::build_tree-may_be_set-can-requires-in-Bump : goal.build_trees::build_tree-may_be_set-can-requires-in-Bump
+build_trees::build_tree-may_be_set-can-requires-in-Bump t c = target_read c.args.plan.now (s.site c.args.site.now) c.deref-in-Bump.result.now c.deref-in-Bump-2.result.now c.in_ok-x-in-Bump.x.tree.value c.deref-in-Bump-3.result.now (c.deref-in-Bump-2.ensures ∙ sym c.deref-in-Bump.ensures) c.deref-in-Bump-3.ensures (c.args.builder.now.local, c.args.builder.now.function, c.in_ok-x-in-Bump.ensures.built.0)
+
+pub build_trees::build_tree-returns-in-Some-clause-built : goal.build_trees::build_tree-returns-in-Some-clause-built
+build_trees::build_tree-returns-in-Some-clause-built t c = let h : typed_tree c.number_leaf-in-Some.result.tree ≡ e.Num v.Number c.in-Some.z = search rules in constant_built c.args.plan.now (s.site c.args.site.now) c.args.given c.args.e.now c.in-Member.a c.in-Member.m c.deref-in-Member.result.now c.in-Some.z c.args.builder.now (typed_tree c.number_leaf-in-Some.result.tree) c.in-Member.is c.deref-in-Member.ensures (sym c.constant.ensures ∙ c.in-Some.is) h
+
+pub build_trees::build_tree-returns-in-Some-clause-kind : goal.build_trees::build_tree-returns-in-Some-clause-kind
+build_trees::build_tree-returns-in-Some-clause-kind t c = constant_noted c.args.plan.now (s.site c.args.site.now) c.args.given c.args.e.now c.in-Member.a c.in-Member.m c.deref-in-Member.result.now c.in-Some.z c.number_leaf-in-Some.result.kind c.in-Member.is c.deref-in-Member.ensures (sym c.constant.ensures ∙ c.in-Some.is) c.number_leaf-in-Some.ensures.kind
+
+pub build_trees::build_tree-returns-in_ok-x-in-None-clause-built : goal.build_trees::build_tree-returns-in_ok-x-in-None-clause-built
+build_trees::build_tree-returns-in_ok-x-in-None-clause-built t c = IfOk-weaker c.read_of.result _ _ (λ r h. read_built c.args.plan.now (s.site c.args.site.now) c.args.given c.args.e.now c.in-Member.a c.in-Member.m c.deref-in-None.result.now c.deref-in-Member.result.now c.args.builder.now c.build_part-in-None.new.builder c.in_ok-x-in-None.x (typed_tree r.tree) c.in-Member.is c.deref-in-None.ensures c.deref-in-Member.ensures (sym c.constant.ensures ∙ c.in-None.is) c.in_ok-x-in-None.ensures.kind h c.in_ok-x-in-None.ensures.built) c.read_of.ensures.tree
+
+pub build_trees::build_tree-returns-in_ok-x-in-None-clause-kind : goal.build_trees::build_tree-returns-in_ok-x-in-None-clause-kind
+build_trees::build_tree-returns-in_ok-x-in-None-clause-kind t c = IfOk-weaker c.read_of.result _ _ (λ r h. read_kind c.args.plan.now (s.site c.args.site.now) c.args.given c.args.e.now c.in-Member.a c.in-Member.m c.deref-in-None.result.now c.deref-in-Member.result.now c.in_ok-x-in-None.x.kind r.kind c.in-Member.is c.deref-in-None.ensures c.deref-in-Member.ensures (sym c.constant.ensures ∙ c.in-None.is) c.in_ok-x-in-None.ensures.kind h) c.read_of.ensures.kind
+
+pub build_trees::build_tree-returns-in_err-x-in-None-clause-built : goal.build_trees::build_tree-returns-in_err-x-in-None-clause-built
+build_trees::build_tree-returns-in_err-x-in-None-clause-built t c = IfOk-from_err c.from_residual-in_err-x-in-None.result _ c.from_residual-in_err-x-in-None.ensures.0
+
+pub build_trees::build_tree-returns-in_err-x-in-None-clause-kind : goal.build_trees::build_tree-returns-in_err-x-in-None-clause-kind
+build_trees::build_tree-returns-in_err-x-in-None-clause-kind t c = IfOk-from_err c.from_residual-in_err-x-in-None.result _ c.from_residual-in_err-x-in-None.ensures.0
+
+pub build_trees::build_tree-returns-in-Handler-clause-built : goal.build_trees::build_tree-returns-in-Handler-clause-built
+build_trees::build_tree-returns-in-Handler-clause-built t c = IfOk-weaker c.build_handler.result _ _ (λ r h. handler_built c.args.plan.now (s.site c.args.site.now) c.args.given c.args.e.now c.in-Handler.body c.deref-in-Handler.result.now c.args.builder.now c.build_handler.new.builder (typed_tree r.tree) c.in-Handler.is c.deref-in-Handler.ensures h) c.build_handler.ensures.built
+
+pub build_trees::build_tree-returns-in-Handler-clause-kind : goal.build_trees::build_tree-returns-in-Handler-clause-kind
+build_trees::build_tree-returns-in-Handler-clause-kind t c = IfOk-weaker c.build_handler.result _ _ (λ r h. handler_kind c.args.plan.now (s.site c.args.site.now) c.args.given c.args.e.now c.in-Handler.body r.kind c.in-Handler.is h) c.build_handler.ensures.kind
+
+pub build_operators::build_part-returns-in_err-x-clause-built : goal.build_operators::build_part-returns-in_err-x-clause-built
+build_operators::build_part-returns-in_err-x-clause-built t c = IfOk-from_err c.from_residual.result _ c.from_residual.ensures.0
+
+pub build_operators::build_part-returns-in_err-boxed-clause-built : goal.build_operators::build_part-returns-in_err-boxed-clause-built
+build_operators::build_part-returns-in_err-boxed-clause-built t c = IfOk-from_err c.from_residual-in_err-boxed.result _ c.from_residual-in_err-boxed.ensures.0
+
+pub build_operators::build_part-returns-in_err-x-clause-kind : goal.build_operators::build_part-returns-in_err-x-clause-kind
+build_operators::build_part-returns-in_err-x-clause-kind t c = IfOk-from_err c.from_residual.result _ c.from_residual.ensures.0
+
+pub build_operators::build_part-returns-in_err-boxed-clause-kind : goal.build_operators::build_part-returns-in_err-boxed-clause-kind
+build_operators::build_part-returns-in_err-boxed-clause-kind t c = IfOk-from_err c.from_residual-in_err-boxed.result _ c.from_residual-in_err-boxed.ensures.0
+
+pub build_operators::build_last-returns-in_err-operator-clause-built : goal.build_operators::build_last-returns-in_err-operator-clause-built
+build_operators::build_last-returns-in_err-operator-clause-built t c = IfOk-from_err c.from_residual.result _ c.from_residual.ensures.0
+
+pub build_operators::build_last-returns-in_err-operator-clause-kind : goal.build_operators::build_last-returns-in_err-operator-clause-kind
+build_operators::build_last-returns-in_err-operator-clause-kind t c = IfOk-from_err c.from_residual.result _ c.from_residual.ensures.0
+
+pub build_operators::build_last-returns-clause-built : goal.build_operators::build_last-returns-clause-built
+build_operators::build_last-returns-clause-built t c = last_built c.args.plan.now (s.site c.args.site.now) c.args.operator c.in_ok-operator.operator c.args.x c.in_ok-operator.x c.in_ok-operator.y c.last_given-given.result (tree c.args.b.now) c.args.builder.now c.build_part.new.builder (typed_tree c.operation_of.result.tree) (ap (λ w. w.0) c.in_ok-operator.ensures.kept) (ap (λ w. w.1) c.in_ok-operator.ensures.kept) c.last_given-given.ensures
+    (from_ok c.build_part.result c.in_ok-operator.y (λ z. z.kind ≡ s.tree_kind c.args.plan.now (s.site c.args.site.now) c.last_given-given.result (tree c.args.b.now)) c.in_ok-operator.ensures.other c.build_part.ensures.kind)
+    (from_ok c.build_part.result c.in_ok-operator.y (λ z. IsBuilt c.args.builder.now c.build_part.new.builder (s.tree_made c.args.plan.now (s.site c.args.site.now) c.last_given-given.result (tree c.args.b.now)) (typed_tree z.tree.value)) c.in_ok-operator.ensures.other c.build_part.ensures.built) c.operation_of.ensures.tree
+
+pub build_calls::build_call-returns-in_err-list-clause-built : goal.build_calls::build_call-returns-in_err-list-clause-built
+build_calls::build_call-returns-in_err-list-clause-built t c = IfOk-from_err c.from_residual.result _ c.from_residual.ensures.0
+
+pub build_calls::build_call-returns-in_err-args-in-Some-clause-built : goal.build_calls::build_call-returns-in_err-args-in-Some-clause-built
+build_calls::build_call-returns-in_err-args-in-Some-clause-built t c = IfOk-from_err c.from_residual-in_err-args-in-Some.result _ c.from_residual-in_err-args-in-Some.ensures.0
+
+pub build_calls::build_call-returns-in_err-list-clause-kind : goal.build_calls::build_call-returns-in_err-list-clause-kind
+build_calls::build_call-returns-in_err-list-clause-kind t c = IfOk-from_err c.from_residual.result _ c.from_residual.ensures.0
+
+pub build_calls::build_call-returns-in_err-args-in-Some-clause-kind : goal.build_calls::build_call-returns-in_err-args-in-Some-clause-kind
+build_calls::build_call-returns-in_err-args-in-Some-clause-kind t c = IfOk-from_err c.from_residual-in_err-args-in-Some.result _ c.from_residual-in_err-args-in-Some.ensures.0
+
+pub build_calls::build_call-returns-in-None-clause-built : goal.build_calls::build_call-returns-in-None-clause-built
+build_calls::build_call-returns-in-None-clause-built t c = none_built c.args.plan.now (s.site c.args.site.now) c.args.given (tree c.args.e.now) c.args.builder.now (typed_tree c.amiss.result) (sym c.in_ok-list.ensures.head ∙ c.in-None.is) c.requires.list c.amiss.ensures
+
+pub build_calls::build_call-returns-in-None-clause-kind : goal.build_calls::build_call-returns-in-None-clause-kind
+build_calls::build_call-returns-in-None-clause-kind t c = c.in_ok-list.ensures.kind
+
+pub build_calls::build_call-returns-in_ok-args-in-Some-clause-built : goal.build_calls::build_call-returns-in_ok-args-in-Some-clause-built
+build_calls::build_call-returns-in_ok-args-in-Some-clause-built t c =
+    IfOk-weaker c.noted_list.result _ _ (λ r h. head_built c.args.plan.now (s.site c.args.site.now) c.args.given (tree c.args.e.now) c.in-Some.head (v.value_type c.in_ok-list.list.ty) c.args.builder.now c.build_passed.new.builder (typed_trees c.in_ok-args-in-Some.args) (typed_tree r.tree)
+    (sym c.in_ok-list.ensures.head ∙ c.in-Some.is) c.requires.list (c.in_ok-list.ensures.noted ∙ ap (λ k. call.type_noted c.args.given k (tree c.args.e.now)) c.in_ok-list.ensures.kind) h c.in_ok-args-in-Some.ensures) c.noted_list.ensures.tree
+
+pub build_calls::build_call-returns-in_ok-args-in-Some-clause-kind : goal.build_calls::build_call-returns-in_ok-args-in-Some-clause-kind
+build_calls::build_call-returns-in_ok-args-in-Some-clause-kind t c = IfOk-weaker c.noted_list.result _ _ (λ r h. h ∙ c.in_ok-list.ensures.kind) c.noted_list.ensures.kind
+
+pub build_locals::build_value-returns-in_ok-e-in-Some : goal.build_locals::build_value-returns-in_ok-e-in-Some
+build_locals::build_value-returns-in_ok-e-in-Some t c = value_built c.args.plan.now (s.site c.args.site.now) c.args.given c.args.e.now c.in-Some.e c.args.builder.now c.build_tree.new.builder (typed_tree c.in_ok-e-in-Some.e.tree) c.in-Some.is c.in_ok-e-in-Some.ensures.built
+
+pub build_locals::build_initial-returns-in_ok-noted-in-Some-clause-built : goal.build_locals::build_initial-returns-in_ok-noted-in-Some-clause-built
+build_locals::build_initial-returns-in_ok-noted-in-Some-clause-built t c = first_built c.args.plan.now (s.site c.args.site.now) (optional_annotation c.args.shape.now) c.args.first.now c.in-Some.e c.in_ok-written.written c.args.builder.now c.build_tree.new.builder (typed_tree c.in_ok-noted-in-Some.noted.tree) c.in-Some.is c.in_ok-written.ensures c.in_ok-noted-in-Some.ensures.built
+
+pub build_routines::build_handler-returns-in_err-inner-clause-built : goal.build_routines::build_handler-returns-in_err-inner-clause-built
+build_routines::build_handler-returns-in_err-inner-clause-built t c = IfOk-from_err c.from_residual.result _ c.from_residual.ensures.0
+
+pub build_routines::build_handler-returns-in_err-add-clause-built : goal.build_routines::build_handler-returns-in_err-add-clause-built
+build_routines::build_handler-returns-in_err-add-clause-built t c = IfOk-from_err c.from_residual-in_err-add.result _ c.from_residual-in_err-add.ensures.0
+
+pub build_routines::build_handler-returns-in_err-inner-clause-kind : goal.build_routines::build_handler-returns-in_err-inner-clause-kind
+build_routines::build_handler-returns-in_err-inner-clause-kind t c = IfOk-from_err c.from_residual.result _ c.from_residual.ensures.0
+
+pub build_routines::build_handler-returns-in_err-add-clause-kind : goal.build_routines::build_handler-returns-in_err-add-clause-kind
+build_routines::build_handler-returns-in_err-add-clause-kind t c = IfOk-from_err c.from_residual-in_err-add.result _ c.from_residual-in_err-add.ensures.0
+
+pub build_routines::build_handler-returns-clause-built : goal.build_routines::build_handler-returns-clause-built
+build_routines::build_handler-returns-clause-built t c = handler_joined c.args.plan.now (s.site c.args.site.now) (routine c.args.body.now) c.args.builder.now (record c.args.builder.now { routines = c.add.new.routines; function = c.in_ok-inner.inner.behind }) (typed_routine c.in_ok-inner.inner.function.own) (typed_routines c.in_ok-inner.inner.function.inner) (typed_tree c.noted.result.tree) c.noted.ensures.tree c.in_ok-inner.ensures.own c.in_ok-inner.ensures.inner refl c.in_ok-add.ensures refl c.in_ok-inner.ensures.behind
+
+pub build_statements::build_body-returns : goal.build_statements::build_body-returns
+build_statements::build_body-returns t c =
+    subst (λ (f : Making TypedStatements). IfOk c.build_statements.result (λ r. IsBuilt c.args.builder.now c.build_statements.new.builder f (typed_statements r)))
+    (body_is c.args.plan.now (s.site c.args.site.now) (s.site c.in_ok-inside.inside) c.args.body.now c.as_slice.result.now c.in_ok-inside.ensures c.as_slice.ensures) c.build_statements.ensures.built
+
+pub build_statements::build_body-returns-in_err-inside : goal.build_statements::build_body-returns-in_err-inside
+build_statements::build_body-returns-in_err-inside t c = IfOk-from_err c.from_residual.result _ c.from_residual.ensures.0
