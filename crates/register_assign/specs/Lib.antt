@@ -1,5 +1,6 @@
 pub mod Sound
 pub mod Marks
+pub mod Readings
 pub mod Intervals
 pub mod Checks
 pub mod Unread

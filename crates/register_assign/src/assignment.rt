@@ -59,8 +59,8 @@ fn intervals_of(alloc: Global, function: &Function) -> Result<Vec<Interval>, NoM
     Ok(intervals)
 }
 
-/// How much each temporary is used.
-fn all_uses(alloc: Global, function: &Function) -> Result<Vec<u64>, NoMemory>
+/// How much each temporary is used; all are left.
+fn all_uses(alloc: Global, function: &Function) -> Result<Vec<Option<u64>>, NoMemory>
     requires { IsWellFormedFunction function.now }
     ensures { IfOk result (λ uses. length uses.items ≡ temporaries function.now) }
 {
@@ -68,7 +68,7 @@ fn all_uses(alloc: Global, function: &Function) -> Result<Vec<u64>, NoMemory>
     let weights = weights(alloc, ops)?;
     let mut all = Vec::new(alloc);
     for t in 0..function.params + function.locals + function.operands {
-        if all.push(uses(ops, t as usize, &weights)).is_err() {
+        if all.push(Some(uses(ops, t as usize, &weights))).is_err() {
             return Err(NoMemory);
         }
     }
@@ -106,29 +106,27 @@ fn move_to_register(places: &mut [Place], intervals: &[Interval], t: usize)
 }
 
 /// A register, if one is free, for the temporary that is used most of those left, which is left no longer.
-fn give_next(places: &mut [Place], intervals: &[Interval], uses: &[u64], left: &mut [bool])
+fn give_next(places: &mut [Place], intervals: &[Interval], left: &mut [Option<u64>])
     requires long { length places.old ≡ length intervals.now }
-    requires as_long { length uses.now ≡ length places.old }
-    requires left { length left.old ≡ length uses.now }
+    requires left { length left.old ≡ length places.old }
     ensures long { length places.new ≡ length places.old }
     ensures left { length left.new ≡ length left.old }
     ensures assigned { (f : Function) → AreAssigned f places.old intervals.now → AreAssigned f places.new intervals.now }
 {
-    if let Some(t) = most_used(uses, left) {
-        left[t] = false;
+    if let Some(t) = most_used(left) {
+        left[t] = None;
         move_to_register(places, intervals, t);
     }
 }
 
 /// Registers for temporaries, in the order of how much they are used.
-fn give_registers(places: &mut [Place], intervals: &[Interval], uses: &[u64], left: &mut [bool])
+fn give_registers(places: &mut [Place], intervals: &[Interval], left: &mut [Option<u64>])
     requires long { length places.old ≡ length intervals.now }
-    requires as_long { length uses.now ≡ length places.old }
-    requires left { length left.old ≡ length uses.now }
+    requires left { length left.old ≡ length places.old }
     ensures { (f : Function) → AreAssigned f places.old intervals.now → AreAssigned f places.new intervals.now }
 {
-    for _ in 0..uses.len() {
-        give_next(places, intervals, uses, left);
+    for _ in 0..left.len() {
+        give_next(places, intervals, left);
     }
 }
 
@@ -151,12 +149,8 @@ fn use_registers(alloc: Global, function: &Function, places: &mut [Place]) -> Re
     ensures { OnOk result (ArePlacesSound function.now places.new) }
 {
     let intervals = intervals_of(alloc, function)?;
-    let uses = all_uses(alloc, function)?;
-    let mut left = match vec![in alloc; true; uses.len()] {
-        Ok(left) => left,
-        Err(_) => return Err(NoMemory),
-    };
-    give_registers(places, &intervals, &uses, &mut left);
+    let mut left = all_uses(alloc, function)?;
+    give_registers(places, &intervals, &mut left);
     Ok(())
 }
 

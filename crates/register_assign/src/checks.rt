@@ -7,7 +7,7 @@ ghost use Rattle.register_assign.specs.Sound.{place_of, IsWithin, ArePlacesSound
 ghost use Rattle.register_assign.specs.Checks.{Stays, IsNew, IsParameterSound, IsShapeSound, IsClear, IsKept, IsTemporarySound, IsDeadStranger, ReadsNoStranger};
 
 use crate::liveness::{is_marked, is_marked_behind, live};
-use crate::ops::written;
+use crate::ops::{Reading, read_by, written};
 use crate::places::{Place, Placed, same};
 use flat_ir::{Function, Op};
 use std::alloc::Global;
@@ -198,35 +198,12 @@ fn are_dead_strangers(
 fn reads_no_stranger(alloc: Global, ops: &[Op], op: &Op, known: usize) -> Result<bool, NoMemory>
     ensures { IfOk result (λ dead. IsTrue dead ↔ ReadsNoStranger known ops.now op.now) }
 {
-    match op {
-        Op::Const { .. }
-        | Op::GlobalGet { .. }
-        | Op::TextOf { .. }
-        | Op::MakeObject { .. }
-        | Op::MakeArray { .. }
-        | Op::HandlerOf { .. }
-        | Op::Jump { .. } => Ok(true),
-        Op::Copy { from, .. }
-        | Op::Unary { from, .. }
-        | Op::GlobalSet { from, .. }
-        | Op::FieldGet { object: from, .. }
-        | Op::Length { array: from, .. }
-        | Op::Pop { array: from, .. }
-        | Op::Branch { when: from, .. }
-        | Op::Return { from } => are_dead_strangers(alloc, ops, &[*from], known),
-        Op::Binary { left, right, .. } => are_dead_strangers(alloc, ops, &[*left, *right], known),
-        Op::FieldSet { object, from, .. } => {
-            are_dead_strangers(alloc, ops, &[*object, *from], known)
-        }
-        Op::ItemGet { array, index, .. } => {
-            are_dead_strangers(alloc, ops, &[*array, *index], known)
-        }
-        Op::ItemSet { array, index, from } => {
-            are_dead_strangers(alloc, ops, &[*array, *index, *from], known)
-        }
-        Op::Call { args, .. } | Op::CallSlot { args, .. } | Op::Ask { args, .. } => {
-            are_dead_strangers(alloc, ops, args.as_slice(), known)
-        }
+    match read_by(op) {
+        Reading::Nothing => Ok(true),
+        Reading::One(a) => are_dead_strangers(alloc, ops, &[a], known),
+        Reading::Two(a, b) => are_dead_strangers(alloc, ops, &[a, b], known),
+        Reading::Three(a, b, c) => are_dead_strangers(alloc, ops, &[a, b, c], known),
+        Reading::Arguments(args) => are_dead_strangers(alloc, ops, args, known),
     }
 }
 

@@ -2,8 +2,24 @@
 ghost use Rattle.std.specs.Prelude.{◌≡◌};
 ghost use Rattle.flat_ir.specs.Ops.{reads, writes};
 ghost use Rattle.register_assign.specs.Marks.{is_among};
+ghost use Rattle.register_assign.specs.Readings.{numbers_of};
 
 use flat_ir::Op;
+
+/// The temporaries that an op reads, by how many they are.
+#[derive(Clone, Copy)]
+pub enum Reading<'a> {
+    /// none
+    Nothing,
+    /// one
+    One(u32),
+    /// two
+    Two(u32, u32),
+    /// three
+    Three(u32, u32, u32),
+    /// what a call or a service is given
+    Arguments(&'a [u32]),
+}
 
 fn is_among(t: usize, numbers: &[u32]) -> bool
     ensures { result ≡ is_among t numbers.now }
@@ -11,11 +27,10 @@ fn is_among(t: usize, numbers: &[u32]) -> bool
     numbers.iter().any(|x| *x as usize == t)
 }
 
-/// Whether an op reads a temporary.
-pub fn reads(op: &Op, t: usize) -> bool
-    ensures { result ≡ is_among t (reads op.now) }
+/// The temporaries that an op reads.
+pub fn read_by<'a>(op: &'a Op) -> Reading<'a>
+    ensures { numbers_of result ≡ reads op.now }
 {
-    let is = |x: &u32| *x as usize == t;
     match op {
         Op::Const { .. }
         | Op::GlobalGet { .. }
@@ -23,7 +38,7 @@ pub fn reads(op: &Op, t: usize) -> bool
         | Op::MakeObject { .. }
         | Op::MakeArray { .. }
         | Op::HandlerOf { .. }
-        | Op::Jump { .. } => false,
+        | Op::Jump { .. } => Reading::Nothing,
         Op::Copy { from, .. }
         | Op::Unary { from, .. }
         | Op::GlobalSet { from, .. }
@@ -31,14 +46,27 @@ pub fn reads(op: &Op, t: usize) -> bool
         | Op::Length { array: from, .. }
         | Op::Pop { array: from, .. }
         | Op::Branch { when: from, .. }
-        | Op::Return { from } => is(from),
-        Op::Binary { left, right, .. } => is(left) || is(right),
-        Op::FieldSet { object, from, .. } => is(object) || is(from),
-        Op::ItemGet { array, index, .. } => is(array) || is(index),
-        Op::ItemSet { array, index, from } => is(array) || is(index) || is(from),
+        | Op::Return { from } => Reading::One(*from),
+        Op::Binary { left, right, .. } => Reading::Two(*left, *right),
+        Op::FieldSet { object, from, .. } => Reading::Two(*object, *from),
+        Op::ItemGet { array, index, .. } => Reading::Two(*array, *index),
+        Op::ItemSet { array, index, from } => Reading::Three(*array, *index, *from),
         Op::Call { args, .. } | Op::CallSlot { args, .. } | Op::Ask { args, .. } => {
-            is_among(t, args.as_slice())
+            Reading::Arguments(args.as_slice())
         }
+    }
+}
+
+/// Whether an op reads a temporary.
+pub fn reads(op: &Op, t: usize) -> bool
+    ensures { result ≡ is_among t (reads op.now) }
+{
+    match read_by(op) {
+        Reading::Nothing => false,
+        Reading::One(a) => is_among(t, &[a]),
+        Reading::Two(a, b) => is_among(t, &[a, b]),
+        Reading::Three(a, b, c) => is_among(t, &[a, b, c]),
+        Reading::Arguments(args) => is_among(t, args),
     }
 }
 

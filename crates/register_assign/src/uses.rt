@@ -10,14 +10,13 @@ use sts_base::NoMemory;
 /// Loops in one another that count; a use in a deeper one counts as in the last of these.
 const DEEPEST: u32 = 12;
 
-/// So many numbers, all the same.
-fn numbers(alloc: Global, number: u32, count: usize) -> Result<Vec<u32>, NoMemory>
-    ensures { IfOk result (λ list. length list.items ≡ count) }
-{
-    match vec![in alloc; number; count] {
-        Ok(list) => Ok(list),
-        Err(_) => Err(NoMemory),
-    }
+/// Where loops begin and end.
+#[derive(Clone, Copy)]
+struct Bounds {
+    /// whether one begins at the op
+    begins: bool,
+    /// how many have ended right before it
+    ended: u32,
 }
 
 /// The op at or before this one at which a run goes on from it.
@@ -31,20 +30,32 @@ fn back_to(op: &Op, at: usize) -> Option<usize>
     if target <= at { Some(target) } else { None }
 }
 
-/// Behind which op the loop ends that begins at each; 0 where none does.
-fn loop_ends(alloc: Global, ops: &[Op]) -> Result<Vec<usize>, NoMemory>
-    ensures { IfOk result (λ ends. length ends.items ≡ length ops.now) }
+/// Notes a loop, unless one that begins at the same op is noted.
+fn note_loop(bounds: &mut [Bounds], begin: usize, end: usize)
+    requires { begin < length bounds.old }
+    ensures { length bounds.new ≡ length bounds.old }
 {
-    let mut ends = match vec![in alloc; 0usize; ops.len()] {
-        Ok(ends) => ends,
-        Err(_) => return Err(NoMemory),
-    };
-    for (at, op) in ops.iter().enumerate() {
-        if let Some(target) = back_to(op, at) {
-            ends[target] = at + 1;
+    if bounds[begin].begins {
+        return;
+    }
+    bounds[begin].begins = true;
+    if end < bounds.len() {
+        bounds[end].ended = bounds[end].ended.saturating_add(1);
+    }
+}
+
+/// Notes the loops of ops: one begins wherever a run goes back to, and ends behind the last op from which it does.
+fn note_loops(ops: &[Op], bounds: &mut [Bounds])
+    requires { length bounds.old ≡ length ops.now }
+    ensures { length bounds.new ≡ length ops.now }
+{
+    let mut at = ops.len();
+    while at > 0 {
+        at -= 1;
+        if let Some(target) = back_to(&ops[at], at) {
+            note_loop(bounds, target, at + 1);
         }
     }
-    Ok(ends)
 }
 
 /// What a use counts in so many loops: ten times as much for each.
@@ -56,28 +67,39 @@ fn weight(depth: u32) -> u64 {
     weight
 }
 
+/// Notes what a use at each op counts.
+fn weigh(bounds: &[Bounds], weights: &mut [u64])
+    requires { length weights.old ≡ length bounds.now }
+    ensures { length weights.new ≡ length bounds.now }
+{
+    let mut depth = 0u32;
+    for (at, here) in bounds.iter().enumerate() {
+        depth = depth.saturating_sub(here.ended);
+        if here.begins {
+            depth = depth.saturating_add(1);
+        }
+        weights[at] = weight(depth);
+    }
+}
+
 /// What a use at each op counts.
 pub fn weights(alloc: Global, ops: &[Op]) -> Result<Vec<u64>, NoMemory>
     ensures { IfOk result (λ weights. length weights.items ≡ length ops.now) }
 {
-    let ends = loop_ends(alloc, ops)?;
-    let mut ending = numbers(alloc, 0, ops.len())?;
+    let none = Bounds {
+        begins: false,
+        ended: 0,
+    };
+    let mut bounds = match vec![in alloc; none; ops.len()] {
+        Ok(bounds) => bounds,
+        Err(_) => return Err(NoMemory),
+    };
     let mut weights = match vec![in alloc; 1u64; ops.len()] {
         Ok(weights) => weights,
         Err(_) => return Err(NoMemory),
     };
-    let mut depth = 0u32;
-    for at in 0..ops.len() {
-        depth = depth.saturating_sub(ending[at]);
-        let end = ends[at];
-        if end > at {
-            depth = depth.saturating_add(1);
-            if end < ending.len() {
-                ending[end] = ending[end].saturating_add(1);
-            }
-        }
-        weights[at] = weight(depth);
-    }
+    note_loops(ops, &mut bounds);
+    weigh(&bounds, &mut weights);
     Ok(weights)
 }
 
@@ -97,17 +119,24 @@ pub fn uses(ops: &[Op], t: usize, weights: &[u64]) -> u64
     sum
 }
 
+/// Whether a use is left, and none is that is as much.
+fn is_more(uses: Option<u64>, most: Option<u64>) -> bool {
+    match (uses, most) {
+        (Some(uses), Some(most)) => uses > most,
+        (uses, _) => uses.is_some(),
+    }
+}
+
 /// The first of those left that is used most. None where none is left.
-pub fn most_used(uses: &[u64], left: &[bool]) -> Option<usize>
-    requires { length left.now ≡ length uses.now }
-    ensures { IfSome result (λ t. t < length uses.now) }
+pub fn most_used(left: &[Option<u64>]) -> Option<usize>
+    ensures { IfSome result (λ t. t < length left.now) }
 {
     let mut best = None;
-    let mut most = 0u64;
-    for (t, n) in uses.iter().enumerate() {
-        if left[t] && (best.is_none() || *n > most) {
+    let mut most = None;
+    for (t, uses) in left.iter().enumerate() {
+        if is_more(*uses, most) {
             best = Some(t);
-            most = *n;
+            most = *uses;
         }
     }
     best

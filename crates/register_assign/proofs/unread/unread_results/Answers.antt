@@ -15,3 +15,9 @@ returns-clause-unread c =
     λ at.
     ap (λ (q : List Bool). is_marked q at) (taken c.in-Ok.notes.len new c.in-Ok.notes.items (grind (arith, common_steps)) (grind (arith, common_steps)))
     ∙ noted_last f new c.requires h at
+
+pub note_all-requires-clause-none : goal.note_all-requires-clause-none
+note_all-requires-clause-none c = grind (arith, common_steps)
+
+pub returns-clause-long : goal.returns-clause-long
+returns-clause-long c = let l = (c.in_ok-note_all.ensures).long in grind (arith, common_steps)

@@ -13,3 +13,12 @@ returns-clause-sound c =
     let e : c.loop-at.out ≡ function_pieces p = grind (arith, common_steps) in
     let r : IsReady p = record { formed = c.requires.formed; sound = c.requires.sound } in
     subst (λ (xs : List Piece). IsSound xs) (sym e) (function_sound p r)
+
+pub loop-at-preserved : goal.loop-at-preserved
+loop-at-preserved c = grind (arith, common_steps)
+
+pub returns-clause-pieces : goal.returns-clause-pieces
+returns-clause-pieces c = grind (arith, common_steps)
+
+pub put_op-requires : goal.put_op-requires
+put_op-requires c = grind (arith, common_steps)
