@@ -1,5 +1,5 @@
 -- Instructions behind one another, with what the outside meets of them.
-use Rattle.std.proofs.Common.{◌≡◌, ℕ, zero, suc, ◌+◌, ◌<◌, ◌≤◌, ◌⊎◌, inl, inr, Bool, false, List, [], ◌∷◌, ◌++◌, length, All, Option, Some, None, IsSome, sym, ap, ◌∙◌, subst, arith, append_assoc}
+use Rattle.std.proofs.Common.{◌≡◌, ℕ, ◌+◌, ◌<◌, ◌≤◌, false, List, [], ◌∷◌, ◌++◌, length, All, Option, Some, None, IsSome, refl, sym, ap, ◌∙◌, subst, arith, append_assoc}
 use Rattle.std.proofs.lemmas.List.{append-nil}
 use Rattle.std.specs.Prelude.{Result, Ok, Err, OnErr}
 use Rattle.std.specs.Option.{option_map}
@@ -7,11 +7,6 @@ use Rattle.sts_base.specs.Prefix.{IsPrefix}
 use Rattle.board_world.specs.Limits.{end_limit}
 use Rattle.board_world.specs.Transcript.{line, lines}
 use Rattle.board_world.specs.Board.{over}
-use Rattle.board_world.specs.Activities.{Activity, World}
-use Rattle.board_world.specs.World.{idled}
-use Rattle.board_world.specs.Runs.{run}
-use Rattle.bank_model.specs.Fibers.{Fiber, Shared}
-use Rattle.bank_model.specs.BoardMachine.{fibers}
 use Rattle.tool_io.specs.Putting.{Took, TookPart}
 use Rattle.tool_io.proofs.Laws.{took-nothing, took-then}
 use Rattle.board_ports.specs.Account.{Account}
@@ -32,62 +27,15 @@ use Rattle.board_run.specs.Represents.{BoardState, Represents, IsShown}
 use Rattle.board_run.specs.Run.{Reaches, ComesTo, Comes}
 use Rattle.board_run.specs.Ports.{Idles}
 use Rattle.board_run.specs.Served.{Steps}
+use Rattle.board_run.specs.Outside.{OverSink}
 use Rattle.board_run.specs.Advancing.{Executes, PortsMeet, Advances, Fails, IsWhole}
 use Rattle.board_run.specs.View.{state_of, end_of}
 use Rattle.board_run.proofs.Course.{comes_shown, shown_reaches}
-use Rattle.board_run.proofs.Goes.{first_ready}
-use Rattle.board_run.proofs.Segments.{not_over_yet}
-use Rattle.board_run.proofs.Stepping.{some_turning}
-
--- words that were used, and then more of them
-assoc_free : (start : List ℕ → World Fiber Shared) (K : World Fiber Shared → Bool) (used x y rest : List ℕ) → K (start ((used ++ x) ++ (y ++ rest))) ≡ false → K (start ((used ++ (x ++ y)) ++ rest)) ≡ false
-assoc_free start K used x y rest h =
-    let same : (used ++ (x ++ y)) ++ rest ≡ (used ++ x) ++ (y ++ rest) = ap (λ l. l ++ rest) (sym (append_assoc used x y)) ∙ append_assoc (used ++ x) y rest in
-    ap (λ l. K (start l)) same ∙ h
-
-pub executes_then : (image : List ℕ) (n m : ℕ) (first second : List Move) (a b c : BoardState) → Executes image n first a b → Executes image m second b c → Executes image (m + n) (first ++ second) a c
-executes_then image n m first second a b c f g start k used met r =
-    let K = fibers image in
-    let x = f start k used met r in
-    let y = g start (n + k) (used ++ x.0) (met ++ first) x.1 in
-    let count : m + (n + k) ≡ m + n + k = omega arith in
-    let words = append_assoc used x.0 y.0 in
-    let moves = append_assoc met first second in
-    let early : (rest : List ℕ) (j : ℕ) → k ≤ j → j < n + k → over (run K j (idled K (start ((used ++ (x.0 ++ y.0)) ++ rest)))).board ≡ false =
-    λ rest j l h. assoc_free start (λ w. over (run K j (idled K w)).board) used x.0 y.0 rest (x.2 (y.0 ++ rest) j l h) in
-    let late : (rest : List ℕ) (j : ℕ) → n + k ≤ j → j < m + n + k → over (run K j (idled K (start ((used ++ (x.0 ++ y.0)) ++ rest)))).board ≡ false =
-    λ rest j l h. ap (λ us. over (run K j (idled K (start (us ++ rest)))).board) (sym words) ∙ y.2 rest j l (omega (arith, h)) in (
-      x.0 ++ y.0,
-      subst (λ j. Reaches None image start j (used ++ (x.0 ++ y.0)) (met ++ (first ++ second)) c) count
-          (subst (λ l. Reaches None image start (m + (n + k)) (used ++ (x.0 ++ y.0)) l c) moves (subst (λ l. Reaches None image start (m + (n + k)) l ((met ++ first) ++ second) c) words y.1)),
-      λ rest j l h. elim (before_or_not j (n + k)) [ inl e ↦ early rest j l e | inr e ↦ late rest j e h ],
-    )
-  where
-    before_or_not : (j k : ℕ) → (j < k) ⊎ (k ≤ j)
-    before_or_not zero zero = inr (omega arith)
-    before_or_not zero (suc k) = inl (omega arith)
-    before_or_not (suc j) zero = inr (omega arith)
-    before_or_not (suc j) (suc k) = elim (before_or_not j k) [ inl e ↦ inl (omega (arith, e)) | inr e ↦ inr (omega (arith, e)) ]
-
--- what comes further by no instruction
-pub executes_none : (image : List ℕ) (moves : List Move) (a b : BoardState) → ComesTo None image 0 moves a b → Executes image 0 moves a b
-executes_none image moves a b f start n used met r = (let x = f start n used met r in (x.0, x.1, λ rest j l h. absurd (omega (arith, l, h))))
+use Rattle.board_run.proofs.Further.{through_then, through_none, through_one}
 
 -- one instruction of the running fiber, where the run isn't over
-pub executes_one : (image : List ℕ) (moves : List Move) (a b : BoardState) → a.plain.end ≡ None → IsSome a.runtime.running → ComesTo None image 1 moves a b → Executes image 1 moves a b
-executes_one image moves a b going runs f start n used met r =
-    let K = fibers image in
-    let x = f start n used met r in
-    let t = some_turning a.runtime.running runs in
-    let busy : (w : World Fiber Shared) → Represents image a w → (y : Activity Fiber) × (ys : List (Activity Fiber)) × (w.ready ≡ y ∷ ys) = λ w h. (_, _, first_ready image a w h t.0 t.1) in (
-      x.0,
-      x.1,
-      λ rest j l h.
-          let at : j ≡ n = omega (arith, l, h) in
-          ap (λ i. over (run K i (idled K (start ((used ++ x.0) ++ rest)))).board) at
-          ∙ ap (λ us. over (run K n (idled K (start us))).board) (append_assoc used x.0 rest)
-          ∙ not_over_yet image start n used met a r going busy (x.0 ++ rest) n (omega arith),
-    )
+executes_one : (image : List ℕ) (moves : List Move) (a b : BoardState) → a.plain.end ≡ None → IsSome a.runtime.running → ComesTo None image 1 moves a b → Executes image 1 moves a b
+executes_one image moves a b going runs f start n used met r = (let x = through_one None image moves a b going runs f start n used met r in (x.0, x.1, λ rest j l h. (x.2 rest j l h).0))
 
 pub on_err : {T E : Type 0} {P : Type 0} (r : Result T E) → P → OnErr r P
 on_err (Ok x) p = tt
@@ -102,12 +50,12 @@ module _ {B : Type 0} (account : B → Account) where
       subst (λ l. Follows account l start r) (append_assoc before (port_moves ms) (port_moves ns) ∙ ap (λ l. before ++ l) (sym (port_moves-append ms ns)))
       (g (before ++ port_moves ms) start (f before start h))
 
-  pub advances_then : (n m : ℕ) (a b c : Engine) (p q r : Plugged B) (s t u : Option (List ℕ)) → Advances account n a b p q s t → Advances account m b c q r t u → Advances account (m + n) a c p r s u
-  advances_then n m a b c p q r s t u f g = record {
+  pub advances_then : (n m : ℕ) (a b c : OverSink B) → Advances account n a b → Advances account m b c → Advances account (m + n) a c
+  advances_then n m a b c f g = record {
     moves = f.moves ++ g.moves;
-    executes = λ image. executes_then image n m f.moves g.moves (state_of a) (state_of b) (state_of c) (f.executes image) (g.executes image);
-    ports = ports_then f.moves g.moves p q r f.ports g.ports;
-    written = subst (λ l. Took s u l) (sym (lines-append (seen_of f.moves) (seen_of g.moves)) ∙ ap lines (sym (seen_of-append f.moves g.moves))) (took-then _ _ f.written g.written);
+    executes = λ image. through_then (λ w. over w.board ≡ false) None image n m f.moves g.moves (state_of a.board.engine) (state_of b.board.engine) (state_of c.board.engine) (f.executes image) (g.executes image);
+    ports = ports_then f.moves g.moves a.board.plugs b.board.plugs c.board.plugs f.ports g.ports;
+    written = subst (λ l. Took a.taken c.taken l) (sym (lines-append (seen_of f.moves) (seen_of g.moves)) ∙ ap lines (sym (seen_of-append f.moves g.moves))) (took-then _ _ f.written g.written);
   }
 
   pub into_then : {s t u : Option (List ℕ)} (x y next : List ℕ) → Took s t x → TookInto t u y next → TookInto s u (x ++ y) next
@@ -115,55 +63,55 @@ module _ {B : Type 0} (account : B → Account) where
     told = λ had e. (let r = q.told (had ++ x) (p.told had e) in (r.0, r.1, r.2 ∙ ap Some (append_assoc had x (y ++ r.0) ∙ ap (λ l. had ++ l) (sym (append_assoc x y r.0)))));
   }
 
-  pub fails_then : (n most all : ℕ) (a b : Engine) (p q r : Plugged B) (s t u : Option (List ℕ)) → Advances account n a b p q s t → Fails account most b q r t u → most + n ≤ all → Fails account all a p r s u
-  fails_then n most all a b p q r s t u f g l = record {
+  pub fails_then : (n most all : ℕ) (a b c : OverSink B) → Advances account n a b → Fails account most b c → most + n ≤ all → Fails account all a c
+  fails_then n most all a b c f g l = record {
     count = g.count + n;
     within = (let w = g.within in omega (arith, w, l));
     done = f.moves ++ g.done;
     last = g.last;
     at = g.at;
-    executes = λ image. subst (λ ms. Executes image (g.count + n) ms (state_of a) g.at) (sym (append_assoc f.moves g.done (Seen g.last ∷ [])))
-        (executes_then image n g.count f.moves (g.done ++ Seen g.last ∷ []) (state_of a) (state_of b) g.at (f.executes image) (g.executes image));
-    ports = ports_then f.moves g.done p q r f.ports g.ports;
-    written = subst (λ l. TookInto s u l (line g.last)) (sym (lines-append (seen_of f.moves) (seen_of g.done)) ∙ ap lines (sym (seen_of-append f.moves g.done)))
+    executes = λ image. subst (λ ms. Executes image (g.count + n) ms (state_of a.board.engine) g.at) (sym (append_assoc f.moves g.done (Seen g.last ∷ [])))
+        (through_then (λ w. over w.board ≡ false) None image n g.count f.moves (g.done ++ Seen g.last ∷ []) (state_of a.board.engine) (state_of b.board.engine) g.at (f.executes image) (g.executes image));
+    ports = ports_then f.moves g.done a.board.plugs b.board.plugs c.board.plugs f.ports g.ports;
+    written = subst (λ l. TookInto a.taken c.taken l (line g.last)) (sym (lines-append (seen_of f.moves) (seen_of g.done)) ∙ ap lines (sym (seen_of-append f.moves g.done)))
         (into_then (lines (seen_of f.moves)) (lines (seen_of g.done)) (line g.last) f.written g.written);
   }
 
   -- nothing was done yet
-  pub advances_none : (e : Engine) (p : Plugged B) (s : Option (List ℕ)) → Advances account 0 e e p p s s
-  advances_none e p s = record {
+  pub advances_none : (b : OverSink B) → Advances account 0 b b
+  advances_none b = record {
     moves = [];
     executes = λ image start n used met r.
         (let count : n ≡ 0 + n = omega arith in
-        ([], subst (λ k. Reaches None image start k (used ++ []) (met ++ []) (state_of e)) count (subst (λ us. Reaches None image start n us (met ++ []) (state_of e)) (sym (append-nil used)) (subst (λ ms. Reaches None image start n used ms (state_of e)) (sym (append-nil met)) r)), λ rest j l h. absurd (omega (arith, l, h))));
-    ports = λ before start f. subst (λ ms. Follows account ms start p) (sym (append-nil before)) f;
-    written = took-nothing s;
+        ([], subst (λ k. Reaches None image start k (used ++ []) (met ++ []) (state_of b.board.engine)) count (subst (λ us. Reaches None image start n us (met ++ []) (state_of b.board.engine)) (sym (append-nil used)) (subst (λ ms. Reaches None image start n used ms (state_of b.board.engine)) (sym (append-nil met)) r)), λ rest j l h. absurd (omega (arith, l, h))));
+    ports = λ before start f. subst (λ ms. Follows account ms start b.board.plugs) (sym (append-nil before)) f;
+    written = took-nothing b.taken;
   }
 
   -- idle moves show nothing
-  pub advances_idle : (a b : Engine) (p q : Plugged B) (s : Option (List ℕ)) → Idles account (state_of a) (state_of b) p q → Advances account 0 a b p q s s
-  advances_idle a b p q s i = record {
+  pub advances_idle : (a b : OverSink B) → b.taken ≡ a.taken → Idles account (state_of a.board.engine) (state_of b.board.engine) a.board.plugs b.board.plugs → Advances account 0 a b
+  advances_idle a b same i = record {
     moves = i.moves;
-    executes = λ image. executes_none image i.moves (state_of a) (state_of b) (i.comes image);
+    executes = λ image. through_none (λ w. over w.board ≡ false) None image i.moves (state_of a.board.engine) (state_of b.board.engine) (i.comes image);
     ports = i.ports;
-    written = subst (λ l. Took s s l) (ap lines (sym i.silent)) (took-nothing s);
+    written = subst (λ t. Took a.taken t (lines (seen_of i.moves))) (sym same) (subst (λ l. Took a.taken a.taken l) (ap lines (sym i.silent)) (took-nothing a.taken));
   }
 
   -- an instruction with its line and its words
-  pub advances_one : (a b : Engine) (p q : Plugged B) (s t : Option (List ℕ)) (moves : List Move) → a.end ≡ None → IsSome a.runtime.running → ((image : List ℕ) → Comes image 1 moves (state_of a) (state_of b))
-      → PortsMeet account moves p q → Took s t (lines (seen_of moves)) → Advances account 1 a b p q s t
-  advances_one a b p q s t moves going runs comes ports took = record {
+  pub advances_one : (a b : OverSink B) (moves : List Move) → a.board.engine.end ≡ None → IsSome a.board.engine.runtime.running → ((image : List ℕ) → Comes image 1 moves (state_of a.board.engine) (state_of b.board.engine))
+      → PortsMeet account moves a.board.plugs b.board.plugs → Took a.taken b.taken (lines (seen_of moves)) → Advances account 1 a b
+  advances_one a b moves going runs comes ports took = record {
     moves = moves;
-    executes = λ image. executes_one image moves (state_of a) (state_of b) (none_yet a.end going) runs (comes image None);
+    executes = λ image. executes_one image moves (state_of a.board.engine) (state_of b.board.engine) (none_yet a.board.engine.end going) runs (comes image None);
     ports = ports;
     written = took;
   }
 
   -- an instruction whose line was cut
-  pub fails_one : (a b : Engine) (p q : Plugged B) (s t : Option (List ℕ)) (flash : List ℕ) (now : ℕ) (sight : Sight) → a.end ≡ None → IsSome a.runtime.running
-      → ((image : List ℕ) → Comes image 1 (moves_of flash now sight) (state_of a) (state_of b)) → IsSeen flash now sight → q ≡ p → TookPart s t (lines (seen_of (moves_of flash now sight)))
-      → Fails account 1 a p q s t
-  fails_one a b p q s t flash now sight going runs comes seen same part =
+  pub fails_one : (a c : OverSink B) (b : Engine) (flash : List ℕ) (now : ℕ) (sight : Sight) → a.board.engine.end ≡ None → IsSome a.board.engine.runtime.running
+      → ((image : List ℕ) → Comes image 1 (moves_of flash now sight) (state_of a.board.engine) (state_of b)) → IsSeen flash now sight → c.board.plugs ≡ a.board.plugs
+      → TookPart a.taken c.taken (lines (seen_of (moves_of flash now sight))) → Fails account 1 a c
+  fails_one a c b flash now sight going runs comes seen same part =
       let o = seen.0 in
       record {
         count = 1;
@@ -171,9 +119,9 @@ module _ {B : Type 0} (account : B → Account) where
         done = [];
         last = o;
         at = state_of b;
-        executes = λ image. executes_one image (Seen o ∷ []) (state_of a) (state_of b) (none_yet a.end going) runs (subst (λ ms. ComesTo None image 1 ms (state_of a) (state_of b)) seen.1 (comes image None));
-        ports = λ before start f. subst (λ ms. Follows account ms start q) (sym (append-nil before)) (subst (λ x. Follows account before start x) (sym same) f);
-        written = record { told = λ had e. (let l : TookPart s t (line o ++ []) = subst (λ ms. TookPart s t (lines (seen_of ms))) seen.1 part in let r = l.told had e in (r.0, subst (IsPrefix r.0) (append-nil (line o)) r.1, r.2)) };
+        executes = λ image. executes_one image (Seen o ∷ []) (state_of a.board.engine) (state_of b) (none_yet a.board.engine.end going) runs (subst (λ ms. ComesTo None image 1 ms (state_of a.board.engine) (state_of b)) seen.1 (comes image None));
+        ports = λ before start f. subst (λ ms. Follows account ms start c.board.plugs) (sym (append-nil before)) (subst (λ x. Follows account before start x) (sym same) f);
+        written = record { told = λ had e. (let l : TookPart a.taken c.taken (line o ++ []) = subst (λ ms. TookPart a.taken c.taken (lines (seen_of ms))) seen.1 part in let r = l.told had e in (r.0, subst (IsPrefix r.0) (append-nil (line o)) r.1, r.2)) };
       }
 
 -- an instruction changes no flash
@@ -220,24 +168,6 @@ module _ {B : Type 0} (account : B → Account) (a mid : Engine) (sight : Sight)
   pub same_flash : mid.runtime.machine.memory.flash ≡ a.runtime.machine.memory.flash
   same_flash = flash_kept 1 (moves_of a.runtime.machine.memory.flash a.clock sight) (state_of a) (state_of mid) shown (λ image. comes image None)
 
-  -- a whole step: an instruction, its line, its words, and the idle moves behind it
-  pub step_goes : (told new : Engine) (p q r : Plugged B) (s t : Option (List ℕ)) → a.end ≡ None → IsSome a.runtime.running → told ≡ mid
-      → PortsMeet account (moves_of mid.runtime.machine.memory.flash a.clock sight) p q → Took s t (lines (seen_of (moves_of mid.runtime.machine.memory.flash a.clock sight)))
-      → Idles account (state_of told) (state_of new) q r → Advances account 1 a new p r s t
-  step_goes told new p q r s t going runs same ports took idles =
-      let moves = moves_of a.runtime.machine.memory.flash a.clock sight in
-      let one = advances_one account a mid p q s t moves going runs comes
-      (subst (λ f. PortsMeet account (moves_of f a.clock sight) p q) same_flash ports)
-      (subst (λ f. Took s t (lines (seen_of (moves_of f a.clock sight)))) same_flash took) in
-      let rest = advances_idle account mid new q r t (subst (λ (x : Engine). Idles account (state_of x) (state_of new) q r) same idles) in
-      advances_then account 1 0 a mid new p q r s t t one rest
-
-  pub step_fails : (p q : Plugged B) (s t : Option (List ℕ)) → a.end ≡ None → IsSome a.runtime.running → IsSeen mid.runtime.machine.memory.flash a.clock sight → q ≡ p
-      → TookPart s t (lines (seen_of (moves_of mid.runtime.machine.memory.flash a.clock sight))) → Fails account 1 a p q s t
-  step_fails p q s t going runs seen same part =
-      fails_one account a mid p q s t a.runtime.machine.memory.flash a.clock sight going runs comes
-      (subst (λ f. IsSeen f a.clock sight) same_flash seen) same (subst (λ f. TookPart s t (lines (seen_of (moves_of f a.clock sight)))) same_flash part)
-
   pub step_whole : (n : ℕ) (told new : Engine) (p q : Plugged B) → IsWhole a n → Steps a mid → told ≡ mid → Idles account (state_of told) (state_of new) p q
       → new.script ≡ told.script → new.next ≤ length told.script.entries → new.counts ≡ told.counts → (told.clock ≤ end_limit → new.clock ≤ end_limit) → IsWhole new (n + 1)
   step_whole n told new p q w s same idles script within counts early =
@@ -248,3 +178,29 @@ module _ {B : Type 0} (account : B → Account) (a mid : Engine) (sight : Sight)
 
   pub step_shown : (told : Engine) → told ≡ mid → IsShown (state_of told)
   step_shown told same = subst (λ (x : Engine). IsShown (state_of x)) (sym same) (comes_shown 1 (moves_of a.runtime.machine.memory.flash a.clock sight) (state_of a) (state_of mid) shown (λ image. comes image None))
+
+module _ {B : Type 0} (account : B → Account) (old : OverSink B) (mid : Engine) (sight : Sight) (shown : IsShown (state_of old.board.engine))
+    (comes : (image : List ℕ) → Comes image 1 (moves_of old.board.engine.runtime.machine.memory.flash old.board.engine.clock sight) (state_of old.board.engine) (state_of mid)) where
+  abbrev a : Engine
+  a = old.board.engine
+
+  flash_same : mid.runtime.machine.memory.flash ≡ a.runtime.machine.memory.flash
+  flash_same = same_flash account a mid sight shown comes
+
+  -- a whole step: an instruction, its line, its words, and the idle moves behind it
+  pub step_goes : (told : Engine) (q : Plugged B) (new : OverSink B) → a.end ≡ None → IsSome a.runtime.running → told ≡ mid
+      → PortsMeet account (moves_of mid.runtime.machine.memory.flash a.clock sight) old.board.plugs q → Took old.taken new.taken (lines (seen_of (moves_of mid.runtime.machine.memory.flash a.clock sight)))
+      → Idles account (state_of told) (state_of new.board.engine) q new.board.plugs → Advances account 1 old new
+  step_goes told q new going runs same ports took idles =
+      let there : OverSink B = record { board = record old.board { engine = mid; plugs = q }; taken = new.taken; faults = new.faults } in
+      let one = advances_one account old there (moves_of a.runtime.machine.memory.flash a.clock sight) going runs comes
+      (subst (λ f. PortsMeet account (moves_of f a.clock sight) old.board.plugs q) flash_same ports)
+      (subst (λ f. Took old.taken new.taken (lines (seen_of (moves_of f a.clock sight)))) flash_same took) in
+      let rest = advances_idle account there new refl (subst (λ (x : Engine). Idles account (state_of x) (state_of new.board.engine) q new.board.plugs) same idles) in
+      advances_then account 1 0 old there new one rest
+
+  pub step_fails : (new : OverSink B) → a.end ≡ None → IsSome a.runtime.running → IsSeen mid.runtime.machine.memory.flash a.clock sight → new.board.plugs ≡ old.board.plugs
+      → TookPart old.taken new.taken (lines (seen_of (moves_of mid.runtime.machine.memory.flash a.clock sight))) → Fails account 1 old new
+  step_fails new going runs seen same part =
+      fails_one account old new mid a.runtime.machine.memory.flash a.clock sight going runs comes
+      (subst (λ f. IsSeen f a.clock sight) flash_same seen) same (subst (λ f. TookPart old.taken new.taken (lines (seen_of (moves_of f a.clock sight)))) flash_same part)

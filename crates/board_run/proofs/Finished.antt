@@ -31,6 +31,7 @@ use Rattle.board_run.specs.declared.end.End.{End}
 use Rattle.board_run.specs.declared.engine.Engine.{Engine}
 use Rattle.board_run.specs.Represents.{Represents}
 use Rattle.board_run.specs.Run.{Reaches}
+use Rattle.board_run.specs.Outside.{Outside, OverSink, around}
 use Rattle.board_run.specs.Advancing.{PortsMeet, Advances, Fails, IsSettled}
 use Rattle.board_run.specs.Ran.{world_after, IsMounted, IsExecuted, HasRun, IsCut, told, answer_of, Finishes, Ran}
 use Rattle.board_run.specs.View.{state_of, end_of}
@@ -84,12 +85,16 @@ settled_stays image e w s h = by_end e.end refl
         ap (λ l. idle_while K (idle_bound w.board) l w) first ∙ busy_stays K (idle_bound w.board) _ _ w
     by_end (Some stop) q = over_stays K (idle_bound w.board) w.ready w (ap (λ (p : Board). is_some p.end) h.board ∙ ap (λ (o : Option Stop). is_some (option_map end_of o)) q)
 
-module _ {B : Type 0} (account : B → Account) (image : List ℕ) (script : Script) (budget : ℕ) (first : Engine) (m : IsMounted image script first)
-    (places : List (Option B)) (plugged : Plugged B) (f : Follows account [] places plugged) where
+module _ {B : Type 0} (account : B → Account) (image : List ℕ) (script : Script) (budget : ℕ) (first : OverSink B) (m : IsMounted image script first.board.engine)
+    (places : List (Option B)) (f : Follows account [] places first.board.plugs) where
   abbrev begin : List ℕ → World Fiber Shared
   begin free = bank_start image script.end (world_entries script.entries) free
 
-  begins : Reaches None image begin 0 [] [] (state_of first)
+  -- the sink and the devices, as the run begins
+  abbrev given : Outside B
+  given = record { taken = first.taken; faults = first.faults; places = places }
+
+  begins : Reaches None image begin 0 [] [] (state_of first.board.engine)
   begins = record { at = begin; shows = m.begins; free = λ _. λ rest. refl; met = λ rest. record { seen = refl; unplugged = refl }; settles = λ rest. refl }
 
   begin_stays : (free : List ℕ) → idled (fibers image) (begin free) ≡ begin free
@@ -98,11 +103,17 @@ module _ {B : Type 0} (account : B → Account) (image : List ℕ) (script : Scr
   none_added : (n : ℕ) → n + 0 ≡ n
   none_added n = omega arith
 
-  ports_after : (moves : List Move) (p : Plugged B) → PortsMeet account moves plugged p → DevicesAfter account moves places p.places
+  ports_after : (moves : List Move) (p : Plugged B) → PortsMeet account moves first.board.plugs p → DevicesAfter account moves places p.places
   ports_after moves p meet = places_after account (port_moves moves) places p (meet [] places f)
 
   -- the worlds that are shown, and that the run wasn't over before
-  module _ (n : ℕ) (e : Engine) (p : Plugged B) (s t : Option (List ℕ)) (a : Advances account n first e plugged p s t) (settled : IsSettled e) where
+  module _ (b : OverSink B) (a : Advances account b.board.instructions first b) (settled : IsSettled b.board.engine) where
+    abbrev e : Engine
+    e = b.board.engine
+
+    abbrev n : ℕ
+    n = b.board.instructions
+
     reached : (used : List ℕ) × Reaches None image begin (n + 0) used a.moves (state_of e) × ((rest : List ℕ) (j : ℕ) → 0 ≤ j → j < n + 0 → over (run (fibers image) j (idled (fibers image) (begin (used ++ rest)))).board ≡ false)
     reached = a.executes image begin 0 [] [] begins
 
@@ -143,64 +154,67 @@ module _ {B : Type 0} (account : B → Account) (image : List ℕ) (script : Scr
         ∙ ap (λ c. lines (after rest).board.seen ++ closing_line c (option_map end_of e.end)) (sym (clock_is rest))
         ∙ ap (λ o. lines (after rest).board.seen ++ closing_line (after rest).board.clock o) (sym (end_is rest))
 
-    -- the closing line was taken
-    ran_whole : (u : Option (List ℕ)) → n ≤ budget → (n ≡ budget) ⊎ IsSome e.end → Took t u (closing_line e.clock (option_map end_of e.end))
-        → HasRun account image script budget e n s u places p.places (option_map end_of e.end)
-    ran_whole u within done took = record {
-      used = reached.0;
-      moves = a.moves;
-      is_executed = is_executed within done;
-      shows = shown;
-      met = has_met;
-      ended = end_is;
-      written = λ rest. subst (λ l. Took s u l) (text_is rest) (took-then _ _ a.written took);
-      devices = ports_after a.moves p a.ports;
-    }
+    module _ (u : Option (List ℕ)) (fs : ℕ) (within : n ≤ budget) (done : (n ≡ budget) ⊎ IsSome e.end) where
+      -- the board and the sink behind the closing line
+      abbrev left : OverSink B
+      left = record b { taken = u; faults = fs }
 
-    -- the closing line was cut
-    ran_cut : (u : Option (List ℕ)) → n ≤ budget → (n ≡ budget) ⊎ IsSome e.end → TookPart t u (closing_line e.clock (option_map end_of e.end)) → IsCut account image script budget s u places p.places
-    ran_cut u within done part = record {
-      free = reached.0 ++ [];
-      executed = n;
-      moves = a.moves;
-      is_executed = is_executed within done [];
-      met = has_met [];
-      stopped = record {
-        done = a.moves;
-        left = [];
-        split = append-nil a.moves;
-        due = tt;
-        written = record {
-          told = λ had q.
-              let closing : closing_line e.clock (option_map end_of e.end) ≡ closing_line (after []).board.clock (after []).board.end =
-              ap (λ c. closing_line c (option_map end_of e.end)) (sym (clock_is [])) ∙ ap (closing_line (after []).board.clock) (sym (end_is [])) in
-              let c : TookPart t u (closing_line (after []).board.clock (after []).board.end) = subst (λ l. TookPart t u l) closing part in
-              let r = c.told (had ++ lines (seen_of a.moves)) (a.written.told had q) in
-              (r.0, r.1, r.2 ∙ ap Some (append_assoc had (lines (seen_of a.moves)) r.0));
+      -- the closing line was taken
+      ran_whole : Took b.taken u (closing_line e.clock (option_map end_of e.end)) → HasRun account image (world_after image script) budget given left (option_map end_of e.end)
+      ran_whole took = record {
+        used = reached.0;
+        moves = a.moves;
+        is_executed = is_executed within done;
+        shows = shown;
+        met = has_met;
+        ended = end_is;
+        written = λ rest. subst (λ l. Took first.taken u l) (text_is rest) (took-then _ _ a.written took);
+        devices = ports_after a.moves b.board.plugs a.ports;
+      }
+
+      -- the closing line was cut
+      ran_cut : TookPart b.taken u (closing_line e.clock (option_map end_of e.end)) → IsCut account (world_after image script) budget given (around left)
+      ran_cut part = record {
+        free = reached.0 ++ [];
+        executed = n;
+        moves = a.moves;
+        is_executed = is_executed within done [];
+        met = has_met [];
+        stopped = record {
+          done = a.moves;
+          left = [];
+          split = append-nil a.moves;
+          due = tt;
+          written = record {
+            told = λ had q.
+                let closing : closing_line e.clock (option_map end_of e.end) ≡ closing_line (after []).board.clock (after []).board.end =
+                ap (λ c. closing_line c (option_map end_of e.end)) (sym (clock_is [])) ∙ ap (closing_line (after []).board.clock) (sym (end_is [])) in
+                let c : TookPart b.taken u (closing_line (after []).board.clock (after []).board.end) = subst (λ l. TookPart b.taken u l) closing part in
+                let r = c.told (had ++ lines (seen_of a.moves)) (a.written.told had q) in
+                (r.0, r.1, r.2 ∙ ap Some (append_assoc had (lines (seen_of a.moves)) r.0));
+          };
+          devices = ports_after a.moves b.board.plugs a.ports;
         };
-        devices = ports_after a.moves p a.ports;
-      };
-    }
+      }
 
-    -- how the call ends behind the closing line
-    pub finished : (u : Option (List ℕ)) (fs mid fs' : ℕ) (answer : End) → n ≤ budget → (n ≡ budget) ⊎ IsSome e.end → fs ≤ mid → Finishes t u mid fs' e answer
-        → Ran account image script budget e n s u fs fs' places p.places answer
-    finished u fs mid fs' answer within done later fin = subst (Ran account image script budget e n s u fs fs' places p.places) (sym fin.2) (by_put fin.0 fin.1)
-      where
-        whole : (o : Option Stop) → e.end ≡ o → Took t u (closing_line e.clock (option_map end_of e.end)) → Ran account image script budget e n s u fs fs' places p.places (told o)
-        whole None q took = subst (λ o. HasRun account image script budget e n s u places p.places (option_map end_of o)) q (ran_whole u within done took)
-        whole (Some StopQuiet) q took = subst (λ o. HasRun account image script budget e n s u places p.places (option_map end_of o)) q (ran_whole u within done took)
-        whole (Some StopScript) q took = subst (λ o. HasRun account image script budget e n s u places p.places (option_map end_of o)) q (ran_whole u within done took)
-        whole (Some (StopPanic code)) q took = subst (λ o. HasRun account image script budget e n s u places p.places (option_map end_of o)) q (ran_whole u within done took)
-        whole (Some (StopFault fault address)) q took = subst (λ o. HasRun account image script budget e n s u places p.places (option_map end_of o)) q (ran_whole u within done took)
+      -- how the call ends behind the closing line
+      pub finished : (answer : End) → first.faults ≤ b.faults → Finishes b left answer → Ran account image (world_after image script) budget given left answer
+      finished answer later fin = subst (Ran account image (world_after image script) budget given left) (sym fin.2) (by_put fin.0 fin.1)
+        where
+          whole : (o : Option Stop) → e.end ≡ o → Took b.taken u (closing_line e.clock (option_map end_of e.end)) → Ran account image (world_after image script) budget given left (told o)
+          whole None q took = subst (λ o. HasRun account image (world_after image script) budget given left (option_map end_of o)) q (ran_whole took)
+          whole (Some StopQuiet) q took = subst (λ o. HasRun account image (world_after image script) budget given left (option_map end_of o)) q (ran_whole took)
+          whole (Some StopScript) q took = subst (λ o. HasRun account image (world_after image script) budget given left (option_map end_of o)) q (ran_whole took)
+          whole (Some (StopPanic code)) q took = subst (λ o. HasRun account image (world_after image script) budget given left (option_map end_of o)) q (ran_whole took)
+          whole (Some (StopFault fault address)) q took = subst (λ o. HasRun account image (world_after image script) budget given left (option_map end_of o)) q (ran_whole took)
 
-        by_put : (put : Result (Unit {0}) PutFailed) → Puts t u mid fs' (closing_line e.clock (option_map end_of e.end)) put → Ran account image script budget e n s u fs fs' places p.places (answer_of put e.end)
-        by_put (Ok x) puts = whole e.end refl puts.took
-        by_put (Err x) puts = (ran_cut u within done puts.part, rose-before fs mid fs' later puts.failed)
+          by_put : (put : Result (Unit {0}) PutFailed) → Puts b.taken u b.faults fs (closing_line e.clock (option_map end_of e.end)) put → Ran account image (world_after image script) budget given left (answer_of put e.end)
+          by_put (Ok x) puts = whole e.end refl puts.took
+          by_put (Err x) puts = (ran_cut puts.part, rose-before first.faults b.faults fs later puts.failed)
 
   -- the line of an observation was cut: the run goes on to meet more, whatever the sink does
-  pub fails_cut : (p : Plugged B) (s u : Option (List ℕ)) → Fails account budget first plugged p s u → IsCut account image script budget s u places p.places
-  fails_cut p s u g =
+  pub fails_cut : (b : OverSink B) → Fails account budget first b → IsCut account (world_after image script) budget given (around b)
+  fails_cut b g =
       let K = fibers image in
       let x = g.executes image begin 0 [] [] begins in
       let free = x.0 ++ [] in
@@ -224,6 +238,6 @@ module _ {B : Type 0} (account : B → Account) (image : List ℕ) (script : Scr
           split = sym (ap (λ l. l ++ further.0) (append_assoc g.done (Seen g.last ∷ []) idle.0) ∙ append_assoc g.done (Seen g.last ∷ idle.0) further.0);
           due = tt;
           written = g.written;
-          devices = ports_after g.done p g.ports;
+          devices = ports_after g.done b.board.plugs g.ports;
         };
       }

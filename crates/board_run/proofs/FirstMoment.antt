@@ -21,14 +21,9 @@ use Rattle.board_run.specs.Proceeding.{IsBusy, MakesTo, IsStayed}
 use Rattle.board_run.specs.Going.{entries_left, next_moment, IsResting, Shows, LeadsTo, Sees}
 use Rattle.board_run.specs.View.{state_of}
 use Rattle.board_run.proofs.Raises.{nobody_ready}
+use Rattle.board_run.proofs.Further.{before_or_not}
 use Rattle.board_run.proofs.Course.{busy_to}
 use Rattle.board_run.proofs.AtMoment.{stayed_rests, none_up_to}
-
-before_or_not : (j k : ℕ) → (j < k) ⊎ (k ≤ j)
-before_or_not zero zero = inr (omega arith)
-before_or_not zero (suc k) = inl (omega arith)
-before_or_not (suc j) zero = inr (omega arith)
-before_or_not (suc j) (suc k) = elim (before_or_not j k) [ inl e ↦ inl (omega (arith, e)) | inr e ↦ inr (omega (arith, e)) ]
 
 -- where somebody is ready no idle move is made
 busy_rests : (image : List ℕ) (t : ℕ) (w : World Fiber Shared) → IsBusy w → idled_before (fibers image) t w ≡ w

@@ -1,5 +1,5 @@
 -- The clock comes to a moment with events that are raised behind the script's own entries.
-use Rattle.std.proofs.Common.{All, ◌<◌, OnOk, OnErr, Result, Ok, Err, ◌≡◌, ℕ, ◌≤◌, true, false, if◌then◌else◌, nat_lt, List, [], ◌∷◌, ◌++◌, length, drop, Option, refl, ap, sym, ◌∙◌, subst, arith}
+use Rattle.std.proofs.Common.{All, ◌<◌, OnOk, OnErr, Result, Ok, Err, ◌≡◌, ℕ, ◌≤◌, true, false, if◌then◌else◌, nat_lt, List, [], ◌∷◌, ◌++◌, length, drop, refl, ap, sym, ◌∙◌, subst, arith}
 use Rattle.std.proofs.lemmas.List.{append-nil}
 use Rattle.board_world.specs.declared.events.Event.{Event}
 use Rattle.board_world.specs.Limits.{queue_limit}

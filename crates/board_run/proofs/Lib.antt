@@ -7,7 +7,7 @@ pub mod Ends
 pub mod Raises
 pub mod Course
 pub mod Few
-pub mod Segments
+pub mod Further
 pub mod Arrives
 pub mod Mounted
 pub mod Acting

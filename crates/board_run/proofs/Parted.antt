@@ -1,5 +1,5 @@
 -- What an act between two parts leaves.
-use Rattle.std.proofs.Common.{◌≡◌, ℕ, ◌+◌, ◌*◌, ◌≤◌, All, ◌<◌, List, [], ◌++◌, length, Option, Some, None, is_some, false, refl, sym, ap, ◌∙◌, subst}
+use Rattle.std.proofs.Common.{◌≡◌, ℕ, ◌+◌, ◌*◌, ◌≤◌, All, ◌<◌, [], ◌++◌, length, Option, Some, None, is_some, false, refl, sym, ap, ◌∙◌, subst}
 use Rattle.std.proofs.lemmas.List.{append-nil}
 use Rattle.std.proofs.lemmas.Bool.{false≢true}
 use Rattle.thumb_code.specs.Map.{flash_end}

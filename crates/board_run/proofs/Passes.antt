@@ -27,6 +27,7 @@ use Rattle.board_run.specs.Shown.{running_of}
 use Rattle.board_run.specs.Represents.{BoardState, Represents, IsShown, behind}
 use Rattle.board_run.specs.Run.{Comes}
 use Rattle.board_run.specs.Idling.{IsEmpty}
+use Rattle.board_run.specs.Outside.{OverSink}
 use Rattle.board_run.specs.Advancing.{PortsMeet, IsWhole}
 use Rattle.board_run.specs.Proceeding.{led_lines, first_sent, IsBusy, Makes, MakesTo, HasProceeded, Stops, IsStayed}
 use Rattle.board_run.specs.Going.{entries_left, IsDueAt, IsResting, Shows, LeadsTo, Sees}
@@ -38,7 +39,8 @@ use Rattle.board_run.proofs.Goes.{first_ready}
 use Rattle.board_run.proofs.Stepping.{some_turning}
 use Rattle.board_run.proofs.Raises.{nobody_ready}
 use Rattle.board_run.proofs.Course.{busy_to, shown_reaches}
-use Rattle.board_run.proofs.Proceeding.{makes_then, makes_none, led_lines-append, first_sent-append}
+use Rattle.board_run.proofs.Further.{through_then, through_none}
+use Rattle.board_run.proofs.Proceeding.{led_lines-append, first_sent-append}
 use Rattle.board_run.proofs.AtMoment.{Known, known_through}
 use Rattle.board_run.proofs.Through.{rising_left, first_any}
 use Rattle.board_run.proofs.FirstMoment.{leads_early, leads_idle, leads_on, first_sees, sees_on, shows_mid, worlds}
@@ -84,91 +86,91 @@ mounted_busy image0 script e m image w h =
 mounted_stands : (image0 : List ℕ) (script : Script) (free : List ℕ) → IsStanding 0 script.end (world_entries script.entries) (bank_start image0 script.end (world_entries script.entries) free)
 mounted_stands image0 script free = record { clock_is = refl; until_is = refl; script_is = refl; goes = refl; later = tt }
 
-module _ {B : Type 0} (account : B → Account) (lead : ByteList) (old there : Board B) (image0 : List ℕ) (script : Script) (mounted : IsMounted image0 script old.engine)
-    (begun : (image : List ℕ) → Comes image 0 [] (state_of old.engine) (state_of there.engine)) (plugs : there.plugs ≡ old.plugs) (kept : there.kept ≡ old.kept) (sent : there.sent ≡ old.sent)
-    (count : there.instructions ≡ old.instructions) (clock : there.engine.clock ≡ old.engine.clock) (same_script : there.engine.script ≡ old.engine.script) where
-  makes_on : (image : List ℕ) (n : ℕ) (more : List Move) (new : BoardState) → Makes image n more (state_of there.engine) new → Makes image n more (state_of old.engine) new
+module _ {B : Type 0} (account : B → Account) (lead : ByteList) (old : OverSink B) (there : Board B) (image0 : List ℕ) (script : Script) (mounted : IsMounted image0 script old.board.engine)
+    (begun : (image : List ℕ) → Comes image 0 [] (state_of old.board.engine) (state_of there.engine)) (plugs : there.plugs ≡ old.board.plugs) (kept : there.kept ≡ old.board.kept) (sent : there.sent ≡ old.board.sent)
+    (count : there.instructions ≡ old.board.instructions) (clock : there.engine.clock ≡ old.board.engine.clock) (same_script : there.engine.script ≡ old.board.engine.script) where
+  makes_on : (image : List ℕ) (n : ℕ) (more : List Move) (new : BoardState) → Makes image n more (state_of there.engine) new → Makes image n more (state_of old.board.engine) new
   makes_on image n more new q bound =
       (let count : n + 0 ≡ n = omega arith in
-      subst (λ k. MakesTo bound image k more (state_of old.engine) new) count
-      (makes_then bound image 0 n [] more (state_of old.engine) (state_of there.engine) new (makes_none bound image [] (state_of old.engine) (state_of there.engine) (begun image bound)) (q bound)))
+      subst (λ k. MakesTo bound image k more (state_of old.board.engine) new) count
+      (through_then IsBusy bound image 0 n [] more (state_of old.board.engine) (state_of there.engine) new (through_none IsBusy bound image [] (state_of old.board.engine) (state_of there.engine) (begun image bound)) (q bound)))
 
-  rising : IsRisingFrom 0 (entries_left old.engine)
-  rising = rising_left 0 old.engine mounted.whole.script (first_any (next_entry (entries_left old.engine)))
+  rising : IsRisingFrom 0 (entries_left old.board.engine)
+  rising = rising_left 0 old.board.engine mounted.whole.script (first_any (next_entry (entries_left old.board.engine)))
 
-  busy : (image : List ℕ) (w : World Fiber Shared) → Represents image (state_of old.engine) w → IsBusy w
-  busy = mounted_busy image0 script old.engine mounted
+  busy : (image : List ℕ) (w : World Fiber Shared) → Represents image (state_of old.board.engine) w → IsBusy w
+  busy = mounted_busy image0 script old.board.engine mounted
 
-  at_first : old.engine.clock ≡ 0
+  at_first : old.board.engine.clock ≡ 0
   at_first = sym (ap (λ (p : WorldBoard). p.clock) (mounted.begins []).board)
 
-  module _ (most n : ℕ) (mid : Board B) (s t : Option (List ℕ)) (q : HasProceeded account lead n most there mid s t) (stayed : IsStayed mid.engine) (whole : IsWhole mid.engine mid.instructions) where
-    makes : (image : List ℕ) → MakesTo (Some 0) image n q.proceeds.moves (state_of old.engine) (state_of mid.engine)
-    makes image = makes_on image n q.proceeds.moves (state_of mid.engine) (q.proceeds.makes image) (Some 0)
+  module _ (most n : ℕ) (mid : OverSink B) (q : HasProceeded account lead n most (record old { board = there }) mid) (stayed : IsStayed mid.board.engine) (whole : IsWhole mid.board.engine mid.board.instructions) where
+    makes : (image : List ℕ) → MakesTo (Some 0) image n q.proceeds.moves (state_of old.board.engine) (state_of mid.board.engine)
+    makes image = makes_on image n q.proceeds.moves (state_of mid.board.engine) (q.proceeds.makes image) (Some 0)
 
-    known : Known 0 (world_entries script.entries) mid.engine
-    known = known_through image0 0 script.end (world_entries script.entries) n q.proceeds.moves old.engine mid.engine (bank_start image0 script.end (world_entries script.entries) []) (mounted.begins []) (mounted_stands image0 script [])
+    known : Known 0 (world_entries script.entries) mid.board.engine
+    known = known_through image0 0 script.end (world_entries script.entries) n q.proceeds.moves old.board.engine mid.board.engine (bank_start image0 script.end (world_entries script.entries) []) (mounted.begins []) (mounted_stands image0 script [])
         (makes image0) stayed
 
-    same_kept : mid.kept ≡ old.kept
+    same_kept : mid.board.kept ≡ old.board.kept
     same_kept = q.stands.kept ∙ kept
 
-    settled_shown : IsSome mid.engine.end ⊎ IsSome mid.engine.runtime.running → (image : List ℕ) (w : World Fiber Shared) → Represents image (state_of mid.engine) w → over w.board ≡ false → 0 < length w.ready
-    settled_shown (inl e) image w h o = absurd (by_end mid.engine.end e (sym o ∙ ap (λ (p : WorldBoard). is_some p.end) h.board))
+    settled_shown : IsSome mid.board.engine.end ⊎ IsSome mid.board.engine.runtime.running → (image : List ℕ) (w : World Fiber Shared) → Represents image (state_of mid.board.engine) w → over w.board ≡ false → 0 < length w.ready
+    settled_shown (inl e) image w h o = absurd (by_end mid.board.engine.end e (sym o ∙ ap (λ (p : WorldBoard). is_some p.end) h.board))
       where
         by_end : (x : Option Stop) → IsSome x → false ≡ is_some (option_map end_of x) → ⊥
         by_end None e' k = (let c : false ≡ true = e' in cc)
         by_end (Some y) e' k = cc
     settled_shown (inr runs) image w h o =
-        (let u = some_turning mid.engine.runtime.running runs in
-        let there' : length w.ready ≡ suc _ = ap length (first_ready image (state_of mid.engine) w h u.0 u.1) in
+        (let u = some_turning mid.board.engine.runtime.running runs in
+        let there' : length w.ready ≡ suc _ = ap length (first_ready image (state_of mid.board.engine) w h u.0 u.1) in
         omega (arith, there'))
 
     -- nothing comes at once
-    pub first_gone : GoesOnOrIdle 0 mid → HasGone account lead old.sent 0 n old mid s t []
+    pub first_gone : GoesOnOrIdle 0 mid.board → HasGone account lead old.board.sent 0 n old mid []
     first_gone g = record {
       moves = q.proceeds.moves;
-      goes = λ image at met shows. subst (λ l. LeadsTo image 0 n old.kept l (met ++ q.proceeds.moves) at (state_of mid.engine)) (sym same_kept) (by_case g image at met shows);
-      ports = subst (λ p. PortsMeet account q.proceeds.moves p mid.plugs) plugs q.proceeds.ports;
+      goes = λ image at met shows. subst (λ l. LeadsTo image 0 n old.board.kept l (met ++ q.proceeds.moves) at (state_of mid.board.engine)) (sym same_kept) (by_case g image at met shows);
+      ports = subst (λ p. PortsMeet account q.proceeds.moves p mid.board.plugs) plugs q.proceeds.ports;
       sent = q.proceeds.sent ∙ ap (λ ns. first_sent ns (seen_of q.proceeds.moves)) sent;
-      written = subst (λ l. Took s t l) (sym (append-nil (led_lines lead (seen_of q.proceeds.moves)))) q.proceeds.written;
+      written = subst (λ l. Took old.taken mid.taken l) (sym (append-nil (led_lines lead (seen_of q.proceeds.moves)))) q.proceeds.written;
       counted = q.counted ∙ ap (λ k. k + n) count;
       whole = whole;
       clock = q.stands.clock ∙ clock ∙ at_first;
       script = q.stands.script ∙ same_script;
     }
       where
-        by_case : GoesOnOrIdle 0 mid → (image : List ℕ) (at : List ℕ → World Fiber Shared) (met : List Move) → Shows image (state_of old.engine) at met → LeadsTo image 0 n old.kept old.kept (met ++ q.proceeds.moves) at (state_of mid.engine)
-        by_case (inl x) image at met shows = leads_early image old.kept old.engine mid.engine n q.proceeds.moves (busy image) rising at met shows (makes image) stayed (settled_shown x image)
-        by_case (inr x) image at met shows = leads_idle image old.kept old.engine mid.engine n q.proceeds.moves (busy image) rising at met shows (makes image) stayed x.resting x.later (sym same_kept ∙ x.none)
+        by_case : GoesOnOrIdle 0 mid.board → (image : List ℕ) (at : List ℕ → World Fiber Shared) (met : List Move) → Shows image (state_of old.board.engine) at met → LeadsTo image 0 n old.board.kept old.board.kept (met ++ q.proceeds.moves) at (state_of mid.board.engine)
+        by_case (inl x) image at met shows = leads_early image old.board.kept old.board.engine mid.board.engine n q.proceeds.moves (busy image) rising at met shows (makes image) stayed (settled_shown x image)
+        by_case (inr x) image at met shows = leads_idle image old.board.kept old.board.engine mid.board.engine n q.proceeds.moves (busy image) rising at met shows (makes image) stayed x.resting x.later (sym same_kept ∙ x.none)
 
-    pub first_passed : GoesOnOrIdle 0 mid → IsPassed 0 n most mid
+    pub first_passed : GoesOnOrIdle 0 mid.board → IsPassed 0 n most mid.board
     first_passed g = record { within = q.within; sound = known.sound; rests = λ e. by_case e g }
       where
-        by_done : mid.engine.end ≡ None → IsSome mid.engine.runtime.running → (n ≡ most) ⊎ (mid.engine.runtime.running ≡ None ⊎ IsSome mid.engine.end) → n ≡ most
+        by_done : mid.board.engine.end ≡ None → IsSome mid.board.engine.runtime.running → (n ≡ most) ⊎ (mid.board.engine.runtime.running ≡ None ⊎ IsSome mid.board.engine.end) → n ≡ most
         by_done e runs (inl d) = d
         by_done e runs (inr (inl d)) = absurd (let c : false ≡ true = subst IsSome d runs in cc)
         by_done e runs (inr (inr d)) = absurd (let c : false ≡ true = subst IsSome e d in cc)
 
-        by_case : mid.engine.end ≡ None → GoesOnOrIdle 0 mid → (IsSome mid.engine.runtime.running × (n ≡ most)) ⊎ IsIdle 0 mid
+        by_case : mid.board.engine.end ≡ None → GoesOnOrIdle 0 mid.board → (IsSome mid.board.engine.runtime.running × (n ≡ most)) ⊎ IsIdle 0 mid.board
         by_case e (inl (inl x)) = absurd (let c : false ≡ true = subst IsSome e x in cc)
         by_case e (inl (inr x)) = inl (x, by_done e x q.done)
         by_case e (inr x) = inr x
 
     -- the moment's events come behind main
-    pub then_gone : (k : ℕ) (new : Board B) (u : Option (List ℕ)) → IsResting mid.engine → HasGone account lead mid.sent 0 k mid new t u [] → HasGone account lead old.sent 0 (k + n) old new s u []
-    then_gone k new u r g = record {
+    pub then_gone : (k : ℕ) (new : OverSink B) → IsResting mid.board.engine → HasGone account lead mid.board.sent 0 k mid new [] → HasGone account lead old.board.sent 0 (k + n) old new []
+    then_gone k new r g = record {
       moves = q.proceeds.moves ++ g.moves;
       goes = λ image at met shows.
-          let m = shows_mid image old.kept old.engine mid.engine n q.proceeds.moves (busy image) rising at met shows (makes image) stayed in
-          let l = g.goes image (worlds image old.kept old.engine mid.engine n q.proceeds.moves (busy image) rising at met shows (makes image) stayed) (met ++ q.proceeds.moves) m in
-          let l' = subst (λ es. LeadsTo image 0 k es new.kept ((met ++ q.proceeds.moves) ++ g.moves) (worlds image old.kept old.engine mid.engine n q.proceeds.moves (busy image) rising at met shows (makes image) stayed) (state_of new.engine)) same_kept l in
-          subst (λ ms. LeadsTo image 0 (k + n) old.kept new.kept ms at (state_of new.engine)) (append_assoc met q.proceeds.moves g.moves)
-          (leads_on image old.kept old.engine mid.engine n q.proceeds.moves (busy image) rising at met shows (makes image) stayed r k new.kept ((met ++ q.proceeds.moves) ++ g.moves) (state_of new.engine) l');
-      ports = ports_then account q.proceeds.moves g.moves old.plugs mid.plugs new.plugs (subst (λ p. PortsMeet account q.proceeds.moves p mid.plugs) plugs q.proceeds.ports) g.ports;
+          let m = shows_mid image old.board.kept old.board.engine mid.board.engine n q.proceeds.moves (busy image) rising at met shows (makes image) stayed in
+          let l = g.goes image (worlds image old.board.kept old.board.engine mid.board.engine n q.proceeds.moves (busy image) rising at met shows (makes image) stayed) (met ++ q.proceeds.moves) m in
+          let l' = subst (λ es. LeadsTo image 0 k es new.board.kept ((met ++ q.proceeds.moves) ++ g.moves) (worlds image old.board.kept old.board.engine mid.board.engine n q.proceeds.moves (busy image) rising at met shows (makes image) stayed) (state_of new.board.engine)) same_kept l in
+          subst (λ ms. LeadsTo image 0 (k + n) old.board.kept new.board.kept ms at (state_of new.board.engine)) (append_assoc met q.proceeds.moves g.moves)
+          (leads_on image old.board.kept old.board.engine mid.board.engine n q.proceeds.moves (busy image) rising at met shows (makes image) stayed r k new.board.kept ((met ++ q.proceeds.moves) ++ g.moves) (state_of new.board.engine) l');
+      ports = ports_then account q.proceeds.moves g.moves old.board.plugs mid.board.plugs new.board.plugs (subst (λ p. PortsMeet account q.proceeds.moves p mid.board.plugs) plugs q.proceeds.ports) g.ports;
       sent = g.sent ∙ ap (λ ns. first_sent ns (seen_of g.moves)) (q.proceeds.sent ∙ ap (λ ns. first_sent ns (seen_of q.proceeds.moves)) sent)
-          ∙ sym (first_sent-append old.sent (seen_of q.proceeds.moves) (seen_of g.moves)) ∙ ap (first_sent old.sent) (sym (seen_of-append q.proceeds.moves g.moves));
-      written = subst (λ l. Took s u l) (by_lines (seen_of q.proceeds.moves) (seen_of g.moves) ∙ ap (λ os. led_lines lead os ++ []) (sym (seen_of-append q.proceeds.moves g.moves))) (took-then _ _ q.proceeds.written g.written);
+          ∙ sym (first_sent-append old.board.sent (seen_of q.proceeds.moves) (seen_of g.moves)) ∙ ap (first_sent old.board.sent) (sym (seen_of-append q.proceeds.moves g.moves));
+      written = subst (λ l. Took old.taken new.taken l) (by_lines (seen_of q.proceeds.moves) (seen_of g.moves) ∙ ap (λ os. led_lines lead os ++ []) (sym (seen_of-append q.proceeds.moves g.moves))) (took-then _ _ q.proceeds.written g.written);
       counted = (let a = q.counted in let b = g.counted in omega (arith, a, b, count));
       whole = g.whole;
       clock = g.clock;
@@ -189,33 +191,33 @@ module _ {B : Type 0} (account : B → Account) (lead : ByteList) (old there : B
         by_rest (inl x) = inl (x.0, (let a = q.within in let b : k ≡ most - n = x.1 in omega (arith, a, b)))
         by_rest (inr x) = inr x
 
-    pub then_cut : (new : Board B) (u : Option (List ℕ)) → IsResting mid.engine → IsCutShort account lead 0 (most - n) mid new t u → IsCutShort account lead 0 most old new s u
-    then_cut new u r g = record {
+    pub then_cut : (new : OverSink B) → IsResting mid.board.engine → IsCutShort account lead 0 (most - n) mid new → IsCutShort account lead 0 most old new
+    then_cut new r g = record {
       used = g.used + n;
       within = (let a = q.within in let b = g.within in omega (arith, a, b));
       done = q.proceeds.moves ++ g.done;
       last = g.last;
       sees = λ image at met shows.
-          let m = shows_mid image old.kept old.engine mid.engine n q.proceeds.moves (busy image) rising at met shows (makes image) stayed in
-          let ws = worlds image old.kept old.engine mid.engine n q.proceeds.moves (busy image) rising at met shows (makes image) stayed in
+          let m = shows_mid image old.board.kept old.board.engine mid.board.engine n q.proceeds.moves (busy image) rising at met shows (makes image) stayed in
+          let ws = worlds image old.board.kept old.board.engine mid.board.engine n q.proceeds.moves (busy image) rising at met shows (makes image) stayed in
           let l = subst (λ es. Sees image 0 g.used es (seen_of g.done ++ g.last ∷ []) ws) same_kept (g.sees image ws (met ++ q.proceeds.moves) m) in
-          subst (λ os. Sees image 0 (g.used + n) old.kept os at) (sym (append_assoc (seen_of q.proceeds.moves) (seen_of g.done) (g.last ∷ [])) ∙ ap (λ os. os ++ g.last ∷ []) (sym (seen_of-append q.proceeds.moves g.done)))
-          (sees_on image old.kept old.engine mid.engine n q.proceeds.moves (busy image) rising at met shows (makes image) stayed r g.used (seen_of g.done ++ g.last ∷ []) l);
-      ports = ports_then account q.proceeds.moves g.done old.plugs mid.plugs new.plugs (subst (λ p. PortsMeet account q.proceeds.moves p mid.plugs) plugs q.proceeds.ports) g.ports;
-      written = subst (λ l. TookInto s u l (lead ++ line g.last)) (sym (led_lines-append lead (seen_of q.proceeds.moves) (seen_of g.done)) ∙ ap (led_lines lead) (sym (seen_of-append q.proceeds.moves g.done)))
+          subst (λ os. Sees image 0 (g.used + n) old.board.kept os at) (sym (append_assoc (seen_of q.proceeds.moves) (seen_of g.done) (g.last ∷ [])) ∙ ap (λ os. os ++ g.last ∷ []) (sym (seen_of-append q.proceeds.moves g.done)))
+          (sees_on image old.board.kept old.board.engine mid.board.engine n q.proceeds.moves (busy image) rising at met shows (makes image) stayed r g.used (seen_of g.done ++ g.last ∷ []) l);
+      ports = ports_then account q.proceeds.moves g.done old.board.plugs mid.board.plugs new.board.plugs (subst (λ p. PortsMeet account q.proceeds.moves p mid.board.plugs) plugs q.proceeds.ports) g.ports;
+      written = subst (λ l. TookInto old.taken new.taken l (lead ++ line g.last)) (sym (led_lines-append lead (seen_of q.proceeds.moves) (seen_of g.done)) ∙ ap (led_lines lead) (sym (seen_of-append q.proceeds.moves g.done)))
           (into_then account (led_lines lead (seen_of q.proceeds.moves)) (led_lines lead (seen_of g.done)) (lead ++ line g.last) q.proceeds.written g.written);
     }
 
   -- the sink failed before main was left
-  pub first_cut : (most : ℕ) (new : Board B) (s u : Option (List ℕ)) → Stops account lead most there new s u → IsCutShort account lead 0 most old new s u
-  first_cut most new s u g = record {
+  pub first_cut : (most : ℕ) (new : OverSink B) → Stops account lead most (record old { board = there }) new → IsCutShort account lead 0 most old new
+  first_cut most new g = record {
     used = g.count;
     within = g.within;
     done = g.done;
     last = g.last;
-    sees = λ image at met shows. subst (λ os. Sees image 0 g.count old.kept os at) (seen_of-append g.done (Seen g.last ∷ []))
-        (first_sees image old.kept old.engine old.engine g.count (g.done ++ Seen g.last ∷ []) (busy image) rising at met shows g.at (makes_on image g.count (g.done ++ Seen g.last ∷ []) g.at (g.makes image) (Some 0)));
-    ports = subst (λ p. PortsMeet account g.done p new.plugs) plugs g.ports;
+    sees = λ image at met shows. subst (λ os. Sees image 0 g.count old.board.kept os at) (seen_of-append g.done (Seen g.last ∷ []))
+        (first_sees image old.board.kept old.board.engine old.board.engine g.count (g.done ++ Seen g.last ∷ []) (busy image) rising at met shows g.at (makes_on image g.count (g.done ++ Seen g.last ∷ []) g.at (g.makes image) (Some 0)));
+    ports = subst (λ p. PortsMeet account g.done p new.board.plugs) plugs g.ports;
     written = g.written;
   }
 

@@ -35,13 +35,14 @@ use Rattle.board_run.specs.Shown.{of_key}
 use Rattle.board_run.specs.Represents.{BoardState, Represents}
 use Rattle.board_run.specs.Run.{Reaches, Comes}
 use Rattle.board_run.specs.Idling.{IsEmpty}
+use Rattle.board_run.specs.Outside.{OverSink}
 use Rattle.board_run.specs.Advancing.{IsWhole}
-use Rattle.board_run.specs.Proceeding.{led_lines, first_sent, Makes, MakesTo, HasProceeded, Stops, IsStayed}
+use Rattle.board_run.specs.Proceeding.{led_lines, first_sent, IsBusy, Makes, MakesTo, HasProceeded, Stops, IsStayed}
 use Rattle.board_run.specs.Going.{entries_left, next_moment, IsDueAt, IsResting, CameTo, Shows, LeadsTo, Sees}
 use Rattle.board_run.specs.Gone.{HasGone, IsIdle, IsPassed, IsCutShort}
 use Rattle.board_run.specs.View.{state_of, end_of}
 use Rattle.board_run.proofs.Executing.{ports_then}
-use Rattle.board_run.proofs.Proceeding.{makes_then, makes_none}
+use Rattle.board_run.proofs.Further.{through_then, through_none}
 use Rattle.board_run.proofs.Raises.{nobody_ready}
 use Rattle.board_run.proofs.AtMoment.{stayed_rests, none_up_to, Known, known_late, known_through}
 use Rattle.board_ports.specs.Account.{Account}
@@ -172,61 +173,61 @@ passed t n most b within done stayed sound late none = record { within = within;
     by_stay e (inl runs) = inl (runs, by_done e runs done)
     by_stay e (inr r) = inr (record { resting = record { goes = e; empty = r.0; quiet = r.1 }; later = late; none = none })
 
-module _ {B : Type 0} (account : B → Account) (lead : ByteList) (t : ℕ) (old there : Board B) (came : Engine) (whole : IsWhole old.engine old.instructions) (resting : IsResting old.engine)
-    (due : IsDueAt t old.kept old.engine) (c : CameTo account t old.kept old.engine came old.plugs there.plugs) (stay : (image : List ℕ) → Comes image 0 [] (state_of came) (state_of there.engine))
-    (none : there.kept ≡ []) (sent : there.sent ≡ old.sent) where
+module _ {B : Type 0} (account : B → Account) (lead : ByteList) (t : ℕ) (old : OverSink B) (there : Board B) (came : Engine) (whole : IsWhole old.board.engine old.board.instructions) (resting : IsResting old.board.engine)
+    (due : IsDueAt t old.board.kept old.board.engine) (c : CameTo account t old.board.kept old.board.engine came old.board.plugs there.plugs) (stay : (image : List ℕ) → Comes image 0 [] (state_of came) (state_of there.engine))
+    (none : there.kept ≡ []) (sent : there.sent ≡ old.board.sent) where
   makes_on : (image : List ℕ) (n : ℕ) (more : List Move) (new : BoardState) → Makes image n more (state_of there.engine) new → Makes image n more (state_of came) new
   makes_on image n more new q bound =
       (let count : n + 0 ≡ n = omega arith in
-      subst (λ k. MakesTo bound image k more (state_of came) new) count (makes_then bound image 0 n [] more (state_of came) (state_of there.engine) new (makes_none bound image [] (state_of came) (state_of there.engine) (stay image bound)) (q bound)))
+      subst (λ k. MakesTo bound image k more (state_of came) new) count (through_then IsBusy bound image 0 n [] more (state_of came) (state_of there.engine) new (through_none IsBusy bound image [] (state_of came) (state_of there.engine) (stay image bound)) (q bound)))
 
-  module _ (most n : ℕ) (new : Board B) (s u : Option (List ℕ)) (q : HasProceeded account lead n most there new s u) (stayed : IsStayed new.engine) where
-    known : Known t (jump t (with_kept t old.kept whole.shown.world)).board.script new.engine
+  module _ (most n : ℕ) (new : OverSink B) (q : HasProceeded account lead n most (record old { board = there }) new) (stayed : IsStayed new.board.engine) where
+    known : Known t (jump t (with_kept t old.board.kept whole.shown.world)).board.script new.board.engine
     known =
         let w = whole.shown.world in
         let h = whole.shown.shows in
-        let image = old.engine.runtime.machine.memory.flash in
+        let image = old.board.engine.runtime.machine.memory.flash in
         let ended : is_by_clock w.board.end ≡ false = ap is_by_clock (ap (λ (p : WorldBoard). p.end) h.board ∙ ap (λ o. option_map end_of o) resting.goes) in
-        known_through image t w.board.until (jump t (with_kept t old.kept w)).board.script n q.proceeds.moves came new.engine (jump t (with_kept t old.kept w)) (c.shows image w h).0
-        (standing_jump t (with_kept t old.kept w) ended) (makes_on image n q.proceeds.moves (state_of new.engine) (q.proceeds.makes image) (Some 0)) stayed
+        known_through image t w.board.until (jump t (with_kept t old.board.kept w)).board.script n q.proceeds.moves came new.board.engine (jump t (with_kept t old.board.kept w)) (c.shows image w h).0
+        (standing_jump t (with_kept t old.board.kept w) ended) (makes_on image n q.proceeds.moves (state_of new.board.engine) (q.proceeds.makes image) (Some 0)) stayed
 
-    late : IfSome (next_moment new.engine) (λ m. t < m)
+    late : IfSome (next_moment new.board.engine) (λ m. t < m)
     late =
         let w = whole.shown.world in
-        let own : w.board.script ≡ entries_left old.engine = ap (λ (p : WorldBoard). p.script) whole.shown.shows.board in
-        let rising : IsRisingFrom t w.board.script = subst (IsRisingFrom t) (sym own) (due_rising t old.kept old.engine due whole.script) in
-        known_late t _ new.engine known (jump_rising t (with_kept t old.kept w) (rising_kept t old.kept w.board.script rising))
+        let own : w.board.script ≡ entries_left old.board.engine = ap (λ (p : WorldBoard). p.script) whole.shown.shows.board in
+        let rising : IsRisingFrom t w.board.script = subst (IsRisingFrom t) (sym own) (due_rising t old.board.kept old.board.engine due whole.script) in
+        known_late t _ new.board.engine known (jump_rising t (with_kept t old.board.kept w) (rising_kept t old.board.kept w.board.script rising))
 
-    pub through_gone : IsWhole new.engine new.instructions → there.engine.clock ≡ t → there.engine.script ≡ old.engine.script → there.instructions ≡ old.instructions → HasGone account lead old.sent t n old new s u []
+    pub through_gone : IsWhole new.board.engine new.board.instructions → there.engine.clock ≡ t → there.engine.script ≡ old.board.engine.script → there.instructions ≡ old.board.instructions → HasGone account lead old.board.sent t n old new []
     through_gone after clock script count =
         let all = c.moves ++ q.proceeds.moves in
         let seen : seen_of all ≡ seen_of q.proceeds.moves = seen_of-append c.moves q.proceeds.moves ∙ ap (λ l. l ++ seen_of q.proceeds.moves) c.silent in
         record {
           moves = all;
-          goes = λ image at met shows. subst (λ l. LeadsTo image t n old.kept l (met ++ all) at (state_of new.engine)) (sym (q.stands.kept ∙ none))
-              (leads image t old.kept old.engine came c.moves resting due (c.shows image) at met shows n q.proceeds.moves new.engine (makes_on image n q.proceeds.moves (state_of new.engine) (q.proceeds.makes image) (Some (t + 1))) stayed late);
-          ports = ports_then account c.moves q.proceeds.moves old.plugs there.plugs new.plugs c.ports q.proceeds.ports;
-          sent = q.proceeds.sent ∙ ap (λ ns. first_sent ns (seen_of q.proceeds.moves)) sent ∙ ap (first_sent old.sent) (sym seen);
-          written = subst (λ l. Took s u l) (ap (led_lines lead) (sym seen) ∙ sym (append-nil (led_lines lead (seen_of all)))) q.proceeds.written;
+          goes = λ image at met shows. subst (λ l. LeadsTo image t n old.board.kept l (met ++ all) at (state_of new.board.engine)) (sym (q.stands.kept ∙ none))
+              (leads image t old.board.kept old.board.engine came c.moves resting due (c.shows image) at met shows n q.proceeds.moves new.board.engine (makes_on image n q.proceeds.moves (state_of new.board.engine) (q.proceeds.makes image) (Some (t + 1))) stayed late);
+          ports = ports_then account c.moves q.proceeds.moves old.board.plugs there.plugs new.board.plugs c.ports q.proceeds.ports;
+          sent = q.proceeds.sent ∙ ap (λ ns. first_sent ns (seen_of q.proceeds.moves)) sent ∙ ap (first_sent old.board.sent) (sym seen);
+          written = subst (λ l. Took old.taken new.taken l) (ap (led_lines lead) (sym seen) ∙ sym (append-nil (led_lines lead (seen_of all)))) q.proceeds.written;
           counted = q.counted ∙ ap (λ k. k + n) count;
           whole = after;
           clock = q.stands.clock ∙ clock;
           script = q.stands.script ∙ script;
         }
 
-    pub through_passed : IsPassed t n most new
-    through_passed = passed t n most new q.within q.done stayed known.sound late (q.stands.kept ∙ none)
+    pub through_passed : IsPassed t n most new.board
+    through_passed = passed t n most new.board q.within q.done stayed known.sound late (q.stands.kept ∙ none)
 
-  pub through_cut : (most : ℕ) (new : Board B) (s u : Option (List ℕ)) → Stops account lead most there new s u → IsCutShort account lead t most old new s u
-  through_cut most new s u g =
+  pub through_cut : (most : ℕ) (new : OverSink B) → Stops account lead most (record old { board = there }) new → IsCutShort account lead t most old new
+  through_cut most new g =
       let seen : seen_of (c.moves ++ g.done) ≡ seen_of g.done = seen_of-append c.moves g.done ∙ ap (λ l. l ++ seen_of g.done) c.silent in
       record {
         used = g.count;
         within = g.within;
         done = c.moves ++ g.done;
         last = g.last;
-        sees = λ image at met shows. subst (λ os. Sees image t g.count old.kept os at) (seen_of-append g.done (Seen g.last ∷ []) ∙ ap (λ os. os ++ g.last ∷ []) (sym seen))
-            (sees image t old.kept old.engine came c.moves resting due (c.shows image) at met shows g.count (g.done ++ Seen g.last ∷ []) g.at (makes_on image g.count (g.done ++ Seen g.last ∷ []) g.at (g.makes image) (Some (t + 1))) c.silent);
-        ports = ports_then account c.moves g.done old.plugs there.plugs new.plugs c.ports g.ports;
-        written = subst (λ l. TookInto s u l (lead ++ line g.last)) (ap (led_lines lead) (sym seen)) g.written;
+        sees = λ image at met shows. subst (λ os. Sees image t g.count old.board.kept os at) (seen_of-append g.done (Seen g.last ∷ []) ∙ ap (λ os. os ++ g.last ∷ []) (sym seen))
+            (sees image t old.board.kept old.board.engine came c.moves resting due (c.shows image) at met shows g.count (g.done ++ Seen g.last ∷ []) g.at (makes_on image g.count (g.done ++ Seen g.last ∷ []) g.at (g.makes image) (Some (t + 1))) c.silent);
+        ports = ports_then account c.moves g.done old.board.plugs there.plugs new.board.plugs c.ports g.ports;
+        written = subst (λ l. TookInto old.taken new.taken l (lead ++ line g.last)) (ap (led_lines lead) (sym seen)) g.written;
       }

@@ -4,12 +4,7 @@ use Rattle.board_world.specs.Limits.{end_limit}
 use Rattle.board_world.specs.Observations.{Observation}
 use Rattle.board_world.specs.Transcript.{line, lines}
 use Rattle.board_world.specs.Board.{over}
-use Rattle.board_world.specs.Activities.{World}
-use Rattle.board_world.specs.World.{idled}
-use Rattle.board_world.specs.Runs.{run}
 use Rattle.thumb_code.specs.Map.{flash_end}
-use Rattle.bank_model.specs.Fibers.{Fiber, Shared}
-use Rattle.bank_model.specs.BoardMachine.{fibers}
 use Rattle.tool_io.specs.Putting.{Took}
 use Rattle.board_ports.specs.Account.{Account}
 use Rattle.board_ports.specs.Plugged.{Plugged}
@@ -20,15 +15,13 @@ use Rattle.board_outside.specs.Ports.{port_moves}
 use Rattle.board_outside.specs.Cuts.{TookInto}
 use Rattle.board_run.specs.declared.engine.Engine.{Engine}
 use Rattle.board_run.specs.Represents.{BoardState, IsShown}
-use Rattle.board_run.specs.Run.{Reaches}
+use Rattle.board_run.specs.Run.{ComesThrough}
+use Rattle.board_run.specs.Outside.{OverSink}
 use Rattle.board_run.specs.View.{state_of}
 
 -- The board comes so many instructions further, which meet these moves, and the run wasn't over before any of them.
 abbrev pub Executes : List ℕ → ℕ → List Move → BoardState → BoardState → Type 0
-Executes image more moves old new =
-    (start : List ℕ → World Fiber Shared) (n : ℕ) (used : List ℕ) (met : List Move) → Reaches None image start n used met old
-    → (further : List ℕ) × Reaches None image start (more + n) (used ++ further) (met ++ moves) new
-    × ((rest : List ℕ) (j : ℕ) → n ≤ j → j < more + n → over (run (fibers image) j (idled (fibers image) (start ((used ++ further) ++ rest)))).board ≡ false)
+Executes image more moves old new = ComesThrough (λ w. over w.board ≡ false) None image more moves old new
 
 -- The devices that were plugged in have met these moves more.
 abbrev pub PortsMeet : {B : Type 0} → (B → Account) → List Move → Plugged B → Plugged B → Type 0
@@ -36,22 +29,22 @@ PortsMeet {B} account moves plugged plugged' =
     (before : List PortMove) (start : List (Option B)) → Follows account before start plugged → Follows account (before ++ port_moves moves) start plugged'
 
 -- A board executed so many instructions; the sink took the lines of what they met, and the devices have met it.
-pub record Advances {B : Type 0} (account : B → Account) (count : ℕ) (old new : Engine) (plugged plugged' : Plugged B) (taken taken' : Option (List ℕ)) : Type 0 where
+pub record Advances {B : Type 0} (account : B → Account) (count : ℕ) (old new : OverSink B) : Type 0 where
   pub moves : List Move
-  pub executes : (image : List ℕ) → Executes image count moves (state_of old) (state_of new)
-  pub ports : PortsMeet account moves plugged plugged'
-  pub written : Took taken taken' (lines (seen_of moves))
+  pub executes : (image : List ℕ) → Executes image count moves (state_of old.board.engine) (state_of new.board.engine)
+  pub ports : PortsMeet account moves old.board.plugs new.board.plugs
+  pub written : Took old.taken new.taken (lines (seen_of moves))
 
 -- The sink failed in the line of what the last instruction showed, before any word of it was sent.
-pub record Fails {B : Type 0} (account : B → Account) (most : ℕ) (old : Engine) (plugged plugged' : Plugged B) (taken taken' : Option (List ℕ)) : Type 0 where
+pub record Fails {B : Type 0} (account : B → Account) (most : ℕ) (old new : OverSink B) : Type 0 where
   pub count : ℕ
   pub within : count ≤ most
   pub done : List Move
   pub last : Observation
   pub at : BoardState
-  pub executes : (image : List ℕ) → Executes image count (done ++ Seen last ∷ []) (state_of old) at
-  pub ports : PortsMeet account done plugged plugged'
-  pub written : TookInto taken taken' (lines (seen_of done)) (line last)
+  pub executes : (image : List ℕ) → Executes image count (done ++ Seen last ∷ []) (state_of old.board.engine) at
+  pub ports : PortsMeet account done old.board.plugs new.board.plugs
+  pub written : TookInto old.taken new.taken (lines (seen_of done)) (line last)
 
 -- What a board rests on between two calls, n instructions from its start: it shows some world, its script is sound, its clock is within the
 -- script, and its counts can't have come near their ends.
@@ -71,9 +64,8 @@ abbrev pub IsSettled : Engine → Type 0
 IsSettled e = e.end ≡ None → IsSome e.runtime.running
 
 -- A board executed this number of instructions: as many as it might, or the run is over.
-pub record HasExecuted {B : Type 0} (account : B → Account) (count most : ℕ) (old new : Engine) (plugged plugged' : Plugged B)
-    (taken taken' : Option (List ℕ)) (expected instructions : ℕ) : Type 0 where
-  pub advances : Advances account count old new plugged plugged' taken taken'
+pub record HasExecuted {B : Type 0} (account : B → Account) (count most : ℕ) (old new : OverSink B) : Type 0 where
+  pub advances : Advances account count old new
   pub within : count ≤ most
-  pub done : (count ≡ most) ⊎ IsSome new.end
-  pub counted : instructions ≡ expected
+  pub done : (count ≡ most) ⊎ IsSome new.board.engine.end
+  pub counted : new.board.instructions ≡ old.board.instructions + count

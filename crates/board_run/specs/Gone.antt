@@ -19,6 +19,7 @@ use Rattle.board_run.specs.declared.end.Stop.{Stop}
 use Rattle.board_run.specs.declared.end.Stop.TheVariants.{Panic as StopPanic, Fault as StopFault}
 use Rattle.board_run.specs.declared.moments.Gone.{Gone}
 use Rattle.board_run.specs.declared.moments.Gone.TheVariants.{Idle, Ended}
+use Rattle.board_run.specs.Outside.{OverSink}
 use Rattle.board_run.specs.Advancing.{PortsMeet, IsWhole}
 use Rattle.board_run.specs.Proceeding.{led_lines, first_sent}
 use Rattle.board_run.specs.Going.{next_moment, IsDueAt, IsResting, Shows, Goes, Sees}
@@ -33,16 +34,16 @@ MayGo moment budget kept e = ((image : List ℕ) × (script : EventScript) × Is
 
 -- A board went through a moment in so many instructions: the sink took the lines of what they met, and then this text, and the
 -- numbers that were sent stand behind these.
-pub record HasGone {B : Type 0} (account : B → Account) (lead : ByteList) (numbers : List ℤ) (moment used : ℕ) (old new : Board B) (taken taken' : Option (List ℕ)) (behind : ByteList) : Type 0 where
+pub record HasGone {B : Type 0} (account : B → Account) (lead : ByteList) (numbers : List ℤ) (moment used : ℕ) (old new : OverSink B) (behind : ByteList) : Type 0 where
   pub moves : List Move
-  pub goes : (image : List ℕ) → Goes image moment used old.kept new.kept moves (state_of old.engine) (state_of new.engine)
-  pub ports : PortsMeet account moves old.plugs new.plugs
-  pub sent : new.sent ≡ first_sent numbers (seen_of moves)
-  pub written : Took taken taken' (led_lines lead (seen_of moves) ++ behind)
-  pub counted : new.instructions ≡ old.instructions + used
-  pub whole : IsWhole new.engine new.instructions
-  pub clock : new.engine.clock ≡ moment
-  pub script : new.engine.script ≡ old.engine.script
+  pub goes : (image : List ℕ) → Goes image moment used old.board.kept new.board.kept moves (state_of old.board.engine) (state_of new.board.engine)
+  pub ports : PortsMeet account moves old.board.plugs new.board.plugs
+  pub sent : new.board.sent ≡ first_sent numbers (seen_of moves)
+  pub written : Took old.taken new.taken (led_lines lead (seen_of moves) ++ behind)
+  pub counted : new.board.instructions ≡ old.board.instructions + used
+  pub whole : IsWhole new.board.engine new.board.instructions
+  pub clock : new.board.engine.clock ≡ moment
+  pub script : new.board.engine.script ≡ old.board.engine.script
 
 -- Nobody is left to go on, no event is queued or kept, and what comes next comes later than this moment.
 pub record IsIdle {B : Type 0} (moment : ℕ) (b : Board B) : Type 0 where
@@ -62,40 +63,40 @@ pub record IsPassed {B : Type 0} (moment used budget : ℕ) (b : Board B) : Type
   pub rests : b.engine.end ≡ None → (IsSome b.engine.runtime.running × (used ≡ budget)) ⊎ IsIdle moment b
 
 -- The run has ended so, and the sink took the closing line behind the others.
-pub record EndsBy {B : Type 0} (account : B → Account) (lead : ByteList) (moment budget : ℕ) (stop : Stop) (old new : Board B) (taken taken' : Option (List ℕ)) : Type 0 where
+pub record EndsBy {B : Type 0} (account : B → Account) (lead : ByteList) (moment budget : ℕ) (stop : Stop) (old new : OverSink B) : Type 0 where
   pub used : ℕ
   pub within : used ≤ budget
-  pub ended : new.engine.end ≡ Some stop
-  pub gone : HasGone account lead [] moment used old new taken taken' (lead ++ closing_line moment (Some (end_of stop)))
+  pub ended : new.board.engine.end ≡ Some stop
+  pub gone : HasGone account lead [] moment used old new (lead ++ closing_line moment (Some (end_of stop)))
 
 -- The sink failed in the line of an observation: those before were taken whole, and the devices have met what they show.
-pub record IsCutShort {B : Type 0} (account : B → Account) (lead : ByteList) (moment budget : ℕ) (old new : Board B) (taken taken' : Option (List ℕ)) : Type 0 where
+pub record IsCutShort {B : Type 0} (account : B → Account) (lead : ByteList) (moment budget : ℕ) (old new : OverSink B) : Type 0 where
   pub used : ℕ
   pub within : used ≤ budget
   pub done : List Move
   pub last : Observation
-  pub sees : (image : List ℕ) (at : List ℕ → World Fiber Shared) (met : List Move) → Shows image (state_of old.engine) at met → Sees image moment used old.kept (seen_of done ++ last ∷ []) at
-  pub ports : PortsMeet account done old.plugs new.plugs
-  pub written : TookInto taken taken' (led_lines lead (seen_of done)) (lead ++ line last)
+  pub sees : (image : List ℕ) (at : List ℕ → World Fiber Shared) (met : List Move) → Shows image (state_of old.board.engine) at met → Sees image moment used old.board.kept (seen_of done ++ last ∷ []) at
+  pub ports : PortsMeet account done old.board.plugs new.board.plugs
+  pub written : TookInto old.taken new.taken (led_lines lead (seen_of done)) (lead ++ line last)
 
 -- It failed in the closing line.
-pub record IsCutLast {B : Type 0} (account : B → Account) (lead : ByteList) (moment budget : ℕ) (old new : Board B) (taken taken' : Option (List ℕ)) : Type 0 where
+pub record IsCutLast {B : Type 0} (account : B → Account) (lead : ByteList) (moment budget : ℕ) (old new : OverSink B) : Type 0 where
   pub used : ℕ
   pub within : used ≤ budget
   pub stop : Stop
-  pub ended : new.engine.end ≡ Some stop
+  pub ended : new.board.engine.end ≡ Some stop
   pub taken_before : Option (List ℕ)
-  pub gone : HasGone account lead [] moment used old new taken taken_before []
-  pub written : TookInto taken_before taken' [] (lead ++ closing_line moment (Some (end_of stop)))
+  pub gone : HasGone account lead [] moment used old (record new { taken = taken_before }) []
+  pub written : TookInto taken_before new.taken [] (lead ++ closing_line moment (Some (end_of stop)))
 
 -- What a call that went through a moment answered.
-abbrev pub Went : {B : Type 0} → (B → Account) → ByteList → (moment budget : ℕ) → Board B → Board B → Option (List ℕ) → Option (List ℕ) → ℕ → ℕ → Gone → Type 0
-Went account lead moment budget old new taken taken' fs fs' (Idle used) = (used ≤ budget) × HasGone account lead [] moment used old new taken taken' [] × IsIdle moment new
-Went account lead moment budget old new taken taken' fs fs' (Ended Budget) =
-    HasGone account lead [] moment budget old new taken taken' [] × (new.engine.end ≡ None) × IsSome new.engine.runtime.running
-Went account lead moment budget old new taken taken' fs fs' (Ended (Panic code)) = EndsBy account lead moment budget (StopPanic code) old new taken taken'
-Went account lead moment budget old new taken taken' fs fs' (Ended (Fault fault address)) = EndsBy account lead moment budget (StopFault fault address) old new taken taken'
-Went account lead moment budget old new taken taken' fs fs' (Ended SinkFault) =
-    (IsCutShort account lead moment budget old new taken taken' ⊎ IsCutLast account lead moment budget old new taken taken') × Rose fs fs'
-Went account lead moment budget old new taken taken' fs fs' (Ended Quiet) = ⊥
-Went account lead moment budget old new taken taken' fs fs' (Ended Script) = ⊥
+abbrev pub Went : {B : Type 0} → (B → Account) → ByteList → (moment budget : ℕ) → OverSink B → OverSink B → Gone → Type 0
+Went account lead moment budget old new (Idle used) = (used ≤ budget) × HasGone account lead [] moment used old new [] × IsIdle moment new.board
+Went account lead moment budget old new (Ended Budget) =
+    HasGone account lead [] moment budget old new [] × (new.board.engine.end ≡ None) × IsSome new.board.engine.runtime.running
+Went account lead moment budget old new (Ended (Panic code)) = EndsBy account lead moment budget (StopPanic code) old new
+Went account lead moment budget old new (Ended (Fault fault address)) = EndsBy account lead moment budget (StopFault fault address) old new
+Went account lead moment budget old new (Ended SinkFault) =
+    (IsCutShort account lead moment budget old new ⊎ IsCutLast account lead moment budget old new) × Rose old.faults new.faults
+Went account lead moment budget old new (Ended Quiet) = ⊥
+Went account lead moment budget old new (Ended Script) = ⊥

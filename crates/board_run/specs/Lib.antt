@@ -8,6 +8,7 @@ pub mod View
 pub mod Served
 pub mod Blocking
 pub mod Ports
+pub mod Outside
 pub mod Arriving
 pub mod Advancing
 pub mod Ran

@@ -5,7 +5,6 @@ use Rattle.board_world.specs.Transcript.{line}
 use Rattle.board_world.specs.Board.{over}
 use Rattle.board_world.specs.Activities.{World}
 use Rattle.bank_model.specs.Fibers.{Fiber, Shared}
-use Rattle.bank_model.specs.BoardMachine.{fibers}
 use Rattle.tool_io.specs.Putting.{Took}
 use Rattle.board_outside.specs.declared.sight.Sight.{Sight}
 use Rattle.board_outside.specs.declared.sight.Sight.TheVariants.{Nothing, Frame, Number, Text, Pin as PinSight, Radio as RadioSight}
@@ -14,9 +13,10 @@ use Rattle.board_outside.specs.Cuts.{TookInto}
 use Rattle.board_run.specs.declared.engine.Engine.{Engine}
 use Rattle.board_run.specs.declared.board.Board.{Board}
 use Rattle.board_run.specs.Represents.{BoardState}
-use Rattle.board_run.specs.Run.{idled_to, run_to, Reaches}
+use Rattle.board_run.specs.Run.{ComesThrough}
 use Rattle.board_run.specs.Idling.{IsEmpty}
 use Rattle.board_run.specs.Advancing.{PortsMeet}
+use Rattle.board_run.specs.Outside.{OverSink}
 use Rattle.board_run.specs.View.{state_of}
 use Rattle.board_ports.specs.Account.{Account}
 
@@ -48,10 +48,7 @@ IsBusy w = (over w.board ≡ false) × (0 < length w.ready)
 
 -- The board comes so many instructions further, which meet these moves, and before each of them somebody was ready.
 abbrev pub MakesTo : Option ℕ → List ℕ → ℕ → List Move → BoardState → BoardState → Type 0
-MakesTo bound image more moves old new =
-    (start : List ℕ → World Fiber Shared) (n : ℕ) (used : List ℕ) (met : List Move) → Reaches bound image start n used met old
-    → (further : List ℕ) × Reaches bound image start (more + n) (used ++ further) (met ++ moves) new
-    × ((rest : List ℕ) (j : ℕ) → n ≤ j → j < more + n → IsBusy (run_to (fibers image) bound j (idled_to (fibers image) bound (start ((used ++ further) ++ rest)))))
+MakesTo bound image more moves old new = ComesThrough IsBusy bound image more moves old new
 
 -- The same whatever moment the run stops before, if any.
 abbrev pub Makes : List ℕ → ℕ → List Move → BoardState → BoardState → Type 0
@@ -59,23 +56,23 @@ Makes image more moves old new = (bound : Option ℕ) → MakesTo bound image mo
 
 -- The board came so many instructions further while the clock stood; the sink took the lines of what they met, the devices have met it, and
 -- the first numbers that were sent are kept.
-pub record Proceeds {B : Type 0} (account : B → Account) (lead : ByteList) (count : ℕ) (old new : Board B) (taken taken' : Option (List ℕ)) : Type 0 where
+pub record Proceeds {B : Type 0} (account : B → Account) (lead : ByteList) (count : ℕ) (old new : OverSink B) : Type 0 where
   pub moves : List Move
-  pub makes : (image : List ℕ) → Makes image count moves (state_of old.engine) (state_of new.engine)
-  pub ports : PortsMeet account moves old.plugs new.plugs
-  pub sent : new.sent ≡ first_sent old.sent (seen_of moves)
-  pub written : Took taken taken' (led_lines lead (seen_of moves))
+  pub makes : (image : List ℕ) → Makes image count moves (state_of old.board.engine) (state_of new.board.engine)
+  pub ports : PortsMeet account moves old.board.plugs new.board.plugs
+  pub sent : new.board.sent ≡ first_sent old.board.sent (seen_of moves)
+  pub written : Took old.taken new.taken (led_lines lead (seen_of moves))
 
 -- The sink failed in the line of what the last instruction showed, before any word of it was sent.
-pub record Stops {B : Type 0} (account : B → Account) (lead : ByteList) (most : ℕ) (old new : Board B) (taken taken' : Option (List ℕ)) : Type 0 where
+pub record Stops {B : Type 0} (account : B → Account) (lead : ByteList) (most : ℕ) (old new : OverSink B) : Type 0 where
   pub count : ℕ
   pub within : count ≤ most
   pub done : List Move
   pub last : Observation
   pub at : BoardState
-  pub makes : (image : List ℕ) → Makes image count (done ++ Seen last ∷ []) (state_of old.engine) at
-  pub ports : PortsMeet account done old.plugs new.plugs
-  pub written : TookInto taken taken' (led_lines lead (seen_of done)) (lead ++ line last)
+  pub makes : (image : List ℕ) → Makes image count (done ++ Seen last ∷ []) (state_of old.board.engine) at
+  pub ports : PortsMeet account done old.board.plugs new.board.plugs
+  pub written : TookInto old.taken new.taken (led_lines lead (seen_of done)) (lead ++ line last)
 
 -- Somebody runs, or nobody is left to go on and no event is queued; or the run is over.
 abbrev pub IsStayed : Engine → Type 0
@@ -89,9 +86,9 @@ pub record Stands {B : Type 0} (old new : Board B) : Type 0 where
   pub next : new.engine.next ≡ old.engine.next
 
 -- A board made this number of instructions: as many as it might, or nobody is left to go on now.
-pub record HasProceeded {B : Type 0} (account : B → Account) (lead : ByteList) (count most : ℕ) (old new : Board B) (taken taken' : Option (List ℕ)) : Type 0 where
-  pub proceeds : Proceeds account lead count old new taken taken'
+pub record HasProceeded {B : Type 0} (account : B → Account) (lead : ByteList) (count most : ℕ) (old new : OverSink B) : Type 0 where
+  pub proceeds : Proceeds account lead count old new
   pub within : count ≤ most
-  pub done : (count ≡ most) ⊎ (new.engine.runtime.running ≡ None ⊎ IsSome new.engine.end)
-  pub counted : new.instructions ≡ old.instructions + count
-  pub stands : Stands old new
+  pub done : (count ≡ most) ⊎ (new.board.engine.runtime.running ≡ None ⊎ IsSome new.board.engine.end)
+  pub counted : new.board.instructions ≡ old.board.instructions + count
+  pub stands : Stands old.board new.board

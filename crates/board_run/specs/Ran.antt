@@ -22,6 +22,7 @@ use Rattle.board_run.specs.declared.end.End.TheVariants.{Quiet, Script, Panic, B
 use Rattle.board_run.specs.declared.end.Stop.{Stop}
 use Rattle.board_run.specs.declared.end.Stop.TheVariants.{Quiet as StopQuiet, Script as StopScript, Panic as StopPanic, Fault as StopFault}
 use Rattle.board_run.specs.Represents.{Represents}
+use Rattle.board_run.specs.Outside.{Outside, OverSink, around}
 use Rattle.board_run.specs.Advancing.{IsWhole}
 use Rattle.board_run.specs.View.{state_of, end_of}
 use Rattle.board_ports.specs.Account.{Account}
@@ -41,28 +42,27 @@ pub record IsExecuted (at : ℕ → World Fiber Shared) (budget executed : ℕ) 
   pub not_before : (n : ℕ) → n < executed → over (at n).board ≡ false
   pub done : (executed ≡ budget) ⊎ (over (at executed).board ≡ true)
 
--- After the instructions executed the board shows the bank machine's world, whatever stands behind the free words that were used; the sink has
--- taken the transcript of that world, the devices have met what it has met, and the run ended so, or not yet.
-pub record HasRun {B : Type 0} (account : B → Account) (image : List ℕ) (script : EventScript) (budget : ℕ) (e : Engine) (executed : ℕ)
-    (taken taken' : Option (List ℕ)) (places places' : List (Option B)) (end : Option RunEnd) : Type 0 where
+-- A course of worlds has one for each list of free words and each number of instructions executed. The board shows the one behind its own
+-- instructions, whatever stands behind the free words that were used; the sink has taken the transcript of that world, the devices have met what
+-- it has met, and the run ended so, or not yet.
+pub record HasRun {B : Type 0} (account : B → Account) (image : List ℕ) (course : List ℕ → ℕ → World Fiber Shared) (budget : ℕ) (old : Outside B) (new : OverSink B) (end : Option RunEnd) : Type 0 where
   pub used : List ℕ
   pub moves : List Move
-  pub is_executed : (rest : List ℕ) → IsExecuted (world_after image script (used ++ rest)) budget executed
-  pub shows : (rest : List ℕ) → Represents image (state_of e) (world_after image script (used ++ rest) executed)
-  pub met : (rest : List ℕ) → HasMet moves (world_after image script (used ++ rest) executed).board
-  pub ended : (rest : List ℕ) → (world_after image script (used ++ rest) executed).board.end ≡ end
-  pub written : (rest : List ℕ) → Took taken taken' (transcript_of (world_after image script (used ++ rest) executed).board)
-  pub devices : DevicesAfter account moves places places'
+  pub is_executed : (rest : List ℕ) → IsExecuted (course (used ++ rest)) budget new.board.instructions
+  pub shows : (rest : List ℕ) → Represents image (state_of new.board.engine) (course (used ++ rest) new.board.instructions)
+  pub met : (rest : List ℕ) → HasMet moves (course (used ++ rest) new.board.instructions).board
+  pub ended : (rest : List ℕ) → (course (used ++ rest) new.board.instructions).board.end ≡ end
+  pub written : (rest : List ℕ) → Took old.taken new.taken (transcript_of (course (used ++ rest) new.board.instructions).board)
+  pub devices : DevicesAfter account moves old.places new.board.plugs.places
 
--- The sink stopped the run: one cut of what it meets within the budget is where the sink and the devices stand.
-pub record IsCut {B : Type 0} (account : B → Account) (image : List ℕ) (script : EventScript) (budget : ℕ)
-    (taken taken' : Option (List ℕ)) (places places' : List (Option B)) : Type 0 where
+-- The sink stopped a run along such a course: one cut of what it meets within the budget is where the sink and the devices stand.
+pub record IsCut {B : Type 0} (account : B → Account) (course : List ℕ → ℕ → World Fiber Shared) (budget : ℕ) (old new : Outside B) : Type 0 where
   pub free : List ℕ
   pub executed : ℕ
   pub moves : List Move
-  pub is_executed : IsExecuted (world_after image script free) budget executed
-  pub met : HasMet moves (world_after image script free executed).board
-  pub stopped : (let b : Board = (world_after image script free executed).board in Stopped account [] moves (closing_line b.clock b.end) taken taken' places places')
+  pub is_executed : IsExecuted (course free) budget executed
+  pub met : HasMet moves (course free executed).board
+  pub stopped : (let b : Board = (course free executed).board in Stopped account [] moves (closing_line b.clock b.end) old.taken new.taken old.places new.places)
 
 -- the answer that tells how a run ended by itself, or that its budget ended first
 abbrev pub told : Option Stop → End
@@ -78,9 +78,9 @@ answer_of (Ok done) end = told end
 answer_of (Err why) end = SinkFault
 
 -- The closing line of a board was put, and the answer is this.
-abbrev pub Finishes : Option (List ℕ) → Option (List ℕ) → ℕ → ℕ → Engine → End → Type 0
-Finishes taken taken' fs fs' e answer =
-    (put : Result (Unit {0}) PutFailed) × Puts taken taken' fs fs' (closing_line e.clock (option_map end_of e.end)) put × (answer ≡ answer_of put e.end)
+abbrev pub Finishes : {B : Type 0} → OverSink B → OverSink B → End → Type 0
+Finishes old new answer = (let e : Engine = old.board.engine in
+    (put : Result (Unit {0}) PutFailed) × Puts old.taken new.taken old.faults new.faults (closing_line e.clock (option_map end_of e.end)) put × (answer ≡ answer_of put e.end))
 
 -- How a run ended that its sink didn't stop; nothing where its budget ended first.
 abbrev pub end_told : End → Option RunEnd
@@ -91,8 +91,7 @@ end_told (Fault fault address) = Some (Faulted (number_of fault) address)
 end_told Budget = None
 end_told SinkFault = None
 
--- What a call that ran a board answered: that the sink stopped it, where the count of its faults rose, or how the run ended.
-abbrev pub Ran : {B : Type 0} → (B → Account) → List ℕ → EventScript → ℕ → Engine → ℕ
-    → Option (List ℕ) → Option (List ℕ) → ℕ → ℕ → List (Option B) → List (Option B) → End → Type 0
-Ran account image script budget e executed taken taken' fs fs' places places' SinkFault = IsCut account image script budget taken taken' places places' × Rose fs fs'
-Ran account image script budget e executed taken taken' fs fs' places places' answer = HasRun account image script budget e executed taken taken' places places' (end_told answer)
+-- What a call that ran a board along a course answered: that the sink stopped it, where the count of its faults rose, or how the run ended.
+abbrev pub Ran : {B : Type 0} → (B → Account) → List ℕ → (List ℕ → ℕ → World Fiber Shared) → ℕ → Outside B → OverSink B → End → Type 0
+Ran account image course budget old new SinkFault = IsCut account course budget old (around new) × Rose old.faults new.faults
+Ran account image course budget old new answer = HasRun account image course budget old new (end_told answer)

@@ -1,5 +1,5 @@
 -- A board in the course of a run.
-use Rattle.std.specs.Prelude.{◌≡◌, ℕ, ◌+◌, List, ◌++◌, Option, Some, None}
+use Rattle.std.specs.Prelude.{◌≡◌, ℕ, ◌+◌, ◌<◌, ◌≤◌, List, ◌++◌, Option, Some, None}
 use Rattle.board_world.specs.Activities.{World}
 use Rattle.board_world.specs.Kinds.{Kind}
 use Rattle.board_world.specs.World.{idled}
@@ -39,3 +39,10 @@ ComesTo bound image more moves old new =
 -- The same whatever moment the run stops before, if any: no idle move of the clock is made.
 abbrev pub Comes : List ℕ → ℕ → List Move → BoardState → BoardState → Type 0
 Comes image more moves old new = (bound : Option ℕ) → ComesTo bound image more moves old new
+
+-- The board comes so many instructions further, which meet these moves, and the run's world before each of them is such.
+abbrev pub ComesThrough : (World Fiber Shared → Type 0) → Option ℕ → List ℕ → ℕ → List Move → BoardState → BoardState → Type 0
+ComesThrough such bound image more moves old new =
+    (start : List ℕ → World Fiber Shared) (n : ℕ) (used : List ℕ) (met : List Move) → Reaches bound image start n used met old
+    → (further : List ℕ) × Reaches bound image start (more + n) (used ++ further) (met ++ moves) new
+    × ((rest : List ℕ) (j : ℕ) → n ≤ j → j < more + n → such (run_to (fibers image) bound j (idled_to (fibers image) bound (start ((used ++ further) ++ rest)))))

@@ -1,5 +1,6 @@
 // Services by which a fiber asks the board for something, or tells it something.
 ghost use Rattle.std.specs.Prelude.{◌≡◌, ◌<◌, ℕ, ◌^◌, IsSome};
+ghost use Rattle.board_services.specs.declared.numbers.TheConstants.{RAISE, TIME, EVENT_VALUE, BUTTON, PLOT, SHOW, WRITE_NUMBER, WRITE_PIN, SEND};
 ghost use Rattle.bank_model.specs.AllServices.{service};
 ghost use Rattle.board_run.specs.Served.{IsServed, Keeps};
 
@@ -13,7 +14,7 @@ use board_world::{PIN_LIMIT, plot};
 impl Engine {
     /// Service 6: an event joins the queue.
     pub fn raise(&mut self) -> Served
-        ensures served { (at : ℕ) → IsServed (λ image. service image at 6) result self.old self.new }
+        ensures served { (at : ℕ) → IsServed (λ image. service image at RAISE) result self.old self.new }
         ensures keeps { Keeps self.old self.new }
     {
         let event = asked_event(&self.runtime);
@@ -23,7 +24,7 @@ impl Engine {
 
     /// Service 7: the time.
     pub fn time(&mut self) -> Served
-        ensures served { (at : ℕ) → IsServed (λ image. service image at 7) result self.old self.new }
+        ensures served { (at : ℕ) → IsServed (λ image. service image at TIME) result self.old self.new }
         ensures keeps { Keeps self.old self.new }
     {
         answer(&mut self.runtime, self.clock);
@@ -33,7 +34,7 @@ impl Engine {
     /// Service 8: the value of the latest event.
     pub fn value(&mut self) -> Served
         requires { IsSome self.old.runtime.running }
-        ensures served { (at : ℕ) → IsServed (λ image. service image at 8) result self.old self.new }
+        ensures served { (at : ℕ) → IsServed (λ image. service image at EVENT_VALUE) result self.old self.new }
         ensures keeps { Keeps self.old self.new }
     {
         let value = self.runtime.event_value();
@@ -43,7 +44,7 @@ impl Engine {
 
     /// Service 9: whether a button is down.
     pub fn pressed(&mut self) -> Served
-        ensures served { (at : ℕ) → IsServed (λ image. service image at 9) result self.old self.new }
+        ensures served { (at : ℕ) → IsServed (λ image. service image at BUTTON) result self.old self.new }
         ensures keeps { Keeps self.old self.new }
     {
         let down = self.buttons.is_down(number(&self.runtime, 0));
@@ -53,7 +54,7 @@ impl Engine {
 
     /// Service 10: one light.
     pub fn plot(&mut self, at: u32) -> Served
-        ensures served { IsServed (λ image. service image at 10) result self.old self.new }
+        ensures served { IsServed (λ image. service image at PLOT) result self.old self.new }
         ensures keeps { Keeps self.old self.new }
     {
         let mode = word(&self.runtime, 2);
@@ -71,7 +72,7 @@ impl Engine {
 
     /// Service 11: a frame.
     pub fn show(&mut self) -> Served
-        ensures served { (at : ℕ) → IsServed (λ image. service image at 11) result self.old self.new }
+        ensures served { (at : ℕ) → IsServed (λ image. service image at SHOW) result self.old self.new }
         ensures keeps { Keeps self.old self.new }
     {
         let frame = word(&self.runtime, 0) % 0x0200_0000;
@@ -80,14 +81,14 @@ impl Engine {
 
     /// Service 12: a number to the serial port.
     pub fn write_number(&self) -> Served
-        ensures { (at : ℕ) → IsServed (λ image. service image at 12) result self.now self.now }
+        ensures { (at : ℕ) → IsServed (λ image. service image at WRITE_NUMBER) result self.now self.now }
     {
         Served::Goes(Sight::Number(number(&self.runtime, 0)))
     }
 
     /// Service 14: a pin.
     pub fn set_pin(&self) -> Served
-        ensures { (at : ℕ) → IsServed (λ image. service image at 14) result self.now self.now }
+        ensures { (at : ℕ) → IsServed (λ image. service image at WRITE_PIN) result self.now self.now }
     {
         let pin = number(&self.runtime, 0);
         let value = number(&self.runtime, 1);
@@ -99,7 +100,7 @@ impl Engine {
 
     /// Service 15: a number by radio.
     pub fn send(&self) -> Served
-        ensures { (at : ℕ) → IsServed (λ image. service image at 15) result self.now self.now }
+        ensures { (at : ℕ) → IsServed (λ image. service image at SEND) result self.now self.now }
     {
         Served::Goes(Sight::Radio(number(&self.runtime, 0)))
     }

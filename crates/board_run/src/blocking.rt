@@ -2,6 +2,7 @@
 ghost use Rattle.std.specs.Prelude.{◌≡◌, ◌+◌, ◌<◌, ◌≤◌, ◌^◌, ℕ, IfSome, IsSome, Some, length, max};
 ghost use Rattle.slab.specs.Slab.{slab_len};
 ghost use Rattle.board_world.specs.Limits.{end_limit};
+ghost use Rattle.board_services.specs.declared.numbers.TheConstants.{SPAWN};
 ghost use Rattle.bank_model.specs.AllServices.{service, asked_listener, word_argument, with_code};
 ghost use Rattle.bank_model.specs.Standing.{IsInside, words_in};
 ghost use Rattle.board_world.specs.Kinds.{Listens};
@@ -84,7 +85,7 @@ impl Engine {
     pub fn spawn(&mut self, at: u32) -> Served
         requires inside { IsInside self.old.runtime.machine.registers.sp self.old.runtime.machine.memory.base }
         requires spawned { self.old.counts.spawned + 1 < 2 ^ 64 }
-        ensures served { IsServed (λ image. service image at 4) result self.old self.new }
+        ensures served { IsServed (λ image. service image at SPAWN) result self.old self.new }
         ensures keeps { Keeps self.old self.new }
     {
         let entry = word(&self.runtime, 0);

@@ -3,7 +3,7 @@ ghost use Rattle.std.specs.Prelude.{◌≡◌, ◌+◌, ◌<◌, ◌≤◌, ◌�
 ghost use Rattle.std.specs.declared.option.Option.{Option};
 ghost use Rattle.sts_base.specs.Faults.{Rose};
 ghost use Rattle.thumb_code.specs.Map.{flash_end};
-ghost use Rattle.tool_io.specs.Putting.{Puts};
+ghost use Rattle.tool_io.specs.Putting.{PutsTo};
 ghost use Rattle.board_world.specs.Transcript.{lines};
 ghost use Rattle.board_ports.specs.History.{Follows};
 ghost use Rattle.event_script.specs.Sound.{IsSound};
@@ -11,7 +11,8 @@ ghost use Rattle.board_outside.specs.Moves.{seen_of};
 ghost use Rattle.board_outside.specs.Ports.{port_moves};
 ghost use Rattle.board_outside.specs.Sights.{moves_of, IsSeen};
 ghost use Rattle.board_run.specs.Advancing.{Advances, HasExecuted, Fails, PortsMeet, IsWhole, IsSettled};
-ghost use Rattle.board_run.specs.Ran.{IsMounted, Finishes, Ran};
+ghost use Rattle.board_run.specs.Outside.{outside_of, over_sink};
+ghost use Rattle.board_run.specs.Ran.{world_after, IsMounted, Finishes, Ran};
 ghost use Rattle.event_script.specs.declared.script.Script.{Script as EventScript};
 
 use crate::closing::{put_closing, told};
@@ -128,8 +129,7 @@ pub fn tell<K: Sink, D: Device>(
 ) -> Result<(), PutFailed>
     requires size { length engine.old.runtime.machine.memory.flash ≤ flash_end }
     requires bytes { All (λ b. b < 256) engine.old.runtime.machine.memory.flash }
-    ensures puts { Puts (K.taken out.old) (K.taken out.new) (K.faults out.old) (K.faults out.new)
-        (lines (seen_of (moves_of engine.old.runtime.machine.memory.flash now sight))) result }
+    ensures puts { PutsTo K.taken K.faults out.old out.new (lines (seen_of (moves_of engine.old.runtime.machine.memory.flash now sight))) result }
     ensures sends { OnOk result (PortsMeet D.account (moves_of engine.old.runtime.machine.memory.flash now sight) plugs.old plugs.new) }
     ensures stays { OnErr result (plugs.new ≡ plugs.old) }
     ensures seen { OnErr result (IsSeen engine.old.runtime.machine.memory.flash now sight) }
@@ -179,11 +179,11 @@ impl<D: Device> Board<D> {
         requires settled { IsSettled self.old.engine }
         requires going { self.old.engine.end ≡ None }
         requires early { self.old.instructions < 2 ^ 50 }
-        ensures goes { OnOk result (Advances D.account 1 self.old.engine self.new.engine self.old.plugs self.new.plugs (K.taken out.old) (K.taken out.new)) }
+        ensures goes { OnOk result (Advances D.account 1 (over_sink K.taken K.faults self.old out.old) (over_sink K.taken K.faults self.new out.new)) }
         ensures whole { OnOk result (IsWhole self.new.engine self.new.instructions) }
         ensures settled { OnOk result (IsSettled self.new.engine) }
         ensures counted { self.new.instructions ≡ self.old.instructions + 1 }
-        ensures cut { OnErr result (Fails D.account 1 self.old.engine self.old.plugs self.new.plugs (K.taken out.old) (K.taken out.new)) }
+        ensures cut { OnErr result (Fails D.account 1 (over_sink K.taken K.faults self.old out.old) (over_sink K.taken K.faults self.new out.new)) }
         ensures later { K.faults out.old ≤ K.faults out.new }
         ensures failed { OnErr result (Rose (K.faults out.old) (K.faults out.new)) }
     {
@@ -204,10 +204,10 @@ impl<D: Device> Board<D> {
         requires whole { IsWhole self.old.engine self.old.instructions }
         requires settled { IsSettled self.old.engine }
         requires early { self.old.instructions < 2 ^ 49 }
-        ensures goes { OnOk result ((count : ℕ) × HasExecuted D.account count most self.old.engine self.new.engine self.old.plugs self.new.plugs (K.taken out.old) (K.taken out.new) (self.old.instructions + count) self.new.instructions) }
+        ensures goes { OnOk result ((count : ℕ) × HasExecuted D.account count most (over_sink K.taken K.faults self.old out.old) (over_sink K.taken K.faults self.new out.new)) }
         ensures settled { OnOk result (IsSettled self.new.engine) }
         ensures whole { OnOk result (IsWhole self.new.engine self.new.instructions) }
-        ensures cut { OnErr result (Fails D.account most self.old.engine self.old.plugs self.new.plugs (K.taken out.old) (K.taken out.new)) }
+        ensures cut { OnErr result (Fails D.account most (over_sink K.taken K.faults self.old out.old) (over_sink K.taken K.faults self.new out.new)) }
         ensures few { self.new.instructions ≤ self.old.instructions + most }
         ensures later { K.faults out.old ≤ K.faults out.new }
         ensures failed { OnErr result (Rose (K.faults out.old) (K.faults out.new)) }
@@ -223,7 +223,7 @@ impl<D: Device> Board<D> {
 
     /// Puts the closing line, and says how the run ended.
     pub(crate) fn finish<K: Sink>(&self, out: &mut K) -> End
-        ensures { Finishes (K.taken out.old) (K.taken out.new) (K.faults out.old) (K.faults out.new) self.now.engine result }
+        ensures { Finishes (over_sink K.taken K.faults self.now out.old) (over_sink K.taken K.faults self.now out.new) result }
     {
         match put_closing(out, self.engine.clock, self.engine.end) {
             Ok(()) => told(self.engine.end),
@@ -243,7 +243,7 @@ impl<D: Device> Board<D> {
         requires least { 1 ≤ budget }
         requires most { budget ≤ 2147483648 }
         ensures ran { (image : List ℕ) (script : EventScript) (places : List (Option D)) → IsMounted image script self.old.engine → Follows D.account [] places self.old.plugs
-            → Ran D.account image script budget self.new.engine self.new.instructions (K.taken out.old) (K.taken out.new) (K.faults out.old) (K.faults out.new) places self.new.plugs.places result }
+            → Ran D.account image (world_after image script) budget (outside_of K.taken K.faults out.old places) (over_sink K.taken K.faults self.new out.new) result }
         ensures counted { self.new.instructions ≤ budget }
         ensures later { K.faults out.old ≤ K.faults out.new }
     {

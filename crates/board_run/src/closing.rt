@@ -1,7 +1,7 @@
 // The closing line, and what is answered about a run's end.
 ghost use Rattle.std.specs.Prelude.{◌≡◌, ℕ, List};
 ghost use Rattle.std.specs.Option.{option_map};
-ghost use Rattle.tool_io.specs.Putting.{Puts};
+ghost use Rattle.tool_io.specs.Putting.{PutsTo};
 ghost use Rattle.board_world.specs.Transcript.{closing_line};
 ghost use Rattle.board_run.specs.View.{end_of};
 ghost use Rattle.board_run.specs.Ran.{told};
@@ -14,7 +14,7 @@ use tool_io::{PutFailed, Sink};
 
 /// Puts the closing line of a run that ended so at a moment, or whose budget ended first.
 pub fn put_closing<K: Sink>(out: &mut K, now: u32, end: Option<Stop>) -> Result<(), PutFailed>
-    ensures { Puts (K.taken out.old) (K.taken out.new) (K.faults out.old) (K.faults out.new) (closing_line now (option_map end_of end)) result }
+    ensures { PutsTo K.taken K.faults out.old out.new (closing_line now (option_map end_of end)) result }
 {
     match end {
         None => then_put_budget(Ok(()), out, now),

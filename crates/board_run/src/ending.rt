@@ -4,6 +4,7 @@ ghost use Rattle.board_world.specs.Waiting.{handler_of};
 ghost use Rattle.message_bus.specs.Agreement.{hearings};
 ghost use Rattle.fiber_runtime.specs.declared.turning.Turning.{Turning};
 ghost use Rattle.fiber_runtime.specs.Moves.{Ended, restarted};
+ghost use Rattle.board_services.specs.declared.numbers.TheConstants.{END, RAISE_NOW};
 ghost use Rattle.bank_model.specs.AllServices.{service};
 ghost use Rattle.bank_model.specs.Standing.{IsInside};
 ghost use Rattle.board_run.specs.Represents.{IsShown};
@@ -49,7 +50,7 @@ impl Engine {
     pub fn end_fiber(&mut self) -> Served
         requires runs { IsSome self.old.runtime.running }
         requires shown { IsShown (state_of self.old) }
-        ensures served { (at : ℕ) → IsServed (λ image. service image at 0) result self.old self.new }
+        ensures served { (at : ℕ) → IsServed (λ image. service image at END) result self.old self.new }
         ensures keeps { Keeps self.old self.new }
     {
         match self.runtime.listener() {
@@ -67,7 +68,7 @@ impl Engine {
         requires runs { IsSome self.old.runtime.running }
         requires inside { IsInside self.old.runtime.machine.registers.sp self.old.runtime.machine.memory.base }
         requires shown { IsShown (state_of self.old) }
-        ensures served { (at : ℕ) → IsServed (λ image. service image at 23) result self.old self.new }
+        ensures served { (at : ℕ) → IsServed (λ image. service image at RAISE_NOW) result self.old self.new }
         ensures keeps { Keeps self.old self.new }
     {
         let event = asked_event(&self.runtime);

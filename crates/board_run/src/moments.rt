@@ -3,7 +3,7 @@ ghost use Rattle.std.specs.Prelude.{◌≡◌, ◌+◌, ◌++◌, ◌<◌, ◌�
 ghost use Rattle.std.specs.Bool.{OnTrue, OnFalse};
 ghost use Rattle.sts_base.specs.Faults.{Rose};
 ghost use Rattle.thumb_code.specs.Map.{flash_end};
-ghost use Rattle.tool_io.specs.Putting.{Puts};
+ghost use Rattle.tool_io.specs.Putting.{PutsTo};
 ghost use Rattle.tool_io.specs.declared.sink.PutFailed.{PutFailed as PutFailedState};
 ghost use Rattle.board_world.specs.Transcript.{closing_line};
 ghost use Rattle.message_bus.specs.BusState.{queued};
@@ -13,6 +13,7 @@ ghost use Rattle.board_outside.specs.Sights.{moves_of, IsSeen};
 ghost use Rattle.board_run.specs.Represents.{IsShown};
 ghost use Rattle.board_run.specs.Run.{Comes};
 ghost use Rattle.board_run.specs.Idling.{IsEmpty};
+ghost use Rattle.board_run.specs.Outside.{over_sink};
 ghost use Rattle.board_run.specs.Advancing.{PortsMeet, IsWhole};
 ghost use Rattle.board_run.specs.Proceeding.{led_lines, lead_before, first_sent, Proceeds, HasProceeded, Stands, Stops, IsStayed};
 ghost use Rattle.board_run.specs.Going.{next_moment, IsDueAt, IsResting};
@@ -65,8 +66,7 @@ fn tell_behind<K: Sink, D: Device>(
 ) -> Result<(), PutFailed>
     requires size { length engine.old.runtime.machine.memory.flash ≤ flash_end }
     requires bytes { All (λ b. b < 256) engine.old.runtime.machine.memory.flash }
-    ensures puts { Puts (K.taken out.old) (K.taken out.new) (K.faults out.old) (K.faults out.new)
-        (led_lines lead.now (seen_of (moves_of engine.old.runtime.machine.memory.flash now sight))) result }
+    ensures puts { PutsTo K.taken K.faults out.old out.new (led_lines lead.now (seen_of (moves_of engine.old.runtime.machine.memory.flash now sight))) result }
     ensures sends { OnOk result (PortsMeet D.account (moves_of engine.old.runtime.machine.memory.flash now sight) plugs.old plugs.new) }
     ensures stays { OnErr result (plugs.new ≡ plugs.old) }
     ensures same { engine.new ≡ engine.old }
@@ -89,8 +89,7 @@ fn tell_led<K: Sink, D: Device>(
 ) -> Result<(), PutFailed>
     requires size { length engine.old.runtime.machine.memory.flash ≤ flash_end }
     requires bytes { All (λ b. b < 256) engine.old.runtime.machine.memory.flash }
-    ensures puts { Puts (K.taken out.old) (K.taken out.new) (K.faults out.old) (K.faults out.new)
-        (led_lines lead.now (seen_of (moves_of engine.old.runtime.machine.memory.flash now sight))) result }
+    ensures puts { PutsTo K.taken K.faults out.old out.new (led_lines lead.now (seen_of (moves_of engine.old.runtime.machine.memory.flash now sight))) result }
     ensures sends { OnOk result (PortsMeet D.account (moves_of engine.old.runtime.machine.memory.flash now sight) plugs.old plugs.new) }
     ensures stays { OnErr result (plugs.new ≡ plugs.old) }
     ensures seen { OnErr result (IsSeen engine.old.runtime.machine.memory.flash now sight) }
@@ -177,12 +176,12 @@ impl<D: Device> Board<D> {
         requires runs { IsSome self.old.engine.runtime.running }
         requires going { self.old.engine.end ≡ None }
         requires early { self.old.instructions < 2 ^ 50 }
-        ensures goes { OnOk result (Proceeds D.account lead.now 1 self.old self.new (K.taken out.old) (K.taken out.new)) }
+        ensures goes { OnOk result (Proceeds D.account lead.now 1 (over_sink K.taken K.faults self.old out.old) (over_sink K.taken K.faults self.new out.new)) }
         ensures whole { OnOk result (IsWhole self.new.engine self.new.instructions) }
         ensures stayed { OnOk result (IsStayed self.new.engine) }
         ensures stands { OnOk result (Stands self.old self.new) }
         ensures counted { self.new.instructions ≡ self.old.instructions + 1 }
-        ensures cut { OnErr result (Stops D.account lead.now 1 self.old self.new (K.taken out.old) (K.taken out.new)) }
+        ensures cut { OnErr result (Stops D.account lead.now 1 (over_sink K.taken K.faults self.old out.old) (over_sink K.taken K.faults self.new out.new)) }
         ensures later { K.faults out.old ≤ K.faults out.new }
         ensures failed { OnErr result (Rose (K.faults out.old) (K.faults out.new)) }
     {
@@ -204,10 +203,10 @@ impl<D: Device> Board<D> {
         requires whole { IsWhole self.old.engine self.old.instructions }
         requires stayed { IsStayed self.old.engine }
         requires early { self.old.instructions + most < 2 ^ 50 }
-        ensures goes { OnOk result ((count : ℕ) × HasProceeded D.account lead.now count most self.old self.new (K.taken out.old) (K.taken out.new)) }
+        ensures goes { OnOk result ((count : ℕ) × HasProceeded D.account lead.now count most (over_sink K.taken K.faults self.old out.old) (over_sink K.taken K.faults self.new out.new)) }
         ensures whole { OnOk result (IsWhole self.new.engine self.new.instructions) }
         ensures stayed { OnOk result (IsStayed self.new.engine) }
-        ensures cut { OnErr result (Stops D.account lead.now most self.old self.new (K.taken out.old) (K.taken out.new)) }
+        ensures cut { OnErr result (Stops D.account lead.now most (over_sink K.taken K.faults self.old out.old) (over_sink K.taken K.faults self.new out.new)) }
         ensures later { K.faults out.old ≤ K.faults out.new }
         ensures failed { OnErr result (Rose (K.faults out.old) (K.faults out.new)) }
     {
@@ -233,8 +232,8 @@ impl<D: Device> Board<D> {
         requires resting { IsResting self.old.engine }
         requires due { IsDueAt moment self.old.kept self.old.engine }
         requires early { self.old.instructions + most < 2 ^ 50 }
-        ensures goes { OnOk result ((count : ℕ) × HasGone D.account lead.now self.old.sent moment count self.old self.new (K.taken out.old) (K.taken out.new) [] × IsPassed moment count most self.new) }
-        ensures cut { OnErr result (IsCutShort D.account lead.now moment most self.old self.new (K.taken out.old) (K.taken out.new)) }
+        ensures goes { OnOk result ((count : ℕ) × HasGone D.account lead.now self.old.sent moment count (over_sink K.taken K.faults self.old out.old) (over_sink K.taken K.faults self.new out.new) [] × IsPassed moment count most self.new) }
+        ensures cut { OnErr result (IsCutShort D.account lead.now moment most (over_sink K.taken K.faults self.old out.old) (over_sink K.taken K.faults self.new out.new)) }
         ensures later { K.faults out.old ≤ K.faults out.new }
         ensures failed { OnErr result (Rose (K.faults out.old) (K.faults out.new)) }
     {
@@ -271,8 +270,8 @@ impl<D: Device> Board<D> {
         requires whole { IsWhole self.old.engine self.old.instructions }
         requires may { MayGo moment most self.old.kept self.old.engine }
         requires early { self.old.instructions + most < 2 ^ 50 }
-        ensures goes { OnOk result ((count : ℕ) × HasGone D.account lead.now self.old.sent moment count self.old self.new (K.taken out.old) (K.taken out.new) [] × IsPassed moment count most self.new) }
-        ensures cut { OnErr result (IsCutShort D.account lead.now moment most self.old self.new (K.taken out.old) (K.taken out.new)) }
+        ensures goes { OnOk result ((count : ℕ) × HasGone D.account lead.now self.old.sent moment count (over_sink K.taken K.faults self.old out.old) (over_sink K.taken K.faults self.new out.new) [] × IsPassed moment count most self.new) }
+        ensures cut { OnErr result (IsCutShort D.account lead.now moment most (over_sink K.taken K.faults self.old out.old) (over_sink K.taken K.faults self.new out.new)) }
         ensures later { K.faults out.old ≤ K.faults out.new }
         ensures failed { OnErr result (Rose (K.faults out.old) (K.faults out.new)) }
     {
@@ -291,7 +290,7 @@ impl<D: Device> Board<D> {
     /// Puts the closing line of a run that ended so, behind a lead.
     fn put_end<K: Sink>(&self, stop: Stop, lead: &[u8], out: &mut K) -> End
         ensures { (put : Result (Unit {0}) PutFailedState)
-            × Puts (K.taken out.old) (K.taken out.new) (K.faults out.old) (K.faults out.new) (lead.now ++ closing_line self.now.engine.clock (Some (end_of stop))) put
+            × PutsTo K.taken K.faults out.old out.new (lead.now ++ closing_line self.now.engine.clock (Some (end_of stop))) put
             × (result ≡ answer_of put (Some stop)) }
     {
         match out.put(lead) {
@@ -335,7 +334,7 @@ impl<D: Device> Board<D> {
         requires may { MayGo moment budget self.old.kept self.old.engine }
         requires early { self.old.instructions < 2 ^ 49 }
         requires most { budget ≤ 2147483648 }
-        ensures went { Went D.account lead.now moment budget self.old self.new (K.taken out.old) (K.taken out.new) (K.faults out.old) (K.faults out.new) result }
+        ensures went { Went D.account lead.now moment budget (over_sink K.taken K.faults self.old out.old) (over_sink K.taken K.faults self.new out.new) result }
         ensures later { K.faults out.old ≤ K.faults out.new }
     {
         self.sent.clear();
@@ -358,7 +357,7 @@ impl<D: Device> Board<D> {
         requires may { MayGo moment budget self.old.kept self.old.engine }
         requires early { self.old.instructions < 2 ^ 49 }
         requires most { budget ≤ 2147483648 }
-        ensures went { Went D.account [] moment budget self.old self.new (K.taken out.old) (K.taken out.new) (K.faults out.old) (K.faults out.new) result }
+        ensures went { Went D.account [] moment budget (over_sink K.taken K.faults self.old out.old) (over_sink K.taken K.faults self.new out.new) result }
         ensures later { K.faults out.old ≤ K.faults out.new }
     {
         self.go_led(moment, budget, b"", out)

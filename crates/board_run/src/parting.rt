@@ -3,6 +3,7 @@ ghost use Rattle.std.specs.Prelude.{◌≡◌, ◌+◌, ◌<◌, ◌≤◌, ◌�
 ghost use Rattle.board_world.specs.Scripts.{IsSoundAct};
 ghost use Rattle.event_script.specs.World.{world_act};
 ghost use Rattle.board_run.specs.Advancing.{IsWhole, IsSettled, PortsMeet};
+ghost use Rattle.board_run.specs.Outside.{over_sink};
 ghost use Rattle.board_run.specs.Parting.{Parted, MayArrive, Arrives};
 ghost use Rattle.board_run.specs.View.{state_of};
 
@@ -31,8 +32,7 @@ impl<D: Device> Board<D> {
         requires going { self.old.engine.end ≡ None }
         requires early { self.old.instructions < 2 ^ 49 }
         requires some { 1 ≤ instructions }
-        ensures parted { Parted D.account instructions self.old.engine self.new.engine self.old.plugs self.new.plugs (K.taken out.old) (K.taken out.new)
-            (K.faults out.old) (K.faults out.new) self.old.instructions self.new.instructions result }
+        ensures parted { Parted D.account instructions (over_sink K.taken K.faults self.old out.old) (over_sink K.taken K.faults self.new out.new) result }
         ensures whole { IfNone result (IsWhole self.new.engine self.new.instructions) }
         ensures settled { IfNone result (IsSettled self.new.engine) }
         ensures later { K.faults out.old ≤ K.faults out.new }

@@ -1,6 +1,7 @@
 // Services that reckon, and those of the arena.
 ghost use Rattle.std.specs.Prelude.{◌≡◌, ◌<◌, ℕ, ℤ, All, length};
 ghost use Rattle.bank_model.specs.Division.{quotient, remainder};
+ghost use Rattle.board_services.specs.declared.numbers.TheConstants.{NUMBER_GLYPH, ALLOCATE, PUSH, DIVIDE, REMAINDER};
 ghost use Rattle.bank_model.specs.AllServices.{service};
 ghost use Rattle.bank_model.specs.Texts.{glyph_at};
 ghost use Rattle.board_world.specs.Transcript.{decimal_text};
@@ -61,7 +62,7 @@ fn glyph_of_number(number: i32, place: u32) -> i32
 impl Engine {
     /// Service 17: a glyph of a number's text.
     pub fn number_glyph(&mut self) -> Served
-        ensures served { (at : ℕ) → IsServed (λ image. service image at 17) result self.old self.new }
+        ensures served { (at : ℕ) → IsServed (λ image. service image at NUMBER_GLYPH) result self.old self.new }
         ensures keeps { Keeps self.old self.new }
     {
         let glyph = glyph_of_number(number(&self.runtime, 0), word(&self.runtime, 1));
@@ -71,7 +72,7 @@ impl Engine {
 
     /// Service 18: words of the arena.
     pub fn allocate(&mut self, at: u32) -> Served
-        ensures served { IsServed (λ image. service image at 18) result self.old self.new }
+        ensures served { IsServed (λ image. service image at ALLOCATE) result self.old self.new }
         ensures keeps { Keeps self.old self.new }
     {
         let words = word(&self.runtime, 0);
@@ -89,7 +90,7 @@ impl Engine {
 
     /// Service 19: an item behind those of an array.
     pub fn push(&mut self, at: u32) -> Served
-        ensures served { IsServed (λ image. service image at 19) result self.old self.new }
+        ensures served { IsServed (λ image. service image at PUSH) result self.old self.new }
         ensures keeps { Keeps self.old self.new }
     {
         let array = word(&self.runtime, 0);
@@ -106,7 +107,7 @@ impl Engine {
 
     /// Service 20: a quotient.
     pub fn divide(&mut self) -> Served
-        ensures served { (at : ℕ) → IsServed (λ image. service image at 20) result self.old self.new }
+        ensures served { (at : ℕ) → IsServed (λ image. service image at DIVIDE) result self.old self.new }
         ensures keeps { Keeps self.old self.new }
     {
         let result = quotient(number(&self.runtime, 0), number(&self.runtime, 1));
@@ -116,7 +117,7 @@ impl Engine {
 
     /// Service 21: a remainder.
     pub fn take_remainder(&mut self) -> Served
-        ensures served { (at : ℕ) → IsServed (λ image. service image at 21) result self.old self.new }
+        ensures served { (at : ℕ) → IsServed (λ image. service image at REMAINDER) result self.old self.new }
         ensures keeps { Keeps self.old self.new }
     {
         let result = remainder(number(&self.runtime, 0), number(&self.runtime, 1));

@@ -13,6 +13,11 @@ use crate::arguments::{asked_event, number, word};
 use crate::end::Stop;
 use crate::engine::{Engine, Served};
 use armv6m_machine::Fault;
+use board_services::{
+    ALLOCATE, BUTTON, DIVIDE, END, EVENT_VALUE, LISTEN, LISTEN_IN_MODE, NUMBER_GLYPH, PANIC, PAUSE,
+    PLOT, PUSH, RAISE, RAISE_NOW, REMAINDER, SEND, SHOW, SPAWN, TEXT_GLYPH, TIME, WAIT,
+    WRITE_NUMBER, WRITE_PIN, WRITE_TEXT,
+};
 use board_world::QUEUES_IF_BUSY;
 use fiber_runtime::{Runtime, Why};
 
@@ -39,68 +44,68 @@ impl Engine {
         ensures keeps { Keeps self.old self.new }
     {
         match service {
-            0 => self.end_fiber(),
-            1 => panics(&self.runtime),
-            2 => {
+            END => self.end_fiber(),
+            PANIC => panics(&self.runtime),
+            PAUSE => {
                 let time = number(&self.runtime, 0);
                 self.block(Why::Pause(time))
             }
-            3 => {
+            WAIT => {
                 let event = asked_event(&self.runtime);
                 self.block(Why::Wait(event))
             }
-            4 => self.spawn(at),
-            5 => self.listen(QUEUES_IF_BUSY, at),
-            22 => {
+            SPAWN => self.spawn(at),
+            LISTEN => self.listen(QUEUES_IF_BUSY, at),
+            LISTEN_IN_MODE => {
                 let mode = number(&self.runtime, 3);
                 self.listen(mode, at)
             }
-            23 => self.raise_now(),
+            RAISE_NOW => self.raise_now(),
             _ => self.serve_board(service, at),
         }
     }
 
     /// The services that ask the board for something, or tell it something.
     fn serve_board(&mut self, service: u8, at: u32) -> Served
-        requires high { 6 ≤ service }
-        requires not_listen { service ≢ 22 }
-        requires not_raise { service ≢ 23 }
+        requires high { RAISE ≤ service }
+        requires not_listen { service ≢ LISTEN_IN_MODE }
+        requires not_raise { service ≢ RAISE_NOW }
         requires runs { IsSome self.old.runtime.running }
         requires bytes { All (λ b. b < 256) self.old.runtime.machine.memory.flash }
         ensures served { IsServed (λ image. service_of image at service) result self.old self.new }
         ensures keeps { Keeps self.old self.new }
     {
         match service {
-            6 => self.raise(),
-            7 => self.time(),
-            8 => self.value(),
-            9 => self.pressed(),
-            10 => self.plot(at),
-            11 => self.show(),
-            12 => self.write_number(),
-            13 => self.write_text(at),
-            14 => self.set_pin(),
-            15 => self.send(),
+            RAISE => self.raise(),
+            TIME => self.time(),
+            EVENT_VALUE => self.value(),
+            BUTTON => self.pressed(),
+            PLOT => self.plot(at),
+            SHOW => self.show(),
+            WRITE_NUMBER => self.write_number(),
+            WRITE_TEXT => self.write_text(at),
+            WRITE_PIN => self.set_pin(),
+            SEND => self.send(),
             _ => self.serve_value(service, at),
         }
     }
 
     /// The services that reckon, and those of the arena. There are no others.
     fn serve_value(&mut self, service: u8, at: u32) -> Served
-        requires high { 16 ≤ service }
-        requires not_listen { service ≢ 22 }
-        requires not_raise { service ≢ 23 }
+        requires high { TEXT_GLYPH ≤ service }
+        requires not_listen { service ≢ LISTEN_IN_MODE }
+        requires not_raise { service ≢ RAISE_NOW }
         requires bytes { All (λ b. b < 256) self.old.runtime.machine.memory.flash }
         ensures served { IsServed (λ image. service_of image at service) result self.old self.new }
         ensures keeps { Keeps self.old self.new }
     {
         match service {
-            16 => self.text_glyph(at),
-            17 => self.number_glyph(),
-            18 => self.allocate(at),
-            19 => self.push(at),
-            20 => self.divide(),
-            21 => self.take_remainder(),
+            TEXT_GLYPH => self.text_glyph(at),
+            NUMBER_GLYPH => self.number_glyph(),
+            ALLOCATE => self.allocate(at),
+            PUSH => self.push(at),
+            DIVIDE => self.divide(),
+            REMAINDER => self.take_remainder(),
             _ => Served::Stops(Stop::Fault(Fault::BadService, at)),
         }
     }

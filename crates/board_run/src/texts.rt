@@ -4,6 +4,7 @@ ghost use Rattle.std.specs.Int.{cast_unsigned, w32};
 ghost use Rattle.std.specs.Option.{SomeIff};
 ghost use Rattle.thumb_code.specs.Map.{flash_end, flash_byte, flash_word};
 ghost use Rattle.bank_model.specs.Texts.{is_text, text_at, glyph_at};
+ghost use Rattle.board_services.specs.declared.numbers.TheConstants.{WRITE_TEXT, TEXT_GLYPH};
 ghost use Rattle.bank_model.specs.AllServices.{service};
 ghost use Rattle.board_run.specs.Served.{IsServed, Keeps};
 
@@ -90,7 +91,7 @@ fn glyph_of_text(runtime: &mut Runtime, at: u32, length: u32, place: u32) -> u32
 impl Engine {
     /// Service 13: a text to the serial port.
     pub fn write_text(&mut self, at: u32) -> Served
-        ensures served { IsServed (λ image. service image at 13) result self.old self.new }
+        ensures served { IsServed (λ image. service image at WRITE_TEXT) result self.old self.new }
         ensures keeps { Keeps self.old self.new }
     {
         let address = word(&self.runtime, 0);
@@ -110,7 +111,7 @@ impl Engine {
     /// Service 16: a glyph of a text.
     pub fn text_glyph(&mut self, at: u32) -> Served
         requires { All (λ b. b < 256) self.old.runtime.machine.memory.flash }
-        ensures served { IsServed (λ image. service image at 16) result self.old self.new }
+        ensures served { IsServed (λ image. service image at TEXT_GLYPH) result self.old self.new }
         ensures keeps { Keeps self.old self.new }
     {
         let address = word(&self.runtime, 0);

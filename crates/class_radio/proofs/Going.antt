@@ -61,8 +61,8 @@ part_into a b c whole next h k = record {
 }
 
 module _ (number budget : ℕ) (setup : Setup) (script : List Entry) (t : ℕ) (used : List ℕ) (seen : List Observation) (p : Player) (may : MayGoOn number budget setup script t used seen p)
-    (account : SureDevice → Account) (k : ℕ) (new : Player) (taken taken' : Option (List ℕ)) (behind : ByteList)
-    (g : HasGone account p.lead [] t k p.board new.board taken taken' behind) where
+    (account : SureDevice → Account) (k : ℕ) (new : Player) (taken taken' : Option (List ℕ)) (fs fs' : ℕ) (behind : ByteList)
+    (g : HasGone account p.lead [] t k (record { board = p.board; taken = taken; faults = fs }) (record { board = new.board; taken = taken'; faults = fs' }) behind) where
   abbrev C : Course setup script t used seen p
   C = ways number budget setup script t used seen p may
 
@@ -324,7 +324,8 @@ module _ (number budget : ℕ) (setup : Setup) (script : List Entry) (t : ℕ) (
 
 -- The sink failed in the line of an observation.
 module _ (number budget : ℕ) (setup : Setup) (script : List Entry) (t : ℕ) (used : List ℕ) (seen : List Observation) (p : Player) (may : MayGoOn number budget setup script t used seen p)
-    (account : SureDevice → Account) (new : Board SureDevice) (taken taken' : Option (List ℕ)) (g : IsCutShort account p.lead t p.left p.board new taken taken') where
+    (account : SureDevice → Account) (new : Board SureDevice) (taken taken' : Option (List ℕ)) (fs fs' : ℕ)
+    (g : IsCutShort account p.lead t p.left (record { board = p.board; taken = taken; faults = fs }) (record { board = new; taken = taken'; faults = fs' })) where
   abbrev Co : Course setup script t used seen p
   Co = ways number budget setup script t used seen p may
 
@@ -430,25 +431,25 @@ module _ (number budget : ℕ) (setup : Setup) (script : List Entry) (t : ℕ) (
 -- whatever became of its board, it is so
 pub stepped_by : (number budget : ℕ) (setup : Setup) (script : List Entry) (t : ℕ) (used : List ℕ) (seen : List Observation) (p : Player) (may : MayGoOn number budget setup script t used seen p)
     (account : SureDevice → Account) (board : Board SureDevice) (taken taken' : Option (List ℕ)) (fs fs' : ℕ) (gone : Gone)
-    → Went account p.lead t p.left p.board board taken taken' fs fs' gone → PlayedOn number budget setup script t seen (noting gone (record p { board = board })) taken taken' fs fs' (step_told gone)
+    → Went account p.lead t p.left (record { board = p.board; taken = taken; faults = fs }) (record { board = board; taken = taken'; faults = fs' }) gone → PlayedOn number budget setup script t seen (noting gone (record p { board = board })) taken taken' fs fs' (step_told gone)
 stepped_by number budget setup script t used seen p may account board taken taken' fs fs' (Idle n) h =
-    went_idle number budget setup script t used seen p may account n (noting (Idle n) (record p { board = board })) taken taken' [] h.1 h.2 h.0 refl refl (let low : n ≤ p.left = h.0 in omega (arith, low)) refl refl
+    went_idle number budget setup script t used seen p may account n (noting (Idle n) (record p { board = board })) taken taken' fs fs' [] h.1 h.2 h.0 refl refl (let low : n ≤ p.left = h.0 in omega (arith, low)) refl refl
 stepped_by number budget setup script t used seen p may account board taken taken' fs fs' (Ended (Panic code)) h =
-    went_stopped number budget setup script t used seen p may account h.used (noting (Ended (Panic code)) (record p { board = board })) taken taken' (p.lead ++ closing_line t (Some (end_of (StopPanic code)))) h.gone (StopPanic code) h.ended h.within refl refl refl refl
+    went_stopped number budget setup script t used seen p may account h.used (noting (Ended (Panic code)) (record p { board = board })) taken taken' fs fs' (p.lead ++ closing_line t (Some (end_of (StopPanic code)))) h.gone (StopPanic code) h.ended h.within refl refl refl refl
 stepped_by number budget setup script t used seen p may account board taken taken' fs fs' (Ended (Fault fault address)) h =
-    went_stopped number budget setup script t used seen p may account h.used (noting (Ended (Fault fault address)) (record p { board = board })) taken taken' (p.lead ++ closing_line t (Some (end_of (StopFault fault address)))) h.gone (StopFault fault address) h.ended h.within refl refl refl refl
+    went_stopped number budget setup script t used seen p may account h.used (noting (Ended (Fault fault address)) (record p { board = board })) taken taken' fs fs' (p.lead ++ closing_line t (Some (end_of (StopFault fault address)))) h.gone (StopFault fault address) h.ended h.within refl refl refl refl
 stepped_by number budget setup script t used seen p may account board taken taken' fs fs' (Ended Budget) h =
-    went_cut number budget setup script t used seen p may account p.left (record p { board = board }) taken taken' [] h.0 h.1 h.2 refl refl
+    went_cut number budget setup script t used seen p may account p.left (record p { board = board }) taken taken' fs fs' [] h.0 h.1 h.2 refl refl
 stepped_by number budget setup script t used seen p may account board taken taken' fs fs' (Ended SinkFault) h = (by_where h.0, h.1)
   where
-    by_where : IsCutShort account p.lead t p.left p.board board taken taken' ⊎ IsCutLast account p.lead t p.left p.board board taken taken' → WasBroken number budget setup script t seen taken taken'
-    by_where (inl g) = broke_short number budget setup script t used seen p may account board taken taken' g
-    by_where (inr h) = broke_last number budget setup script t used seen p may account h.used (record p { board = board }) taken h.taken_before [] h.gone h.stop h.ended h.within refl taken' h.written
+    by_where : IsCutShort account p.lead t p.left (record { board = p.board; taken = taken; faults = fs }) (record { board = board; taken = taken'; faults = fs' }) ⊎ IsCutLast account p.lead t p.left (record { board = p.board; taken = taken; faults = fs }) (record { board = board; taken = taken'; faults = fs' }) → WasBroken number budget setup script t seen taken taken'
+    by_where (inl g) = broke_short number budget setup script t used seen p may account board taken taken' fs fs' g
+    by_where (inr h) = broke_last number budget setup script t used seen p may account h.used (record p { board = board }) taken h.taken_before fs fs' [] h.gone h.stop h.ended h.within refl taken' h.written
 stepped_by number budget setup script t used seen p may account board taken taken' fs fs' (Ended Quiet) h = absurd h
 stepped_by number budget setup script t used seen p may account board taken taken' fs fs' (Ended Script) h = absurd h
 
 pub taken_by : (lead : ByteList) (t left : ℕ) (account : SureDevice → Account) (old board : Board SureDevice) (taken taken' : Option (List ℕ)) (fs fs' : ℕ) (gone : Gone)
-    → Went account lead t left old board taken taken' fs fs' gone → IsTaken left gone
+    → Went account lead t left (record { board = old; taken = taken; faults = fs }) (record { board = board; taken = taken'; faults = fs' }) gone → IsTaken left gone
 taken_by lead t left account old board taken taken' fs fs' (Idle n) h = h.0
 taken_by lead t left account old board taken taken' fs fs' (Ended end) h = tt
 

@@ -1,5 +1,5 @@
 -- Which arrivals are applied: those up to a moment at which the run isn't over.
-use Rattle.std.proofs.Common.{◌≡◌, ℕ, zero, suc, ◌-◌, ◌<◌, ◌≤◌, ◌⊎◌, inl, inr, Bool, true, false, List, [], ◌∷◌, nat_le, nat_lt, Some, slice_get, length, take, refl, sym, ap, ◌∙◌, subst, arith, ◌&&◌, if◌then◌else◌}
+use Rattle.std.proofs.Common.{◌≡◌, ℕ, zero, suc, ◌-◌, ◌<◌, ◌≤◌, ◌⊎◌, inl, inr, Bool, true, false, List, [], ◌∷◌, nat_le, nat_lt, Some, slice_get, length, refl, sym, ap, ◌∙◌, subst, arith, ◌&&◌, if◌then◌else◌}
 use Rattle.std.specs.Prelude.{not}
 use Rattle.std.proofs.lemmas.Bool.{false≢true}
 use Rattle.std.proofs.lemmas.Bool.Decides.{nat_tests}

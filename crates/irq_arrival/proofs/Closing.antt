@@ -32,11 +32,11 @@ use Rattle.board_run.specs.declared.engine.Engine.{Engine}
 use Rattle.board_run.specs.Represents.{Represents}
 use Rattle.board_run.specs.Run.{Reaches}
 use Rattle.board_run.specs.Advancing.{PortsMeet, Fails}
-use Rattle.board_run.specs.Ran.{IsMounted, IsExecuted, told, answer_of, Finishes}
+use Rattle.board_run.specs.Outside.{Outside, OverSink, around}
+use Rattle.board_run.specs.Ran.{IsMounted, IsExecuted, HasRun, IsCut, told, answer_of, Finishes, Ran}
 use Rattle.board_run.specs.View.{state_of, end_of}
 use Rattle.board_run.proofs.Laws.{ports_then, into_then}
 use Rattle.irq_arrival.specs.Along.{world_with, NoneBefore, AllMay, Along}
-use Rattle.irq_arrival.specs.RanOn.{HasRunOn, IsCutOn, RanOn}
 use Rattle.irq_arrival.specs.Underway.{Underway}
 use Rattle.irq_arrival.proofs.Joins.{shows, listed}
 use Rattle.irq_arrival.proofs.Courses.{with_moved}
@@ -47,8 +47,18 @@ is_over : (o : Option Stop) → IsSome o → is_some (option_map end_of o) ≡ t
 is_over (Some x) q = refl
 is_over None q = absurd (let c : false ≡ true = q in cc)
 
-module _ {B : Type 0} (account : B → Account) (arrivals left : List Arrival) (first e : Engine) (plugged p : Plugged B) (taken t : Option (List ℕ)) (n : ℕ)
-    (h : Underway account arrivals first e plugged p taken t left n) (budget : ℕ) (image : List ℕ) (script : Script) (m : IsMounted image script first) (places : List (Option B)) (f : Follows account [] places plugged) where
+module _ {B : Type 0} (account : B → Account) (arrivals left : List Arrival) (first b : OverSink B)
+    (h : Underway account arrivals first b left b.board.instructions) (budget : ℕ) (image : List ℕ) (script : Script) (m : IsMounted image script first.board.engine) (places : List (Option B)) (f : Follows account [] places first.board.plugs) where
+  abbrev e : Engine
+  e = b.board.engine
+
+  abbrev n : ℕ
+  n = b.board.instructions
+
+  -- the sink and the devices, as the run begins
+  abbrev given : Outside B
+  given = record (around first) { places = places }
+
   abbrev course : List ℕ → ℕ → World Fiber Shared
   course = world_with image script.end (world_entries script.entries) arrivals
 
@@ -58,7 +68,7 @@ module _ {B : Type 0} (account : B → Account) (arrivals left : List Arrival) (
   abbrev along : Along image course left n used h.moves (state_of e)
   along = (h.along image script m).1
 
-  devices_after : (moves : List Move) (q : Plugged B) → PortsMeet account moves plugged q → DevicesAfter account moves places q.places
+  devices_after : (moves : List Move) (q : Plugged B) → PortsMeet account moves first.board.plugs q → DevicesAfter account moves places q.places
   devices_after moves q meet = places_after account (port_moves moves) places q (meet [] places f)
 
   -- nothing arrives any more at this moment, or the run is over
@@ -91,62 +101,65 @@ module _ {B : Type 0} (account : B → Account) (arrivals left : List Arrival) (
         ∙ ap (λ c. lines (after rest).board.seen ++ closing_line c (option_map end_of e.end)) (sym (clock_is rest))
         ∙ ap (λ o. lines (after rest).board.seen ++ closing_line (after rest).board.clock o) (sym (end_is rest))
 
-    -- the closing line was taken
-    ran_whole : (u : Option (List ℕ)) → n ≤ budget → (n ≡ budget) ⊎ IsSome e.end → Took t u (closing_line e.clock (option_map end_of e.end))
-        → HasRunOn account image course budget (state_of e) n taken u places p.places (option_map end_of e.end)
-    ran_whole u within done took = record {
-      used = used;
-      moves = h.moves;
-      is_executed = is_executed within done;
-      shows = λ rest. (both rest).0;
-      met = λ rest. (both rest).1;
-      ended = end_is;
-      written = λ rest. subst (λ l. Took taken u l) (text_is rest) (took-then _ _ h.written took);
-      devices = devices_after h.moves p h.ports;
-    }
+    module _ (u : Option (List ℕ)) (fs : ℕ) (within : n ≤ budget) (done : (n ≡ budget) ⊎ IsSome e.end) where
+      -- the board and the sink behind the closing line
+      abbrev last : OverSink B
+      last = record b { taken = u; faults = fs }
 
-    -- the closing line was cut
-    ran_cut : (u : Option (List ℕ)) → n ≤ budget → (n ≡ budget) ⊎ IsSome e.end → TookPart t u (closing_line e.clock (option_map end_of e.end)) → IsCutOn account course budget taken u places p.places
-    ran_cut u within done part = record {
-      free = used ++ [];
-      executed = n;
-      moves = h.moves;
-      is_executed = is_executed within done [];
-      met = (both []).1;
-      stopped = record {
-        done = h.moves;
-        left = [];
-        split = append-nil h.moves;
-        due = tt;
-        written = record {
-          told = λ had q.
-              let closing : closing_line e.clock (option_map end_of e.end) ≡ closing_line (after []).board.clock (after []).board.end =
-              ap (λ c. closing_line c (option_map end_of e.end)) (sym (clock_is [])) ∙ ap (closing_line (after []).board.clock) (sym (end_is [])) in
-              let c : TookPart t u (closing_line (after []).board.clock (after []).board.end) = subst (λ l. TookPart t u l) closing part in
-              let r = c.told (had ++ lines (seen_of h.moves)) (h.written.told had q) in
-              (r.0, r.1, r.2 ∙ ap Some (append_assoc had (lines (seen_of h.moves)) r.0));
+      -- the closing line was taken
+      ran_whole : Took b.taken u (closing_line e.clock (option_map end_of e.end)) → HasRun account image course budget given last (option_map end_of e.end)
+      ran_whole took = record {
+        used = used;
+        moves = h.moves;
+        is_executed = is_executed within done;
+        shows = λ rest. (both rest).0;
+        met = λ rest. (both rest).1;
+        ended = end_is;
+        written = λ rest. subst (λ l. Took first.taken u l) (text_is rest) (took-then _ _ h.written took);
+        devices = devices_after h.moves b.board.plugs h.ports;
+      }
+
+      -- the closing line was cut
+      ran_cut : TookPart b.taken u (closing_line e.clock (option_map end_of e.end)) → IsCut account course budget given (around last)
+      ran_cut part = record {
+        free = used ++ [];
+        executed = n;
+        moves = h.moves;
+        is_executed = is_executed within done [];
+        met = (both []).1;
+        stopped = record {
+          done = h.moves;
+          left = [];
+          split = append-nil h.moves;
+          due = tt;
+          written = record {
+            told = λ had q.
+                let closing : closing_line e.clock (option_map end_of e.end) ≡ closing_line (after []).board.clock (after []).board.end =
+                ap (λ c. closing_line c (option_map end_of e.end)) (sym (clock_is [])) ∙ ap (closing_line (after []).board.clock) (sym (end_is [])) in
+                let c : TookPart b.taken u (closing_line (after []).board.clock (after []).board.end) = subst (λ l. TookPart b.taken u l) closing part in
+                let r = c.told (had ++ lines (seen_of h.moves)) (h.written.told had q) in
+                (r.0, r.1, r.2 ∙ ap Some (append_assoc had (lines (seen_of h.moves)) r.0));
+          };
+          devices = devices_after h.moves b.board.plugs h.ports;
         };
-        devices = devices_after h.moves p h.ports;
-      };
-    }
+      }
 
-    pub finished : (u : Option (List ℕ)) (fs mid fs' : ℕ) (answer : End) → n ≤ budget → (n ≡ budget) ⊎ IsSome e.end → fs ≤ mid → Finishes t u mid fs' e answer
-        → RanOn account image course budget (state_of e) n taken u fs fs' places p.places answer
-    finished u fs mid fs' answer within done later fin = subst (RanOn account image course budget (state_of e) n taken u fs fs' places p.places) (sym fin.2) (by_put fin.0 fin.1)
-      where
-        whole : (o : Option Stop) → e.end ≡ o → Took t u (closing_line e.clock (option_map end_of e.end)) → RanOn account image course budget (state_of e) n taken u fs fs' places p.places (told o)
-        whole None q took = subst (λ o. HasRunOn account image course budget (state_of e) n taken u places p.places (option_map end_of o)) q (ran_whole u within done took)
-        whole (Some StopQuiet) q took = subst (λ o. HasRunOn account image course budget (state_of e) n taken u places p.places (option_map end_of o)) q (ran_whole u within done took)
-        whole (Some StopScript) q took = subst (λ o. HasRunOn account image course budget (state_of e) n taken u places p.places (option_map end_of o)) q (ran_whole u within done took)
-        whole (Some (StopPanic code)) q took = subst (λ o. HasRunOn account image course budget (state_of e) n taken u places p.places (option_map end_of o)) q (ran_whole u within done took)
-        whole (Some (StopFault fault address)) q took = subst (λ o. HasRunOn account image course budget (state_of e) n taken u places p.places (option_map end_of o)) q (ran_whole u within done took)
+      pub finished : (answer : End) → first.faults ≤ b.faults → Finishes b last answer → Ran account image course budget given last answer
+      finished answer later fin = subst (Ran account image course budget given last) (sym fin.2) (by_put fin.0 fin.1)
+        where
+          whole : (o : Option Stop) → e.end ≡ o → Took b.taken u (closing_line e.clock (option_map end_of e.end)) → Ran account image course budget given last (told o)
+          whole None q took = subst (λ o. HasRun account image course budget given last (option_map end_of o)) q (ran_whole took)
+          whole (Some StopQuiet) q took = subst (λ o. HasRun account image course budget given last (option_map end_of o)) q (ran_whole took)
+          whole (Some StopScript) q took = subst (λ o. HasRun account image course budget given last (option_map end_of o)) q (ran_whole took)
+          whole (Some (StopPanic code)) q took = subst (λ o. HasRun account image course budget given last (option_map end_of o)) q (ran_whole took)
+          whole (Some (StopFault fault address)) q took = subst (λ o. HasRun account image course budget given last (option_map end_of o)) q (ran_whole took)
 
-        by_put : (put : Result (Unit {0}) PutFailed) → Puts t u mid fs' (closing_line e.clock (option_map end_of e.end)) put → RanOn account image course budget (state_of e) n taken u fs fs' places p.places (answer_of put e.end)
-        by_put (Ok x) puts = whole e.end refl puts.took
-        by_put (Err x) puts = (ran_cut u within done puts.part, rose-before fs mid fs' later puts.failed)
+          by_put : (put : Result (Unit {0}) PutFailed) → Puts b.taken u b.faults fs (closing_line e.clock (option_map end_of e.end)) put → Ran account image course budget given last (answer_of put e.end)
+          by_put (Ok x) puts = whole e.end refl puts.took
+          by_put (Err x) puts = (ran_cut puts.part, rose-before first.faults b.faults fs later puts.failed)
 
   -- The line of an observation was cut: the run goes on to meet more, whatever the sink does.
-  module _ (most : ℕ) (q : Plugged B) (u : Option (List ℕ)) (g : Fails account most e p q t u) (inside : n + most ≤ budget) (none : NoneBefore (n + most) left) (may : AllMay left) where
+  module _ (most : ℕ) (new : OverSink B) (g : Fails account most b new) (inside : n + most ≤ budget) (none : NoneBefore (n + most) left) (may : AllMay left) where
     before_last : (l : List Arrival) → NoneBefore (n + most) l → NoneBefore (n + g.count) l
     before_last [] b = tt
     before_last (a ∷ rest) b = (let w = g.within in omega (arith, w, b))
@@ -161,7 +174,7 @@ module _ {B : Type 0} (account : B → Account) (arrivals left : List Arrival) (
     abbrev words : List ℕ
     words = (g.executes image along.at 0 [] h.moves from_here).0 ++ []
 
-    pub fails_cut : IsCutOn account course budget taken u places q.places
+    pub fails_cut : IsCut account course budget given (around new)
     fails_cut =
         let z : g.count + 0 ≡ g.count = omega arith in
         let v : World Fiber Shared = run (fibers image) g.count (along.at words) in
@@ -189,9 +202,9 @@ module _ {B : Type 0} (account : B → Account) (arrivals left : List Arrival) (
             left = Seen g.last ∷ (idle.0 ++ more.0);
             split = split h.moves g.done g.last idle.0 more.0;
             due = tt;
-            written = subst (λ l. TookInto taken u l (line g.last)) (sym (lines-append (seen_of h.moves) (seen_of g.done)) ∙ ap lines (sym (seen_of-append h.moves g.done)))
+            written = subst (λ l. TookInto first.taken new.taken l (line g.last)) (sym (lines-append (seen_of h.moves) (seen_of g.done)) ∙ ap lines (sym (seen_of-append h.moves g.done)))
                 (into_then account (lines (seen_of h.moves)) (lines (seen_of g.done)) (line g.last) h.written g.written);
-            devices = devices_after (h.moves ++ g.done) q (ports_then account h.moves g.done plugged p q h.ports g.ports);
+            devices = devices_after (h.moves ++ g.done) new.board.plugs (ports_then account h.moves g.done first.board.plugs b.board.plugs new.board.plugs h.ports g.ports);
           };
         }
       where

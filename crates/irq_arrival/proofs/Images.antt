@@ -12,24 +12,22 @@ use Rattle.board_outside.specs.Moves.{Move, HasMet}
 use Rattle.board_outside.specs.Cuts.{Stopped}
 use Rattle.sts_syntax.specs.TypedTrees.{TypedProgram}
 use Rattle.sts_implements.specs.Images.{ImageImplements, LooksLike}
-use Rattle.board_run.specs.Represents.{BoardState}
-use Rattle.board_run.specs.Ran.{IsExecuted}
+use Rattle.board_run.specs.Outside.{Outside, OverSink, around}
+use Rattle.board_run.specs.Ran.{IsExecuted, HasRun, IsCut, Ran}
 use Rattle.board_run.specs.declared.end.End.{End}
 use Rattle.board_run.specs.declared.end.End.TheVariants.{Quiet, Script, Panic, Budget, Fault, SinkFault}
-use Rattle.irq_arrival.specs.RanOn.{HasRunOn, IsCutOn, RanOn}
 use Rattle.irq_arrival.specs.ImageRuns.{world_at, RunsToAt, RunsImageAt}
 use Rattle.irq_arrival.specs.SourceRuns.{source_at, MeetsAt, RunsSourceTo, CutsSource, RunsSourceAt}
 use Rattle.irq_arrival.proofs.Reaching.{reaches, faultless}
 use Rattle.board_ports.specs.Account.{Account}
 
-module _ {B : Type 0} (account : B → Account) (image : List ℕ) (script : EventScript) (arrivals : List Arrival) (budget : ℕ)
-    (taken taken' : Option (List ℕ)) (fs fs' : ℕ) (places places' : List (Option B)) where
+module _ {B : Type 0} (account : B → Account) (image : List ℕ) (script : EventScript) (arrivals : List Arrival) (budget : ℕ) where
   -- a board's run along the worlds of an image's run
-  module _ (b : BoardState) (executed : ℕ) where
-    runs_to : (end : Option RunEnd) → HasRunOn account image (world_at image script arrivals) budget b executed taken taken' places places' end → RunsToAt account image script arrivals budget taken taken' places places' end
+  module _ (old : Outside B) (new : OverSink B) where
+    runs_to : (end : Option RunEnd) → HasRun account image (world_at image script arrivals) budget old new end → RunsToAt account image script arrivals budget old (around new) end
     runs_to end h = record {
       free = h.used ++ [];
-      executed = executed;
+      executed = new.board.instructions;
       moves = h.moves;
       is_executed = h.is_executed [];
       met = h.met [];
@@ -38,7 +36,7 @@ module _ {B : Type 0} (account : B → Account) (image : List ℕ) (script : Eve
       devices = h.devices;
     }
 
-    pub runs_image : (end : End) → RanOn account image (world_at image script arrivals) budget b executed taken taken' fs fs' places places' end → RunsImageAt account image script arrivals budget taken taken' fs fs' places places' end
+    pub runs_image : (end : End) → Ran account image (world_at image script arrivals) budget old new end → RunsImageAt account image script arrivals budget old (around new) end
     runs_image Quiet h = runs_to _ h
     runs_image Script h = runs_to _ h
     runs_image (Panic code) h = runs_to _ h
@@ -47,7 +45,7 @@ module _ {B : Type 0} (account : B → Account) (image : List ℕ) (script : Eve
     runs_image SinkFault h = h
 
   -- of an image that implements a program it is the run of the program's source
-  module _ (P : TypedProgram) (texts : List ByteList) (implements : ImageImplements P texts image) (rises : Rises 0 arrivals) where
+  module _ (old new : Outside B) (P : TypedProgram) (texts : List ByteList) (implements : ImageImplements P texts image) (rises : Rises 0 arrivals) where
     meets : (free : List ℕ) (executed : ℕ) (moves : List Move) → IsExecuted (world_at image script arrivals free) budget executed → HasMet moves (world_at image script arrivals free executed).board
         → (m : MeetsAt P texts image script arrivals budget) × LooksLike (source_at P texts script m.places m.steps).board (world_at image script arrivals free executed).board
     meets free executed moves e met =
@@ -72,28 +70,28 @@ module _ {B : Type 0} (account : B → Account) (image : List ℕ) (script : Eve
     text_alike : (b c : Board) → LooksLike b c → transcript_of c ≡ transcript_of b
     text_alike b c l = ap (λ os. lines os ++ closing_line c.clock c.end) (sym l.seen) ∙ ap (λ t. lines b.seen ++ t) (closing_alike b c l)
 
-    source_to : (end : Option RunEnd) → RunsToAt account image script arrivals budget taken taken' places places' end → RunsSourceTo account P texts image script arrivals budget taken taken' places places' end
+    source_to : (end : Option RunEnd) → RunsToAt account image script arrivals budget old new end → RunsSourceTo account P texts image script arrivals budget old new end
     unfolding meets
     source_to end r =
         let m = meets r.free r.executed r.moves r.is_executed r.met in
         record {
           meets = m.0;
           ended = m.1.end ∙ r.ended;
-          written = subst (λ t. Took taken taken' t) (text_alike _ _ m.1) r.written;
+          written = subst (λ t. Took old.taken new.taken t) (text_alike _ _ m.1) r.written;
           devices = r.devices;
         }
 
-    source_cut : IsCutOn account (world_at image script arrivals) budget taken taken' places places' → CutsSource account P texts image script arrivals budget taken taken' places places'
+    source_cut : IsCut account (world_at image script arrivals) budget old new → CutsSource account P texts image script arrivals budget old new
     unfolding meets
     source_cut c =
         let m = meets c.free c.executed c.moves c.is_executed c.met in
-        record { meets = m.0; stopped = subst (λ t. Stopped account [] c.moves t taken taken' places places') (closing_alike _ _ m.1) c.stopped }
+        record { meets = m.0; stopped = subst (λ t. Stopped account [] c.moves t old.taken new.taken old.places new.places) (closing_alike _ _ m.1) c.stopped }
 
-    never : (kind address : ℕ) → RunsToAt account image script arrivals budget taken taken' places places' (Some (Faulted kind address)) → ⊥
+    never : (kind address : ℕ) → RunsToAt account image script arrivals budget old new (Some (Faulted kind address)) → ⊥
     never kind address r =
         subst (λ (e : Option RunEnd). SoundEnd (λ kind address. ⊥) e) r.ended (faultless P texts image implements script.end (world_entries script.entries) arrivals rises r.free r.executed)
 
-    pub runs_source : (end : End) → RunsImageAt account image script arrivals budget taken taken' fs fs' places places' end → RunsSourceAt account P texts image script arrivals budget taken taken' fs fs' places places' end
+    pub runs_source : (end : End) → RunsImageAt account image script arrivals budget old new end → RunsSourceAt account P texts image script arrivals budget old new end
     runs_source Quiet r = source_to _ r
     runs_source Script r = source_to _ r
     runs_source (Panic code) r = source_to _ r

@@ -11,19 +11,19 @@ use Rattle.tool_io.proofs.Laws.{rose-before}
 use Rattle.event_script.specs.World.{world_entries}
 use Rattle.event_script.specs.declared.script.Script.{Script}
 use Rattle.board_ports.specs.Account.{Account}
-use Rattle.board_ports.specs.Plugged.{Plugged}
 use Rattle.board_run.specs.declared.engine.Engine.{Engine}
 use Rattle.board_run.specs.declared.end.End.{End}
 use Rattle.board_run.specs.declared.end.Stop.{Stop}
+use Rattle.board_run.specs.Outside.{OverSink, around}
 use Rattle.board_run.specs.Advancing.{PortsMeet, IsWhole, IsSettled}
 use Rattle.board_run.specs.Parting.{Parted, Arrives}
-use Rattle.board_run.specs.Ran.{IsMounted, answer_of}
+use Rattle.board_run.specs.Ran.{IsMounted, answer_of, Ran}
 use Rattle.board_run.specs.View.{state_of, end_of}
 use Rattle.arrival_file.specs.declared.arrival.Arrival.{Arrival as FileArrival}
 use Rattle.arrival_file.specs.World.{world_arrivals}
 use Rattle.arrival_file.specs.Sound.{IsSound}
 use Rattle.irq_arrival.specs.Along.{world_with, NoneBefore}
-use Rattle.irq_arrival.specs.RanOn.{RanOn, RanWith}
+use Rattle.irq_arrival.specs.RanWith.{RanWith}
 use Rattle.irq_arrival.specs.Underway.{Underway, Stands}
 use Rattle.irq_arrival.proofs.Going.{underway_begins, underway_goes, underway_takes}
 use Rattle.irq_arrival.proofs.Closing.{finished, fails_cut}
@@ -44,63 +44,63 @@ pub mounted_goes : (image : List ℕ) (script : Script) (e : Engine) → IsMount
 mounted_goes image script e m = none_is e.end (sym (ap (λ (b : Board). b.end) (m.begins []).board))
 
 module _ {B : Type 0} (account : B → Account) where
-  pub stands_begins : (xs : List FileArrival) (budget : ℕ) (image : List ℕ) (script : Script) (first : Engine) (plugged : Plugged B) (taken : Option (List ℕ)) (instructions : ℕ) → IsSound xs → IsMounted image script first → instructions ≡ 0
-      → Stands account (world_arrivals xs) budget first first plugged plugged taken taken (world_arrivals xs) 0 instructions
-  stands_begins xs budget image script first plugged taken instructions s m z = record {
-    underway = underway_begins account (world_arrivals xs) first plugged taken (rises_below 0 1 (world_arrivals xs) (omega arith) s.order);
+  pub stands_begins : (xs : List FileArrival) (budget : ℕ) (image : List ℕ) (script : Script) (first : OverSink B) → IsSound xs → IsMounted image script first.board.engine → first.board.instructions ≡ 0
+      → Stands account (world_arrivals xs) budget first first (world_arrivals xs) 0
+  stands_begins xs budget image script first s m z = record {
+    underway = underway_begins account (world_arrivals xs) first (rises_below 0 1 (world_arrivals xs) (omega arith) s.order);
     whole = m.whole;
     counted = z;
-    going = mounted_goes image script first m;
+    going = mounted_goes image script first.board.engine m;
     settled = inl (refl, rises_none 1 (world_arrivals xs) s.order);
     rises = rises_below 0 1 (world_arrivals xs) (omega arith) s.order;
     may = all_may xs s.arrive;
     within = omega arith;
   }
 
-  module _ (arrivals : List Arrival) (budget : ℕ) (first e : Engine) (plugged p : Plugged B) (taken t : Option (List ℕ)) (left : List Arrival) (n instructions : ℕ)
-      (s : Stands account arrivals budget first e plugged p taken t left n instructions) where
+  module _ (arrivals : List Arrival) (budget : ℕ) (first b : OverSink B) (left : List Arrival) (n : ℕ) (s : Stands account arrivals budget first b left n) where
     -- a part that nothing is left to go on behind
-    pub stands_stops : (to : ℕ) (f : Engine) (q : Plugged B) (u : Option (List ℕ)) (fs mid fs' new : ℕ) (answer : End) → n ≤ to → to ≤ budget → NoneBefore to left → fs ≤ mid
-        → Parted account (to - n) e f p q t u mid fs' instructions new (Some answer) → RanWith account arrivals budget first f new plugged q taken u fs fs' answer
-    stands_stops to f q u fs mid fs' new answer l b none later (inl x) = λ image script places m follows.
+    pub stands_stops : (to : ℕ) (c : OverSink B) (answer : End) → n ≤ to → to ≤ budget → NoneBefore to left → first.faults ≤ b.faults → Parted account (to - n) b c (Some answer)
+        → RanWith account arrivals budget first c answer
+    stands_stops to c answer l budgeted none later (inl x) = λ image script places m follows.
         let h = x.executed in
+        let there : OverSink B = record c { taken = x.mid; faults = x.fault } in
         let within : n + x.count ≤ to = (let w = h.within in omega (arith, w, l)) in
-        let on = underway_goes account arrivals first plugged taken left n x.count e f p q t x.mid s.underway h.advances (some_settled f x.ended) (none_sooner (n + x.count) to left within none) in
-        let count : n + x.count ≡ new = (let c = h.counted in let d = s.counted in omega (arith, c, d)) in
-        let less : fs ≤ x.fault = (let k = x.later in omega (arith, k, later)) in
-        subst (λ k. RanOn account image (world_with image script.end (world_entries script.entries) arrivals) budget (state_of f) k taken u fs fs' places q.places answer) count
-        (finished account arrivals left first f plugged q taken x.mid (n + x.count) on budget image script m places follows (inl x.ended) u fs x.fault fs' answer (omega arith) (inr x.ended) less x.finishes)
-    stands_stops to f q u fs mid fs' new answer l b none later (inr x) = λ image script places m follows.
-        let whole : n + (to - n) ≡ to = omega arith in
-        subst (RanOn account image (world_with image script.end (world_entries script.entries) arrivals) budget (state_of f) new taken u fs fs' places q.places) (sym x.1) (
-          fails_cut account arrivals left first e plugged p taken t n s.underway budget image script m places follows (to - n) q u x.0 (omega arith) (subst (λ k. NoneBefore k left) (sym whole) none) s.may,
-          rose-before fs mid fs' later x.2,
+        let on = underway_goes account arrivals first left n x.count b there s.underway h.advances (some_settled c.board.engine x.ended) (none_sooner (n + x.count) to left within none) in
+        let count : n + x.count ≡ c.board.instructions = (let k = h.counted in let d = s.counted in omega (arith, k, d)) in
+        let less : first.faults ≤ x.fault = (let k = x.later in omega (arith, k, later)) in
+        finished account arrivals left first there (subst (Underway account arrivals first there left) count on) budget image script m places follows (inl x.ended) c.taken c.faults (omega (arith, within, count, budgeted)) (inr x.ended)
+        answer less x.finishes
+    stands_stops to c answer l budgeted none later (inr x) = λ image script places m follows.
+        let counted = s.counted in
+        let whole : to ≡ b.board.instructions + (to - n) = omega (arith, l, counted) in
+        subst (Ran account image (world_with image script.end (world_entries script.entries) arrivals) budget (record (around first) { places = places }) c) (sym x.1) (
+          fails_cut account arrivals left first b (subst (Underway account arrivals first b left) (sym s.counted) s.underway) budget image script m places follows (to - n) c x.0 (omega (arith, whole, budgeted))
+              (subst (λ k. NoneBefore k left) whole none) s.may,
+          rose-before first.faults b.faults c.faults later x.2,
         )
 
     -- a part that goes on
-    pub stands_goes : (to : ℕ) (f : Engine) (q : Plugged B) (u : Option (List ℕ)) (mid fs' new : ℕ) → n ≤ to → NoneBefore to left → IsSettled f
-        → Parted account (to - n) e f p q t u mid fs' instructions new None → Underway account arrivals first f plugged q taken u left to × (new ≡ to) × (f.end ≡ None)
-    stands_goes to f q u mid fs' new l none settled x =
-        let whole : n + (to - n) ≡ to = omega arith in (
-          subst (Underway account arrivals first f plugged q taken u left) whole
-              (underway_goes account arrivals first plugged taken left n (to - n) e f p q t u s.underway x.0.advances settled (subst (λ k. NoneBefore k left) (sym whole) none)),
-          (let c = x.0.counted in let d = s.counted in omega (arith, c, d, l)),
+    pub stands_goes : (to : ℕ) (c : OverSink B) → n ≤ to → NoneBefore to left → IsSettled c.board.engine → Parted account (to - n) b c None
+        → Underway account arrivals first c left to × (c.board.instructions ≡ to) × (c.board.engine.end ≡ None)
+    stands_goes to c l none settled x =
+        let whole : n + (to - n) ≡ to = omega (arith, l) in (
+          subst (Underway account arrivals first c left) whole (underway_goes account arrivals first left n (to - n) b c s.underway x.0.advances settled (subst (λ k. NoneBefore k left) (sym whole) none)),
+          (let k = x.0.counted in let d = s.counted in omega (arith, k, d, l)),
           x.1,
         )
 
   -- an act behind a part
-  pub stands_takes : (arrivals : List Arrival) (budget : ℕ) (first e f g : Engine) (plugged p q r : Plugged B) (taken t u : Option (List ℕ)) (a : Arrival) (left : List Arrival) (n instructions mid fs' new last : ℕ)
-      → Stands account arrivals budget first e plugged p taken t (a ∷ left) n instructions → Parted account (a.count - n) e f p q t u mid fs' instructions new None → IsSettled f → a.count ≤ budget
-      → Arrives a.act (state_of f) (state_of g) → g.end ≡ f.end → PortsMeet account [] q r → IsWhole g last → IsSettled g → last ≡ new
-      → Stands account arrivals budget first g plugged r taken u left a.count last
-  stands_takes arrivals budget first e f g plugged p q r taken t u a left n instructions mid fs' new last s x settled within acted ends ports whole still same =
+  pub stands_takes : (arrivals : List Arrival) (budget : ℕ) (first b c d : OverSink B) (a : Arrival) (left : List Arrival) (n : ℕ) → Stands account arrivals budget first b (a ∷ left) n → Parted account (a.count - n) b c None
+      → IsSettled c.board.engine → a.count ≤ budget → Arrives a.act (state_of c.board.engine) (state_of d.board.engine) → d.board.engine.end ≡ c.board.engine.end → PortsMeet account [] c.board.plugs d.board.plugs → d.taken ≡ c.taken
+      → IsWhole d.board.engine d.board.instructions → IsSettled d.board.engine → d.board.instructions ≡ c.board.instructions → Stands account arrivals budget first d left a.count
+  stands_takes arrivals budget first b c d a left n s x settled within acted ends ports sink whole still same =
       let l : n ≤ a.count = s.rises.0 in
       let none : a.count ≤ a.count = omega arith in
-      let on = stands_goes arrivals budget first e plugged p taken t (a ∷ left) n instructions s a.count f q u mid fs' new l none settled x in
-      let counted : last ≡ a.count = same ∙ on.1 in
+      let on = stands_goes arrivals budget first b (a ∷ left) n s a.count c l none settled x in
+      let counted : d.board.instructions ≡ a.count = same ∙ on.1 in
       record {
-        underway = underway_takes account arrivals first plugged taken a left a.count f g q r u on.0 refl s.may.0 on.2 acted ports still;
-        whole = subst (IsWhole g) counted whole;
+        underway = underway_takes account arrivals first a left a.count c d on.0 refl s.may.0 on.2 acted ports sink still;
+        whole = subst (IsWhole d.board.engine) counted whole;
         counted = counted;
         going = ends ∙ on.2;
         settled = inr still;
@@ -110,11 +110,12 @@ module _ {B : Type 0} (account : B → Account) where
       }
 
   -- the closing line where the budget ends the run
-  pub stands_finishes : (arrivals : List Arrival) (budget : ℕ) (first e f : Engine) (plugged p q : Plugged B) (taken t u v : Option (List ℕ)) (left : List Arrival) (n instructions mid fs' new fs fs0 : ℕ) (put : Result (Unit {0}) PutFailed)
-      → Stands account arrivals budget first e plugged p taken t left n instructions → Parted account (budget - n) e f p q t u mid fs' instructions new None → IsSettled f → NoneBefore (budget + 1) left
-      → fs0 ≤ fs' → Puts u v fs' fs (closing_line f.clock None) put → RanWith account arrivals budget first f new plugged q taken v fs0 fs (answer_of put None)
-  stands_finishes arrivals budget first e f plugged p q taken t u v left n instructions mid fs' new fs fs0 put s x settled none later puts = λ image script places m follows.
-      let on = stands_goes arrivals budget first e plugged p taken t left n instructions s budget f q u mid fs' new s.within (none_sooner budget (budget + 1) left (omega arith) none) settled x in
-      subst (λ k. RanOn account image (world_with image script.end (world_entries script.entries) arrivals) budget (state_of f) k taken v fs0 fs places q.places (answer_of put None)) (sym on.1)
-      (finished account arrivals left first f plugged q taken u budget on.0 budget image script m places follows (inr none) v fs0 fs' fs (answer_of put None) (omega arith) (inl refl) later
-      (put, subst (λ o. Puts u v fs' fs (closing_line f.clock (option_map end_of o)) put) (sym on.2) puts, ap (answer_of put) (sym on.2)))
+  pub stands_finishes : (arrivals : List Arrival) (budget : ℕ) (first b c : OverSink B) (u : Option (List ℕ)) (fs : ℕ) (left : List Arrival) (n : ℕ) (put : Result (Unit {0}) PutFailed)
+      → Stands account arrivals budget first b left n → Parted account (budget - n) b c None → IsSettled c.board.engine → NoneBefore (budget + 1) left
+      → first.faults ≤ c.faults → Puts c.taken u c.faults fs (closing_line c.board.engine.clock None) put → RanWith account arrivals budget first (record c { taken = u; faults = fs }) (answer_of put None)
+  stands_finishes arrivals budget first b c u fs left n put s x settled none later puts = λ image script places m follows.
+      let on = stands_goes arrivals budget first b left n s budget c s.within (none_sooner budget (budget + 1) left (omega arith) none) settled x in
+      let all = on.1 in
+      finished account arrivals left first c (subst (Underway account arrivals first c left) (sym on.1) on.0) budget image script m places follows (inr (subst (λ k. NoneBefore (k + 1) left) (sym on.1) none)) u fs
+      (omega (arith, all)) (inl on.1) (answer_of put None) later
+      (put, subst (λ o. Puts c.taken u c.faults fs (closing_line c.board.engine.clock (option_map end_of o)) put) (sym on.2) puts, ap (answer_of put) (sym on.2))

@@ -1,5 +1,5 @@
 pub mod Along
-pub mod RanOn
+pub mod RanWith
 pub mod Underway
 pub mod ReachesWith
 pub mod ImageRuns

@@ -5,7 +5,6 @@ use Rattle.board_world.specs.Board.{Entry, over}
 use Rattle.board_world.specs.Activities.{World}
 use Rattle.board_world.specs.Simulation.{Paired}
 use Rattle.board_world.specs.Runs.{Arrival, RisesTo, Placed, run_with, applied}
-use Rattle.bank_model.specs.BoardMachine.{fibers, bank_start}
 use Rattle.sts_syntax.specs.TypedTrees.{TypedProgram}
 use Rattle.sts_meaning.specs.Frames.{Activity}
 use Rattle.sts_meaning.specs.Heaps.{Heap}

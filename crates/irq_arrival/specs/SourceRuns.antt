@@ -18,6 +18,7 @@ use Rattle.board_outside.specs.Ports.{DevicesAfter}
 use Rattle.board_outside.specs.Cuts.{Stopped}
 use Rattle.board_run.specs.declared.end.End.{End}
 use Rattle.board_run.specs.declared.end.End.TheVariants.{Fault, SinkFault}
+use Rattle.board_run.specs.Outside.{Outside}
 use Rattle.board_run.specs.Ran.{end_told}
 use Rattle.irq_arrival.specs.ReachesWith.{source_with, ReachesWith}
 use Rattle.board_ports.specs.Account.{Account}
@@ -40,21 +41,20 @@ pub record MeetsAt (P : TypedProgram) (texts : List ByteList) (image : List ℕ)
 
 -- The source has ended so, or not yet; its transcript was taken, and the devices met what it met.
 pub record RunsSourceTo {B : Type 0} (account : B → Account) (P : TypedProgram) (texts : List ByteList) (image : List ℕ) (script : EventScript) (arrivals : List Arrival) (budget : ℕ)
-    (taken taken' : Option (List ℕ)) (places places' : List (Option B)) (end : Option RunEnd) : Type 0 where
+    (old new : Outside B) (end : Option RunEnd) : Type 0 where
   pub meets : MeetsAt P texts image script arrivals budget
   pub ended : (source_at P texts script meets.places meets.steps).board.end ≡ end
-  pub written : Took taken taken' (transcript_of (source_at P texts script meets.places meets.steps).board)
-  pub devices : DevicesAfter account meets.moves places places'
+  pub written : Took old.taken new.taken (transcript_of (source_at P texts script meets.places meets.steps).board)
+  pub devices : DevicesAfter account meets.moves old.places new.places
 
 -- The sink stopped the run: one cut of what the source meets is where the sink and the devices stand.
 pub record CutsSource {B : Type 0} (account : B → Account) (P : TypedProgram) (texts : List ByteList) (image : List ℕ) (script : EventScript) (arrivals : List Arrival) (budget : ℕ)
-    (taken taken' : Option (List ℕ)) (places places' : List (Option B)) : Type 0 where
+    (old new : Outside B) : Type 0 where
   pub meets : MeetsAt P texts image script arrivals budget
-  pub stopped : (let b : Board = (source_at P texts script meets.places meets.steps).board in Stopped account [] meets.moves (closing_line b.clock b.end) taken taken' places places')
+  pub stopped : (let b : Board = (source_at P texts script meets.places meets.steps).board in Stopped account [] meets.moves (closing_line b.clock b.end) old.taken new.taken old.places new.places)
 
 -- What a call that ran such an image answered; never a fault.
-abbrev pub RunsSourceAt : {B : Type 0} → (B → Account) → TypedProgram → List ByteList → List ℕ → EventScript → List Arrival → ℕ
-    → Option (List ℕ) → Option (List ℕ) → ℕ → ℕ → List (Option B) → List (Option B) → End → Type 0
-RunsSourceAt account P texts image script arrivals budget taken taken' fs fs' places places' SinkFault = CutsSource account P texts image script arrivals budget taken taken' places places' × Rose fs fs'
-RunsSourceAt account P texts image script arrivals budget taken taken' fs fs' places places' (Fault fault address) = ⊥
-RunsSourceAt account P texts image script arrivals budget taken taken' fs fs' places places' answer = RunsSourceTo account P texts image script arrivals budget taken taken' places places' (end_told answer)
+abbrev pub RunsSourceAt : {B : Type 0} → (B → Account) → TypedProgram → List ByteList → List ℕ → EventScript → List Arrival → ℕ → Outside B → Outside B → End → Type 0
+RunsSourceAt account P texts image script arrivals budget old new SinkFault = CutsSource account P texts image script arrivals budget old new × Rose old.faults new.faults
+RunsSourceAt account P texts image script arrivals budget old new (Fault fault address) = ⊥
+RunsSourceAt account P texts image script arrivals budget old new answer = RunsSourceTo account P texts image script arrivals budget old new (end_told answer)

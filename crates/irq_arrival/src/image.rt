@@ -8,6 +8,7 @@ ghost use Rattle.sts_implements.specs.Images.{ImageImplements};
 ghost use Rattle.event_script.specs.Sound as script_sound;
 ghost use Rattle.arrival_file.specs.World.{world_arrivals};
 ghost use Rattle.arrival_file.specs.Sound.{IsSound};
+ghost use Rattle.board_run.specs.Outside.{outside_of};
 ghost use Rattle.irq_arrival.specs.ImageRuns.{RunsImageAt};
 ghost use Rattle.irq_arrival.specs.SourceRuns.{RunsSourceAt};
 
@@ -42,11 +43,11 @@ pub fn run_image_at<K: Sink, D: Device>(
     requires arrivals { IsSound arrivals.now }
     requires least { 1 ≤ budget }
     requires most { budget ≤ 2147483648 }
-    ensures ran { IfOk result (λ end. RunsImageAt D.account image.items script (world_arrivals arrivals.now) budget (K.taken out.old) (K.taken out.new)
-        (K.faults out.old) (K.faults out.new) places.old.items places.new.items end) }
+    ensures ran { IfOk result (λ end. RunsImageAt D.account image.items script (world_arrivals arrivals.now) budget
+        (outside_of K.taken K.faults out.old places.old.items) (outside_of K.taken K.faults out.new places.new.items) end) }
     ensures source { (P : TypedProgram) (texts : List ByteList) → ImageImplements P texts image.items
-        → IfOk result (λ end. RunsSourceAt D.account P texts image.items script (world_arrivals arrivals.now) budget (K.taken out.old) (K.taken out.new)
-        (K.faults out.old) (K.faults out.new) places.old.items places.new.items end) }
+        → IfOk result (λ end. RunsSourceAt D.account P texts image.items script (world_arrivals arrivals.now) budget
+        (outside_of K.taken K.faults out.old places.old.items) (outside_of K.taken K.faults out.new places.new.items) end) }
     ensures nothing { OnErr result (Took (K.taken out.old) (K.taken out.new) []) }
     ensures unchanged { OnErr result (places.new.items ≡ places.old.items) }
     ensures later { K.faults out.old ≤ K.faults out.new }

@@ -5,11 +5,12 @@ ghost use Rattle.event_script.specs.declared.script.Script.{Script as EventScrip
 ghost use Rattle.arrival_file.specs.World.{world_arrivals};
 ghost use Rattle.arrival_file.specs.Sound.{IsSound};
 ghost use Rattle.board_run.specs.Advancing.{IsWhole, IsSettled};
+ghost use Rattle.board_run.specs.Outside.{over_sink};
 ghost use Rattle.board_run.specs.Parting.{Parted};
 ghost use Rattle.board_run.specs.Ran.{IsMounted};
 ghost use Rattle.irq_arrival.specs.Along.{NoneBefore};
 ghost use Rattle.irq_arrival.specs.Underway.{Stands};
-ghost use Rattle.irq_arrival.specs.RanOn.{RanWith};
+ghost use Rattle.irq_arrival.specs.RanWith.{RanWith};
 
 use arrival_file::Arrival;
 use board_outside::then_put_budget;
@@ -30,8 +31,7 @@ fn run_up_to<D: Device, K: Sink>(
     requires going { board.old.engine.end ≡ None }
     requires early { board.old.instructions < 2 ^ 49 }
     requires onward { done ≤ to }
-    ensures parted { Parted D.account (to - done) board.old.engine board.new.engine board.old.plugs board.new.plugs (K.taken out.old) (K.taken out.new)
-        (K.faults out.old) (K.faults out.new) board.old.instructions board.new.instructions result }
+    ensures parted { Parted D.account (to - done) (over_sink K.taken K.faults board.old out.old) (over_sink K.taken K.faults board.new out.new) result }
     ensures whole { IfNone result (IsWhole board.new.engine board.new.instructions) }
     ensures settled { IfNone result (IsSettled board.new.engine) }
     ensures later { K.faults out.old ≤ K.faults out.new }
@@ -56,9 +56,8 @@ fn serve_arrivals<D: Device, K: Sink>(
     requires sound { IsSound arrivals.now }
     requires most { budget ≤ 2147483648 }
     ensures served { IfOk result (λ done. (left : List WorldArrival) × NoneBefore (budget + 1) left
-        × Stands D.account (world_arrivals arrivals.now) budget board.old.engine board.new.engine board.old.plugs board.new.plugs (K.taken out.old) (K.taken out.new) left done board.new.instructions) }
-    ensures ended { IfErr result (RanWith D.account (world_arrivals arrivals.now) budget board.old.engine board.new.engine board.new.instructions
-        board.old.plugs board.new.plugs (K.taken out.old) (K.taken out.new) (K.faults out.old) (K.faults out.new)) }
+        × Stands D.account (world_arrivals arrivals.now) budget (over_sink K.taken K.faults board.old out.old) (over_sink K.taken K.faults board.new out.new) left done) }
+    ensures ended { IfErr result (RanWith D.account (world_arrivals arrivals.now) budget (over_sink K.taken K.faults board.old out.old) (over_sink K.taken K.faults board.new out.new)) }
     ensures later { K.faults out.old ≤ K.faults out.new }
 {
     let mut done = 0;
@@ -95,8 +94,7 @@ pub fn run_arrivals<D: Device, K: Sink>(
     requires sound { IsSound arrivals.now }
     requires least { 1 ≤ budget }
     requires most { budget ≤ 2147483648 }
-    ensures ran { RanWith D.account (world_arrivals arrivals.now) budget board.old.engine board.new.engine board.new.instructions
-        board.old.plugs board.new.plugs (K.taken out.old) (K.taken out.new) (K.faults out.old) (K.faults out.new) result }
+    ensures ran { RanWith D.account (world_arrivals arrivals.now) budget (over_sink K.taken K.faults board.old out.old) (over_sink K.taken K.faults board.new out.new) result }
     ensures later { K.faults out.old ≤ K.faults out.new }
 {
     match serve_arrivals(board, arrivals.as_slice(), budget, out) {

@@ -1,5 +1,6 @@
 use Rattle.std.proofs.Common.{sym, subst, ◌<◌, ◌≤◌, All, length}
 use Rattle.thumb_code.specs.Map.{flash_end}
+use Rattle.board_run.specs.Outside.{over_sink}
 use Rattle.board_run.proofs.Executing.{same_flash, step_goes, step_fails, step_whole, step_shown}
 use Rattle.board_run.proofs.board.Board.advance.Goals as goal
 
@@ -19,9 +20,8 @@ settle-requires-clause-shown g c =
 
 pub returns-in-Ok-clause-goes : goal.returns-in-Ok-clause-goes
 returns-in-Ok-clause-goes g c =
-    step_goes g.D.Device.account c.args.self.now.engine c.instruct-sight.new.self c.instruct-sight.result c.requires.whole.shown c.instruct-sight.ensures.comes
-    c.tell.new.engine c.settle.new.self c.args.self.now.plugs c.tell.new.plugs c.settle.new.plugs (g.K.Sink.taken c.args.out.now) (g.K.Sink.taken c.tell.new.out)
-    c.requires.going (c.requires.settled c.requires.going) c.tell.ensures.same c.in-Ok.ensures.sends c.in-Ok.ensures.puts.took c.settle.ensures.idles
+    step_goes g.D.Device.account (over_sink g.K.Sink.taken g.K.Sink.faults c.args.self.now c.args.out.now) c.instruct-sight.new.self c.instruct-sight.result c.requires.whole.shown c.instruct-sight.ensures.comes
+    c.tell.new.engine c.tell.new.plugs _ c.requires.going (c.requires.settled c.requires.going) c.tell.ensures.same c.in-Ok.ensures.sends c.in-Ok.ensures.puts.took c.settle.ensures.idles
 
 pub returns-in-Ok-clause-whole : goal.returns-in-Ok-clause-whole
 returns-in-Ok-clause-whole g c =
@@ -31,6 +31,6 @@ returns-in-Ok-clause-whole g c =
 
 pub returns-in-Err-clause-cut : goal.returns-in-Err-clause-cut
 returns-in-Err-clause-cut g c =
-    step_fails g.D.Device.account c.args.self.now.engine c.instruct-sight.new.self c.instruct-sight.result c.requires.whole.shown c.instruct-sight.ensures.comes
-    c.args.self.now.plugs c.tell.new.plugs (g.K.Sink.taken c.args.out.now) (g.K.Sink.taken c.tell.new.out) c.requires.going (c.requires.settled c.requires.going)
+    step_fails g.D.Device.account (over_sink g.K.Sink.taken g.K.Sink.faults c.args.self.now c.args.out.now) c.instruct-sight.new.self c.instruct-sight.result c.requires.whole.shown c.instruct-sight.ensures.comes
+    _ c.requires.going (c.requires.settled c.requires.going)
     c.in-Err.ensures.seen c.in-Err.ensures.stays c.in-Err.ensures.puts.part

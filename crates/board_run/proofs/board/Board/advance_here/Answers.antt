@@ -1,5 +1,6 @@
 use Rattle.std.proofs.Common.{sym, subst, refl, ◌<◌, ◌≤◌, All, length}
 use Rattle.thumb_code.specs.Map.{flash_end}
+use Rattle.board_run.specs.Outside.{over_sink}
 use Rattle.board_run.proofs.Executing.{same_flash, step_shown}
 use Rattle.board_run.proofs.Proceeding.{step_proceeds, step_stops, step_stays_whole, step_stands}
 use Rattle.board_run.proofs.board.Board.advance_here.Goals as goal
@@ -21,13 +22,12 @@ stay-requires g c = record {
 
 pub returns-in-Ok-clause-goes : goal.returns-in-Ok-clause-goes
 returns-in-Ok-clause-goes g c =
-    step_proceeds g.D.Device.account c.args.lead.now c.args.self.now c.instruct-sight.new.self c.instruct-sight.result c.requires.whole.shown c.instruct-sight.ensures.comes
-    c.tell_led.new.engine _ (g.K.Sink.taken c.args.out.now) (g.K.Sink.taken c.tell_led.new.out)
-    c.requires.going c.requires.runs c.tell_led.ensures.same c.in-Ok.ensures.sends c.in-Ok.ensures.puts.took c.note.ensures c.stay.ensures.comes
+    step_proceeds g.D.Device.account c.args.lead.now (over_sink g.K.Sink.taken g.K.Sink.faults c.args.self.now c.args.out.now) c.instruct-sight.new.self c.instruct-sight.result c.requires.whole.shown c.instruct-sight.ensures.comes
+    c.tell_led.new.engine _ c.requires.going c.requires.runs c.tell_led.ensures.same c.in-Ok.ensures.sends c.in-Ok.ensures.puts.took c.note.ensures c.stay.ensures.comes
 
 pub returns-in-Ok-clause-whole : goal.returns-in-Ok-clause-whole
 returns-in-Ok-clause-whole g c =
-    step_stays_whole g.D.Device.account c.args.lead.now c.args.self.now c.instruct-sight.new.self c.instruct-sight.result c.requires.whole.shown c.instruct-sight.ensures.comes
+    step_stays_whole g.D.Device.account c.args.lead.now (over_sink g.K.Sink.taken g.K.Sink.faults c.args.self.now c.args.out.now) c.instruct-sight.new.self c.instruct-sight.result c.requires.whole.shown c.instruct-sight.ensures.comes
     c.args.self.now.instructions c.tell_led.new.engine c.stay.new.self c.requires.whole c.instruct-sight.ensures.steps c.tell_led.ensures.same c.stay.ensures.comes c.stay.ensures.stays
 
 pub returns-in-Ok-clause-stands : goal.returns-in-Ok-clause-stands
@@ -36,6 +36,5 @@ returns-in-Ok-clause-stands g c =
 
 pub returns-in-Err-clause-cut : goal.returns-in-Err-clause-cut
 returns-in-Err-clause-cut g c =
-    step_stops g.D.Device.account c.args.lead.now c.args.self.now c.instruct-sight.new.self c.instruct-sight.result c.requires.whole.shown c.instruct-sight.ensures.comes
-    _ (g.K.Sink.taken c.args.out.now) (g.K.Sink.taken c.tell_led.new.out)
-    c.requires.going c.requires.runs c.in-Err.ensures.seen c.in-Err.ensures.stays c.in-Err.ensures.puts.part
+    step_stops g.D.Device.account c.args.lead.now (over_sink g.K.Sink.taken g.K.Sink.faults c.args.self.now c.args.out.now) c.instruct-sight.new.self c.instruct-sight.result c.requires.whole.shown c.instruct-sight.ensures.comes
+    _ c.requires.going c.requires.runs c.in-Err.ensures.seen c.in-Err.ensures.stays c.in-Err.ensures.puts.part

@@ -2,6 +2,7 @@ use Rattle.std.proofs.Common.{◌≤◌, List, [], None, sym, ap, ◌∙◌, sub
 use Rattle.board_world.specs.declared.events.Event.{Event}
 use Rattle.board_world.specs.Limits.{end_limit}
 use Rattle.board_run.specs.declared.engine.Engine.{Engine}
+use Rattle.board_run.specs.Outside.{over_sink}
 use Rattle.board_run.specs.Going.{CameTo}
 use Rattle.board_run.proofs.Clocks.{acts_of}
 use Rattle.board_run.proofs.Executing.{whole_idle}
@@ -34,15 +35,15 @@ returns-clause-goes g c = then_oks c.proceed.result c.proceed.ensures.goes c.pro
     let came = subst (λ (es : List Event). CameTo g.D.Device.account c.args.moment es c.args.self.now.engine c.come_to.new.self c.args.self.now.plugs c.come_to.new.plugs) c.as_slice.ensures c.come_to.ensures.came in
     let s = c.stay.ensures.stays in (
       q.0,
-      through_gone g.D.Device.account c.args.lead.now c.args.moment c.args.self.now _ c.come_to.new.self c.requires.whole c.requires.resting c.requires.due came c.stay.ensures.comes c.clear.ensures refl
-          c.args.most q.0 c.proceed.new.self (g.K.Sink.taken c.args.out.now) (g.K.Sink.taken c.proceed.new.out) q.1 stayed whole
+      through_gone g.D.Device.account c.args.lead.now c.args.moment (over_sink g.K.Sink.taken g.K.Sink.faults c.args.self.now c.args.out.now) _ c.come_to.new.self c.requires.whole c.requires.resting c.requires.due came c.stay.ensures.comes c.clear.ensures refl
+          c.args.most q.0 (over_sink g.K.Sink.taken g.K.Sink.faults c.proceed.new.self c.proceed.new.out) q.1 stayed whole
           (ap (λ (x : Engine). x.clock) s ∙ c.come_to.ensures.clock) (ap (λ (x : Engine). x.script) s ∙ c.come_to.ensures.script) refl,
-      through_passed g.D.Device.account c.args.lead.now c.args.moment c.args.self.now _ c.come_to.new.self c.requires.whole c.requires.resting c.requires.due came c.stay.ensures.comes c.clear.ensures refl
-          c.args.most q.0 c.proceed.new.self (g.K.Sink.taken c.args.out.now) (g.K.Sink.taken c.proceed.new.out) q.1 stayed,
+      through_passed g.D.Device.account c.args.lead.now c.args.moment (over_sink g.K.Sink.taken g.K.Sink.faults c.args.self.now c.args.out.now) _ c.come_to.new.self c.requires.whole c.requires.resting c.requires.due came c.stay.ensures.comes c.clear.ensures refl
+          c.args.most q.0 (over_sink g.K.Sink.taken g.K.Sink.faults c.proceed.new.self c.proceed.new.out) q.1 stayed,
     ))
 
 pub returns-clause-cut : goal.returns-clause-cut
 returns-clause-cut g c = then_err c.proceed.result c.proceed.ensures.cut (λ q.
     let came = subst (λ (es : List Event). CameTo g.D.Device.account c.args.moment es c.args.self.now.engine c.come_to.new.self c.args.self.now.plugs c.come_to.new.plugs) c.as_slice.ensures c.come_to.ensures.came in
-    through_cut g.D.Device.account c.args.lead.now c.args.moment c.args.self.now _ c.come_to.new.self c.requires.whole c.requires.resting c.requires.due came c.stay.ensures.comes c.clear.ensures refl
-    c.args.most c.proceed.new.self (g.K.Sink.taken c.args.out.now) (g.K.Sink.taken c.proceed.new.out) q)
+    through_cut g.D.Device.account c.args.lead.now c.args.moment (over_sink g.K.Sink.taken g.K.Sink.faults c.args.self.now c.args.out.now) _ c.come_to.new.self c.requires.whole c.requires.resting c.requires.due came c.stay.ensures.comes c.clear.ensures refl
+    c.args.most (over_sink g.K.Sink.taken g.K.Sink.faults c.proceed.new.self c.proceed.new.out) q)
