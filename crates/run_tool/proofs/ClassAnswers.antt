@@ -1,6 +1,6 @@
 -- Answers over a class, and over its boards.
 use Rattle.std.proofs.Common.{◌≡◌, ◌≢◌, ◌+◌, ℕ, suc, List, [], ◌∷◌, ◌++◌, length, inl, inr, refl, ap, ◌∙◌, subst, arith, append_assoc, codes, decimal}
-use Rattle.std.specs.Prelude.{Option, Result, Ok, Err, IfOk, IfErr, OnOk, IsOk, MatchResult}
+use Rattle.std.specs.Prelude.{Result, Ok, Err, IfOk, IfErr, OnOk, IsOk, MatchResult}
 use Rattle.std.specs.declared.vec.Vec.{Vec}
 use Rattle.std.specs.declared.alloc.Global.{Global}
 use Rattle.serde_json.specs.Data.{Data}
@@ -9,8 +9,6 @@ use Rattle.board_world.specs.Simulation.{Paired}
 use Rattle.sts_syntax.specs.TypedTrees.{TypedProgram}
 use Rattle.event_script.specs.Json.{IsTree}
 use Rattle.event_script.specs.declared.script.Script.{Script}
-use Rattle.event_script.specs.Codes as script_codes
-use Rattle.event_script.specs.Verdict as scripts
 use Rattle.class_file.specs.Verdict.{Tells}
 use Rattle.class_file.specs.declared.class.Names.{Names}
 use Rattle.class_file.specs.declared.class.ClassFile.{ClassFile}
@@ -18,19 +16,17 @@ use Rattle.class_file.specs.declared.class.ClassCode.{ClassCode}
 use Rattle.class_file.specs.declared.class.ClassCode.TheVariants.{NotJson, NotClass, BadCount, EndDiffers}
 use Rattle.class_file.specs.declared.class.ClassRefused.{ClassRefused}
 use Rattle.class_file.specs.declared.class.ClassRefused.TheVariants.{Class as OfClass}
-use Rattle.run_tool.specs.declared.ending.Status.TheVariants as status
-use Rattle.run_tool.specs.declared.fetched.Fetched.{Fetched}
 use Rattle.run_tool.specs.declared.class_boards.Boards.{Boards}
 use Rattle.run_tool.specs.declared.fetched.Fetched.TheVariants.{Text}
-use Rattle.run_tool.specs.Fetches.{MayFetch}
-use Rattle.run_tool.specs.Answers.{Answer, says}
+use Rattle.run_tool.specs.Fetches.{ToldFiles}
+use Rattle.run_tool.specs.Answers.{Answer}
 use Rattle.run_tool.specs.Files.{AnswersFile}
-use Rattle.run_tool.specs.Scripts.{RefusesScript, script_refused_line, none_to_scripts}
-use Rattle.run_tool.specs.ClassFiles.{RefusesClass, AnswersClassFile, class_refused_line, refuses_class, none_to_classes}
-use Rattle.run_tool.specs.ClassBoards.{BoardSource, board_lead, OverBoardProgram, none_to_boards, EndsWith, AnswersBoardScript, OverBoardScript, OverBoard, OverBoards, none_to_board}
-use Rattle.run_tool.specs.ClassReady.{IsImageOf, IsBoardScript, IsSourceOf, HasScript}
-use Rattle.run_tool.proofs.ImageRuns.{fetch-onwards}
-use Rattle.run_tool.proofs.Readings.{file-onwards, file-more, read-more, none-read}
+use Rattle.run_tool.specs.Scripts.{script_refused_line, scripts}
+use Rattle.run_tool.specs.inner.Nothing.{none_to_read, none_to_boards}
+use Rattle.run_tool.specs.ClassFiles.{RefusesClass, AnswersClassFile, class_refused_line}
+use Rattle.run_tool.specs.ClassBoards.{BoardSource, OverBoardProgram, AnswersBoardScript, OverBoardScript, OverBoard, OverBoards}
+use Rattle.run_tool.specs.inner.ClassReady.{IsImageOf, IsBoardScript, IsSourceOf, HasScript}
+use Rattle.run_tool.proofs.Readings.{IsOnward, fetch-onwards, file-onwards, file-more}
 
 pub class-refusal-pieces : (printed code : ℕ) → printed ≡ code → [] ++ codes "class refused " ++ decimal printed ++ codes "\n" ≡ class_refused_line code
 class-refusal-pieces printed code e = append_assoc (codes "class refused ") (decimal printed) (codes "\n") ∙ ap class_refused_line e
@@ -49,16 +45,18 @@ refuses-class text r BadCount e a b c d = c e
 refuses-class text r EndDiffers e a b c d = absurd (d e)
 
 -- where no class was read, the answer is one of each command
-pub no-class : (answers : ClassFile → Answer → Type 0) (text : List ℕ) (answer : Answer) → AnswersClassFile none_to_classes text answer → AnswersClassFile answers text answer
-no-class answers text answer h = none-read (λ bytes class. Tells bytes (Ok class)) RefusesClass refuses_class answers text answer h
+pub no-class : (answers : ClassFile → Answer → Type 0) (text : List ℕ) (answer : Answer) → AnswersClassFile none_to_read text answer → AnswersClassFile answers text answer
+no-class answers text answer (inl h) = absurd h.2
+no-class answers text answer (inr h) = inr h
 
 pub class-more : (answers more : ClassFile → Answer → Type 0) (text : List ℕ) (answer : Answer) → ((class : ClassFile) → answers class answer → more class answer) → AnswersClassFile answers text answer → AnswersClassFile more text answer
-class-more answers more text answer f h = read-more (λ bytes class. Tells bytes (Ok class)) RefusesClass refuses_class answers more text answer f h
+class-more answers more text answer f (inl h) = inl (h.0, h.1, f h.0 h.2)
+class-more answers more text answer f (inr h) = inr h
 
 -- where more may be answered of a board's program,
 pub board-program-more : (b : ℕ) (answers more : Tables → TypedProgram → Answer → Type 0) (text : List ℕ) (answer : Answer) → ((tables : Tables) (P : TypedProgram) → answers tables P answer → more tables P answer)
     → OverBoardProgram b answers text answer → OverBoardProgram b more text answer
-board-program-more b answers more text answer f (inl h) = inl (h.0, h.1, h.2, f h.0 h.1 h.3)
+board-program-more b answers more text answer f (inl h) = inl (h.0, h.1, f h.0.0 h.0.1 h.2)
 board-program-more b answers more text answer f (inr h) = inr h
 
 pub no-board-program : (b : ℕ) (answers : Tables → TypedProgram → Answer → Type 0) (text : List ℕ) (answer : Answer) → OverBoardProgram b none_to_boards text answer → OverBoardProgram b answers text answer
@@ -67,119 +65,101 @@ no-board-program b answers text answer h = board-program-more b none_to_boards a
 -- of its script,
 pub board-script-more : (b until : ℕ) (answers more : Script → Answer → Type 0) (text : List ℕ) (answer : Answer) → ((script : Script) → answers script answer → more script answer)
     → AnswersBoardScript b until answers text answer → AnswersBoardScript b until more text answer
-board-script-more b until answers more text answer f h =
-    read-more (λ bytes script. scripts.Tells bytes (Ok script)) RefusesScript (λ code. says status.ScriptRefused (board_lead b ++ script_refused_line (script_codes.number_of code))) (EndsWith until answers) (EndsWith until more)
-    text answer (λ script x. by_end script x) h
-  where
-    by_end : (script : Script) → EndsWith until answers script answer → EndsWith until more script answer
-    by_end script (inl x) = inl (x.0, f script x.1)
-    by_end script (inr x) = inr x
+board-script-more b until answers more text answer f (inl h) = inl (h.0, h.1, f h.0 h.2)
+board-script-more b until answers more text answer f (inr h) = inr h
 
-module _ (told : List ℕ → Option (Option (List ℕ))) (rose : Type 0) (until : ℕ) where
+module _ (files : ToldFiles) (until : ℕ) where
   over-script-more : (b : ℕ) (name : List ℕ) (answers more : Script → Answer → Type 0) (answer : Answer) → ((script : Script) → answers script answer → more script answer)
-      → OverBoardScript told rose until b name answers answer → OverBoardScript told rose until b name more answer
+      → OverBoardScript files until b name answers answer → OverBoardScript files until b name more answer
   over-script-more b name answers more answer f h =
-      file-more (AnswersBoardScript b until answers) (AnswersBoardScript b until more) (told name) rose answer (λ text x. board-script-more b until answers more text answer f x) h
+      file-more (AnswersBoardScript b until answers) (AnswersBoardScript b until more) files name answer (λ text x. board-script-more b until answers more text answer f x) h
 
   -- of the board,
   pub over-board-more : (b : ℕ) (names : Names) (answers more : BoardSource → Answer → Type 0) (answer : Answer) → ((board : BoardSource) → answers board answer → more board answer)
-      → OverBoard told rose until b names answers answer → OverBoard told rose until b names more answer
+      → OverBoard files until b names answers answer → OverBoard files until b names more answer
   over-board-more b names answers more answer f h =
-      (let of = λ (which : BoardSource → Answer → Type 0) (tables : Tables) (P : TypedProgram). OverBoardScript told rose until b names.script (λ script. which (record { program = P; tables = tables; script = script })) in
-      file-more (OverBoardProgram b (of answers)) (OverBoardProgram b (of more)) (told names.program) rose answer
+      (let of = λ (which : BoardSource → Answer → Type 0) (tables : Tables) (P : TypedProgram). OverBoardScript files until b names.script (λ script. which (record { program = P; tables = tables; script = script })) in
+      file-more (OverBoardProgram b (of answers)) (OverBoardProgram b (of more)) files names.program answer
       (λ text x. board-program-more b (of answers) (of more) text answer
       (λ tables P y. over-script-more b names.script (λ script. answers (record { program = P; tables = tables; script = script })) (λ script. more (record { program = P; tables = tables; script = script })) answer
       (λ script z. f (record { program = P; tables = tables; script = script }) z) y) x) h)
 
   -- and of the boards from one on
   pub over-boards-more : (b : ℕ) (names : List Names) (answers more : List BoardSource → Answer → Type 0) (answer : Answer) → ((boards : List BoardSource) → answers boards answer → more boards answer)
-      → OverBoards told rose until b names answers answer → OverBoards told rose until b names more answer
+      → OverBoards files until b names answers answer → OverBoards files until b names more answer
   over-boards-more b [] answers more answer f h = f [] h
   over-boards-more b (n ∷ names) answers more answer f h =
-      over-board-more b n (λ board. OverBoards told rose until (suc b) names (λ boards. answers (board ∷ boards))) (λ board. OverBoards told rose until (suc b) names (λ boards. more (board ∷ boards))) answer
+      over-board-more b n (λ board. OverBoards files until (suc b) names (λ boards. answers (board ∷ boards))) (λ board. OverBoards files until (suc b) names (λ boards. more (board ∷ boards))) answer
       (λ board x. over-boards-more (suc b) names (λ boards. answers (board ∷ boards)) (λ boards. more (board ∷ boards)) answer (λ boards y. f (board ∷ boards) y) x) h
 
   -- the answers over a board of this source
-  pub board-read : (b : ℕ) (names : Names) (answers : BoardSource → Answer → Type 0) (board : BoardSource) (answer : Answer) → IsSourceOf told rose until names board → answers board answer
-      → OverBoard told rose until b names answers answer
-  board-read b names answers board answer s h = (Text s.text, s.fetched, inl (board.tables, board.program, s.accepted, (Text s.script.text, s.script.fetched, inl (board.script, s.script.is, inl (s.script.ends, h)))))
+  pub board-read : (b : ℕ) (names : Names) (answers : BoardSource → Answer → Type 0) (board : BoardSource) (answer : Answer) → IsSourceOf files until names board → answers board answer
+      → OverBoard files until b names answers answer
+  board-read b names answers board answer s h = (Text s.text, s.fetched, inl ((board.tables, board.program), s.accepted, (Text s.script.text, s.script.fetched, inl (board.script, (s.script.is, s.script.ends), h))))
 
   -- over boards of which the first have these sources
-  pub boards-read : (b k : ℕ) (done more : List Names) (sources : List BoardSource) (answers : List BoardSource → Answer → Type 0) (answer : Answer) → k ≡ b + length done → Paired (IsSourceOf told rose until) done sources
-      → OverBoards told rose until k more (λ boards. answers (sources ++ boards)) answer → OverBoards told rose until b (done ++ more) answers answer
-  boards-read b k [] more [] answers answer e p h = subst (λ n. OverBoards told rose until n more answers answer) (let z : k ≡ b = omega (arith, e) in z) h
+  pub boards-read : (b k : ℕ) (done more : List Names) (sources : List BoardSource) (answers : List BoardSource → Answer → Type 0) (answer : Answer) → k ≡ b + length done → Paired (IsSourceOf files until) done sources
+      → OverBoards files until k more (λ boards. answers (sources ++ boards)) answer → OverBoards files until b (done ++ more) answers answer
+  boards-read b k [] more [] answers answer e p h = subst (λ n. OverBoards files until n more answers answer) (let z : k ≡ b = omega (arith, e) in z) h
   boards-read b k [] more (s ∷ sources) answers answer e p h = absurd p
   boards-read b k (n ∷ done) more [] answers answer e p h = absurd p
   boards-read b k (n ∷ done) more (s ∷ sources) answers answer e p h =
-      board-read b n (λ board. OverBoards told rose until (suc b) (done ++ more) (λ boards. answers (board ∷ boards))) s answer p.0
+      board-read b n (λ board. OverBoards files until (suc b) (done ++ more) (λ boards. answers (board ∷ boards))) s answer p.0
       (boards-read (suc b) k done more sources (λ boards. answers (s ∷ boards)) answer (let z : k ≡ suc b + length done = omega (arith, e) in z) p.1 h)
 
   -- over boards of which one was answered behind those
   pub boards-stop : (k : ℕ) (done : List Names) (n : Names) (more : List Names) (sources : List BoardSource) (answers : List BoardSource → Answer → Type 0) (answer : Answer) → k ≡ length done
-      → Paired (IsSourceOf told rose until) done sources → OverBoard told rose until k n none_to_board answer → OverBoards told rose until 0 (done ++ n ∷ more) answers answer
+      → Paired (IsSourceOf files until) done sources → OverBoard files until k n none_to_read answer → OverBoards files until 0 (done ++ n ∷ more) answers answer
   boards-stop k done n more sources answers answer e p h =
       boards-read 0 k done (n ∷ more) sources answers answer (let z : k ≡ 0 + length done = omega (arith, e) in z) p
-      (over-board-more k n none_to_board (λ board. OverBoards told rose until (suc k) more (λ boards. answers (sources ++ board ∷ boards))) answer (λ board x. absurd x) h)
+      (over-board-more k n none_to_read (λ board. OverBoards files until (suc k) more (λ boards. answers (sources ++ board ∷ boards))) answer (λ board x. absurd x) h)
 
 -- where a folder tells the same and failed no less
-module _ (told told' : List ℕ → Option (Option (List ℕ))) (rose rose' : Type 0) (until : ℕ) (same : (file : List ℕ) → told file ≡ told' file) (rises : rose → rose') where
-  pub board-script-onwards : (b : ℕ) (name : List ℕ) (answers : Script → Answer → Type 0) (answer : Answer) → OverBoardScript told rose until b name answers answer → OverBoardScript told' rose' until b name answers answer
-  board-script-onwards b name answers answer h = file-onwards (AnswersBoardScript b until answers) (told name) (told' name) rose rose' answer (same name) rises h
+module _ (files files' : ToldFiles) (until : ℕ) (on : IsOnward files files') where
+  pub board-script-onwards : (b : ℕ) (name : List ℕ) (answers : Script → Answer → Type 0) (answer : Answer) → OverBoardScript files until b name answers answer → OverBoardScript files' until b name answers answer
+  board-script-onwards b name answers answer h = file-onwards (AnswersBoardScript b until answers) files files' name answer on h
 
-  pub board-onwards : (b : ℕ) (names : Names) (answers : BoardSource → Answer → Type 0) (answer : Answer) → OverBoard told rose until b names answers answer → OverBoard told' rose' until b names answers answer
+  pub board-onwards : (b : ℕ) (names : Names) (answers : BoardSource → Answer → Type 0) (answer : Answer) → OverBoard files until b names answers answer → OverBoard files' until b names answers answer
   board-onwards b names answers answer h =
-      (let of = λ (tables : Tables) (P : TypedProgram). OverBoardScript told rose until b names.script (λ script. answers (record { program = P; tables = tables; script = script })) in
-      let of' = λ (tables : Tables) (P : TypedProgram). OverBoardScript told' rose' until b names.script (λ script. answers (record { program = P; tables = tables; script = script })) in
-      file-more (OverBoardProgram b of) (OverBoardProgram b of') (told' names.program) rose' answer
+      (let of = λ (tables : Tables) (P : TypedProgram). OverBoardScript files until b names.script (λ script. answers (record { program = P; tables = tables; script = script })) in
+      let of' = λ (tables : Tables) (P : TypedProgram). OverBoardScript files' until b names.script (λ script. answers (record { program = P; tables = tables; script = script })) in
+      file-more (OverBoardProgram b of) (OverBoardProgram b of') files' names.program answer
       (λ text x. board-program-more b of of' text answer
       (λ tables P y. board-script-onwards b names.script (λ script. answers (record { program = P; tables = tables; script = script })) answer y) x)
-      (file-onwards (OverBoardProgram b of) (told names.program) (told' names.program) rose rose' answer (same names.program) rises h))
+      (file-onwards (OverBoardProgram b of) files files' names.program answer on h))
 
-  pub boards-onwards : (b : ℕ) (names : List Names) (answers : List BoardSource → Answer → Type 0) (answer : Answer) → OverBoards told rose until b names answers answer → OverBoards told' rose' until b names answers answer
+  pub boards-onwards : (b : ℕ) (names : List Names) (answers : List BoardSource → Answer → Type 0) (answer : Answer) → OverBoards files until b names answers answer → OverBoards files' until b names answers answer
   boards-onwards b [] answers answer h = h
   boards-onwards b (n ∷ names) answers answer h =
-      over-board-more told' rose' until b n (λ board. OverBoards told rose until (suc b) names (λ boards. answers (board ∷ boards))) (λ board. OverBoards told' rose' until (suc b) names (λ boards. answers (board ∷ boards))) answer
+      over-board-more files' until b n (λ board. OverBoards files until (suc b) names (λ boards. answers (board ∷ boards))) (λ board. OverBoards files' until (suc b) names (λ boards. answers (board ∷ boards))) answer
       (λ board x. boards-onwards (suc b) names (λ boards. answers (board ∷ boards)) answer x)
-      (board-onwards b n (λ board. OverBoards told rose until (suc b) names (λ boards. answers (board ∷ boards))) answer h)
+      (board-onwards b n (λ board. OverBoards files until (suc b) names (λ boards. answers (board ∷ boards))) answer h)
 
-  pub fetch-on : (name : List ℕ) (fetched : Fetched) → MayFetch (told name) rose fetched → MayFetch (told' name) rose' fetched
-  fetch-on name fetched m = fetch-onwards (told name) (told' name) rose rose' fetched (same name) rises m
+  pub script-onwards : (name : List ℕ) (script : Script) → IsBoardScript files until name script → IsBoardScript files' until name script
+  script-onwards name script s = record { text = s.text; fetched = fetch-onwards files files' name (Text s.text) on s.fetched; is = s.is; ends = s.ends }
 
-  pub script-onwards : (name : List ℕ) (script : Script) → IsBoardScript told rose until name script → IsBoardScript told' rose' until name script
-  script-onwards name script s = record { text = s.text; fetched = fetch-on name (Text s.text) s.fetched; is = s.is; ends = s.ends }
+  pub source-onwards : (names : Names) (board : BoardSource) → IsSourceOf files until names board → IsSourceOf files' until names board
+  source-onwards names board s =
+      record { text = s.text; fetched = fetch-onwards files files' names.program (Text s.text) on s.fetched; accepted = s.accepted; script = script-onwards names.script board.script s.script }
 
-  pub source-onwards : (names : Names) (board : BoardSource) → IsSourceOf told rose until names board → IsSourceOf told' rose' until names board
-  source-onwards names board s = record { text = s.text; fetched = fetch-on names.program (Text s.text) s.fetched; accepted = s.accepted; script = script-onwards names.script board.script s.script }
+  pub has-script-onwards : (name : List ℕ) (image : Vec ℕ Global) (old new : Boards) → HasScript files until name image old new → HasScript files' until name image old new
+  has-script-onwards name image old new h =
+      record { script = h.script; is = script-onwards name h.script h.is; sound = h.sound; images = h.images; scripts = h.scripts }
 
-  pub image-onwards : (name image : List ℕ) → IsImageOf told rose name image → IsImageOf told' rose' name image
-  image-onwards name image s = record { text = s.text; fetched = fetch-on name (Text s.text) s.fetched; builds = s.builds }
+pub image-onwards : (files files' : ToldFiles) → IsOnward files files' → (name image : List ℕ) → IsImageOf files name image → IsImageOf files' name image
+image-onwards files files' on name image s = record { text = s.text; fetched = fetch-onwards files files' name (Text s.text) on s.fetched; builds = s.builds }
 
 -- where a board's program wasn't accepted, or its script wasn't read, the answer is one over the board
-module _ (told : List ℕ → Option (Option (List ℕ))) (rose : Type 0) (until b : ℕ) (names : Names) (answer : Answer) where
-  abbrev script_of : Tables → TypedProgram → Answer → Type 0
-  script_of tables P = OverBoardScript told rose until b names.script (λ script. none_to_board (record { program = P; tables = tables; script = script }))
+pub board-refused : (files : ToldFiles) (until b : ℕ) (names : Names) (answer : Answer) → AnswersFile files names.program (OverBoardProgram b none_to_boards) answer → OverBoard files until b names none_to_read answer
+board-refused files until b names answer h =
+    (let of = λ (tables : Tables) (P : TypedProgram). OverBoardScript files until b names.script none_to_read in
+    file-more (OverBoardProgram b none_to_boards) (OverBoardProgram b of) files names.program answer (λ text x. no-board-program b of text answer x) h)
 
-  pub board-refused : AnswersFile (OverBoardProgram b none_to_boards) (told names.program) rose answer → OverBoard told rose until b names none_to_board answer
-  board-refused h = file-more (OverBoardProgram b none_to_boards) (OverBoardProgram b script_of) (told names.program) rose answer (λ text x. no-board-program b script_of text answer x) h
-
-pub script-answered : (told mid : List ℕ → Option (Option (List ℕ))) (before rose now : Type 0) (until : ℕ) → ((file : List ℕ) → mid file ≡ told file) → (rose → now) → (b : ℕ) (names : Names) (image : List ℕ)
-    → IsImageOf told before names.program image → (answer : Answer) → OverBoardScript mid rose until b names.script none_to_scripts answer → OverBoard told now until b names none_to_board answer
-script-answered told mid before rose now until same rises b names image i answer h = (
-  Text i.text,
-  i.fetched,
-  inl (
-    i.builds.tables,
-    i.builds.program,
-    i.builds.accepted,
-    over-script-more told now until b names.script none_to_scripts (λ script. none_to_board (record { program = i.builds.program; tables = i.builds.tables; script = script })) answer (λ script x. absurd x)
-        (board-script-onwards mid told rose now until same rises b names.script none_to_scripts answer h),
-  ),
-)
-
-pub has-script-onwards : (told told' : List ℕ → Option (Option (List ℕ))) (rose rose' : Type 0) (until : ℕ) → ((file : List ℕ) → told file ≡ told' file) → (rose → rose') → (name : List ℕ) (image : Vec ℕ Global) (old new : Boards)
-    → HasScript told rose until name image old new → HasScript told' rose' until name image old new
-has-script-onwards told told' rose rose' until same rises name image old new h =
-    record { script = h.script; is = script-onwards told told' rose rose' until same rises name h.script h.is; sound = h.sound; images = h.images; scripts = h.scripts }
+pub script-answered : (files mid now : ToldFiles) (until : ℕ) → IsOnward mid now → (b : ℕ) (names : Names) (image : List ℕ) → IsImageOf files names.program image → IsOnward files now
+    → (answer : Answer) → OverBoardScript mid until b names.script none_to_read answer → OverBoard now until b names none_to_read answer
+script-answered files mid now until on b names image i was answer h =
+    (let there = image-onwards files now was names.program image i in
+    (Text there.text, there.fetched, inl ((there.builds.tables, there.builds.program), there.builds.accepted, board-script-onwards mid now until on b names.script none_to_read answer h)))
 
 -- two facts of what was read, or of how the call ended
 pub if-oks : {T E : Type 0} {P Q R : T → Type 0} (r : Result T E) → ((x : T) → P x → Q x → R x) → IfOk r P → IfOk r Q → IfOk r R

@@ -1,9 +1,8 @@
 -- Boards of a class that are made ready, and their run.
-use Rattle.std.proofs.Common.{◌≡◌, ◌≤◌, ◌<◌, ◌+◌, ℕ, List, [], ◌∷◌, ◌++◌, length, map, inl, inr, refl, sym, ap, ◌∙◌, subst, arith, length-append}
+use Rattle.std.proofs.Common.{◌≡◌, ◌≤◌, ◌<◌, ◌+◌, ℕ, List, [], ◌∷◌, ◌++◌, length, map, inl, inr, refl, sym, ap, ◌∙◌, subst, arith, length-append, take, drop, get_or}
 use Rattle.std.specs.Prelude.{Option, vec_len, All}
 use Rattle.std.specs.declared.vec.Vec.{Vec}
 use Rattle.std.specs.declared.alloc.Global.{Global}
-use Rattle.std.proofs.Common.{take, drop, get_or}
 use Rattle.std.proofs.lemmas.List.{take_more, drop_more, length-take-le, take-append-drop}
 use Rattle.std.proofs.lemmas.List.Elements.{All-push}
 use Rattle.sts_base.specs.Faults.{Rose}
@@ -33,11 +32,16 @@ use Rattle.run_tool.specs.declared.ending.Status.TheVariants.{OutOfBudget}
 use Rattle.run_tool.specs.declared.ending.Ending.TheVariants.{Gave, Cut}
 use Rattle.run_tool.specs.declared.class_boards.Boards.{Boards}
 use Rattle.run_tool.specs.declared.fetched.Fetched.TheVariants.{Text}
-use Rattle.run_tool.specs.Answers.{Answer, says, GivesOneOf}
-use Rattle.run_tool.specs.ClassBoards.{BoardSource, OverBoard, OverBoards, none_to_board, none_to_all}
-use Rattle.run_tool.specs.ClassReady.{IsBuiltAs, IsSourceOf, HasAdded, AreReady}
-use Rattle.run_tool.specs.Class.{source_member, class_of_sources, status_by, class_status, ending_of_class, RunsWhole, RunsCut, RunsClass}
-use Rattle.run_tool.proofs.ClassAnswers.{boards-stop, board-onwards, fetch-on, script-onwards, source-onwards}
+use Rattle.run_tool.specs.Answers.{Answer, says}
+use Rattle.run_tool.specs.Fetches.{ToldFiles}
+use Rattle.run_tool.specs.inner.Giving.{GivesOneOf}
+use Rattle.run_tool.specs.ClassBoards.{BoardSource, OverBoard, OverBoards}
+use Rattle.run_tool.specs.inner.Nothing.{none_to_read}
+use Rattle.run_tool.specs.inner.ClassReady.{IsBuiltAs, IsSourceOf, HasAdded, AreReady}
+use Rattle.run_tool.specs.Class.{source_member, class_of_sources, status_by, class_status, RunsWhole, RunsCut, RunsClass}
+use Rattle.run_tool.specs.inner.Finishing.{ending_of_class}
+use Rattle.run_tool.proofs.Readings.{IsOnward, fetch-onwards}
+use Rattle.run_tool.proofs.ClassAnswers.{boards-stop, board-onwards, script-onwards, source-onwards}
 
 -- ---- more boards
 
@@ -61,15 +65,18 @@ setups-push [] (s ∷ scripts) image script e = absurd (omega (arith, e))
 setups-push (i ∷ images) [] image script e = absurd (omega (arith, e))
 setups-push (i ∷ images) (s ∷ scripts) image script e = ap (λ (xs : List Setup). record { image = i.items; script = s } ∷ xs) (setups-push images scripts image script (omega (arith, e)))
 
-module _ (told told' : List ℕ → Option (Option (List ℕ))) (before rose now : Type 0) (until : ℕ) where
+module _ (before mid now : ToldFiles) (until : ℕ) (was : IsOnward before now) (on : IsOnward mid now) where
   -- one more is ready, where the folder tells the same and failed no less
-  pub one-more : (same : (file : List ℕ) → told' file ≡ told file) → (before → now) → (rose → now) → (names : List Names) (n : Names) (old new : Boards) → AreReady told before until names old → HasAdded told' rose until n old new
-      → AreReady told now until (names ++ n ∷ []) new
-  one-more same was rises names n old new r h =
+  pub one-more : (names : List Names) (n : Names) (old new : Boards) → AreReady before until names old → HasAdded mid until n old new → AreReady now until (names ++ n ∷ []) new
+  one-more names n old new r h =
       (let b = h.is_image.builds in
       let board : BoardSource = record { program = b.program; tables = b.tables; script = h.more.script } in
-      let source : IsSourceOf told now until n board =
-      record { text = h.is_image.text; fetched = fetch-on told' told rose now until same rises n.program (Text h.is_image.text) h.is_image.fetched; accepted = b.accepted; script = script-onwards told' told rose now until same rises n.script h.more.script h.more.is } in
+      let source : IsSourceOf now until n board = record {
+        text = h.is_image.text;
+        fetched = fetch-onwards mid now n.program (Text h.is_image.text) on h.is_image.fetched;
+        accepted = b.accepted;
+        script = script-onwards mid now until on n.script h.more.script h.more.is;
+      } in
       let made : IsBuiltAs board (record { image = h.image.items; script = h.more.script }) = record { implements = b.implements; script = refl } in
       let as_many : length old.scripts.items ≡ length old.images.items = r.can_run.as_many in
       let setups : setups_of new.images.items new.scripts.items ≡ setups_of old.images.items old.scripts.items ++ record { image = h.image.items; script = h.more.script } ∷ [] =
@@ -81,7 +88,7 @@ module _ (told told' : List ℕ → Option (Option (List ℕ))) (before rose now
       let were : length old.images.items ≡ length names = r.as_many in
       record {
         sources = r.sources ++ board ∷ [];
-        are = paired-push (IsSourceOf told now until) names r.sources n board (paired-so (IsSourceOf told before until) (IsSourceOf told now until) (source-onwards told told before now until (λ file. refl) was) names r.sources r.are) source;
+        are = paired-push (IsSourceOf now until) names r.sources n board (paired-so (IsSourceOf before until) (IsSourceOf now until) (source-onwards before now until was) names r.sources r.are) source;
         made = subst (λ (xs : List Setup). Paired IsBuiltAs (r.sources ++ board ∷ []) xs) (sym setups) (paired-push IsBuiltAs r.sources (setups_of old.images.items old.scripts.items) board _ r.made made);
         as_many = omega (arith, images, more, were);
         can_run = record {
@@ -93,8 +100,8 @@ module _ (told told' : List ℕ → Option (Option (List ℕ))) (before rose now
       })
 
 -- none are ready at first
-pub none-ready : (told : List ℕ → Option (Option (List ℕ))) (rose : Type 0) (until : ℕ) (boards : Boards) → boards.images.items ≡ [] → boards.scripts.items ≡ [] → AreReady told rose until [] boards
-none-ready told rose until boards e f = record {
+pub none-ready : (files : ToldFiles) (until : ℕ) (boards : Boards) → boards.images.items ≡ [] → boards.scripts.items ≡ [] → AreReady files until [] boards
+none-ready files until boards e f = record {
   sources = [];
   are = tt;
   made = subst (λ (xs : List (Vec ℕ Global)). Paired IsBuiltAs [] (setups_of xs boards.scripts.items)) (sym e) tt;
@@ -108,23 +115,23 @@ none-ready told rose until boards e f = record {
 }
 
 -- of a list of names, the first of which were read: the next one is ready too, or was answered
-module _ (told mid : List ℕ → Option (Option (List ℕ))) (before rose now : Type 0) (until : ℕ) (same : (file : List ℕ) → mid file ≡ told file) (was : before → now) (rises : rose → now)
-    (names : List Names) (at : ℕ) (n : Names) (boards : Boards) (r : AreReady told before until (take at names) boards) (l : at < length names) (is : n ≡ get_or names at n) where
-  pub next-ready : (new : Boards) → HasAdded mid rose until n boards new → AreReady told now until (take (at + 1) names) new
+module _ (before mid now : ToldFiles) (until : ℕ) (was : IsOnward before now) (on : IsOnward mid now)
+    (names : List Names) (at : ℕ) (n : Names) (boards : Boards) (r : AreReady before until (take at names) boards) (l : at < length names) (is : n ≡ get_or names at n) where
+  pub next-ready : (new : Boards) → HasAdded mid until n boards new → AreReady now until (take (at + 1) names) new
   next-ready new h =
       (let e : take (at + 1) names ≡ take at names ++ n ∷ [] = take_more names at n l ∙ ap (λ (x : Names). take at names ++ x ∷ []) (sym is) in
-      subst (λ (ns : List Names). AreReady told now until ns new) (sym e) (one-more told mid before rose now until same was rises (take at names) n boards new r h))
+      subst (λ (ns : List Names). AreReady now until ns new) (sym e) (one-more before mid now until was on (take at names) n boards new r h))
 
-  pub next-answered : (answer : Answer) → OverBoard mid rose until at n none_to_board answer → OverBoards told now until 0 names none_to_all answer
+  pub next-answered : (answer : Answer) → OverBoard mid until at n none_to_read answer → OverBoards now until 0 names none_to_read answer
   next-answered answer h =
       (let done = take at names in
       let many : at ≡ length done = sym (length-take-le at names (omega (arith, l))) in
       let e : done ++ n ∷ drop (at + 1) names ≡ names =
       ap (λ (x : Names). done ++ x ∷ drop (at + 1) names) is ∙ (ap (λ (ns : List Names). done ++ ns) (sym (drop_more names at n l)) ∙ take-append-drop at names) in
-      subst (λ (ns : List Names). OverBoards told now until 0 ns none_to_all answer) e
-      (boards-stop told now until at done n (drop (at + 1) names) r.sources none_to_all answer many
-      (paired-so (IsSourceOf told before until) (IsSourceOf told now until) (source-onwards told told before now until (λ file. refl) was) done r.sources r.are)
-      (board-onwards mid told rose now until same rises at n none_to_board answer h)))
+      subst (λ (ns : List Names). OverBoards now until 0 ns none_to_read answer) e
+      (boards-stop now until at done n (drop (at + 1) names) r.sources none_to_read answer many
+      (paired-so (IsSourceOf before until) (IsSourceOf now until) (source-onwards before now until was) done r.sources r.are)
+      (board-onwards mid now until on at n none_to_read answer h)))
 
 -- ---- their run
 

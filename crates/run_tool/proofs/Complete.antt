@@ -5,7 +5,8 @@ use Rattle.hex_image.specs.Spells.{Spells}
 use Rattle.hex_image.proofs.Laws.{one_reading-of}
 use Rattle.sts_whole.specs.Laws.{OneAnswer}
 use Rattle.sts_words.specs.Orders.{Asked, check_program, build_program, run_program, run_image, run_at, run_class, run_big}
-use Rattle.run_tool.specs.Answers.{Answer, status_of, status_number}
+use Rattle.run_tool.specs.Fetches.{ToldFiles, unfailing}
+use Rattle.run_tool.specs.Answers.{Answer, OfSink, status_of, status_number}
 use Rattle.run_tool.specs.Scripts.{OverScript, default_script}
 use Rattle.run_tool.specs.Big.{big_text}
 use Rattle.run_tool.specs.Check.{SaysAccepted, ChecksText}
@@ -30,37 +31,37 @@ never : ¬ ⊥
 never x = x
 
 module _ (one : OneAnswer) (told : List ℕ → Option (Option (List ℕ))) where
-  image-status : (script : Option (List ℕ)) (budget : ℕ) (text image : List ℕ) (number : ℕ) (answer : Answer) → Spells text image → HoldsScript told script → RunsHex told ⊥ script budget text answer
+  image-status : (script : Option (List ℕ)) (budget : ℕ) (text image : List ℕ) (number : ℕ) (answer : Answer) → Spells text image → HoldsScript told script → RunsHex (unfailing told) script budget text answer
       → number ≡ number_of answer → IsImageStatus number
   image-status script budget text image number answer spelled s (inl h) n =
-      (let r = script-told told ⊥ script (λ read. RunsBoard h.0 read budget) s.0 answer never s.1 h.2 in run-number _ number (n ∙ ap number_of r.is))
+      (let r = script-told (unfailing told) script (λ read. RunsBoard h.0 read budget) s.0 answer never s.1 h.2 in run-number _ number (n ∙ ap number_of r.is))
   image-status script budget text image number answer spelled s (inr h) n = absurd ((one_reading-of text).not_both image h.0 spelled h.1)
 
-  status : (order : Asked) (number : ℕ) (answer : Answer) → HoldsFiles told order → MayAnswer told ⊥ (Some order) answer → number ≡ number_of answer → MayEndWith order number
+  status : (order : Asked) (number : ℕ) (answer : Answer) → HoldsFiles told order → MayAnswer (unfailing told) (Some order) answer → number ≡ number_of answer → MayEndWith order number
   status (check_program name) number answer h m n =
-      (let p = h.2 in n ∙ ap number_of (program-told one SaysAccepted h.0 p.0 p.1 answer p.2 (file-told ChecksText (told name) ⊥ h.0 answer h.1 (program-fits h.0 p.0 p.1 p.2) never m)))
+      (let p = h.2 in n ∙ ap number_of (program-told one SaysAccepted h.0 p.0 p.1 answer p.2 (file-told ChecksText (unfailing told) name h.0 answer h.1 (program-fits h.0 p.0 p.1 p.2) never m)))
   status (build_program name) number answer h m n =
       (let p = h.2 in
-      let built = program-told one WritesImage h.0 p.0 p.1 answer p.2 (file-told BuildsText (told name) ⊥ h.0 answer h.1 (program-fits h.0 p.0 p.1 p.2) never m) in
+      let built = program-told one WritesImage h.0 p.0 p.1 answer p.2 (file-told BuildsText (unfailing told) name h.0 answer h.1 (program-fits h.0 p.0 p.1 p.2) never m) in
       n ∙ ap number_of built.3)
   status (run_program name script budget stats image) number answer h m n =
       (let text = h.0.0 in
       let p = h.0.2 in
-      let over = file-told (RunsText told ⊥ script budget stats image) (told name) ⊥ text answer h.0.1 (program-fits text p.0 p.1 p.2) never m in
-      let runs = program-told one (λ P texts. OverScript told ⊥ script (λ read. RunsProgram P texts read budget stats image)) text p.0 p.1 answer p.2 over in
-      program-number p.1 p.0.texts h.1.0 budget stats image answer number (script-told told ⊥ script (λ read. RunsProgram p.1 p.0.texts read budget stats image) h.1.0 answer never h.1.1 runs) n)
+      let over = file-told (RunsText (unfailing told) script budget stats image) (unfailing told) name text answer h.0.1 (program-fits text p.0 p.1 p.2) never m in
+      let runs = program-told one (λ P texts. OverScript (unfailing told) script (λ read. RunsProgram P texts read budget stats image)) text p.0 p.1 answer p.2 over in
+      program-number p.1 p.0.texts h.1.0 budget stats image answer number (script-told (unfailing told) script (λ read. RunsProgram p.1 p.0.texts read budget stats image) h.1.0 answer never h.1.1 runs) n)
   status (run_image name script budget) number answer h m n =
-      (let t = h.0 in image-status script budget t.0 t.2.0 number answer t.2.1 h.1 (file-told (RunsHex told ⊥ script budget) (told name) ⊥ t.0 answer t.1 t.2.2 never m) n)
+      (let t = h.0 in image-status script budget t.0 t.2.0 number answer t.2.1 h.1 (file-told (RunsHex (unfailing told) script budget) (unfailing told) name t.0 answer t.1 t.2.2 never m) n)
   status (run_at name script arrivals budget) number answer h m n =
       (let r = due one told name script arrivals budget h.0 h.1 h.2 h.3 h.4 answer m in program-end _ number r.meets.faultless (n ∙ ap number_of r.is))
   status (run_class name budget) number answer h m n = class-number (class_of_sources h.0 h.1) budget answer number (class-due one told name budget h.0 h.1 h.2 answer m) n
   status (run_big size budget stats) number answer h m n =
       program-number h.1 h.0.texts default_script budget stats false answer number
-      (program-told one (λ P texts. OverScript told ⊥ None (λ read. RunsProgram P texts read budget stats false)) (big_text size) h.0 h.1 answer h.2 m) n
+      (program-told one (λ P texts. OverScript (unfailing told) None (λ read. RunsProgram P texts read budget stats false)) (big_text size) h.0 h.1 answer h.2 m) n
 
-  either : (asked : Option Asked) (order : Asked) (number : ℕ) → asked ≡ Some order → HoldsFiles told order → IsStatusOf (MayAnswer told ⊥ asked) number ⊎ (number ≡ 30) → MayEndWith order number ⊎ (number ≡ 30)
-  either asked order number e h (inl is) = inl (status order number is.0 h (subst (λ o. MayAnswer told ⊥ o is.0) e is.1) is.2)
+  either : (asked : Option Asked) (order : Asked) (number : ℕ) → asked ≡ Some order → HoldsFiles told order → IsStatusOf (MayAnswer (unfailing told) asked) number ⊎ (number ≡ 30) → MayEndWith order number ⊎ (number ≡ 30)
+  either asked order number e h (inl is) = inl (status order number is.0 h (subst (λ o. MayAnswer (unfailing told) o is.0) e is.1) is.2)
   either asked order number e h (inr is) = inr is
 
-  pub complete : (asked : Option Asked) (folder_rose sink_rose : Type 0) (number : ℕ) → Completes told asked folder_rose sink_rose number → IsComplete told asked folder_rose sink_rose number
-  complete asked folder_rose sink_rose number c = λ order e h quiet calm. either asked order number e h (c quiet calm)
+pub complete : (one : OneAnswer) (files : ToldFiles) (sink : OfSink) (asked : Option Asked) (number : ℕ) → Completes files sink asked number → IsComplete files sink asked number
+complete one files sink asked number c = λ order e h quiet calm. either one files.told asked order number e h (c quiet calm)

@@ -6,6 +6,7 @@ use Rattle.std.proofs.lemmas.Bool.{cases_lt}
 use Rattle.std.proofs.lemmas.Option.{none-some, same_Some}
 use Rattle.std.proofs.lemmas.Grind.{flat_map-append}
 use Rattle.std.proofs.lemmas.List.Folds.{list_any-append}
+use Rattle.sts_base.specs.Faults.{Rose}
 use Rattle.sts_base.specs.declared.tables.Tables.{Tables}
 use Rattle.board_world.specs.Observations.{ByteList, Observation, Show, Serial, Pin, Radio}
 use Rattle.board_world.specs.Transcript.{lines, closing_line}
@@ -14,7 +15,6 @@ use Rattle.board_world.specs.Kinds.{Kind}
 use Rattle.board_world.specs.Activities.{World}
 use Rattle.board_world.specs.Runs.{run}
 use Rattle.board_world.proofs.Laws.{run_over, run_sum}
-use Rattle.board_ports.specs.Account.{Account}
 use Rattle.board_ports.specs.History.{PortMove, entries_of, entries_at, unplugs, unplugged_at}
 use Rattle.board_ports.proofs.Laws.{places_as}
 use Rattle.tool_io.specs.Putting.{Took}
@@ -36,13 +36,14 @@ use Rattle.run_tool.specs.declared.ending.Ending.{Ending}
 use Rattle.run_tool.specs.declared.ending.Ending.TheVariants.{Gave, Cut, NoMemory}
 use Rattle.run_tool.specs.declared.fetched.Fetched.{Fetched}
 use Rattle.run_tool.specs.declared.fetched.Fetched.TheVariants.{Text, Absent, Long, Failed}
-use Rattle.run_tool.specs.Answers.{Answer, status_of, output_of, status_number, ending_number, Leaves, Ends}
-use Rattle.run_tool.specs.Fetches.{MayFetch, limit}
+use Rattle.run_tool.specs.Answers.{Answer, status_of, output_of, status_number, ending_number, OfSink, OfDevices, Leaves, Ends, Concludes}
+use Rattle.run_tool.specs.Fetches.{ToldFiles, MayFetch, limit}
 use Rattle.run_tool.specs.Files.{AnswersFetched, AnswersFile}
 use Rattle.run_tool.specs.Programs.{OverProgram}
 use Rattle.run_tool.specs.Scripts.{AnswersScript, OverScript, RefusesScript}
 use Rattle.run_tool.specs.Big.{big_text}
-use Rattle.run_tool.specs.Run.{asked_behind, RunsProgram, RunsText}
+use Rattle.run_tool.specs.Run.{RunsProgram, RunsText}
+use Rattle.run_tool.specs.Statistics.{asked_behind}
 use Rattle.run_tool.specs.Orders.{MayAnswer, lead_of}
 use Rattle.run_tool.specs.Headline.{AskedRun, Aftermath, IsToldScript, AsksForRun, LacksMemory, source_board, IsTranscript, IsRunOfImage, Headline}
 
@@ -65,38 +66,38 @@ not-refused text a NotJson s r = r s.tree s.is
 not-refused text a code s r = script-no-code a code (Ok a) refl (same-verdict text (Ok a) (Err code) s r)
 
 -- a file that is told is answered by its text
-text-told : (answers : List ℕ → Answer → Type 0) (content : Option (Option (List ℕ))) (rose : Type 0) (text : List ℕ) (answer : Answer) → content ≡ Some (Some text) → length text ≤ limit → ¬ rose
-    → (fetched : Fetched) → MayFetch content rose fetched → AnswersFetched answers fetched answer → answers text answer
-text-told answers content rose text answer e short calm (Text bytes) m h = subst (λ t. answers t answer) (sym (same_Some text bytes.items (m.0 (Some text) e))) h
-text-told answers content rose text answer e short calm Absent m h = absurd (none-some text (sym (m (Some text) e)))
-text-told answers content rose text answer e short calm Long m h =
+text-told : (answers : List ℕ → Answer → Type 0) (files : ToldFiles) (name text : List ℕ) (answer : Answer) → files.told name ≡ Some (Some text) → length text ≤ limit → ¬ files.rose
+    → (fetched : Fetched) → MayFetch files name fetched → AnswersFetched answers fetched answer → answers text answer
+text-told answers files name text answer e short calm (Text bytes) m h = subst (λ t. answers t answer) (sym (same_Some text bytes.items (m.0 (Some text) e))) h
+text-told answers files name text answer e short calm Absent m h = absurd (none-some text (sym (m (Some text) e)))
+text-told answers files name text answer e short calm Long m h =
     (let l = m (Some text) e in
     let long : limit < length text = subst (λ t. limit < length t) (sym (same_Some text l.0 l.1)) l.2 in
     absurd (omega (arith, short, long)))
-text-told answers content rose text answer e short calm Failed m h = absurd (calm m)
+text-told answers files name text answer e short calm Failed m h = absurd (calm m)
 
-pub file-told : (answers : List ℕ → Answer → Type 0) (content : Option (Option (List ℕ))) (rose : Type 0) (text : List ℕ) (answer : Answer) → content ≡ Some (Some text) → length text ≤ limit → ¬ rose
-    → AnswersFile answers content rose answer → answers text answer
-file-told answers content rose text answer e short calm h = text-told answers content rose text answer e short calm h.0 h.1 h.2
+pub file-told : (answers : List ℕ → Answer → Type 0) (files : ToldFiles) (name text : List ℕ) (answer : Answer) → files.told name ≡ Some (Some text) → length text ≤ limit → ¬ files.rose
+    → AnswersFile files name answers answer → answers text answer
+file-told answers files name text answer e short calm h = text-told answers files name text answer e short calm h.0 h.1 h.2
 
 -- and the script that a file stands for by the answers over it
 text-scripts : (answers : Script → Answer → Type 0) (text : List ℕ) (script : Script) (answer : Answer) → Tells text (Ok script) → AnswersScript answers text answer → answers script answer
 text-scripts answers text script answer s (inl h) = subst (λ r. answers r answer) (one-script text h.0 script h.1 s) h.2
 text-scripts answers text script answer s (inr h) = absurd (not-refused text script h.0 s h.1)
 
-pub script-told : (told : List ℕ → Option (Option (List ℕ))) (rose : Type 0) (name : Option (List ℕ)) (answers : Script → Answer → Type 0) (script : Script) (answer : Answer) → ¬ rose
-    → IsToldScript told name script → OverScript told rose name answers answer → answers script answer
-script-told told rose None answers script answer calm s h = subst (λ r. answers r answer) (sym s) h
-script-told told rose (Some name) answers script answer calm s h =
-    text-scripts answers s.0 script answer s.3 (file-told (AnswersScript answers) (told name) rose s.0 answer s.1 s.2 calm h)
+pub script-told : (files : ToldFiles) (name : Option (List ℕ)) (answers : Script → Answer → Type 0) (script : Script) (answer : Answer) → ¬ files.rose
+    → IsToldScript files.told name script → OverScript files name answers answer → answers script answer
+script-told files None answers script answer calm s h = subst (λ r. answers r answer) (sym s) h
+script-told files (Some name) answers script answer calm s h =
+    text-scripts answers s.0 script answer s.3 (file-told (AnswersScript answers) files name s.0 answer s.1 s.2 calm h)
 
 -- the text of a program that is accepted is answered over that program, and isn't too long for a file
 pub program-told : (one : OneAnswer) (answers : TypedProgram → List ByteList → Answer → Type 0) (text : List ℕ) (tables : Tables) (P : TypedProgram) (answer : Answer) → Accepts text tables P
     → OverProgram answers text answer → answers P tables.texts answer
 program-told one answers text tables P answer a (inl h) =
-    (let same = one.program text h.0 tables h.1 P h.2 a in
-    subst (λ Q. answers Q tables.texts answer) same.1 (subst (λ (ts : Tables). answers h.1 ts.texts answer) same.0 h.3))
-program-told one answers text tables P answer a (inr h) = absurd (one.either text tables P h.0 h.1 a h.2)
+    (let same = one.program text h.0.0 tables h.0.1 P h.1 a in
+    subst (λ Q. answers Q tables.texts answer) same.1 (subst (λ (ts : Tables). answers h.0.1 ts.texts answer) same.0 h.2))
+program-told one answers text tables P answer a (inr h) = absurd (one.either text tables P h.0.0 h.0.1 a h.1)
 
 pub program-fits : (text : List ℕ) (tables : Tables) (P : TypedProgram) → Accepts text tables P → length text ≤ limit
 program-fits text tables P a = (let short : length text ≤ 65536 = a.read.tokenization.short in omega (arith, short))
@@ -158,38 +159,38 @@ recast t budget stats image answer b c d r =
     (subst (λ x. RunsProgram t.program t.tables.texts t.script budget stats x answer) (sym d) r))
 
 -- what may be answered where words ask for a run is that
-module _ (one : OneAnswer) (told : List ℕ → Option (Option (List ℕ))) (rose : Type 0) (calm : ¬ rose) where
-  asked-answer : (asked : Option Asked) (t : AskedRun) → AsksForRun told asked t → (t.lead ≡ lead_of asked) × ((answer : Answer) → MayAnswer told rose asked answer → RunsAsked t answer)
+module _ (one : OneAnswer) (files : ToldFiles) (calm : ¬ files.rose) where
+  asked-answer : (asked : Option Asked) (t : AskedRun) → AsksForRun files.told asked t → (t.lead ≡ lead_of asked) × ((answer : Answer) → MayAnswer files asked answer → RunsAsked t answer)
   asked-answer (Some (run_program name script budget stats image)) t a = (
     a.5,
     λ answer h. recast t budget stats image answer a.4 a.6 a.7
-        (script-told told rose script (λ read. RunsProgram t.program t.tables.texts read budget stats image) t.script answer calm a.3
-        (program-told one (λ P texts. OverScript told rose script (λ read. RunsProgram P texts read budget stats image)) a.0 t.tables t.program answer a.2
-        (file-told (RunsText told rose script budget stats image) (told name) rose a.0 answer a.1 (program-fits a.0 t.tables t.program a.2) calm h))),
+        (script-told files script (λ read. RunsProgram t.program t.tables.texts read budget stats image) t.script answer calm a.3
+        (program-told one (λ P texts. OverScript files script (λ read. RunsProgram P texts read budget stats image)) a.0 t.tables t.program answer a.2
+        (file-told (RunsText files script budget stats image) files name a.0 answer a.1 (program-fits a.0 t.tables t.program a.2) calm h))),
   )
   asked-answer (Some (run_big size budget stats)) t a = (
     a.3,
     λ answer h. recast t budget stats false answer a.2 a.4 a.5
         (subst (λ read. RunsProgram t.program t.tables.texts read budget stats false answer) (sym a.1)
-        (program-told one (λ P texts. OverScript told rose None (λ read. RunsProgram P texts read budget stats false)) (big_text size) t.tables t.program answer a.0 h)),
+        (program-told one (λ P texts. OverScript files None (λ read. RunsProgram P texts read budget stats false)) (big_text size) t.tables t.program answer a.0 h)),
   )
   asked-answer other t a = absurd a
 
-module _ {B : Type 0} (account : B → Account) (t : AskedRun) (taken taken' : Option (List ℕ)) (places places' : List (Option B)) (number : ℕ) (had : List ℕ) (e : taken ≡ Some had) where
+module _ {B : Type 0} (sink : OfSink) (devices : OfDevices B) (t : AskedRun) (number : ℕ) (had : List ℕ) (e : sink.had ≡ Some had) where
   abbrev Left : Type 0
   Left =
-      (written : List ℕ) × (taken' ≡ Some (had ++ written))
-      × (let a : Aftermath B = record { status = number; written = written; before = places; behind = places' } in
-      LacksMemory t a ⊎ ((steps executed : ℕ) × (image : List ℕ) × IsTranscript account t a steps executed image × IsRunOfImage t steps executed image))
+      (written : List ℕ) × (sink.has ≡ Some (had ++ written))
+      × (let a : Aftermath B = record { status = number; written = written; devices = devices } in
+      LacksMemory t a ⊎ ((steps executed : ℕ) × (image : List ℕ) × IsTranscript t a steps executed image × IsRunOfImage t steps executed image))
 
   -- a run that was answered whole
-  given : (answer : Answer) (status : Status) → number ≡ status_number status → status ≡ status_of answer → Took taken taken' (t.lead ++ output_of answer) → Leaves account answer places places'
+  given : (answer : Answer) (status : Status) → number ≡ status_number status → status ≡ status_of answer → Took sink.had sink.has (t.lead ++ output_of answer) → Leaves devices answer
       → RunsAsked t answer → Left
   given answer status n s took left r =
       let b : Board = source_board t r.steps in
       let behind = closing_line b.clock b.end ++ asked_behind t.stats t.image b r.executed r.image in
-      let whole : Took taken taken' (t.lead ++ (lines (seen_of r.moves) ++ behind)) = subst (λ a. Took taken taken' (t.lead ++ output_of a)) r.is took in
-      let devices : DevicesAfter account r.moves places places' = subst (λ a. Leaves account a places places') r.is left in (
+      let whole : Took sink.had sink.has (t.lead ++ (lines (seen_of r.moves) ++ behind)) = subst (λ a. Took sink.had sink.has (t.lead ++ output_of a)) r.is took in
+      let moved : DevicesAfter devices.account r.moves devices.before devices.behind = subst (λ a. Leaves devices a) r.is left in (
         t.lead ++ (lines (seen_of r.moves) ++ behind),
         whole.told had e,
         inr (
@@ -202,30 +203,27 @@ module _ {B : Type 0} (account : B → Account) (t : AskedRun) (taken taken' : O
             whole = λ m within o. shown-whole (source t.program t.tables.texts) (source_start t.program t.tables.texts t.script.end (world_entries t.script.entries)) m r.steps o (r.reaches.at_least m within);
             at_least = r.reaches.at_least;
             status = n ∙ ap status_number (s ∙ ap status_of r.is);
-            devices = places_as account (entries_at (port_moves r.moves)) (entries_at (words_sent b.seen)) (unplugged_at (port_moves r.moves)) (is_unplugged b.unplugged) places places'
-                (λ k. ap (λ seen. entries_at (words_sent seen) k) r.met.seen ∙ words-met r.moves k) (λ k. ap (λ us. is_unplugged us k) r.met.unplugged ∙ unplugs-met 0 r.moves k) devices;
+            devices = places_as devices.account (entries_at (port_moves r.moves)) (entries_at (words_sent b.seen)) (unplugged_at (port_moves r.moves)) (is_unplugged b.unplugged) devices.before devices.behind
+                (λ k. ap (λ seen. entries_at (words_sent seen) k) r.met.seen ∙ words-met r.moves k) (λ k. ap (λ us. is_unplugged us k) r.met.unplugged ∙ unplugs-met 0 r.moves k) moved;
           },
           record { is_image = r.is_image; implements = r.implements; free = r.free; is_executed = r.reaches.is_executed; alike = r.reaches.alike },
         ),
       )
 
   -- there was no memory
-  unmade : number ≡ 30 → (Took taken taken' [] ⊎ Took taken taken' t.lead) → places' ≡ places → Left
+  unmade : number ≡ 30 → (Took sink.had sink.has [] ⊎ Took sink.had sink.has t.lead) → devices.behind ≡ devices.before → Left
   unmade n (inl took) same = ([], took.told had e, inl (n, inl refl, same))
   unmade n (inr took) same = (t.lead, took.told had e, inl (n, inr refl, same))
 
-  ended : (may : Answer → Type 0) (sink_rose : Type 0) (ending : Ending) → number ≡ ending_number ending → Ends account t.lead may taken taken' places places' ending → (ending ≡ Cut → sink_rose) → ¬ sink_rose
+  ended : (may : Answer → Type 0) (ending : Ending) → number ≡ ending_number ending → Ends sink devices t.lead may ending → (ending ≡ Cut → Rose sink.failed sink.fails) → ¬ Rose sink.failed sink.fails
       → ((answer : Answer) → may answer → RunsAsked t answer) → Left
-  ended may sink_rose (Gave status) n s cut calm runs = given s.0 status n s.2 s.3 s.4 (runs s.0 s.1)
-  ended may sink_rose Cut n s cut calm runs = absurd (calm (cut refl))
-  ended may sink_rose NoMemory n s cut calm runs = unmade n s.0 s.1
+  ended may (Gave status) n s cut calm runs = given s.0 status n s.2 s.3 s.4 (runs s.0 s.1)
+  ended may Cut n s cut calm runs = absurd (calm (cut refl))
+  ended may NoMemory n s cut calm runs = unmade n s.0 s.1
 
 -- how a call ends leaves what the claim says
-pub headline : {B : Type 0} (account : B → Account) (told : List ℕ → Option (Option (List ℕ))) (asked : Option Asked) (folder_rose sink_rose : Type 0) (taken taken' : Option (List ℕ))
-    (places places' : List (Option B)) (number : ℕ) (one : OneAnswer) (ending : Ending) → number ≡ ending_number ending
-    → Ends account (lead_of asked) (MayAnswer told folder_rose asked) taken taken' places places' ending → (ending ≡ Cut → sink_rose)
-    → Headline account told asked folder_rose sink_rose taken taken' places places' number
-headline account told asked folder_rose sink_rose taken taken' places places' number one ending n s cut = λ t ask quiet calm had e. (
-    let answer = asked-answer one told folder_rose quiet asked t ask in
-    ended account t taken taken' places places' number had e (MayAnswer told folder_rose asked) sink_rose ending n
-    (subst (λ lead. Ends account lead (MayAnswer told folder_rose asked) taken taken' places places' ending) (sym answer.0) s) cut calm answer.1)
+pub headline : {B : Type 0} {sink : OfSink} {devices : OfDevices B} (files : ToldFiles) (asked : Option Asked) (number : ℕ) (one : OneAnswer) (ending : Ending) → number ≡ ending_number ending
+    → Concludes sink devices (lead_of asked) (MayAnswer files asked) ending → Headline files sink devices asked number
+headline {B} {sink} {devices} files asked number one ending n s = λ t ask quiet calm had e. (
+    let answer = asked-answer one files quiet asked t ask in
+    ended sink devices t number had e (MayAnswer files asked) ending n (subst (λ lead. Ends sink devices lead (MayAnswer files asked) ending) (sym answer.0) s.ends) s.cut calm answer.1)

@@ -21,19 +21,20 @@ use Rattle.event_script.specs.declared.script.Script.{Script as ReadScript}
 use Rattle.board_run.specs.declared.board.Stats.{Stats}
 use Rattle.board_run.specs.declared.end.End.{End}
 use Rattle.board_run.specs.declared.end.End.TheVariants.{Quiet, Script, Panic, Budget, Fault, SinkFault}
+use Rattle.board_run.specs.Outside.{outside_of}
 use Rattle.board_run.specs.Ran.{world_after, IsCut as IsRunCut}
 use Rattle.sts_whole.specs.Runs.{RunsTo, RunsImage}
 use Rattle.run_tool.specs.declared.ending.Status.TheVariants as status
 use Rattle.run_tool.specs.declared.ending.Ending.TheVariants.{Gave, Cut}
-use Rattle.run_tool.specs.declared.fetched.Fetched.{Fetched}
-use Rattle.run_tool.specs.declared.fetched.Fetched.TheVariants.{Text, Absent, Long, Failed}
-use Rattle.run_tool.specs.Fetches.{MayFetch}
-use Rattle.run_tool.specs.Answers.{Answer, says, runs, Concludes}
-use Rattle.run_tool.specs.Scripts.{OverScript, script_refused_line}
-use Rattle.run_tool.specs.Runs.{run_status, ending_of, RunsBoard}
+use Rattle.run_tool.specs.Fetches.{ToldFiles}
+use Rattle.run_tool.specs.Answers.{Answer, says, runs, Concludes, of_devices, of_sink}
+use Rattle.run_tool.specs.Scripts.{AnswersScript, OverScript, script_refused_line}
+use Rattle.run_tool.specs.Runs.{run_status, RunsBoard}
+use Rattle.run_tool.specs.inner.Finishing.{ending_of}
 use Rattle.run_tool.specs.Run.{RunsProgram, RunsText}
 use Rattle.run_tool.specs.RunHex.{image_refused_line, RunsHex}
 use Rattle.board_ports.specs.Account.{Account}
+use Rattle.run_tool.proofs.Readings.{IsOnward, file-onwards}
 
 extent-fits : (cells : List Cell) → AllByRecursion (λ cell. cell.at < flash_bytes) cells → extent cells ≤ flash_bytes
 extent-fits [] h = omega arith
@@ -56,8 +57,8 @@ image-refusal-pieces printed code e = three (codes "image refused ") (decimal pr
 module _ {S B : Type 0} (taken : S → Option (List ℕ)) (faults : S → ℕ) (old new : S) (account : B → Account) (places places' : List (Option B))
     (image : List ℕ) (script : ReadScript) (budget : ℕ) (later : faults old ≤ faults new) where
   -- a run that came to its end, or to that of its budget
-  pub run-gives : (end : Option RunEnd) (stats : Stats) → RunsTo account image script budget (taken old) (taken new) places places' end stats
-      → Concludes taken faults old new account places places' [] (RunsBoard image script budget) (Gave (run_status end))
+  pub run-gives : (end : Option RunEnd) (stats : Stats) → RunsTo account image script budget (outside_of taken faults old places) (outside_of taken faults new places') end stats
+      → Concludes (of_sink taken faults old new) (of_devices account places places') [] (RunsBoard image script budget) (Gave (run_status end))
   run-gives end stats r =
       let b : Board = (world_after image script r.free r.executed).board in
       let closing = closing_line b.clock b.end in
@@ -74,8 +75,8 @@ module _ {S B : Type 0} (taken : S → Option (List ℕ)) (faults : S → ℕ) (
       }
 
   -- a run that the sink stopped
-  pub run-cut : IsRunCut account image script budget (taken old) (taken new) places places' × Rose (faults old) (faults new)
-      → Concludes taken faults old new account places places' [] (RunsBoard image script budget) Cut
+  pub run-cut : IsRunCut account (world_after image script) budget (outside_of taken faults old places) (outside_of taken faults new places') × Rose (faults old) (faults new)
+      → Concludes (of_sink taken faults old new) (of_devices account places places') [] (RunsBoard image script budget) Cut
   run-cut r =
       let b : Board = (world_after image script r.0.free r.0.executed).board in
       record {
@@ -89,8 +90,8 @@ module _ {S B : Type 0} (taken : S → Option (List ℕ)) (faults : S → ℕ) (
       }
 
   -- what a call that ran an image answered
-  pub run-ends : (end : End) (stats : Stats) → RunsImage account image script budget (taken old) (taken new) (faults old) (faults new) places places' end stats
-      → Concludes taken faults old new account places places' [] (RunsBoard image script budget) (ending_of end)
+  pub run-ends : (end : End) (stats : Stats) → RunsImage account image script budget (outside_of taken faults old places) (outside_of taken faults new places') end stats
+      → Concludes (of_sink taken faults old new) (of_devices account places places') [] (RunsBoard image script budget) (ending_of end)
   run-ends Quiet stats r = run-gives (Some Quietly) stats r
   run-ends Script stats r = run-gives (Some By_script) stats r
   run-ends (Panic code) stats r = run-gives _ stats r
@@ -99,32 +100,26 @@ module _ {S B : Type 0} (taken : S → Option (List ℕ)) (faults : S → ℕ) (
   run-ends SinkFault stats r = run-cut r
 
 -- where a folder tells the same and failed no less
-pub fetch-onwards : (told told' : Option (Option (List ℕ))) (rose rose' : Type 0) (fetched : Fetched) → told ≡ told' → (rose → rose') → MayFetch told rose fetched → MayFetch told' rose' fetched
-fetch-onwards told told' rose rose' (Text bytes) e f m = subst (λ t. MayFetch t rose' (Text bytes)) e m
-fetch-onwards told told' rose rose' Absent e f m = subst (λ t. MayFetch t rose' Absent) e m
-fetch-onwards told told' rose rose' Long e f m = subst (λ t. MayFetch t rose' Long) e m
-fetch-onwards told told' rose rose' Failed e f m = f m
+pub script-onwards : (files files' : ToldFiles) (name : Option (List ℕ)) (answers : ReadScript → Answer → Type 0) (answer : Answer)
+    → IsOnward files files' → OverScript files name answers answer → OverScript files' name answers answer
+script-onwards files files' None answers answer on h = h
+script-onwards files files' (Some name) answers answer on h = file-onwards (AnswersScript answers) files files' name answer on h
 
-pub script-onwards : (told told' : List ℕ → Option (Option (List ℕ))) (rose rose' : Type 0) (name : Option (List ℕ)) (answers : ReadScript → Answer → Type 0) (answer : Answer)
-    → ((file : List ℕ) → told file ≡ told' file) → (rose → rose') → OverScript told rose name answers answer → OverScript told' rose' name answers answer
-script-onwards told told' rose rose' None answers answer e f h = h
-script-onwards told told' rose rose' (Some name) answers answer e f h = (h.0, fetch-onwards (told name) (told' name) rose rose' h.0 (e name) f h.1, h.2)
+pub hex-onwards : (files files' : ToldFiles) (script : Option (List ℕ)) (budget : ℕ) (text : List ℕ) (answer : Answer)
+    → IsOnward files files' → RunsHex files script budget text answer → RunsHex files' script budget text answer
+hex-onwards files files' script budget text answer on (inl h) = inl (h.0, h.1, script-onwards files files' script (λ read. RunsBoard h.0 read budget) answer on h.2)
+hex-onwards files files' script budget text answer on (inr h) = inr h
 
-pub hex-onwards : (told told' : List ℕ → Option (Option (List ℕ))) (rose rose' : Type 0) (script : Option (List ℕ)) (budget : ℕ) (text : List ℕ) (answer : Answer)
-    → ((file : List ℕ) → told file ≡ told' file) → (rose → rose') → RunsHex told rose script budget text answer → RunsHex told' rose' script budget text answer
-hex-onwards told told' rose rose' script budget text answer e f (inl h) = inl (h.0, h.1, script-onwards told told' rose rose' script (λ read. RunsBoard h.0 read budget) answer e f h.2)
-hex-onwards told told' rose rose' script budget text answer e f (inr h) = inr h
-
-pub program-onwards : (told told' : List ℕ → Option (Option (List ℕ))) (rose rose' : Type 0) (script : Option (List ℕ)) (budget : ℕ) (stats image : Bool) (text : List ℕ) (answer : Answer)
-    → ((file : List ℕ) → told file ≡ told' file) → (rose → rose') → RunsText told rose script budget stats image text answer → RunsText told' rose' script budget stats image text answer
-program-onwards told told' rose rose' script budget stats image text answer e f (inl h) =
-    inl (h.0, h.1, h.2, script-onwards told told' rose rose' script (λ read. RunsProgram h.1 h.0.texts read budget stats image) answer e f h.3)
-program-onwards told told' rose rose' script budget stats image text answer e f (inr h) = inr h
+pub program-onwards : (files files' : ToldFiles) (script : Option (List ℕ)) (budget : ℕ) (stats image : Bool) (text : List ℕ) (answer : Answer)
+    → IsOnward files files' → RunsText files script budget stats image text answer → RunsText files' script budget stats image text answer
+program-onwards files files' script budget stats image text answer on (inl h) =
+    inl (h.0, h.1, script-onwards files files' script (λ read. RunsProgram h.0.1 h.0.0.texts read budget stats image) answer on h.2)
+program-onwards files files' script budget stats image text answer on (inr h) = inr h
 
 -- a text that spells no image is refused
-pub broken-answer : (told : List ℕ → Option (Option (List ℕ))) (rose : Type 0) (script : Option (List ℕ)) (text : List ℕ) (budget : ℕ) (code : HexCode) (why : HexRefused) → why ≡ Image code
-    → HasCause why (Breaks text) → (answer : Answer) → answer ≡ says status.ImageRefused (image_refused_line (number_of code)) → RunsHex told rose script budget text answer
-broken-answer told rose script text budget code why e cause answer h = inr (code, subst (λ x. HasCause x (Breaks text)) e cause, h)
+pub broken-answer : (files : ToldFiles) (script : Option (List ℕ)) (text : List ℕ) (budget : ℕ) (code : HexCode) (why : HexRefused) → why ≡ Image code
+    → HasCause why (Breaks text) → (answer : Answer) → answer ≡ says status.ImageRefused (image_refused_line (number_of code)) → RunsHex files script budget text answer
+broken-answer files script text budget code why e cause answer h = inr (code, subst (λ x. HasCause x (Breaks text)) e cause, h)
 
 pub script-refusal-pieces : (printed code : ℕ) → printed ≡ code → [] ++ codes "script refused " ++ decimal printed ++ codes "\n" ≡ script_refused_line code
 script-refusal-pieces printed code e = three (codes "script refused ") (decimal printed) (codes "\n") ∙ ap script_refused_line e

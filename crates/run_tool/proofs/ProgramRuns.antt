@@ -21,15 +21,18 @@ use Rattle.event_script.specs.declared.script.Script.{Script as ReadScript}
 use Rattle.board_run.specs.declared.board.Stats.{Stats}
 use Rattle.board_run.specs.declared.end.End.{End}
 use Rattle.board_run.specs.declared.end.End.TheVariants.{Quiet, Script, Panic, Budget, Fault, SinkFault}
+use Rattle.board_run.specs.Outside.{outside_of}
 use Rattle.board_run.specs.Ran.{world_after, IsExecuted, IsCut as IsRunCut}
 use Rattle.sts_whole.specs.Programs.{source_after}
 use Rattle.sts_whole.specs.Runs.{counted_on, RunsTo, RunsImage}
 use Rattle.sts_whole.proofs.Laws.{reaches, faultless, run_exists}
 use Rattle.run_tool.specs.declared.ending.Ending.{Ending}
 use Rattle.run_tool.specs.declared.ending.Ending.TheVariants.{Gave, Cut}
-use Rattle.run_tool.specs.Answers.{Answer, runs, Concludes}
-use Rattle.run_tool.specs.Runs.{run_status, ending_of}
-use Rattle.run_tool.specs.Run.{asked_behind, counted_behind, instructions_line, ending_by, Finishes, RunsProgram}
+use Rattle.run_tool.specs.Answers.{Answer, runs, Concludes, of_devices, of_sink}
+use Rattle.run_tool.specs.Runs.{run_status}
+use Rattle.run_tool.specs.inner.Finishing.{ending_of, counted_behind, ending_by, Finishes}
+use Rattle.run_tool.specs.Run.{RunsProgram}
+use Rattle.run_tool.specs.Statistics.{asked_behind, instructions_line}
 use Rattle.board_ports.specs.Account.{Account}
 
 -- a part of the text that is due is one of a longer text
@@ -99,10 +102,10 @@ module _ (P : TypedProgram) (texts : List ByteList) (image : List ℕ) (is_image
 
   module _ {S B : Type 0} (taken : S → Option (List ℕ)) (faults : S → ℕ) (old between new : S) (account : B → Account) (places places' : List (Option B)) where
     abbrev Concluded : Ending → Type 0
-    Concluded ending = Concludes taken faults old new account places places' [] (RunsProgram P texts script budget stats with_image) ending
+    Concluded ending = Concludes (of_sink taken faults old new) (of_devices account places places') [] (RunsProgram P texts script budget stats with_image) ending
 
     -- the text behind a run was put, or the sink stopped it
-    put-behind : (end : Option RunEnd) (s : Stats) (r : RunsTo account image script budget (taken old) (taken between) places places' end s) (put : Result (Unit {0}) PutFailed) → faults old ≤ faults between
+    put-behind : (end : Option RunEnd) (s : Stats) (r : RunsTo account image script budget (outside_of taken faults old places) (outside_of taken faults between places') end s) (put : Result (Unit {0}) PutFailed) → faults old ≤ faults between
         → (let b : Board = (world_after image script r.free r.executed).board in Puts (taken between) (taken new) (faults between) (faults new) (asked_behind stats with_image b r.executed image) put)
         → Concluded (ending_by (run_status end) put)
     put-behind end s r (Ok x) later p =
@@ -150,7 +153,7 @@ module _ (P : TypedProgram) (texts : List ByteList) (image : List ℕ) (is_image
         }
 
     gave : (end : Option RunEnd) (s : Stats) (hex : List ℕ) (ending : Ending) → (with_image ≡ true → hex ≡ hextext image)
-        → RunsTo account image script budget (taken old) (taken between) places places' end s → faults old ≤ faults between
+        → RunsTo account image script budget (outside_of taken faults old places) (outside_of taken faults between places') end s → faults old ≤ faults between
         → Finishes (taken between) (taken new) (faults between) (faults new) (Gave (run_status end)) (counted_behind stats with_image s hex) ending → Concluded ending
     gave end s hex ending text r later f =
         let b : Board = (world_after image script r.free r.executed).board in
@@ -159,7 +162,7 @@ module _ (P : TypedProgram) (texts : List ByteList) (image : List ℕ) (is_image
         (subst (λ t. Puts (taken between) (taken new) (faults between) (faults new) t f.0) (counted-same s b r.executed hex r.counted text) f.1))
 
     -- the sink stopped the run
-    cut-run : (behind : List ℕ) (ending : Ending) → IsRunCut account image script budget (taken old) (taken between) places places' × Rose (faults old) (faults between) → faults old ≤ faults between
+    cut-run : (behind : List ℕ) (ending : Ending) → IsRunCut account (world_after image script) budget (outside_of taken faults old places) (outside_of taken faults between places') × Rose (faults old) (faults between) → faults old ≤ faults between
         → Finishes (taken between) (taken new) (faults between) (faults new) Cut behind ending → Concluded ending
     cut-run behind ending r later f =
         let c = r.0 in
@@ -183,12 +186,12 @@ module _ (P : TypedProgram) (texts : List ByteList) (image : List ℕ) (is_image
           cut = λ e. subst (λ n. Rose (faults old) n) (sym f.1) r.1;
         })
 
-    never-faulted : (kind address : ℕ) (s : Stats) → RunsTo account image script budget (taken old) (taken between) places places' (Some (Faulted kind address)) s → ⊥
+    never-faulted : (kind address : ℕ) (s : Stats) → RunsTo account image script budget (outside_of taken faults old places) (outside_of taken faults between places') (Some (Faulted kind address)) s → ⊥
     never-faulted kind address s r = subst (λ e. SoundEnd (λ kind address. ⊥) e) r.ended (faultless P texts image implements script r.free r.executed)
 
     -- what a call that ran the image answered, with what is asked for behind it
     pub finished : (end : End) (s : Stats) (hex : List ℕ) (ending : Ending) → (with_image ≡ true → hex ≡ hextext image)
-        → RunsImage account image script budget (taken old) (taken between) (faults old) (faults between) places places' end s → faults old ≤ faults between
+        → RunsImage account image script budget (outside_of taken faults old places) (outside_of taken faults between places') end s → faults old ≤ faults between
         → Finishes (taken between) (taken new) (faults between) (faults new) (ending_of end) (counted_behind stats with_image s hex) ending → Concluded ending
     finished Quiet s hex ending text r later f = gave (Some Quietly) s hex ending text r later f
     finished Script s hex ending text r later f = gave (Some By_script) s hex ending text r later f

@@ -10,6 +10,7 @@ use Rattle.event_script.specs.declared.script.Script.{Script}
 use Rattle.sts_whole.specs.Accepting.{Accepts, IsRefusedFor}
 use Rattle.sts_whole.specs.Laws.{OneAnswer}
 use Rattle.sts_whole.proofs.Laws.{faultless}
+use Rattle.run_tool.specs.Fetches.{unfailing}
 use Rattle.run_tool.specs.Answers.{Answer, status_of, status_number}
 use Rattle.run_tool.specs.Runs.{run_status}
 use Rattle.run_tool.specs.Scripts.{OverScript, default_script}
@@ -40,23 +41,23 @@ program-number P texts script budget stats image answer number r e =
 module _ (one : OneAnswer) (text : List ℕ) (answers : TypedProgram → List ByteList → Answer → Type 0) (answer : Answer) where
   -- what is accepted isn't refused
   over : (tables : Tables) (P : TypedProgram) → Accepts text tables P → OverProgram answers text answer → (Q : TypedProgram) × (texts : List ByteList) × answers Q texts answer
-  over tables P a (inl h) = (h.1, h.0.texts, h.3)
-  over tables P a (inr h) = absurd (one.either text tables P h.0 h.1 a h.2)
+  over tables P a (inl h) = (h.0.1, h.0.0.texts, h.2)
+  over tables P a (inr h) = absurd (one.either text tables P h.0.0 h.0.1 a h.1)
 
   -- and what is refused isn't accepted
   denied : (code : Code) (at number : ℕ) → IsRefusedFor text code at → OverProgram answers text answer → number ≡ number_of answer → number ≡ 10
-  denied code at number r (inl h) e = absurd (one.either text h.0 h.1 code at h.2 r)
-  denied code at number r (inr h) e = e ∙ ap number_of h.3.3
+  denied code at number r (inl h) e = absurd (one.either text h.0.0 h.0.1 code at h.1 r)
+  denied code at number r (inr h) e = e ∙ ap number_of h.2.3
 
 pub statuses : (one : OneAnswer) (told : List ℕ → Option (Option (List ℕ))) (text : List ℕ) → ProgramStatuses told text
 statuses one told text = record {
   checked = λ tables P number a is. is.2 ∙ ap number_of (over one text SaysAccepted is.0 tables P a is.1).2;
   built = λ tables P number a is. is.2 ∙ ap number_of (over one text WritesImage is.0 tables P a is.1).2.3;
   ran = λ tables P budget stats image number a is.
-      (let o = over one text (λ Q texts. OverScript told ⊥ None (λ read. RunsProgram Q texts read budget stats image)) is.0 tables P a is.1 in program-number o.0 o.1 default_script budget stats image is.0 number o.2 is.2);
+      (let o = over one text (λ Q texts. OverScript (unfailing told) None (λ read. RunsProgram Q texts read budget stats image)) is.0 tables P a is.1 in program-number o.0 o.1 default_script budget stats image is.0 number o.2 is.2);
   not_checked = λ code at number r is. denied one text SaysAccepted is.0 code at number r is.1 is.2;
   not_built = λ code at number r is. denied one text WritesImage is.0 code at number r is.1 is.2;
   not_run = λ code at script budget stats image number r is.
-      denied one text (λ Q texts. OverScript told ⊥ script (λ read. RunsProgram Q texts read budget stats image)) is.0 code at number r is.1 is.2;
-  not_run_at = λ code at script arrivals budget number r is. denied one text (RunsOutside told ⊥ script arrivals budget) is.0 code at number r is.1 is.2;
+      denied one text (λ Q texts. OverScript (unfailing told) script (λ read. RunsProgram Q texts read budget stats image)) is.0 code at number r is.1 is.2;
+  not_run_at = λ code at script arrivals budget number r is. denied one text (RunsOutside (unfailing told) script arrivals budget) is.0 code at number r is.1 is.2;
 }

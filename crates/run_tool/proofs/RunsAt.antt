@@ -1,6 +1,6 @@
 -- Runs of a program with arrivals.
 use Rattle.std.proofs.Common.{◌≡◌, ◌≤◌, ℕ, List, [], ◌++◌, inl, inr, refl, sym, ap, ◌∙◌, subst, append_assoc, codes, decimal}
-use Rattle.std.specs.Prelude.{Option, Some, None, Result, Ok, Err}
+use Rattle.std.specs.Prelude.{Option, Some, None, Result, Err}
 use Rattle.serde_json.specs.Data.{Data}
 use Rattle.sts_base.specs.Faults.{Rose}
 use Rattle.tool_io.specs.Putting.{Took}
@@ -10,9 +10,6 @@ use Rattle.board_world.specs.Board.{Board}
 use Rattle.sts_syntax.specs.TypedTrees.{TypedProgram}
 use Rattle.event_script.specs.Json.{IsTree}
 use Rattle.event_script.specs.declared.script.Script.{Script}
-use Rattle.event_script.specs.Verdict as scripts
-use Rattle.event_script.specs.Codes as script_codes
-use Rattle.arrival_file.specs.Codes as arrival_codes
 use Rattle.arrival_file.specs.Verdict.{Tells}
 use Rattle.arrival_file.specs.World.{world_arrivals}
 use Rattle.arrival_file.specs.declared.arrival.Arrival.{Arrival}
@@ -22,18 +19,22 @@ use Rattle.arrival_file.specs.declared.arrival.ArrivalRefused.{ArrivalRefused}
 use Rattle.arrival_file.specs.declared.arrival.ArrivalRefused.TheVariants.{Arrivals as OfArrivals}
 use Rattle.board_run.specs.declared.end.End.{End}
 use Rattle.board_run.specs.declared.end.End.TheVariants as ended
+use Rattle.board_run.specs.Outside.{outside_of}
 use Rattle.sts_implements.specs.Images.{ImageImplements}
 use Rattle.irq_arrival.specs.SourceRuns.{source_at, RunsSourceTo, CutsSource, RunsSourceAt}
-use Rattle.run_tool.specs.declared.ending.Status.TheVariants as status
 use Rattle.run_tool.specs.declared.ending.Ending.TheVariants.{Gave, Cut}
 use Rattle.run_tool.specs.declared.fetched.Fetched.TheVariants.{Text}
-use Rattle.run_tool.specs.Answers.{Answer, says, runs, Concludes}
-use Rattle.run_tool.specs.Runs.{run_status, ending_of}
-use Rattle.run_tool.specs.Scripts.{AnswersScript, RefusesScript, script_refused_line}
+use Rattle.run_tool.specs.Answers.{Answer, runs, Concludes, of_devices, of_sink}
+use Rattle.run_tool.specs.Runs.{run_status}
+use Rattle.run_tool.specs.inner.Finishing.{ending_of}
+use Rattle.run_tool.specs.Scripts.{AnswersScript}
 use Rattle.run_tool.specs.Files.{AnswersFile}
-use Rattle.run_tool.specs.Arrivals.{AnswersArrivals, OverArrivals, IsArrivalsOf, RefusesArrivals, arrivals_refused_line, none_to_arrivals}
+use Rattle.run_tool.specs.Arrivals.{AnswersArrivals, RefusesArrivals, arrivals_refused_line}
+use Rattle.run_tool.specs.Fetches.{ToldFiles}
+use Rattle.run_tool.specs.inner.Handed.{IsArrivalsOf}
+use Rattle.run_tool.specs.inner.Nothing.{none_to_read}
 use Rattle.run_tool.specs.RunAt.{RunsProgramAt, RunsOnScript, RunsOutside, RunsTextAt}
-use Rattle.run_tool.proofs.Readings.{file-onwards, file-more, read-more, none-read, program-more}
+use Rattle.run_tool.proofs.Readings.{IsOnward, file-onwards, file-more, program-more}
 use Rattle.board_ports.specs.Account.{Account}
 
 pub arrivals-refusal-pieces : (printed code : ℕ) → printed ≡ code → [] ++ codes "arrivals refused " ++ decimal printed ++ codes "\n" ≡ arrivals_refused_line code
@@ -49,38 +50,42 @@ refuses-arrivals text r OutOfOrder e a b c d = c e
 refuses-arrivals text r TooMany e a b c d = d e
 
 -- where no arrivals were read, the answer is one of each command
-pub no-arrivals : (told : List ℕ → Option (Option (List ℕ))) (rose : Type 0) (name : List ℕ) (answers : List Arrival → Answer → Type 0) (answer : Answer) → AnswersFile (AnswersArrivals none_to_arrivals) (told name) rose answer
-    → OverArrivals told rose name answers answer
-no-arrivals told rose name answers answer h =
-    file-more (AnswersArrivals none_to_arrivals) (AnswersArrivals answers) (told name) rose answer
-    (λ text x. none-read (λ bytes come. Tells bytes (Ok come)) RefusesArrivals (λ code. says status.ArrivalsRefused (arrivals_refused_line (arrival_codes.number_of code))) answers text answer x) h
+pub no-arrivals : (files : ToldFiles) (name : List ℕ) (answers : List Arrival → Answer → Type 0) (answer : Answer) → AnswersFile files name (AnswersArrivals none_to_read) answer
+    → AnswersFile files name (AnswersArrivals answers) answer
+no-arrivals files name answers answer h = file-more (AnswersArrivals none_to_read) (AnswersArrivals answers) files name answer by_text h
+  where
+    by_text : (text : List ℕ) → AnswersArrivals none_to_read text answer → AnswersArrivals answers text answer
+    by_text text (inl x) = absurd x.2
+    by_text text (inr x) = inr x
 
 -- the answers over the arrivals that are named
-pub over-arrivals : (told : List ℕ → Option (Option (List ℕ))) (rose : Type 0) (name : List ℕ) (answers : List Arrival → Answer → Type 0) (come : List Arrival) (answer : Answer) → IsArrivalsOf told rose name come
-    → answers come answer → OverArrivals told rose name answers answer
-over-arrivals told rose name answers come answer s h = (Text s.0, s.1, inl (come, s.2, h))
+pub over-arrivals : (files : ToldFiles) (name : List ℕ) (answers : List Arrival → Answer → Type 0) (come : List Arrival) (answer : Answer) → IsArrivalsOf files name come
+    → answers come answer → AnswersFile files name (AnswersArrivals answers) answer
+over-arrivals files name answers come answer s h = (Text s.0, s.1, inl (come, s.2, h))
 
 -- where a folder tells the same and failed no less
-module _ (told told' : List ℕ → Option (Option (List ℕ))) (rose rose' : Type 0) (script arrivals : List ℕ) (budget : ℕ) (same : (file : List ℕ) → told file ≡ told' file) (rises : rose → rose') where
-  pub script-runs-onwards : (P : TypedProgram) (texts : List ByteList) (read : Script) (answer : Answer) → RunsOnScript told rose arrivals budget P texts read answer → RunsOnScript told' rose' arrivals budget P texts read answer
-  script-runs-onwards P texts read answer h = file-onwards (AnswersArrivals (λ come. RunsProgramAt P texts read come budget)) (told arrivals) (told' arrivals) rose rose' answer (same arrivals) rises h
+module _ (files files' : ToldFiles) (script arrivals : List ℕ) (budget : ℕ) (on : IsOnward files files') where
+  pub script-runs-onwards : (P : TypedProgram) (texts : List ByteList) (read : Script) (answer : Answer) → RunsOnScript files arrivals budget P texts read answer → RunsOnScript files' arrivals budget P texts read answer
+  script-runs-onwards P texts read answer h = file-onwards (AnswersArrivals (λ come. RunsProgramAt P texts read come budget)) files files' arrivals answer on h
 
-  outside-onwards : (P : TypedProgram) (texts : List ByteList) (answer : Answer) → RunsOutside told rose script arrivals budget P texts answer → RunsOutside told' rose' script arrivals budget P texts answer
+  outside-onwards : (P : TypedProgram) (texts : List ByteList) (answer : Answer) → RunsOutside files script arrivals budget P texts answer → RunsOutside files' script arrivals budget P texts answer
   outside-onwards P texts answer h =
-      file-more (AnswersScript (RunsOnScript told rose arrivals budget P texts)) (AnswersScript (RunsOnScript told' rose' arrivals budget P texts)) (told' script) rose' answer
-      (λ text x. read-more (λ bytes read. scripts.Tells bytes (Ok read)) RefusesScript (λ code. says status.ScriptRefused (script_refused_line (script_codes.number_of code)))
-      (RunsOnScript told rose arrivals budget P texts) (RunsOnScript told' rose' arrivals budget P texts) text answer (λ read y. script-runs-onwards P texts read answer y) x)
-      (file-onwards (AnswersScript (RunsOnScript told rose arrivals budget P texts)) (told script) (told' script) rose rose' answer (same script) rises h)
+      file-more (AnswersScript (RunsOnScript files arrivals budget P texts)) (AnswersScript (RunsOnScript files' arrivals budget P texts)) files' script answer by_text
+      (file-onwards (AnswersScript (RunsOnScript files arrivals budget P texts)) files files' script answer on h)
+    where
+      by_text : (text : List ℕ) → AnswersScript (RunsOnScript files arrivals budget P texts) text answer → AnswersScript (RunsOnScript files' arrivals budget P texts) text answer
+      by_text text (inl x) = inl (x.0, x.1, script-runs-onwards P texts x.0 answer x.2)
+      by_text text (inr x) = inr x
 
-  pub text-runs-onwards : (text : List ℕ) (answer : Answer) → RunsTextAt told rose script arrivals budget text answer → RunsTextAt told' rose' script arrivals budget text answer
-  text-runs-onwards text answer h = program-more (RunsOutside told rose script arrivals budget) (RunsOutside told' rose' script arrivals budget) text answer (λ P texts x. outside-onwards P texts answer x) h
+  pub text-runs-onwards : (text : List ℕ) (answer : Answer) → RunsTextAt files script arrivals budget text answer → RunsTextAt files' script arrivals budget text answer
+  text-runs-onwards text answer h = program-more (RunsOutside files script arrivals budget) (RunsOutside files' script arrivals budget) text answer (λ P texts x. outside-onwards P texts answer x) h
 
 -- what a call that ran an image with arrivals answered
 module _ {S B : Type 0} (taken : S → Option (List ℕ)) (faults : S → ℕ) (old new : S) (account : B → Account) (places places' : List (Option B))
     (P : TypedProgram) (texts : List ByteList) (image : List ℕ) (implements : ImageImplements P texts image) (script : Script) (come : List Arrival) (budget : ℕ) (later : faults old ≤ faults new) where
   -- a run that came to its end, or to that of its budget
-  gives : (end : Option RunEnd) → RunsSourceTo account P texts image script (world_arrivals come) budget (taken old) (taken new) places places' end
-      → Concludes taken faults old new account places places' [] (RunsProgramAt P texts script come budget) (Gave (run_status end))
+  gives : (end : Option RunEnd) → RunsSourceTo account P texts image script (world_arrivals come) budget (outside_of taken faults old places) (outside_of taken faults new places') end
+      → Concludes (of_sink taken faults old new) (of_devices account places places') [] (RunsProgramAt P texts script come budget) (Gave (run_status end))
   gives end r =
       let b : Board = (source_at P texts script r.meets.places r.meets.steps).board in
       let closing = closing_line b.clock b.end in
@@ -97,8 +102,8 @@ module _ {S B : Type 0} (taken : S → Option (List ℕ)) (faults : S → ℕ) (
       }
 
   -- a run that the sink stopped
-  stopped : CutsSource account P texts image script (world_arrivals come) budget (taken old) (taken new) places places' × Rose (faults old) (faults new)
-      → Concludes taken faults old new account places places' [] (RunsProgramAt P texts script come budget) Cut
+  stopped : CutsSource account P texts image script (world_arrivals come) budget (outside_of taken faults old places) (outside_of taken faults new places') × Rose (faults old) (faults new)
+      → Concludes (of_sink taken faults old new) (of_devices account places places') [] (RunsProgramAt P texts script come budget) Cut
   stopped r =
       let b : Board = (source_at P texts script r.0.meets.places r.0.meets.steps).board in
       record {
@@ -111,8 +116,8 @@ module _ {S B : Type 0} (taken : S → Option (List ℕ)) (faults : S → ℕ) (
         cut = λ e. r.1;
       }
 
-  pub at-ends : (end : End) → RunsSourceAt account P texts image script (world_arrivals come) budget (taken old) (taken new) (faults old) (faults new) places places' end
-      → Concludes taken faults old new account places places' [] (RunsProgramAt P texts script come budget) (ending_of end)
+  pub at-ends : (end : End) → RunsSourceAt account P texts image script (world_arrivals come) budget (outside_of taken faults old places) (outside_of taken faults new places') end
+      → Concludes (of_sink taken faults old new) (of_devices account places places') [] (RunsProgramAt P texts script come budget) (ending_of end)
   at-ends ended.Quiet r = gives (Some Quietly) r
   at-ends ended.Script r = gives (Some By_script) r
   at-ends (ended.Panic code) r = gives (Some (Panicked code)) r

@@ -2,6 +2,7 @@
 use Rattle.std.proofs.Common.{◌≡◌, ◌<◌, ◌⊎◌, ℕ, List, [], ◌++◌, length, inl, inr, refl, sym, ap, ◌∙◌, subst, arith}
 use Rattle.std.specs.Prelude.{Option, Some, Result, Ok, Err}
 use Rattle.serde_json.specs.Data.{Data}
+use Rattle.sts_base.specs.Faults.{Rose}
 use Rattle.sts_base.specs.declared.tables.Tables.{Tables}
 use Rattle.tool_io.specs.Putting.{Took}
 use Rattle.board_world.specs.Transcript.{lines, closing_line}
@@ -27,8 +28,8 @@ use Rattle.run_tool.specs.declared.fetched.Fetched.{Fetched}
 use Rattle.run_tool.specs.declared.fetched.Fetched.TheVariants.{Text, Absent, Long, Failed}
 use Rattle.run_tool.specs.declared.ending.Ending.{Ending}
 use Rattle.run_tool.specs.declared.ending.Ending.TheVariants.{Gave, Cut, NoMemory}
-use Rattle.run_tool.specs.Fetches.{limit, MayFetch}
-use Rattle.run_tool.specs.Answers.{Answer, status_of, status_number, output_of, Leaves, Ends, ending_number}
+use Rattle.run_tool.specs.Fetches.{ToldFiles, unfailing, limit, MayFetch}
+use Rattle.run_tool.specs.Answers.{Answer, status_of, status_number, output_of, OfSink, OfDevices, Leaves, Ends, Concludes, ending_number}
 use Rattle.run_tool.specs.Files.{AnswersFetched, AnswersFile}
 use Rattle.run_tool.specs.Runs.{run_status}
 use Rattle.run_tool.specs.Scripts.{AnswersScript, RefusesScript}
@@ -38,13 +39,12 @@ use Rattle.run_tool.specs.Orders.{MayAnswer, lead_of}
 use Rattle.run_tool.specs.HeadlineAt.{IsTold, AreTold, WritesAt, HeadlineAt}
 use Rattle.run_tool.proofs.Completing.{onwards}
 use Rattle.run_tool.proofs.ProgramStatuses.{run-number}
-use Rattle.board_ports.specs.Account.{Account}
 
 -- what is fetched of a file that is told is its bytes
-pub of-told : (told : List ℕ → Option (Option (List ℕ))) (name bytes : List ℕ) (answers : List ℕ → Answer → Type 0) (answer : Answer) → IsTold told name bytes → AnswersFile answers (told name) ⊥ answer → answers bytes answer
+pub of-told : (told : List ℕ → Option (Option (List ℕ))) (name bytes : List ℕ) (answers : List ℕ → Answer → Type 0) (answer : Answer) → IsTold told name bytes → AnswersFile (unfailing told) name answers answer → answers bytes answer
 of-told told name bytes answers answer t h = by_fetched h.0 h.1 h.2
   where
-    by_fetched : (fetched : Fetched) → MayFetch (told name) ⊥ fetched → AnswersFetched answers fetched answer → answers bytes answer
+    by_fetched : (fetched : Fetched) → MayFetch (unfailing told) name fetched → AnswersFetched answers fetched answer → answers bytes answer
     by_fetched (Text it) m x = (let e : Some bytes ≡ Some it.items = m.0 (Some bytes) t.0 in let same : it.items ≡ bytes = cc in subst (λ l. answers l answer) same x)
     by_fetched Absent m x = (let e = m (Some bytes) t.0 in absurd (cc))
     by_fetched Long m x = (
@@ -95,28 +95,28 @@ module _ (one : OneAnswer) (told : List ℕ → Option (Option (List ℕ))) (nam
   over-these answer (inr x) = absurd (list-stands n.arrivals_text come x.0 n.arrivals_are x.1)
 
   -- over this script
-  on-this : (answer : Answer) → AnswersScript (RunsOnScript told ⊥ arrivals_name budget P tables.texts) n.script_text answer → RunsProgramAt P tables.texts read come budget answer
+  on-this : (answer : Answer) → AnswersScript (RunsOnScript (unfailing told) arrivals_name budget P tables.texts) n.script_text answer → RunsProgramAt P tables.texts read come budget answer
   on-this answer (inl x) =
       over-these answer (of-told told arrivals_name n.arrivals_text (AnswersArrivals (λ list. RunsProgramAt P tables.texts read list budget)) answer n.arrivals_told
-      (subst (λ it. RunsOnScript told ⊥ arrivals_name budget P tables.texts it answer) (same-read x.0 read (Ok read) (sym (one-script n.script_text (Ok x.0) (Ok read) x.1 n.script_is)) refl) x.2))
+      (subst (λ it. RunsOnScript (unfailing told) arrivals_name budget P tables.texts it answer) (same-read x.0 read (Ok read) (sym (one-script n.script_text (Ok x.0) (Ok read) x.1 n.script_is)) refl) x.2))
   on-this answer (inr x) = absurd (script-stands n.script_text read x.0 n.script_is x.1)
 
   -- over this program
-  of-this : (answer : Answer) → RunsTextAt told ⊥ script_name arrivals_name budget n.text answer → RunsProgramAt P tables.texts read come budget answer
+  of-this : (answer : Answer) → RunsTextAt (unfailing told) script_name arrivals_name budget n.text answer → RunsProgramAt P tables.texts read come budget answer
   of-this answer (inl h) =
-      let same = one.program n.text tables h.0 P h.1 n.accepted h.2 in
-      let there : RunsOutside told ⊥ script_name arrivals_name budget P tables.texts answer =
-      subst (λ (t : Tables). RunsOutside told ⊥ script_name arrivals_name budget P t.texts answer) (sym same.0)
-      (subst (λ (Q : TypedProgram). RunsOutside told ⊥ script_name arrivals_name budget Q h.0.texts answer) (sym same.1) h.3) in
-      on-this answer (of-told told script_name n.script_text (AnswersScript (RunsOnScript told ⊥ arrivals_name budget P tables.texts)) answer n.script_told there)
-  of-this answer (inr h) = absurd (one.either n.text tables P h.0 h.1 n.accepted h.2)
+      let same = one.program n.text tables h.0.0 P h.0.1 n.accepted h.1 in
+      let there : RunsOutside (unfailing told) script_name arrivals_name budget P tables.texts answer =
+      subst (λ (t : Tables). RunsOutside (unfailing told) script_name arrivals_name budget P t.texts answer) (sym same.0)
+      (subst (λ (Q : TypedProgram). RunsOutside (unfailing told) script_name arrivals_name budget Q h.0.0.texts answer) (sym same.1) h.2) in
+      on-this answer (of-told told script_name n.script_text (AnswersScript (RunsOnScript (unfailing told) arrivals_name budget P tables.texts)) answer n.script_told there)
+  of-this answer (inr h) = absurd (one.either n.text tables P h.0.0 h.0.1 n.accepted h.1)
 
-  pub due : (answer : Answer) → MayAnswer told ⊥ (Some (run_at name script_name arrivals_name budget)) answer → RunsProgramAt P tables.texts read come budget answer
-  due answer h = of-this answer (of-told told name n.text (RunsTextAt told ⊥ script_name arrivals_name budget) answer n.text_told h)
+  pub due : (answer : Answer) → MayAnswer (unfailing told) (Some (run_at name script_name arrivals_name budget)) answer → RunsProgramAt P tables.texts read come budget answer
+  due answer h = of-this answer (of-told told name n.text (RunsTextAt (unfailing told) script_name arrivals_name budget) answer n.text_told h)
 
-  module _ {B : Type 0} (account : B → Account) (places places' : List (Option B)) (taken taken' : Option (List ℕ)) where
-    writes : (answer : Answer) (number : ℕ) → RunsProgramAt P tables.texts read come budget answer → Took taken taken' (output_of answer) → Leaves account answer places places' → number ≡ status_number (status_of answer)
-        → WritesAt account taken taken' places places' P tables.texts read come budget number
+  module _ {B : Type 0} (sink : OfSink) (devices : OfDevices B) where
+    writes : (answer : Answer) (number : ℕ) → RunsProgramAt P tables.texts read come budget answer → Took sink.had sink.has (output_of answer) → Leaves devices answer → number ≡ status_number (status_of answer)
+        → WritesAt sink devices P tables.texts read come budget number
     writes answer number r took leaves e =
         let b : Board = (source_at P tables.texts read r.meets.places r.meets.steps).board in
         let status : number ≡ status_number (run_status b.end) = e ∙ ap (λ a. status_number (status_of a)) r.is in
@@ -132,25 +132,25 @@ module _ (one : OneAnswer) (told : List ℕ → Option (Option (List ℕ))) (nam
             at_least = r.meets.reaches.at_least;
             met = r.meets.met;
           };
-          written = subst (λ os. Took taken taken' (lines os ++ closing_line b.clock b.end)) (sym r.meets.met.seen) (subst (λ a. Took taken taken' (output_of a)) r.is took);
-          devices = subst (λ a. Leaves account a places places') r.is leaves;
+          written = subst (λ os. Took sink.had sink.has (lines os ++ closing_line b.clock b.end)) (sym r.meets.met.seen) (subst (λ a. Took sink.had sink.has (output_of a)) r.is took);
+          met = subst (λ a. Leaves devices a) r.is leaves;
           status = status;
           ended = run-number b.end number r.meets.faultless status;
         }
 
-    by-ending : (rose sink_rose : Type 0) (ending : Ending) (number : ℕ) → number ≡ ending_number ending → Ends account [] (MayAnswer told rose (Some (run_at name script_name arrivals_name budget))) taken taken' places places' ending
-        → (ending ≡ Cut → sink_rose) → ¬ rose → ¬ sink_rose
-        → ((number ≡ 30) × Took taken taken' [] × (places' ≡ places)) ⊎ WritesAt account taken taken' places places' P tables.texts read come budget number
-    by-ending rose sink_rose (Gave given) number e s cut quiet calm =
-        inr (writes s.0 number (due s.0 (onwards told rose ⊥ (Some (run_at name script_name arrivals_name budget)) s.0 quiet s.1)) s.3 s.4 (e ∙ ap status_number s.2))
-    by-ending rose sink_rose Cut number e s cut quiet calm = absurd (calm (cut refl))
-    by-ending rose sink_rose NoMemory number e (inl x, p) cut quiet calm = inl (e, x, p)
-    by-ending rose sink_rose NoMemory number e (inr x, p) cut quiet calm = inl (e, x, p)
+    by-ending : (rose : Type 0) (ending : Ending) (number : ℕ) → number ≡ ending_number ending
+        → Ends sink devices [] (MayAnswer (record { told = told; rose = rose }) (Some (run_at name script_name arrivals_name budget))) ending
+        → (ending ≡ Cut → Rose sink.failed sink.fails) → ¬ rose → ¬ Rose sink.failed sink.fails
+        → ((number ≡ 30) × Took sink.had sink.has [] × (devices.behind ≡ devices.before)) ⊎ WritesAt sink devices P tables.texts read come budget number
+    by-ending rose (Gave given) number e s cut quiet calm =
+        inr (writes s.0 number (due s.0 (onwards (record { told = told; rose = rose }) (unfailing told) (Some (run_at name script_name arrivals_name budget)) s.0 (λ file. refl, quiet) s.1)) s.3 s.4 (e ∙ ap status_number s.2))
+    by-ending rose Cut number e s cut quiet calm = absurd (calm (cut refl))
+    by-ending rose NoMemory number e (inl x, p) cut quiet calm = inl (e, x, p)
+    by-ending rose NoMemory number e (inr x, p) cut quiet calm = inl (e, x, p)
 
 -- what a call comes to that ended so
-pub headline-at : (one : OneAnswer) {B : Type 0} (account : B → Account) (places places' : List (Option B)) (told : List ℕ → Option (Option (List ℕ))) (rose sink_rose : Type 0) (asked : Option Asked)
-    (taken taken' : Option (List ℕ)) (ending : Ending) (number : ℕ) → number ≡ ending_number ending → Ends account (lead_of asked) (MayAnswer told rose asked) taken taken' places places' ending → (ending ≡ Cut → sink_rose)
-    → HeadlineAt account told asked rose sink_rose taken taken' places places' number
-headline-at one account places places' told rose sink_rose asked taken taken' ending number e s cut = λ name script_name arrivals_name budget tables P read come is n quiet calm.
-    by-ending one told name script_name arrivals_name budget tables P read come n account places places' taken taken' rose sink_rose ending number e
-    (subst (λ o. Ends account (lead_of o) (MayAnswer told rose o) taken taken' places places' ending) is s) cut quiet calm
+pub headline-at : (one : OneAnswer) {B : Type 0} {sink : OfSink} {devices : OfDevices B} (files : ToldFiles) (asked : Option Asked) (ending : Ending) (number : ℕ) → number ≡ ending_number ending
+    → Concludes sink devices (lead_of asked) (MayAnswer files asked) ending → HeadlineAt files sink devices asked number
+headline-at one {B} {sink} {devices} files asked ending number e s = λ name script_name arrivals_name budget tables P read come is n quiet calm.
+    by-ending one files.told name script_name arrivals_name budget tables P read come n sink devices files.rose ending number e
+    (subst (λ o. Ends sink devices (lead_of o) (MayAnswer files o) ending) is s.ends) s.cut quiet calm

@@ -48,43 +48,49 @@ ending_number (Gave status) = status_number status
 ending_number Cut = 22
 ending_number NoMemory = 30
 
+-- Of a sink, before and behind a call: what it had taken, and how often it had failed.
+pub record OfSink : Type 0 where
+  pub had : Option (List ℕ)  -- before,
+  pub has : Option (List ℕ)  -- and behind
+  pub failed : ℕ  -- before,
+  pub fails : ℕ  -- and behind
+
+abbrev pub of_sink : {S : Type 0} → (taken : S → Option (List ℕ)) → (faults : S → ℕ) → S → S → OfSink
+of_sink taken faults old new = record { had = taken old; has = taken new; failed = faults old; fails = faults new }
+
+-- Of devices, before and behind a call: which stood in which place; and what is known of each.
+pub record OfDevices (B : Type 0) : Type 0 where
+  pub account : B → Account
+  pub before : List (Option B)
+  pub behind : List (Option B)
+
+abbrev pub of_devices : {B : Type 0} → (B → Account) → List (Option B) → List (Option B) → OfDevices B
+of_devices account before behind = record { account = account; before = before; behind = behind }
+
 -- The devices are as an answer leaves them.
-abbrev pub Leaves : {B : Type 0} → (B → Account) → Answer → List (Option B) → List (Option B) → Type 0
-Leaves account (says status output) places places' = places' ≡ places
-Leaves account (runs status moves behind) places places' = DevicesAfter account moves places places'
+abbrev pub Leaves : {B : Type 0} → OfDevices B → Answer → Type 0
+Leaves devices (says status output) = devices.behind ≡ devices.before
+Leaves devices (runs status moves behind) = DevicesAfter devices.account moves devices.before devices.behind
 
 -- The sink stopped the output of an answer: in the line that the command begins with, before any device was touched, or behind it.
-abbrev pub IsCut : {B : Type 0} → (B → Account) → List ℕ → Answer → Option (List ℕ) → Option (List ℕ) → List (Option B) → List (Option B) → Type 0
-IsCut account lead (says status output) taken taken' places places' = TookPart taken taken' (lead ++ output) × (places' ≡ places)
-IsCut account lead (runs status moves behind) taken taken' places places' =
-    (TookPart taken taken' lead × (places' ≡ places)) ⊎ Stopped account lead moves behind taken taken' places places'
+abbrev pub IsCut : {B : Type 0} → OfSink → OfDevices B → (lead : List ℕ) → Answer → Type 0
+IsCut sink devices lead (says status output) = TookPart sink.had sink.has (lead ++ output) × (devices.behind ≡ devices.before)
+IsCut sink devices lead (runs status moves behind) =
+    (TookPart sink.had sink.has lead × (devices.behind ≡ devices.before)) ⊎ Stopped devices.account lead moves behind sink.had sink.has devices.before devices.behind
 
--- A call that begins with this line and may give these answers ended so, over a sink that had taken the first and has taken the second, and over
--- devices: one answer was given whole, or was cut short; or memory was wanting, before anything was written or behind that line.
-abbrev pub Ends : {B : Type 0} → (B → Account) → List ℕ → (Answer → Type 0) → Option (List ℕ) → Option (List ℕ) → List (Option B) → List (Option B) → Ending → Type 0
-Ends account lead may taken taken' places places' (Gave status) =
-    (answer : Answer) × may answer × (status ≡ status_of answer) × Took taken taken' (lead ++ output_of answer) × Leaves account answer places places'
-Ends account lead may taken taken' places places' Cut = (answer : Answer) × may answer × IsCut account lead answer taken taken' places places'
-Ends account lead may taken taken' places places' NoMemory = (Took taken taken' [] ⊎ Took taken taken' lead) × (places' ≡ places)
+-- A call that begins with this line and may give these answers ended so: one answer was given whole, or was cut short; or memory was wanting, before
+-- anything was written or behind that line.
+abbrev pub Ends : {B : Type 0} → OfSink → OfDevices B → (lead : List ℕ) → (may : Answer → Type 0) → Ending → Type 0
+Ends sink devices lead may (Gave status) =
+    (answer : Answer) × may answer × (status ≡ status_of answer) × Took sink.had sink.has (lead ++ output_of answer) × Leaves devices answer
+Ends sink devices lead may Cut = (answer : Answer) × may answer × IsCut sink devices lead answer
+Ends sink devices lead may NoMemory = (Took sink.had sink.has [] ⊎ Took sink.had sink.has lead) × (devices.behind ≡ devices.before)
 
--- A call that may give these answers over these devices ended so. Of the sink, before and after it, `taken` tells what it had taken and `faults`
--- how often it had failed: the call was cut short only where that count rose.
-pub record Concludes {S B : Type 0} (taken : S → Option (List ℕ)) (faults : S → ℕ) (old new : S) (account : B → Account)
-    (places places' : List (Option B)) (lead : List ℕ) (may : Answer → Type 0) (ending : Ending) : Type 0 where
-  pub ends : Ends account lead may (taken old) (taken new) places places' ending
-  pub later : faults old ≤ faults new
-  pub cut : ending ≡ Cut → Rose (faults old) (faults new)
-
--- The same of a call that has no devices and no line of its own, whose answers are outputs: one was given whole, or cut short, or nothing was written.
-abbrev pub Says : (Answer → Type 0) → Option (List ℕ) → Option (List ℕ) → Ending → Type 0
-Says may taken taken' (Gave status) = (output : List ℕ) × may (says status output) × Took taken taken' output
-Says may taken taken' Cut = (status : Status) × (output : List ℕ) × may (says status output) × TookPart taken taken' output
-Says may taken taken' NoMemory = Took taken taken' []
-
-pub record GivesOneOf {S : Type 0} (taken : S → Option (List ℕ)) (faults : S → ℕ) (old new : S) (may : Answer → Type 0) (ending : Ending) : Type 0 where
-  pub ends : Says may (taken old) (taken new) ending
-  pub later : faults old ≤ faults new
-  pub cut : ending ≡ Cut → Rose (faults old) (faults new)
+-- It ended so, and was cut short only where the sink's count of faults rose.
+pub record Concludes {B : Type 0} (sink : OfSink) (devices : OfDevices B) (lead : List ℕ) (may : Answer → Type 0) (ending : Ending) : Type 0 where
+  pub ends : Ends sink devices lead may ending
+  pub later : sink.failed ≤ sink.fails
+  pub cut : ending ≡ Cut → Rose sink.failed sink.fails
 
 -- one of these outputs behind the line that the command begins with
 abbrev pub Led : List ℕ → (Answer → Type 0) → Answer → Type 0

@@ -1,5 +1,5 @@
 -- The answers over arrivals.
-use Rattle.std.specs.Prelude.{◌++◌, ℕ, List, codes, Option, Ok, Err}
+use Rattle.std.specs.Prelude.{◌≡◌, ◌++◌, ℕ, List, codes, Ok, Err}
 use Rattle.serde_json.specs.Data.{Data}
 use Rattle.board_world.specs.Transcript.{count_text}
 use Rattle.event_script.specs.Json.{IsTree}
@@ -9,12 +9,8 @@ use Rattle.arrival_file.specs.declared.arrival.ArrivalCode.TheVariants.{NotJson}
 use Rattle.arrival_file.specs.Codes.{number_of}
 use Rattle.arrival_file.specs.Verdict.{Tells}
 use Rattle.run_tool.specs.declared.ending.Status.TheVariants as status
-use Rattle.run_tool.specs.declared.fetched.Fetched.TheVariants.{Text}
-use Rattle.std.specs.declared.vec.Vec.{Vec}
-use Rattle.std.specs.declared.alloc.Global.{Global}
 use Rattle.run_tool.specs.Answers.{Answer, says}
-use Rattle.run_tool.specs.Fetches.{MayFetch}
-use Rattle.run_tool.specs.Files.{AnswersFile, AnswersRead, none_to_read}
+use Rattle.run_tool.specs.Files.{AnswersRead}
 
 -- The bytes stand for no arrivals, by this code first: they are no JSON, or their tree breaks the code's rule.
 abbrev pub RefusesArrivals : List ℕ → ArrivalCode → Type 0
@@ -25,18 +21,8 @@ RefusesArrivals text code = Tells text (Err code)
 abbrev pub arrivals_refused_line : ℕ → List ℕ
 arrivals_refused_line code = codes "arrivals refused " ++ (count_text code ++ codes "\n")
 
--- the answers to a text of arrivals, by those over arrivals: those that it stands for, or the code by which it stands for none
+-- the answers to a text of arrivals, by those over the arrivals for which it stands
 abbrev pub AnswersArrivals : (List Arrival → Answer → Type 0) → List ℕ → Answer → Type 0
-AnswersArrivals = AnswersRead (λ text arrivals. Tells text (Ok arrivals)) RefusesArrivals (λ code. says status.ArrivalsRefused (arrivals_refused_line (number_of code)))
-
--- The answers over the arrivals of a file, over a folder that tells this of its files, where `rose` says that its count of faults rose.
-abbrev pub OverArrivals : (List ℕ → Option (Option (List ℕ))) → Type 0 → List ℕ → (List Arrival → Answer → Type 0) → Answer → Type 0
-OverArrivals told rose name answers answer = AnswersFile (AnswersArrivals answers) (told name) rose answer
-
--- there are no answers over arrivals
-abbrev pub none_to_arrivals : List Arrival → Answer → Type 0
-none_to_arrivals = none_to_read
-
--- These are the arrivals of the file of that name.
-abbrev pub IsArrivalsOf : (List ℕ → Option (Option (List ℕ))) → Type 0 → List ℕ → List Arrival → Type 0
-IsArrivalsOf told rose name arrivals = (bytes : Vec ℕ Global) × MayFetch (told name) rose (Text bytes) × Tells bytes.items (Ok arrivals)
+AnswersArrivals =
+    AnswersRead (record { stands_for = λ text arrivals. Tells text (Ok arrivals); refuses = RefusesArrivals })
+    (λ text code answer. answer ≡ says status.ArrivalsRefused (arrivals_refused_line (number_of code)))

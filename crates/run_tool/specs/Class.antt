@@ -1,5 +1,5 @@
 -- The run of a class as an answer.
-use Rattle.std.specs.Prelude.{◌≡◌, ◌⊎◌, ◌==◌, ℕ, List, map, Option, if◌then◌else◌}
+use Rattle.std.specs.Prelude.{◌≡◌, ◌⊎◌, ◌==◌, ℕ, List, map, if◌then◌else◌}
 use Rattle.board_world.specs.Observations.{ByteList}
 use Rattle.board_world.specs.Board.{Board}
 use Rattle.sts_meaning.specs.Frames.{Activity}
@@ -13,13 +13,10 @@ use Rattle.class_steps.specs.Texts.{boards_now, HasWholeText}
 use Rattle.class_meaning.specs.Meaning.{HasTextCutWithin}
 use Rattle.class_radio.specs.Losses.{lost_by}
 use Rattle.class_radio.specs.Outcome.{is_panic, how_many_end}
-use Rattle.class_radio.specs.declared.run.ClassEnd.{ClassEnd}
-use Rattle.class_radio.specs.declared.run.ClassEnd.TheVariants as end
-use Rattle.run_tool.specs.declared.ending.Ending.{Ending}
-use Rattle.run_tool.specs.declared.ending.Ending.TheVariants.{Gave, Cut}
 use Rattle.run_tool.specs.declared.ending.Status.{Status}
 use Rattle.run_tool.specs.declared.ending.Status.TheVariants.{Done, Panicked, OutOfBudget}
 use Rattle.run_tool.specs.Answers.{Answer, says}
+use Rattle.run_tool.specs.Fetches.{ToldFiles}
 use Rattle.run_tool.specs.ClassFiles.{AnswersClassFile}
 use Rattle.run_tool.specs.ClassBoards.{BoardSource, OverBoards}
 
@@ -40,12 +37,6 @@ status_by panics = if panics == 0 then Done else Panicked
 abbrev pub class_status : List Board → Status
 class_status boards = status_by (how_many_end is_panic boards)
 
--- how a call ends whose class's run ended so
-abbrev pub ending_of_class : ClassEnd → Ending
-ending_of_class (end.Done panics faults) = Gave (status_by panics)
-ending_of_class (end.Budget number) = Gave OutOfBudget
-ending_of_class end.SinkFault = Cut
-
 -- The answer is a class's whole text: each board's run has ended, within so many counted steps.
 pub record RunsWhole (C : world.Class Activity Heap) (budget : ℕ) (answer : Answer) : Type 0 where
   pub text : ByteList
@@ -62,10 +53,9 @@ pub record RunsCut (C : world.Class Activity Heap) (budget : ℕ) (answer : Answ
 abbrev pub RunsClass : world.Class Activity Heap → ℕ → Answer → Type 0
 RunsClass C budget answer = RunsWhole C budget answer ⊎ RunsCut C budget answer
 
--- The answers over a class, over a folder that tells this of its files, where `rose` says that its count of faults rose.
-abbrev pub RunsFile : (List ℕ → Option (Option (List ℕ))) → Type 0 → ℕ → ClassFile → Answer → Type 0
-RunsFile told rose budget file = OverBoards told rose file.end 0 file.boards (λ boards. RunsClass (class_of_sources file boards) budget)
+-- the answers over a class, and those of `class` to a text
+abbrev pub RunsFile : ToldFiles → (budget : ℕ) → ClassFile → Answer → Type 0
+RunsFile files budget file = OverBoards files file.end 0 file.boards (λ boards. RunsClass (class_of_sources file boards) budget)
 
--- the answers of `class` to a text
-abbrev pub RunsClassText : (List ℕ → Option (Option (List ℕ))) → Type 0 → ℕ → List ℕ → Answer → Type 0
-RunsClassText told rose budget = AnswersClassFile (RunsFile told rose budget)
+abbrev pub RunsClassText : ToldFiles → (budget : ℕ) → List ℕ → Answer → Type 0
+RunsClassText files budget = AnswersClassFile (RunsFile files budget)

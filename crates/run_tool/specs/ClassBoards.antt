@@ -1,18 +1,19 @@
 -- The answers over the boards of a class: their programs and scripts, in their order.
-use Rattle.std.specs.Prelude.{◌≡◌, ◌≢◌, ◌⊎◌, ◌++◌, ℕ, suc, List, [], ◌∷◌, codes, Option, Ok}
-use Rattle.sts_base.specs.declared.refused.Code.{Code}
+use Rattle.std.specs.Prelude.{◌≡◌, ◌≢◌, ◌++◌, ℕ, suc, List, [], ◌∷◌, codes, Ok}
 use Rattle.sts_base.specs.declared.tables.Tables.{Tables}
 use Rattle.board_world.specs.Transcript.{count_text}
 use Rattle.sts_syntax.specs.TypedTrees.{TypedProgram}
 use Rattle.event_script.specs.declared.script.Script.{Script}
+use Rattle.event_script.specs.declared.script.ScriptCode.{ScriptCode}
 use Rattle.event_script.specs.Codes.{number_of}
 use Rattle.event_script.specs.Verdict.{Tells}
 use Rattle.class_file.specs.declared.class.Names.{Names}
 use Rattle.class_file.specs.declared.class.ClassCode.TheVariants.{EndDiffers}
-use Rattle.sts_whole.specs.Accepting.{Accepts, IsRefusedFor}
 use Rattle.run_tool.specs.declared.ending.Status.TheVariants as status
 use Rattle.run_tool.specs.Answers.{Answer, says, Led}
-use Rattle.run_tool.specs.Files.{AnswersFile, AnswersRead, none_to_read}
+use Rattle.run_tool.specs.Fetches.{ToldFiles}
+use Rattle.run_tool.specs.Files.{AnswersFile, AnswersRead, Reading}
+use Rattle.run_tool.specs.Programs.{programs}
 use Rattle.run_tool.specs.Refusals.{Refuses}
 use Rattle.run_tool.specs.Scripts.{RefusesScript, script_refused_line}
 use Rattle.run_tool.specs.ClassFiles.{refuses_class}
@@ -28,42 +29,43 @@ abbrev pub board_lead : ℕ → List ℕ
 board_lead b = count_text b ++ codes " "
 
 -- the answers to the text of board b's program: those to the program as which it is accepted, or its first failure behind the board's number
-abbrev pub OverBoardProgram : ℕ → (Tables → TypedProgram → Answer → Type 0) → List ℕ → Answer → Type 0
-OverBoardProgram b answers text answer =
-    ((tables : Tables) × (P : TypedProgram) × Accepts text tables P × answers tables P answer)
-    ⊎ ((code : Code) × (at : ℕ) × IsRefusedFor text code at × Led (board_lead b) (Refuses text code at) answer)
+abbrev pub OverBoardProgram : (b : ℕ) → (Tables → TypedProgram → Answer → Type 0) → List ℕ → Answer → Type 0
+OverBoardProgram b answers = AnswersRead programs (λ text cause. Led (board_lead b) (Refuses text cause.0 cause.1)) (λ read. answers read.0 read.1)
 
-abbrev pub none_to_boards : Tables → TypedProgram → Answer → Type 0
-none_to_boards tables P answer = ⊥
+-- why the text of a script doesn't serve a class: it stands for none, by this code; or for this one, which has another end than the class
+pub data Unfit : Type 0 where
+  no_script : (code : ScriptCode) → Unfit
+  other_end : (script : Script) → Unfit
 
--- the answers over a script, which is to end with the class
-abbrev pub EndsWith : ℕ → (Script → Answer → Type 0) → Script → Answer → Type 0
-EndsWith until answers script answer = ((script.end ≡ until) × answers script answer) ⊎ ((script.end ≢ until) × (answer ≡ refuses_class EndDiffers))
+abbrev pub IsUnfit : (until : ℕ) → List ℕ → Unfit → Type 0
+IsUnfit until text (no_script code) = RefusesScript text code
+IsUnfit until text (other_end script) = Tells text (Ok script) × (script.end ≢ until)
 
--- the answers to the text of board b's script: those over the one that it stands for, or behind the board's number the code by which it stands for none
+-- a text stands for a script that ends with the class, or doesn't serve it
+abbrev pub board_scripts : (until : ℕ) → Reading Script Unfit
+board_scripts until = record { stands_for = λ text script. Tells text (Ok script) × (script.end ≡ until); refuses = IsUnfit until }
+
+-- what is told of board b's script that doesn't serve: the code behind the board's number, or that the end differs
+abbrev pub TellsUnfit : (b : ℕ) → Unfit → Answer → Type 0
+TellsUnfit b (no_script code) answer = answer ≡ says status.ScriptRefused (board_lead b ++ script_refused_line (number_of code))
+TellsUnfit b (other_end script) answer = answer ≡ refuses_class EndDiffers
+
+-- the answers to the text of board b's script, by those over the script
 abbrev pub AnswersBoardScript : (b until : ℕ) → (Script → Answer → Type 0) → List ℕ → Answer → Type 0
-AnswersBoardScript b until answers =
-    AnswersRead (λ text script. Tells text (Ok script)) RefusesScript (λ code. says status.ScriptRefused (board_lead b ++ script_refused_line (number_of code))) (EndsWith until answers)
+AnswersBoardScript b until = AnswersRead (board_scripts until) (λ text. TellsUnfit b)
 
--- Over a folder that tells this of its files, where `rose` says that its count of faults rose, and a class with this end:
-module _ (told : List ℕ → Option (Option (List ℕ))) (rose : Type 0) (until : ℕ) where
+-- Over a class with this end:
+module _ (files : ToldFiles) (until : ℕ) where
   -- the answers over board b's script,
-  abbrev pub OverBoardScript : ℕ → List ℕ → (Script → Answer → Type 0) → Answer → Type 0
-  OverBoardScript b name answers answer = AnswersFile (AnswersBoardScript b until answers) (told name) rose answer
+  abbrev pub OverBoardScript : (b : ℕ) → List ℕ → (Script → Answer → Type 0) → Answer → Type 0
+  OverBoardScript b name answers = AnswersFile files name (AnswersBoardScript b until answers)
 
   -- over its program, and then its script,
-  abbrev pub OverBoard : ℕ → Names → (BoardSource → Answer → Type 0) → Answer → Type 0
-  OverBoard b names answers answer =
-      AnswersFile (OverBoardProgram b (λ tables P. OverBoardScript b names.script (λ script. answers (record { program = P; tables = tables; script = script })))) (told names.program) rose answer
+  abbrev pub OverBoard : (b : ℕ) → Names → (BoardSource → Answer → Type 0) → Answer → Type 0
+  OverBoard b names answers =
+      AnswersFile files names.program (OverBoardProgram b (λ tables P. OverBoardScript b names.script (λ script. answers (record { program = P; tables = tables; script = script }))))
 
   -- and over the boards from number b on, one after the other.
-  abbrev pub OverBoards : ℕ → List Names → (List BoardSource → Answer → Type 0) → Answer → Type 0
-  OverBoards b [] answers answer = answers [] answer
-  OverBoards b (names ∷ more) answers answer = OverBoard b names (λ board. OverBoards (suc b) more (λ boards. answers (board ∷ boards))) answer
-
--- there are no answers over a board, or over boards
-abbrev pub none_to_board : BoardSource → Answer → Type 0
-none_to_board = none_to_read
-
-abbrev pub none_to_all : List BoardSource → Answer → Type 0
-none_to_all = none_to_read
+  abbrev pub OverBoards : (b : ℕ) → List Names → (List BoardSource → Answer → Type 0) → Answer → Type 0
+  OverBoards b [] answers = answers []
+  OverBoards b (names ∷ more) answers = OverBoard b names (λ board. OverBoards (suc b) more (λ boards. answers (board ∷ boards)))

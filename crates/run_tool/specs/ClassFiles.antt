@@ -1,5 +1,5 @@
 -- The answers over the file of a class.
-use Rattle.std.specs.Prelude.{◌++◌, ℕ, List, codes, Ok, Err}
+use Rattle.std.specs.Prelude.{◌≡◌, ◌++◌, ℕ, List, codes, Ok, Err}
 use Rattle.serde_json.specs.Data.{Data}
 use Rattle.board_world.specs.Transcript.{count_text}
 use Rattle.event_script.specs.Json.{IsTree}
@@ -10,7 +10,7 @@ use Rattle.class_file.specs.Codes.{number_of}
 use Rattle.class_file.specs.Verdict.{Tells}
 use Rattle.run_tool.specs.declared.ending.Status.TheVariants as status
 use Rattle.run_tool.specs.Answers.{Answer, says}
-use Rattle.run_tool.specs.Files.{AnswersRead, none_to_read}
+use Rattle.run_tool.specs.Files.{AnswersRead, Reading}
 
 -- The bytes stand for no class, by this code first: they are no JSON, or their tree breaks the code's rule.
 abbrev pub RefusesClass : List ℕ → ClassCode → Type 0
@@ -24,10 +24,10 @@ class_refused_line code = codes "class refused " ++ (count_text code ++ codes "\
 abbrev pub refuses_class : ClassCode → Answer
 refuses_class code = says status.ClassRefused (class_refused_line (number_of code))
 
--- the answers to a text of a class, by those over a class: the one that it stands for, or the code by which it stands for none
-abbrev pub AnswersClassFile : (ClassFile → Answer → Type 0) → List ℕ → Answer → Type 0
-AnswersClassFile = AnswersRead (λ text class. Tells text (Ok class)) RefusesClass refuses_class
+-- a text stands for a class, or for none by a code
+abbrev pub classes : Reading ClassFile ClassCode
+classes = record { stands_for = λ text class. Tells text (Ok class); refuses = RefusesClass }
 
--- there are no answers over a class
-abbrev pub none_to_classes : ClassFile → Answer → Type 0
-none_to_classes = none_to_read
+-- the answers to the text of a class, by those over the class
+abbrev pub AnswersClassFile : (ClassFile → Answer → Type 0) → List ℕ → Answer → Type 0
+AnswersClassFile = AnswersRead classes (λ text code answer. answer ≡ refuses_class code)

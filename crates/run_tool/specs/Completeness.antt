@@ -6,7 +6,9 @@ use Rattle.hex_image.specs.Spells.{Spells}
 use Rattle.event_script.specs.declared.script.Script.{Script}
 use Rattle.sts_whole.specs.Accepting.{Accepts}
 use Rattle.sts_words.specs.Orders.{Asked, check_program, build_program, run_program, run_image, run_at, run_class, run_big}
-use Rattle.run_tool.specs.Fetches.{limit}
+use Rattle.sts_base.specs.Faults.{Rose}
+use Rattle.run_tool.specs.Answers.{OfSink}
+use Rattle.run_tool.specs.Fetches.{ToldFiles, limit}
 use Rattle.run_tool.specs.Big.{big_text}
 use Rattle.arrival_file.specs.declared.arrival.Arrival.{Arrival}
 use Rattle.run_tool.specs.Headline.{IsToldScript}
@@ -50,13 +52,10 @@ IsImageStatus number = (number ≡ 0) ⊎ ((number ≡ 3) ⊎ ((number ≡ 4) �
 abbrev pub MayEndWith : Asked → ℕ → Type 0
 MayEndWith (check_program name) number = number ≡ 0
 MayEndWith (build_program name) number = number ≡ 0
-MayEndWith (run_program name script budget stats image) number = IsProgramStatus number
 MayEndWith (run_image name script budget) number = IsImageStatus number
-MayEndWith (run_at name script arrivals budget) number = IsProgramStatus number
-MayEndWith (run_class name budget) number = IsProgramStatus number
-MayEndWith (run_big size budget stats) number = IsProgramStatus number
+MayEndWith other number = IsProgramStatus number
 
 -- Where the files are so, and no count of faults rose, of the folder or the sink, a call ends with such a status, or for want of memory.
-abbrev pub IsComplete : (List ℕ → Option (Option (List ℕ))) → Option Asked → (folder_rose sink_rose : Type 0) → ℕ → Type 0
-IsComplete told asked folder_rose sink_rose number =
-    (order : Asked) → asked ≡ Some order → HoldsFiles told order → ¬ folder_rose → ¬ sink_rose → MayEndWith order number ⊎ (number ≡ 30)
+abbrev pub IsComplete : ToldFiles → OfSink → Option Asked → ℕ → Type 0
+IsComplete files sink asked number =
+    (order : Asked) → asked ≡ Some order → HoldsFiles files.told order → ¬ files.rose → ¬ Rose sink.failed sink.fails → MayEndWith order number ⊎ (number ≡ 30)

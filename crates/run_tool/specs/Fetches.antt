@@ -5,19 +5,27 @@ use Rattle.sts_base.specs.Faults.{Rose}
 use Rattle.run_tool.specs.declared.fetched.Fetched.{Fetched}
 use Rattle.run_tool.specs.declared.fetched.Fetched.TheVariants.{Text, Absent, Long, Failed}
 
+-- What a folder tells of its files, by their names, where a call begins; and that its count of faults rose in the call.
+pub record ToldFiles : Type 1 where
+  pub told : List ℕ → Option (Option (List ℕ))
+  pub rose : Type 0
+
+-- the same of a folder, before and after a call, of which `holds` tells the content and `faults` how often it had failed
+abbrev pub told_by : {S : Type 0} → (S → List ℕ → Option (Option (List ℕ))) → (S → ℕ) → S → S → ToldFiles
+told_by holds faults old new = record { told = holds old; rose = Rose (faults old) (faults new) }
+
+-- a folder that tells this, and doesn't fail
+abbrev pub unfailing : (List ℕ → Option (Option (List ℕ))) → ToldFiles
+unfailing told = record { told = told; rose = ⊥ }
+
 -- the most bytes that a file may have
 abbrev pub limit : ℕ
 limit = 1048576
 
--- What a fetch may come to of a file of which the folder tells this: its bytes within the limit, that it is absent or too
--- long, or a failure where the folder's count of faults rose.
-abbrev pub MayFetch : Option (Option (List ℕ)) → Type 0 → Fetched → Type 0
-MayFetch told rose (Text bytes) = ForSome told (λ content. content ≡ Some bytes.items) × (length bytes.items ≤ limit)
-MayFetch told rose Absent = ForSome told (λ content. content ≡ None)
-MayFetch told rose Long = ForSome told (λ content. (bytes : List ℕ) × (content ≡ Some bytes) × (limit < length bytes))
-MayFetch told rose Failed = rose
-
--- What a call may come to that fetches the file of this name from a folder, of which, before and after it, `holds` tells the content and
--- `faults` how often it had failed.
-abbrev pub MayFetchFrom : {S : Type 0} → (S → List ℕ → Option (Option (List ℕ))) → (S → ℕ) → S → S → List ℕ → Fetched → Type 0
-MayFetchFrom holds faults old new name fetched = MayFetch (holds old name) (Rose (faults old) (faults new)) fetched
+-- What a fetch of the file of this name may come to: its bytes within the limit, that it is absent or too long, or a failure where the folder's
+-- count of faults rose.
+abbrev pub MayFetch : ToldFiles → List ℕ → Fetched → Type 0
+MayFetch files name (Text bytes) = ForSome (files.told name) (λ content. content ≡ Some bytes.items) × (length bytes.items ≤ limit)
+MayFetch files name Absent = ForSome (files.told name) (λ content. content ≡ None)
+MayFetch files name Long = ForSome (files.told name) (λ content. (bytes : List ℕ) × (content ≡ Some bytes) × (limit < length bytes))
+MayFetch files name Failed = files.rose

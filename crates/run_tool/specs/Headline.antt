@@ -4,7 +4,6 @@ use Rattle.std.specs.List.{list_any}
 use Rattle.sts_base.specs.declared.tables.Tables.{Tables}
 use Rattle.board_world.specs.Transcript.{lines, closing_line}
 use Rattle.board_world.specs.Board.{Board, over}
-use Rattle.board_ports.specs.Account.{Account}
 use Rattle.board_ports.specs.History.{entries_at, PlacesAfter}
 use Rattle.board_outside.specs.Ports.{words_of}
 use Rattle.sts_syntax.specs.TypedTrees.{TypedProgram}
@@ -16,11 +15,12 @@ use Rattle.board_run.specs.Ran.{world_after, IsExecuted}
 use Rattle.sts_whole.specs.Accepting.{Accepts}
 use Rattle.sts_whole.specs.Programs.{source_after}
 use Rattle.sts_words.specs.Orders.{Asked, run_program, run_big}
-use Rattle.run_tool.specs.Answers.{status_number}
-use Rattle.run_tool.specs.Fetches.{limit}
+use Rattle.sts_base.specs.Faults.{Rose}
+use Rattle.run_tool.specs.Answers.{OfSink, OfDevices, status_number}
+use Rattle.run_tool.specs.Fetches.{ToldFiles, limit}
 use Rattle.run_tool.specs.Scripts.{default_script}
 use Rattle.run_tool.specs.Big.{big_line, big_text}
-use Rattle.run_tool.specs.Run.{asked_behind}
+use Rattle.run_tool.specs.Statistics.{asked_behind}
 use Rattle.run_tool.specs.Runs.{run_status}
 
 -- A run of a program that words ask for.
@@ -47,16 +47,15 @@ AsksForRun told (Some (run_big size budget stats)) r =
     Accepts (big_text size) r.tables r.program × (r.script ≡ default_script) × (r.budget ≡ budget) × (r.lead ≡ big_line size) × (r.stats ≡ stats) × (r.image ≡ false)
 AsksForRun told other r = ⊥
 
--- What a call leaves: its status, the text that it wrote, and the devices in their places, before it and behind it.
+-- What a call leaves: its status, the text that it wrote, and the devices.
 pub record Aftermath (B : Type 0) : Type 0 where
   pub status : ℕ
   pub written : List ℕ
-  pub before : List (Option B)
-  pub behind : List (Option B)
+  pub devices : OfDevices B
 
 -- There was no memory: nothing was written, or what stands before the transcript alone, and the devices are as they were.
 abbrev pub LacksMemory : {B : Type 0} → AskedRun → Aftermath B → Type 0
-LacksMemory r a = (a.status ≡ 30) × ((a.written ≡ []) ⊎ (a.written ≡ r.lead)) × (a.behind ≡ a.before)
+LacksMemory r a = (a.status ≡ 30) × ((a.written ≡ []) ⊎ (a.written ≡ r.lead)) × (a.devices.behind ≡ a.devices.before)
 
 -- what the source of a run's program has shown after so many counted steps, the clock, and how it has ended, if it has
 abbrev pub source_board : AskedRun → ℕ → Board
@@ -65,13 +64,13 @@ source_board r steps = (source_after r.program r.tables.texts r.script steps).bo
 -- First. What was written is the transcript of the source's first counted steps: their lines, and its own closing line where it has ended by then, else the line of the budget; then what is asked for,
 -- where the number of instructions and the image are those of the second part. The steps are no more than the budget's instructions. For each n with 512 n in the budget it is the whole transcript where
 -- the source ends within n steps, else that of at least n. The status is that of the closing line. The devices have the words of what was seen, and those are gone that were unplugged.
-pub record IsTranscript {B : Type 0} (account : B → Account) (r : AskedRun) (a : Aftermath B) (steps executed : ℕ) (image : List ℕ) : Type 0 where
+pub record IsTranscript {B : Type 0} (r : AskedRun) (a : Aftermath B) (steps executed : ℕ) (image : List ℕ) : Type 0 where
   pub written : (let b = source_board r steps in a.written ≡ r.lead ++ (lines b.seen ++ (closing_line b.clock b.end ++ asked_behind r.stats r.image b executed image)))
   pub at_most : steps ≤ r.budget
   pub whole : (n : ℕ) → 512 * n ≤ r.budget → over (source_board r n) ≡ true → source_board r steps ≡ source_board r n
   pub at_least : (n : ℕ) → 512 * n ≤ r.budget → (n ≤ steps) ⊎ (over (source_board r steps) ≡ true)
   pub status : a.status ≡ status_number (run_status (source_board r steps).end)
-  pub devices : (let b = source_board r steps in PlacesAfter account (entries_at (flat_map words_of b.seen)) (λ port. list_any (λ unplug. unplug.0 == port) b.unplugged) a.before a.behind)
+  pub devices : (let b = source_board r steps in PlacesAfter a.devices.account (entries_at (flat_map words_of b.seen)) (λ port. list_any (λ unplug. unplug.0 == port) b.unplugged) a.devices.before a.devices.behind)
 
 -- Second. That is the run of an image that implements the program: for some list of free words the bank machine's run of it looks the same after the instructions executed, at which it has ended,
 -- or which are the whole budget.
@@ -82,12 +81,11 @@ pub record IsRunOfImage (r : AskedRun) (steps executed : ℕ) (image : List ℕ)
   pub is_executed : IsExecuted (world_after image r.script free) r.budget executed
   pub alike : LooksLike (source_board r steps) (world_after image r.script free executed).board
 
--- The claim, of a call with these words, over a folder that tells this of its files and devices that tell this: where no count of faults rose, of the folder or the sink, and the sink tells what it
--- has taken, the call leaves want of memory, or the transcript of the program's source, and that is the run of an image.
-abbrev pub Headline : {B : Type 0} → (B → Account) → (List ℕ → Option (Option (List ℕ))) → Option Asked → (folder_rose sink_rose : Type 0)
-    → (taken taken' : Option (List ℕ)) → (places places' : List (Option B)) → ℕ → Type 0
-Headline {B} account told asked folder_rose sink_rose taken taken' places places' number =
-    (r : AskedRun) → AsksForRun told asked r → ¬ folder_rose → ¬ sink_rose → (had : List ℕ) → taken ≡ Some had
-    → (written : List ℕ) × (taken' ≡ Some (had ++ written))
-    × (let a : Aftermath B = record { status = number; written = written; before = places; behind = places' } in
-    LacksMemory r a ⊎ ((steps executed : ℕ) × (image : List ℕ) × IsTranscript account r a steps executed image × IsRunOfImage r steps executed image))
+-- The claim, of a call with these words: where no count of faults rose, of the folder or the sink, and the sink tells what it has taken, the call leaves want of memory, or the transcript of the
+-- program's source, and that is the run of an image.
+abbrev pub Headline : {B : Type 0} → ToldFiles → OfSink → OfDevices B → Option Asked → ℕ → Type 0
+Headline {B} files sink devices asked number =
+    (r : AskedRun) → AsksForRun files.told asked r → ¬ files.rose → ¬ Rose sink.failed sink.fails → (had : List ℕ) → sink.had ≡ Some had
+    → (written : List ℕ) × (sink.has ≡ Some (had ++ written))
+    × (let a : Aftermath B = record { status = number; written = written; devices = devices } in
+    LacksMemory r a ⊎ ((steps executed : ℕ) × (image : List ℕ) × IsTranscript r a steps executed image × IsRunOfImage r steps executed image))

@@ -17,10 +17,10 @@ use Rattle.arrival_file.specs.declared.arrival.Arrival.{Arrival}
 use Rattle.irq_arrival.specs.SourceRuns.{source_at}
 use Rattle.sts_whole.specs.Accepting.{Accepts}
 use Rattle.sts_words.specs.Orders.{Asked, run_at}
-use Rattle.run_tool.specs.Answers.{status_number}
-use Rattle.run_tool.specs.Fetches.{limit}
+use Rattle.sts_base.specs.Faults.{Rose}
+use Rattle.run_tool.specs.Answers.{OfSink, OfDevices, status_number}
+use Rattle.run_tool.specs.Fetches.{ToldFiles, limit}
 use Rattle.run_tool.specs.Runs.{run_status}
-use Rattle.board_ports.specs.Account.{Account}
 
 -- a file of which the folder tells these bytes, within the limit
 abbrev pub IsTold : (List ℕ → Option (Option (List ℕ))) → List ℕ → List ℕ → Type 0
@@ -54,18 +54,16 @@ pub record ComesSoFar (P : TypedProgram) (texts : List ByteList) (read : Script)
   pub met : HasMet moves (source_at P texts read places steps).board
 
 -- Its transcript is written, the devices have met what it has met, and the status is that of its end: 0, 3 or 4.
-pub record WritesAt {B : Type 0} (account : B → Account) (taken taken' : Option (List ℕ)) (places places' : List (Option B))
-    (P : TypedProgram) (texts : List ByteList) (read : Script) (come : List Arrival) (budget number : ℕ) : Type 0 where
+pub record WritesAt {B : Type 0} (sink : OfSink) (devices : OfDevices B) (P : TypedProgram) (texts : List ByteList) (read : Script) (come : List Arrival) (budget number : ℕ) : Type 0 where
   pub comes : ComesSoFar P texts read come budget
-  pub written : Took taken taken' (transcript_of (source_at P texts read comes.places comes.steps).board)
-  pub devices : DevicesAfter account comes.moves places places'
+  pub written : Took sink.had sink.has (transcript_of (source_at P texts read comes.places comes.steps).board)
+  pub met : DevicesAfter devices.account comes.moves devices.before devices.behind
   pub status : number ≡ status_number (run_status (source_at P texts read comes.places comes.steps).board.end)
   pub ended : (number ≡ 0) ⊎ ((number ≡ 3) ⊎ (number ≡ 4))
 
 -- For words that ask for it, over files that are told, and where no count of faults rose: there was no memory, and nothing was written and no device changed; or that.
-abbrev pub HeadlineAt : {B : Type 0} → (B → Account) → (told : List ℕ → Option (Option (List ℕ))) → Option Asked → (folder_rose sink_rose : Type 0)
-    → (taken taken' : Option (List ℕ)) → (places places' : List (Option B)) → (number : ℕ) → Type 0
-HeadlineAt account told asked folder_rose sink_rose taken taken' places places' number =
+abbrev pub HeadlineAt : {B : Type 0} → ToldFiles → OfSink → OfDevices B → Option Asked → ℕ → Type 0
+HeadlineAt files sink devices asked number =
     (name script_name arrivals_name : List ℕ) (budget : ℕ) (tables : Tables) (P : TypedProgram) (read : Script) (come : List Arrival)
-    → asked ≡ Some (run_at name script_name arrivals_name budget) → AreTold told name script_name arrivals_name tables P read come → ¬ folder_rose → ¬ sink_rose
-    → ((number ≡ 30) × Took taken taken' [] × (places' ≡ places)) ⊎ WritesAt account taken taken' places places' P tables.texts read come budget number
+    → asked ≡ Some (run_at name script_name arrivals_name budget) → AreTold files.told name script_name arrivals_name tables P read come → ¬ files.rose → ¬ Rose sink.failed sink.fails
+    → ((number ≡ 30) × Took sink.had sink.has [] × (devices.behind ≡ devices.before)) ⊎ WritesAt sink devices P tables.texts read come budget number

@@ -15,6 +15,9 @@ use Rattle.class_meaning.specs.Meaning.{HasTextCutWithin}
 use Rattle.class_radio.specs.Outcome.{is_panic, how_many_end}
 use Rattle.sts_whole.specs.Accepting.{Accepts}
 use Rattle.sts_words.specs.Orders.{Asked, run_class}
+use Rattle.sts_base.specs.Faults.{Rose}
+use Rattle.run_tool.specs.Answers.{OfSink, OfDevices}
+use Rattle.run_tool.specs.Fetches.{ToldFiles}
 use Rattle.run_tool.specs.HeadlineAt.{IsTold}
 use Rattle.run_tool.specs.ClassBoards.{BoardSource}
 use Rattle.run_tool.specs.Class.{class_of_sources}
@@ -47,10 +50,10 @@ pub record WritesCut (C : Class Activity Heap) (budget : ℕ) (text : ByteList) 
   pub has : HasTextCutWithin C 512 budget text
   pub status : number ≡ 4
 
--- The claim, of a call with these words, over a folder that tells this of its files, for a class that is told: where no count of faults rose, of the folder or the sink, no device changed; and there was no memory,
--- and nothing was written; or one of the two was.
-abbrev pub HeadlineClass : {B : Type 0} → (told : List ℕ → Option (Option (List ℕ))) → Option Asked → (folder_rose sink_rose : Type 0) → (taken taken' : Option (List ℕ)) → (places places' : List (Option B)) → (number : ℕ) → Type 0
-HeadlineClass told asked folder_rose sink_rose taken taken' places places' number =
-    (name : List ℕ) (budget : ℕ) (file : ClassFile) (boards : List BoardSource) → asked ≡ Some (run_class name budget) → IsToldClass told name file boards → ¬ folder_rose → ¬ sink_rose
-    → (places' ≡ places) × (((number ≡ 30) × Took taken taken' [])
-    ⊎ ((text : ByteList) × Took taken taken' text × (WritesWhole (class_of_sources file boards) budget text number ⊎ WritesCut (class_of_sources file boards) budget text number)))
+-- The claim, of a call with these words, for a class that is told: where no count of faults rose, of the folder or the sink, no device changed; and there was no memory, and nothing was written; or one of
+-- the two was.
+abbrev pub HeadlineClass : {B : Type 0} → ToldFiles → OfSink → OfDevices B → Option Asked → ℕ → Type 0
+HeadlineClass files sink devices asked number =
+    (name : List ℕ) (budget : ℕ) (file : ClassFile) (boards : List BoardSource) → asked ≡ Some (run_class name budget) → IsToldClass files.told name file boards → ¬ files.rose → ¬ Rose sink.failed sink.fails
+    → (devices.behind ≡ devices.before) × (((number ≡ 30) × Took sink.had sink.has [])
+    ⊎ ((text : ByteList) × Took sink.had sink.has text × (WritesWhole (class_of_sources file boards) budget text number ⊎ WritesCut (class_of_sources file boards) budget text number)))

@@ -6,6 +6,7 @@ pub mod Refusals
 pub mod Programs
 pub mod Check
 pub mod Build
+pub mod Statistics
 pub mod Run
 pub mod Scripts
 pub mod Runs
@@ -14,7 +15,6 @@ pub mod RunAt
 pub mod RunHex
 pub mod ClassFiles
 pub mod ClassBoards
-pub mod ClassReady
 pub mod Class
 pub mod Orders
 pub mod Headline
@@ -23,3 +23,4 @@ pub mod Wanted
 pub mod Laws
 pub mod HeadlineAt
 pub mod HeadlineClass
+pub mod inner

@@ -1,5 +1,5 @@
 -- The run of a program with arrivals as an answer.
-use Rattle.std.specs.Prelude.{◌≡◌, ℕ, List, Option, Some}
+use Rattle.std.specs.Prelude.{◌≡◌, ℕ, List, Some}
 use Rattle.board_world.specs.Observations.{ByteList}
 use Rattle.board_world.specs.Transcript.{closing_line}
 use Rattle.board_world.specs.Board.{Board}
@@ -11,8 +11,10 @@ use Rattle.sts_implements.specs.Images.{ImageImplements}
 use Rattle.irq_arrival.specs.SourceRuns.{source_at, MeetsAt}
 use Rattle.run_tool.specs.Answers.{Answer, runs}
 use Rattle.run_tool.specs.Runs.{run_status}
+use Rattle.run_tool.specs.Fetches.{ToldFiles}
+use Rattle.run_tool.specs.Files.{AnswersFile}
 use Rattle.run_tool.specs.Scripts.{OverScript}
-use Rattle.run_tool.specs.Arrivals.{OverArrivals}
+use Rattle.run_tool.specs.Arrivals.{AnswersArrivals}
 use Rattle.run_tool.specs.Programs.{OverProgram}
 
 -- The answer is the run of a program on a script, with arrivals, within a budget of instructions: what the program's source has met after some counted steps, where each arrival that
@@ -24,14 +26,14 @@ pub record RunsProgramAt (P : TypedProgram) (texts : List ByteList) (script : Sc
   pub meets : MeetsAt P texts image script (world_arrivals arrivals) budget
   pub is : (let b : Board = (source_at P texts script meets.places meets.steps).board in answer ≡ runs (run_status b.end) meets.moves (closing_line b.clock b.end))
 
--- The answers over a script, over a folder that tells this of its files, where `rose` says that its count of faults rose: the run of the program with the arrivals that are named.
-abbrev pub RunsOnScript : (List ℕ → Option (Option (List ℕ))) → Type 0 → (arrivals : List ℕ) → (budget : ℕ) → TypedProgram → List ByteList → Script → Answer → Type 0
-RunsOnScript told rose arrivals budget P texts script = OverArrivals told rose arrivals (λ come. RunsProgramAt P texts script come budget)
+-- the answers over a script: the run of the program with the arrivals that are named
+abbrev pub RunsOnScript : ToldFiles → (arrivals : List ℕ) → (budget : ℕ) → TypedProgram → List ByteList → Script → Answer → Type 0
+RunsOnScript files arrivals budget P texts script = AnswersFile files arrivals (AnswersArrivals (λ come. RunsProgramAt P texts script come budget))
 
 -- the same over the script that is named
-abbrev pub RunsOutside : (List ℕ → Option (Option (List ℕ))) → Type 0 → (script arrivals : List ℕ) → (budget : ℕ) → TypedProgram → List ByteList → Answer → Type 0
-RunsOutside told rose script arrivals budget P texts = OverScript told rose (Some script) (RunsOnScript told rose arrivals budget P texts)
+abbrev pub RunsOutside : ToldFiles → (script arrivals : List ℕ) → (budget : ℕ) → TypedProgram → List ByteList → Answer → Type 0
+RunsOutside files script arrivals budget P texts = OverScript files (Some script) (RunsOnScript files arrivals budget P texts)
 
 -- the answers of `run-at` to a text
-abbrev pub RunsTextAt : (List ℕ → Option (Option (List ℕ))) → Type 0 → (script arrivals : List ℕ) → (budget : ℕ) → List ℕ → Answer → Type 0
-RunsTextAt told rose script arrivals budget = OverProgram (RunsOutside told rose script arrivals budget)
+abbrev pub RunsTextAt : ToldFiles → (script arrivals : List ℕ) → (budget : ℕ) → List ℕ → Answer → Type 0
+RunsTextAt files script arrivals budget = OverProgram (RunsOutside files script arrivals budget)

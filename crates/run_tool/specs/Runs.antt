@@ -5,11 +5,7 @@ use Rattle.board_world.specs.Transcript.{closing_line}
 use Rattle.board_world.specs.Board.{Board}
 use Rattle.event_script.specs.declared.script.Script.{Script as EventScript}
 use Rattle.board_outside.specs.Moves.{Move, HasMet}
-use Rattle.board_run.specs.declared.end.End.{End as RunEnding}
-use Rattle.board_run.specs.declared.end.End.TheVariants.{Quiet, Script, Panic, Budget, Fault, SinkFault}
 use Rattle.board_run.specs.Ran.{world_after, IsExecuted}
-use Rattle.run_tool.specs.declared.ending.Ending.{Ending}
-use Rattle.run_tool.specs.declared.ending.Ending.TheVariants.{Gave, Cut}
 use Rattle.run_tool.specs.declared.ending.Status.{Status}
 use Rattle.run_tool.specs.declared.ending.Status.TheVariants as status
 use Rattle.run_tool.specs.Answers.{Answer, runs}
@@ -21,15 +17,6 @@ run_status (Some Quietly) = status.Done
 run_status (Some By_script) = status.Done
 run_status (Some (Panicked code)) = status.Panicked
 run_status (Some (Faulted kind address)) = status.Faulted
-
--- how a call ends whose run ended so
-abbrev pub ending_of : RunEnding → Ending
-ending_of Quiet = Gave status.Done
-ending_of Script = Gave status.Done
-ending_of (Panic code) = Gave status.Panicked
-ending_of (Fault fault address) = Gave status.Faulted
-ending_of Budget = Gave status.OutOfBudget
-ending_of SinkFault = Cut
 
 -- The answer is the run of an image on a script within a budget of instructions: for some list of free words what the bank machine's world has met
 -- after the instructions executed, and its closing line, with the status of the run's end.

@@ -9,12 +9,9 @@ use Rattle.event_script.specs.Codes.{number_of}
 use Rattle.event_script.specs.Json.{IsTree}
 use Rattle.event_script.specs.Verdict.{Tells}
 use Rattle.run_tool.specs.declared.ending.Status.TheVariants as status
-use Rattle.run_tool.specs.declared.fetched.Fetched.TheVariants.{Text}
-use Rattle.std.specs.declared.vec.Vec.{Vec}
-use Rattle.std.specs.declared.alloc.Global.{Global}
 use Rattle.run_tool.specs.Answers.{Answer, says}
-use Rattle.run_tool.specs.Fetches.{MayFetch}
-use Rattle.run_tool.specs.Files.{AnswersFile, AnswersRead, none_to_read}
+use Rattle.run_tool.specs.Files.{AnswersFile, AnswersRead, Reading}
+use Rattle.run_tool.specs.Fetches.{ToldFiles}
 
 -- the script where none is named: it has no entries, and ends at 1000 ms
 abbrev pub default_script : Script
@@ -29,20 +26,15 @@ RefusesScript text code = Tells text (Err code)
 abbrev pub script_refused_line : ℕ → List ℕ
 script_refused_line code = codes "script refused " ++ (count_text code ++ codes "\n")
 
--- the answers to a text of a script, by those over a script: the script that it stands for, or the code by which it stands for none
+-- a text stands for a script, or for none by a code
+abbrev pub scripts : Reading Script ScriptCode
+scripts = record { stands_for = λ text script. Tells text (Ok script); refuses = RefusesScript }
+
+-- the answers to the text of a script, by those over the script
 abbrev pub AnswersScript : (Script → Answer → Type 0) → List ℕ → Answer → Type 0
-AnswersScript = AnswersRead (λ text script. Tells text (Ok script)) RefusesScript (λ code. says status.ScriptRefused (script_refused_line (number_of code)))
+AnswersScript = AnswersRead scripts (λ text code answer. answer ≡ says status.ScriptRefused (script_refused_line (number_of code)))
 
--- The answers where a script's file may be named, over a folder that tells this of its files, where `rose` says that its count of faults rose.
-abbrev pub OverScript : (List ℕ → Option (Option (List ℕ))) → Type 0 → Option (List ℕ) → (Script → Answer → Type 0) → Answer → Type 0
-OverScript told rose None answers answer = answers default_script answer
-OverScript told rose (Some name) answers answer = AnswersFile (AnswersScript answers) (told name) rose answer
-
--- there are no answers over a script
-abbrev pub none_to_scripts : Script → Answer → Type 0
-none_to_scripts = none_to_read
-
--- This is the script: the one of no name, or the one that the file of the name stands for.
-abbrev pub IsScriptOf : (List ℕ → Option (Option (List ℕ))) → Type 0 → Option (List ℕ) → Script → Type 0
-IsScriptOf told rose None script = script ≡ default_script
-IsScriptOf told rose (Some name) script = (bytes : Vec ℕ Global) × MayFetch (told name) rose (Text bytes) × Tells bytes.items (Ok script)
+-- the answers over the script whose file is named, or over the one of no name
+abbrev pub OverScript : ToldFiles → Option (List ℕ) → (Script → Answer → Type 0) → Answer → Type 0
+OverScript files None answers = answers default_script
+OverScript files (Some name) answers = AnswersFile files name (AnswersScript answers)

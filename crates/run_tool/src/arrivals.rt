@@ -6,10 +6,14 @@ ghost use Rattle.arrival_file.specs.Codes.{number_of};
 ghost use Rattle.arrival_file.specs.Sound.{IsSound};
 ghost use Rattle.arrival_file.specs.Verdict.{Tells};
 ghost use Rattle.run_tool.specs.declared.ending.Status.TheVariants as status;
-ghost use Rattle.run_tool.specs.Answers.{GivesOneOf, says};
-ghost use Rattle.run_tool.specs.Files.{OverFile};
-ghost use Rattle.run_tool.specs.Arrivals.{AnswersArrivals, IsArrivalsOf, none_to_arrivals, arrivals_refused_line};
+ghost use Rattle.run_tool.specs.Answers.{says};
+ghost use Rattle.run_tool.specs.inner.Giving.{GivesOneOf};
+ghost use Rattle.run_tool.specs.inner.Handed.{IsArrivalsOf};
+ghost use Rattle.run_tool.specs.Arrivals.{AnswersArrivals, arrivals_refused_line};
+ghost use Rattle.run_tool.specs.inner.Nothing.{none_to_read};
 ghost use Rattle.run_tool.specs.Wanted.{HasAsked, WantsFile, none_behind};
+ghost use Rattle.run_tool.specs.Fetches.{told_by};
+ghost use Rattle.run_tool.specs.Files.{AnswersFile};
 
 use crate::ending::{Ending, Status};
 use crate::fetched::text_of;
@@ -43,7 +47,7 @@ fn arrivals_in<K: Sink>(alloc: Global, text: &[u8], out: &mut K) -> Result<Seq<A
     ensures arrivals { IfOk result (λ arrivals. Tells text.now (Ok arrivals)) }
     ensures sound { IfOk result IsSound }
     ensures unwritten { OnOk result (K.taken out.new ≡ K.taken out.old) }
-    ensures none { IfErr result (GivesOneOf K.taken K.faults out.old out.new (AnswersArrivals none_to_arrivals text.now)) }
+    ensures none { IfErr result (GivesOneOf K.taken K.faults out.old out.new (AnswersArrivals none_to_read text.now)) }
     ensures later { K.faults out.old ≤ K.faults out.new }
 {
     match read_arrivals(alloc, text) {
@@ -60,11 +64,11 @@ pub fn arrivals_of<F: Folder, K: Sink>(
     folder: &mut F,
     out: &mut K,
 ) -> Result<Seq<Arrival>, Ending>
-    ensures arrivals { IfOk result (IsArrivalsOf (F.holds folder.old) (Rose (F.faults folder.old) (F.faults folder.new)) name.now) }
+    ensures arrivals { IfOk result (IsArrivalsOf (told_by F.holds F.faults folder.old folder.new) name.now) }
     ensures sound { IfOk result IsSound }
     ensures unwritten { OnOk result (K.taken out.new ≡ K.taken out.old) }
-    ensures none { IfErr result (GivesOneOf K.taken K.faults out.old out.new (OverFile F.holds F.faults folder.old folder.new name.now (AnswersArrivals none_to_arrivals))) }
-    ensures asked { HasAsked F.asked folder.old folder.new (WantsFile (F.holds folder.old) (Rose (F.faults folder.old) (F.faults folder.new)) (IsErrOf result Ending.NoMemory) name.now none_behind) }
+    ensures none { IfErr result (GivesOneOf K.taken K.faults out.old out.new (AnswersFile (told_by F.holds F.faults folder.old folder.new) name.now (AnswersArrivals none_to_read))) }
+    ensures asked { HasAsked F.asked folder.old folder.new (WantsFile (told_by F.holds F.faults folder.old folder.new) (IsErrOf result Ending.NoMemory) name.now none_behind) }
     ensures folder_later { F.faults folder.old ≤ F.faults folder.new }
     ensures later { K.faults out.old ≤ K.faults out.new }
 {

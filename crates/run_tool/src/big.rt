@@ -7,9 +7,11 @@ ghost use Rattle.sts_syntax.specs.TypedTrees.{TypedProgram};
 ghost use Rattle.sts_whole.specs.Accepting as accepting;
 ghost use Rattle.sts_implements.specs.Images.{ImageImplements};
 ghost use Rattle.sts_words.specs.Orders.{IsBudget};
-ghost use Rattle.run_tool.specs.Answers.{Concludes, GivesOneOf, Led};
+ghost use Rattle.run_tool.specs.Answers.{Concludes, Led, of_devices, of_sink};
+ghost use Rattle.run_tool.specs.inner.Giving.{GivesOneOf};
 ghost use Rattle.run_tool.specs.Big as spec;
-ghost use Rattle.run_tool.specs.Programs.{OverProgram, none_to_programs};
+ghost use Rattle.run_tool.specs.Programs.{OverProgram};
+ghost use Rattle.run_tool.specs.inner.Nothing.{none_to_programs};
 ghost use Rattle.run_tool.specs.Refusals.{Refuses};
 ghost use Rattle.run_tool.specs.Run.{RunsProgram};
 ghost use Rattle.run_tool.specs.Scripts.{default_script};
@@ -149,7 +151,7 @@ fn run_big<K: Sink, D: Device>(
     requires size { vec_len image ≤ flash_end }
     requires budget { IsBudget manner.budget }
     ensures { (P : TypedProgram) (texts : List ByteList) → ImageImplements P texts image.items
-        → Concludes K.taken K.faults out.old out.new D.account places.old.items places.new.items (spec.big_line size) (RunsProgram P texts default_script manner.budget manner.stats manner.image) result }
+        → Concludes (of_sink K.taken K.faults out.old out.new) (of_devices D.account places.old.items places.new.items) (spec.big_line size) (RunsProgram P texts default_script manner.budget manner.stats manner.image) result }
 {
     match put_big_line(out, size) {
         Ok(()) => run_program(alloc, image, default_script(alloc), manner, out, places),
@@ -167,7 +169,7 @@ fn big_of<K: Sink, D: Device>(
     places: &mut Vec<Option<D>>,
 ) -> Ending
     requires budget { IsBudget manner.budget }
-    ensures { Concludes K.taken K.faults out.old out.new D.account places.old.items places.new.items (spec.big_line size)
+    ensures { Concludes (of_sink K.taken K.faults out.old out.new) (of_devices D.account places.old.items places.new.items) (spec.big_line size)
         (OverProgram (λ P texts. RunsProgram P texts default_script manner.budget manner.stats manner.image) text.now) result }
 {
     match build(alloc, text) {
@@ -187,7 +189,7 @@ pub fn big<K: Sink, D: Device>(
     requires least { 1 ≤ size }
     requires most { size ≤ 200 }
     requires budget { IsBudget manner.budget }
-    ensures { Concludes K.taken K.faults out.old out.new D.account places.old.items places.new.items (spec.big_line size)
+    ensures { Concludes (of_sink K.taken K.faults out.old out.new) (of_devices D.account places.old.items places.new.items) (spec.big_line size)
         (OverProgram (λ P texts. RunsProgram P texts default_script manner.budget manner.stats manner.image) (spec.big_text size)) result }
 {
     match big_text(alloc, size) {

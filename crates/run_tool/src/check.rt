@@ -1,10 +1,12 @@
 // The command `check`.
 ghost use Rattle.std.specs.Prelude.{◌≡◌, ◌≤◌};
 ghost use Rattle.sts_base.specs.Faults.{Rose};
-ghost use Rattle.run_tool.specs.Answers.{GivesOneOf};
+ghost use Rattle.run_tool.specs.inner.Giving.{GivesOneOf};
 ghost use Rattle.run_tool.specs.Check.{ChecksText};
-ghost use Rattle.run_tool.specs.Files.{OverFile};
-ghost use Rattle.run_tool.specs.Wanted.{FoundNoMemory, HasAsked, WantsFile, none_behind};
+ghost use Rattle.run_tool.specs.inner.Handed.{FoundNoMemory};
+ghost use Rattle.run_tool.specs.Wanted.{HasAsked, WantsFile, none_behind};
+ghost use Rattle.run_tool.specs.Fetches.{told_by};
+ghost use Rattle.run_tool.specs.Files.{AnswersFile};
 
 use crate::ending::{Ending, Status};
 use crate::fetched::text_of;
@@ -26,9 +28,9 @@ fn check_text<K: Sink>(alloc: Global, text: &[u8], out: &mut K) -> Ending
 
 /// The command `check`.
 pub fn check<F: Folder, K: Sink>(alloc: Global, name: &str, folder: &mut F, out: &mut K) -> Ending
-    ensures answer { GivesOneOf K.taken K.faults out.old out.new (OverFile F.holds F.faults folder.old folder.new name.now ChecksText) result }
+    ensures answer { GivesOneOf K.taken K.faults out.old out.new (AnswersFile (told_by F.holds F.faults folder.old folder.new) name.now ChecksText) result }
     ensures asked { HasAsked F.asked folder.old folder.new
-        (WantsFile (F.holds folder.old) (Rose (F.faults folder.old) (F.faults folder.new)) (FoundNoMemory result) name.now none_behind) }
+        (WantsFile (told_by F.holds F.faults folder.old folder.new) (FoundNoMemory result) name.now none_behind) }
     ensures folder_later { F.faults folder.old ≤ F.faults folder.new }
 {
     match text_of(alloc, name, folder, out) {

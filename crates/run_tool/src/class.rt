@@ -6,12 +6,16 @@ ghost use Rattle.board_world.specs.Simulation.{Paired};
 ghost use Rattle.class_file.specs.Within.{AreTexts, IsWithinForm};
 ghost use Rattle.class_radio.specs.Outcome.{setups_of};
 ghost use Rattle.sts_words.specs.Orders.{IsBudget};
-ghost use Rattle.run_tool.specs.Answers.{GivesOneOf};
-ghost use Rattle.run_tool.specs.Files.{OverFile};
+ghost use Rattle.run_tool.specs.inner.Giving.{GivesOneOf};
+ghost use Rattle.run_tool.specs.inner.Handed.{FoundNoMemory};
 ghost use Rattle.run_tool.specs.ClassBoards.{BoardSource};
-ghost use Rattle.run_tool.specs.ClassReady.{CanRun, IsBuiltAs};
-ghost use Rattle.run_tool.specs.Class.{RunsClass, RunsFile, RunsClassText, class_of_sources, ending_of_class};
-ghost use Rattle.run_tool.specs.Wanted.{FoundNoMemory, HasAsked, OrLacks, WantsBoards, WantsClass, WantsFile, wants_none};
+ghost use Rattle.run_tool.specs.inner.ClassReady.{CanRun, IsBuiltAs};
+ghost use Rattle.run_tool.specs.Class.{RunsClass, RunsFile, RunsClassText, class_of_sources};
+ghost use Rattle.run_tool.specs.inner.Finishing.{ending_of_class};
+ghost use Rattle.run_tool.specs.Wanted.{HasAsked, OrLacks, WantsBoards, WantsFile, wants_none, Onwards};
+ghost use Rattle.run_tool.specs.Fetches.{told_by};
+ghost use Rattle.run_tool.specs.Files.{AnswersFile};
+ghost use Rattle.run_tool.specs.ClassFiles.{classes};
 
 use crate::class_boards::{Boards, boards_of};
 use crate::classes::class_in;
@@ -70,7 +74,7 @@ fn run_boards<K: Sink>(
     }
 }
 
-/// IsBuiltAs the boards of a class ready, and runs them.
+/// Makes the boards of a class ready, and runs them.
 fn run_file<F: Folder, K: Sink>(
     alloc: Global,
     class: ClassFile,
@@ -81,9 +85,9 @@ fn run_file<F: Folder, K: Sink>(
     requires within { IsWithinForm class }
     requires texts { All AreTexts class.boards }
     requires budget { IsBudget budget }
-    ensures answer { GivesOneOf K.taken K.faults out.old out.new (RunsFile (F.holds folder.old) (Rose (F.faults folder.old) (F.faults folder.new)) budget class) result }
+    ensures answer { GivesOneOf K.taken K.faults out.old out.new (RunsFile (told_by F.holds F.faults folder.old folder.new) budget class) result }
     ensures asked { HasAsked F.asked folder.old folder.new
-        (WantsBoards (F.holds folder.old) (Rose (F.faults folder.old) (F.faults folder.new)) (FoundNoMemory result) class.end class.boards wants_none) }
+        (WantsBoards (told_by F.holds F.faults folder.old folder.new) (FoundNoMemory result) class.end class.boards wants_none) }
     ensures folder_later { F.faults folder.old ≤ F.faults folder.new }
 {
     match boards_of(alloc, class.end, class.boards.as_slice(), folder, out) {
@@ -101,9 +105,9 @@ fn run_text<F: Folder, K: Sink>(
     out: &mut K,
 ) -> Ending
     requires budget { IsBudget budget }
-    ensures answer { GivesOneOf K.taken K.faults out.old out.new (RunsClassText (F.holds folder.old) (Rose (F.faults folder.old) (F.faults folder.new)) budget text.now) result }
+    ensures answer { GivesOneOf K.taken K.faults out.old out.new (RunsClassText (told_by F.holds F.faults folder.old folder.new) budget text.now) result }
     ensures asked { HasAsked F.asked folder.old folder.new
-        (OrLacks (FoundNoMemory result) (WantsClass (F.holds folder.old) (Rose (F.faults folder.old) (F.faults folder.new)) (FoundNoMemory result) text.now)) }
+        (OrLacks (FoundNoMemory result) (Onwards classes (λ file. WantsBoards (told_by F.holds F.faults folder.old folder.new) (FoundNoMemory result) file.end file.boards wants_none) text.now)) }
     ensures folder_later { F.faults folder.old ≤ F.faults folder.new }
 {
     match class_in(alloc, text, out) {
@@ -121,10 +125,10 @@ pub fn class<F: Folder, K: Sink>(
     out: &mut K,
 ) -> Ending
     requires budget { IsBudget budget }
-    ensures answer { GivesOneOf K.taken K.faults out.old out.new (OverFile F.holds F.faults folder.old folder.new name.now
-        (RunsClassText (F.holds folder.old) (Rose (F.faults folder.old) (F.faults folder.new)) budget)) result }
+    ensures answer { GivesOneOf K.taken K.faults out.old out.new (AnswersFile (told_by F.holds F.faults folder.old folder.new) name.now
+        (RunsClassText (told_by F.holds F.faults folder.old folder.new) budget)) result }
     ensures asked { HasAsked F.asked folder.old folder.new
-        (WantsFile (F.holds folder.old) (Rose (F.faults folder.old) (F.faults folder.new)) (FoundNoMemory result) name.now (WantsClass (F.holds folder.old) (Rose (F.faults folder.old) (F.faults folder.new)) (FoundNoMemory result))) }
+        (WantsFile (told_by F.holds F.faults folder.old folder.new) (FoundNoMemory result) name.now (Onwards classes (λ file. WantsBoards (told_by F.holds F.faults folder.old folder.new) (FoundNoMemory result) file.end file.boards wants_none))) }
     ensures folder_later { F.faults folder.old ≤ F.faults folder.new }
 {
     match text_of(alloc, name, folder, out) {

@@ -11,14 +11,19 @@ ghost use Rattle.event_script.specs.Verdict.{Tells};
 ghost use Rattle.class_file.specs.Within.{AreTexts};
 ghost use Rattle.class_file.specs.declared.class.ClassCode.TheVariants as class_code;
 ghost use Rattle.run_tool.specs.declared.ending.Status.TheVariants as status;
-ghost use Rattle.run_tool.specs.Answers.{GivesOneOf, Led, says};
-ghost use Rattle.run_tool.specs.Files.{AnswersFile, none_to_read};
+ghost use Rattle.run_tool.specs.Answers.{Led, says};
+ghost use Rattle.run_tool.specs.inner.Giving.{GivesOneOf};
+ghost use Rattle.run_tool.specs.Files.{AnswersFile};
+ghost use Rattle.run_tool.specs.inner.Nothing.{none_to_read, none_to_boards};
 ghost use Rattle.run_tool.specs.Refusals.{Refuses};
-ghost use Rattle.run_tool.specs.Scripts.{none_to_scripts, script_refused_line};
+ghost use Rattle.run_tool.specs.Scripts.{script_refused_line};
 ghost use Rattle.run_tool.specs.ClassFiles.{refuses_class};
-ghost use Rattle.run_tool.specs.ClassBoards.{OverBoardProgram, OverBoardScript, OverBoard, OverBoards, AnswersBoardScript, board_lead, none_to_boards, none_to_board, none_to_all};
-ghost use Rattle.run_tool.specs.ClassReady.{IsImageOf, IsBoardScript, HasScript, HasAdded, AreReady};
-ghost use Rattle.run_tool.specs.Wanted.{FoundNoMemory, HasAsked, WantsBoardScript, WantsBoards, WantsProgram, names_of_boards, wants_never};
+ghost use Rattle.run_tool.specs.ClassBoards.{OverBoardProgram, OverBoardScript, OverBoard, OverBoards, AnswersBoardScript, board_lead, board_scripts};
+ghost use Rattle.run_tool.specs.inner.ClassReady.{IsImageOf, IsBoardScript, HasScript, HasAdded, AreReady};
+ghost use Rattle.run_tool.specs.Wanted.{HasAsked, WantsBoards, Onwards, WantsFile};
+ghost use Rattle.run_tool.specs.inner.Handed.{FoundNoMemory, names_of_boards, wants_never};
+ghost use Rattle.run_tool.specs.Fetches.{told_by};
+ghost use Rattle.run_tool.specs.Programs.{programs};
 
 use crate::classes::say_class_refused;
 use crate::ending::{Ending, Status};
@@ -107,13 +112,13 @@ fn image_of<F: Folder, K: Sink>(
     folder: &mut F,
     out: &mut K,
 ) -> Result<Vec<u8>, Ending>
-    ensures image { IfOk result (λ image. IsImageOf (F.holds folder.old) (Rose (F.faults folder.old) (F.faults folder.new)) name.now image.items) }
+    ensures image { IfOk result (λ image. IsImageOf (told_by F.holds F.faults folder.old folder.new) name.now image.items) }
     ensures unwritten { OnOk result (K.taken out.new ≡ K.taken out.old) }
     ensures none { IfErr result (GivesOneOf K.taken K.faults out.old out.new
-        (AnswersFile (OverBoardProgram number none_to_boards) (F.holds folder.old name.now) (Rose (F.faults folder.old) (F.faults folder.new)))) }
+        (AnswersFile (told_by F.holds F.faults folder.old folder.new) name.now (OverBoardProgram number none_to_boards))) }
     ensures asked { OnOk result (F.asked folder.new ≡ F.asked folder.old ++ name.now ∷ []) }
     ensures stopped { IfErr result (λ ending. HasAsked F.asked folder.old folder.new
-        (WantsProgram (F.holds folder.old) (Rose (F.faults folder.old) (F.faults folder.new)) (FoundNoMemory ending) name.now wants_never)) }
+        (WantsFile (told_by F.holds F.faults folder.old folder.new) (FoundNoMemory ending) name.now (Onwards programs (λ read. wants_never)))) }
     ensures stays { (file : List ℕ) → F.holds folder.new file ≡ F.holds folder.old file }
     ensures folder_later { F.faults folder.old ≤ F.faults folder.new }
     ensures later { K.faults out.old ≤ K.faults out.new }
@@ -172,7 +177,7 @@ fn script_in<K: Sink>(
     ensures sound { IfOk result IsSound }
     ensures ends { IfOk result (λ script. script.end ≡ end) }
     ensures unwritten { OnOk result (K.taken out.new ≡ K.taken out.old) }
-    ensures none { IfErr result (GivesOneOf K.taken K.faults out.old out.new (AnswersBoardScript number end none_to_scripts text.now)) }
+    ensures none { IfErr result (GivesOneOf K.taken K.faults out.old out.new (AnswersBoardScript number end none_to_read text.now)) }
     ensures later { K.faults out.old ≤ K.faults out.new }
 {
     match read_script(alloc, text) {
@@ -191,14 +196,14 @@ fn script_of<F: Folder, K: Sink>(
     folder: &mut F,
     out: &mut K,
 ) -> Result<Script, Ending>
-    ensures script { IfOk result (IsBoardScript (F.holds folder.old) (Rose (F.faults folder.old) (F.faults folder.new)) end name.now) }
+    ensures script { IfOk result (IsBoardScript (told_by F.holds F.faults folder.old folder.new) end name.now) }
     ensures sound { IfOk result IsSound }
     ensures unwritten { OnOk result (K.taken out.new ≡ K.taken out.old) }
     ensures none { IfErr result (GivesOneOf K.taken K.faults out.old out.new
-        (OverBoardScript (F.holds folder.old) (Rose (F.faults folder.old) (F.faults folder.new)) end number name.now none_to_scripts)) }
+        (OverBoardScript (told_by F.holds F.faults folder.old folder.new) end number name.now none_to_read)) }
     ensures asked { OnOk result (F.asked folder.new ≡ F.asked folder.old ++ name.now ∷ []) }
     ensures stopped { IfErr result (λ ending. HasAsked F.asked folder.old folder.new
-        (WantsBoardScript (F.holds folder.old) (Rose (F.faults folder.old) (F.faults folder.new)) (FoundNoMemory ending) end name.now wants_never)) }
+        (WantsFile (told_by F.holds F.faults folder.old folder.new) (FoundNoMemory ending) name.now (Onwards (board_scripts end) (λ script. wants_never)))) }
     ensures stays { (file : List ℕ) → F.holds folder.new file ≡ F.holds folder.old file }
     ensures folder_later { F.faults folder.old ≤ F.faults folder.new }
     ensures later { K.faults out.old ≤ K.faults out.new }
@@ -247,13 +252,13 @@ impl Boards {
         folder: &mut F,
         out: &mut K,
     ) -> Result<(), Ending>
-        ensures added { OnOk result (HasScript (F.holds folder.old) (Rose (F.faults folder.old) (F.faults folder.new)) end name.now image self.old self.new) }
+        ensures added { OnOk result (HasScript (told_by F.holds F.faults folder.old folder.new) end name.now image self.old self.new) }
         ensures unwritten { OnOk result (K.taken out.new ≡ K.taken out.old) }
         ensures none { IfErr result (GivesOneOf K.taken K.faults out.old out.new
-            (OverBoardScript (F.holds folder.old) (Rose (F.faults folder.old) (F.faults folder.new)) end number name.now none_to_scripts)) }
+            (OverBoardScript (told_by F.holds F.faults folder.old folder.new) end number name.now none_to_read)) }
         ensures asked { OnOk result (F.asked folder.new ≡ F.asked folder.old ++ name.now ∷ []) }
         ensures stopped { IfErr result (λ ending. HasAsked F.asked folder.old folder.new
-            (WantsBoardScript (F.holds folder.old) (Rose (F.faults folder.old) (F.faults folder.new)) (FoundNoMemory ending) end name.now wants_never)) }
+            (WantsFile (told_by F.holds F.faults folder.old folder.new) (FoundNoMemory ending) name.now (Onwards (board_scripts end) (λ script. wants_never)))) }
         ensures stays { (file : List ℕ) → F.holds folder.new file ≡ F.holds folder.old file }
         ensures folder_later { F.faults folder.old ≤ F.faults folder.new }
         ensures later { K.faults out.old ≤ K.faults out.new }
@@ -275,13 +280,13 @@ impl Boards {
         out: &mut K,
     ) -> Result<(), Ending>
         requires { AreTexts names.now }
-        ensures added { OnOk result (HasAdded (F.holds folder.old) (Rose (F.faults folder.old) (F.faults folder.new)) end names.now self.old self.new) }
+        ensures added { OnOk result (HasAdded (told_by F.holds F.faults folder.old folder.new) end names.now self.old self.new) }
         ensures unwritten { OnOk result (K.taken out.new ≡ K.taken out.old) }
         ensures none { IfErr result (GivesOneOf K.taken K.faults out.old out.new
-            (OverBoard (F.holds folder.old) (Rose (F.faults folder.old) (F.faults folder.new)) end number names.now none_to_board)) }
+            (OverBoard (told_by F.holds F.faults folder.old folder.new) end number names.now none_to_read)) }
         ensures asked { OnOk result (F.asked folder.new ≡ F.asked folder.old ++ names_of_boards (names.now ∷ [])) }
         ensures stopped { IfErr result (λ ending. HasAsked F.asked folder.old folder.new
-            (WantsBoards (F.holds folder.old) (Rose (F.faults folder.old) (F.faults folder.new)) (FoundNoMemory ending) end (names.now ∷ []) wants_never)) }
+            (WantsBoards (told_by F.holds F.faults folder.old folder.new) (FoundNoMemory ending) end (names.now ∷ []) wants_never)) }
         ensures stays { (file : List ℕ) → F.holds folder.new file ≡ F.holds folder.old file }
         ensures folder_later { F.faults folder.old ≤ F.faults folder.new }
         ensures later { K.faults out.old ≤ K.faults out.new }
@@ -305,13 +310,13 @@ pub fn boards_of<F: Folder, K: Sink>(
 ) -> Result<Boards, Ending>
     requires few { length names.now ≤ 8 }
     requires texts { All AreTexts names.now }
-    ensures ready { IfOk result (AreReady (F.holds folder.old) (Rose (F.faults folder.old) (F.faults folder.new)) end names.now) }
+    ensures ready { IfOk result (AreReady (told_by F.holds F.faults folder.old folder.new) end names.now) }
     ensures unwritten { OnOk result (K.taken out.new ≡ K.taken out.old) }
     ensures none { IfErr result (GivesOneOf K.taken K.faults out.old out.new
-        (OverBoards (F.holds folder.old) (Rose (F.faults folder.old) (F.faults folder.new)) end 0 names.now none_to_all)) }
+        (OverBoards (told_by F.holds F.faults folder.old folder.new) end 0 names.now none_to_read)) }
     ensures asked { OnOk result (F.asked folder.new ≡ F.asked folder.old ++ names_of_boards names.now) }
     ensures stopped { IfErr result (λ ending. HasAsked F.asked folder.old folder.new
-        (WantsBoards (F.holds folder.old) (Rose (F.faults folder.old) (F.faults folder.new)) (FoundNoMemory ending) end names.now wants_never)) }
+        (WantsBoards (told_by F.holds F.faults folder.old folder.new) (FoundNoMemory ending) end names.now wants_never)) }
     ensures folder_later { F.faults folder.old ≤ F.faults folder.new }
     ensures later { K.faults out.old ≤ K.faults out.new }
 {

@@ -4,8 +4,9 @@ ghost use Rattle.tool_io.specs.Putting.{PutsTo};
 ghost use Rattle.class_file.specs.Codes.{number_of};
 ghost use Rattle.class_file.specs.Verdict.{Tells};
 ghost use Rattle.class_file.specs.Within.{AreTexts, IsWithinForm};
-ghost use Rattle.run_tool.specs.Answers.{GivesOneOf};
-ghost use Rattle.run_tool.specs.ClassFiles.{AnswersClassFile, class_refused_line, refuses_class, none_to_classes};
+ghost use Rattle.run_tool.specs.inner.Giving.{GivesOneOf};
+ghost use Rattle.run_tool.specs.ClassFiles.{AnswersClassFile, class_refused_line, refuses_class};
+ghost use Rattle.run_tool.specs.inner.Nothing.{none_to_read};
 
 use crate::ending::{Ending, Status};
 use class_file::{ClassCode, ClassFile, ClassRefused, read_class};
@@ -37,7 +38,7 @@ pub fn class_in<K: Sink>(alloc: Global, text: &[u8], out: &mut K) -> Result<Clas
     ensures within { IfOk result IsWithinForm }
     ensures texts { IfOk result (λ class. All AreTexts class.boards) }
     ensures unwritten { OnOk result (K.taken out.new ≡ K.taken out.old) }
-    ensures none { IfErr result (GivesOneOf K.taken K.faults out.old out.new (AnswersClassFile none_to_classes text.now)) }
+    ensures none { IfErr result (GivesOneOf K.taken K.faults out.old out.new (AnswersClassFile none_to_read text.now)) }
     ensures later { K.faults out.old ≤ K.faults out.new }
 {
     match read_class(alloc, text) {

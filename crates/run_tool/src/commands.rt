@@ -3,14 +3,16 @@ ghost use Rattle.std.specs.Prelude.{◌≡◌, ◌≤◌, List, ℕ, Some, None,
 ghost use Rattle.sts_base.specs.Faults.{Rose};
 ghost use Rattle.run_tool.specs.declared.ending.Ending.{Ending};
 ghost use Rattle.sts_words.specs.Words.{order_of};
-ghost use Rattle.run_tool.specs.Answers.{Concludes, ending_number};
-ghost use Rattle.run_tool.specs.Orders.{AnswersOrder, AnswersWords, Completes, AsksForImage, AsksForProgram, NamesScript, lead_of};
+ghost use Rattle.run_tool.specs.Answers.{Concludes, ending_number, of_devices, of_sink};
+ghost use Rattle.run_tool.specs.Orders.{Completes, AsksForImage, AsksForProgram, NamesScript, lead_of, MayAnswer};
+ghost use Rattle.run_tool.specs.inner.Handed.{FoundNoMemory};
 ghost use Rattle.run_tool.specs.Headline.{Headline};
 ghost use Rattle.run_tool.specs.Completeness.{IsComplete};
 ghost use Rattle.sts_words.specs.Orders.{IsInRange, order_view};
 ghost use Rattle.run_tool.specs.HeadlineAt.{HeadlineAt};
 ghost use Rattle.run_tool.specs.HeadlineClass.{HeadlineClass};
-ghost use Rattle.run_tool.specs.Wanted.{FoundNoMemory, HasAsked, Wants};
+ghost use Rattle.run_tool.specs.Wanted.{HasAsked, Wants};
+ghost use Rattle.run_tool.specs.Fetches.{told_by};
 
 use crate::big::big;
 use crate::build::build;
@@ -39,10 +41,10 @@ fn perform_order<F: Folder, K: Sink, D: Device>(
     places: &mut Vec<Option<D>>,
 ) -> Ending
     requires { IsInRange order }
-    ensures answer { Concludes K.taken K.faults out.old out.new D.account places.old.items places.new.items (lead_of (Some (order_view order.entry)))
-        (AnswersOrder F.holds F.faults folder.old folder.new (order_view order.entry)) result }
+    ensures answer { Concludes (of_sink K.taken K.faults out.old out.new) (of_devices D.account places.old.items places.new.items) (lead_of (Some (order_view order.entry)))
+        (MayAnswer (told_by F.holds F.faults folder.old folder.new) (Some (order_view order.entry))) result }
     ensures asked { HasAsked F.asked folder.old folder.new
-        (Wants (F.holds folder.old) (Rose (F.faults folder.old) (F.faults folder.new)) (FoundNoMemory result) (Some (order_view order.entry))) }
+        (Wants (told_by F.holds F.faults folder.old folder.new) (FoundNoMemory result) (Some (order_view order.entry))) }
     ensures folder_later { F.faults folder.old ≤ F.faults folder.new }
 {
     match order {
@@ -104,10 +106,10 @@ fn perform<F: Folder, K: Sink, D: Device>(
     out: &mut K,
     places: &mut Vec<Option<D>>,
 ) -> Ending
-    ensures answer { Concludes K.taken K.faults out.old out.new D.account places.old.items places.new.items (lead_of (order_of (map string_bytes words.now)))
-        (AnswersWords F.holds F.faults folder.old folder.new (map string_bytes words.now)) result }
+    ensures answer { Concludes (of_sink K.taken K.faults out.old out.new) (of_devices D.account places.old.items places.new.items) (lead_of (order_of (map string_bytes words.now)))
+        (MayAnswer (told_by F.holds F.faults folder.old folder.new) (order_of (map string_bytes words.now))) result }
     ensures asked { HasAsked F.asked folder.old folder.new
-        (Wants (F.holds folder.old) (Rose (F.faults folder.old) (F.faults folder.new)) (FoundNoMemory result) (order_of (map string_bytes words.now))) }
+        (Wants (told_by F.holds F.faults folder.old folder.new) (FoundNoMemory result) (order_of (map string_bytes words.now))) }
     ensures folder_later { F.faults folder.old ≤ F.faults folder.new }
     ensures untouched { order_of (map string_bytes words.now) ≡ None → folder.new ≡ folder.old }
 {
@@ -129,7 +131,7 @@ fn perform<F: Folder, K: Sink, D: Device>(
 /// - `run-at P S A` builds the program P and runs its image so on the script S, while what the file A tells arrives between its instructions;
 /// - `class C` reads the class that the file C stands for, builds the program of each of its boards and reads its script, in their order, and runs them together: each hears what the others send by radio. Each line
 ///   stands behind its board's number, and the board's own lines of refusals too;
-/// - `big N`, with N from 1 to 200, writes the line `big N`, makes the program of that size, and runs it as `run` does, without a script's name.
+/// - `big N`, with N from 1 to 200, makes and builds the program of that size, writes the line `big N`, and runs it as `run` does, without a script's name.
 ///
 /// With the last five, `--budget M` or `--budget=M` runs the image, or each board's, for at most M instructions, one to ten decimal digits with a value from 1 to 2147483648; without it the
 /// budget is 50000000. The program or the image is read, and a program built, before the script is fetched, and that is read before arrivals are. Of a class's boards each is read so before the next one's program is
@@ -169,19 +171,17 @@ pub fn sts_main<F: Folder, K: Sink>(
     out: &mut K,
     plugs: &mut Vec<Option<Box<dyn Device>>>,
 ) -> u8
-    ensures headline { Headline ⟦<Box<dyn Device> as Device>⟧.account (F.holds folder.old) (order_of (map string_bytes words.now))
-        (Rose (F.faults folder.old) (F.faults folder.new)) (Rose (K.faults out.old) (K.faults out.new)) (K.taken out.old) (K.taken out.new) plugs.old.items plugs.new.items result }
+    ensures headline { Headline (told_by F.holds F.faults folder.old folder.new) (of_sink K.taken K.faults out.old out.new)
+        (of_devices ⟦<Box<dyn Device> as Device>⟧.account plugs.old.items plugs.new.items) (order_of (map string_bytes words.now)) result }
     ensures ends { (ending : Ending) × (result ≡ ending_number ending)
-        × Concludes K.taken K.faults out.old out.new ⟦<Box<dyn Device> as Device>⟧.account plugs.old.items plugs.new.items
-        (lead_of (order_of (map string_bytes words.now))) (AnswersWords F.holds F.faults folder.old folder.new (map string_bytes words.now)) ending }
-    ensures completes { Completes (F.holds folder.old) (order_of (map string_bytes words.now))
-        (Rose (F.faults folder.old) (F.faults folder.new)) (Rose (K.faults out.old) (K.faults out.new)) result }
-    ensures complete { IsComplete (F.holds folder.old) (order_of (map string_bytes words.now))
-        (Rose (F.faults folder.old) (F.faults folder.new)) (Rose (K.faults out.old) (K.faults out.new)) result }
-    ensures headline_at { HeadlineAt ⟦<Box<dyn Device> as Device>⟧.account (F.holds folder.old) (order_of (map string_bytes words.now))
-        (Rose (F.faults folder.old) (F.faults folder.new)) (Rose (K.faults out.old) (K.faults out.new)) (K.taken out.old) (K.taken out.new) plugs.old.items plugs.new.items result }
-    ensures headline_class { HeadlineClass (F.holds folder.old) (order_of (map string_bytes words.now))
-        (Rose (F.faults folder.old) (F.faults folder.new)) (Rose (K.faults out.old) (K.faults out.new)) (K.taken out.old) (K.taken out.new) plugs.old.items plugs.new.items result }
+        × Concludes (of_sink K.taken K.faults out.old out.new) (of_devices ⟦<Box<dyn Device> as Device>⟧.account plugs.old.items plugs.new.items)
+        (lead_of (order_of (map string_bytes words.now))) (MayAnswer (told_by F.holds F.faults folder.old folder.new) (order_of (map string_bytes words.now))) ending }
+    ensures completes { Completes (told_by F.holds F.faults folder.old folder.new) (of_sink K.taken K.faults out.old out.new) (order_of (map string_bytes words.now)) result }
+    ensures complete { IsComplete (told_by F.holds F.faults folder.old folder.new) (of_sink K.taken K.faults out.old out.new) (order_of (map string_bytes words.now)) result }
+    ensures headline_at { HeadlineAt (told_by F.holds F.faults folder.old folder.new) (of_sink K.taken K.faults out.old out.new)
+        (of_devices ⟦<Box<dyn Device> as Device>⟧.account plugs.old.items plugs.new.items) (order_of (map string_bytes words.now)) result }
+    ensures headline_class { HeadlineClass (told_by F.holds F.faults folder.old folder.new) (of_sink K.taken K.faults out.old out.new)
+        (of_devices ⟦<Box<dyn Device> as Device>⟧.account plugs.old.items plugs.new.items) (order_of (map string_bytes words.now)) result }
     ensures refused { result ≡ 10 → AsksForProgram (order_of (map string_bytes words.now)) }
     ensures script_refused { result ≡ 11 → NamesScript (order_of (map string_bytes words.now)) }
     ensures image_refused { result ≡ 12 → AsksForImage (order_of (map string_bytes words.now)) }
@@ -190,7 +190,7 @@ pub fn sts_main<F: Folder, K: Sink>(
     ensures sink_failed { result ≡ 22 → Rose (K.faults out.old) (K.faults out.new) }
     ensures untouched { order_of (map string_bytes words.now) ≡ None → folder.new ≡ folder.old }
     ensures asked { HasAsked F.asked folder.old folder.new
-        (Wants (F.holds folder.old) (Rose (F.faults folder.old) (F.faults folder.new)) (result ≡ 30) (order_of (map string_bytes words.now))) }
+        (Wants (told_by F.holds F.faults folder.old folder.new) (result ≡ 30) (order_of (map string_bytes words.now))) }
 {
     one_answer();
     perform(alloc, words, folder, out, plugs).number()

@@ -1,10 +1,12 @@
 // The file that a command names.
 ghost use Rattle.std.specs.Prelude.{◌≡◌, ◌≤◌, List, ℕ, IfOk, IfErr, OnOk, ◌⊎◌, ◌++◌, ◌∷◌, [], OnErr};
-ghost use Rattle.run_tool.specs.Fetches.{MayFetchFrom};
-ghost use Rattle.run_tool.specs.Answers.{GivesOneOf};
-ghost use Rattle.run_tool.specs.Files.{OverFile, none_to_texts};
+ghost use Rattle.run_tool.specs.inner.Handed.{FoundNoMemory, never_behind};
+ghost use Rattle.run_tool.specs.inner.Giving.{GivesOneOf};
+ghost use Rattle.run_tool.specs.inner.Nothing.{none_to_read};
 ghost use Rattle.sts_base.specs.Faults.{Rose};
-ghost use Rattle.run_tool.specs.Wanted.{FoundNoMemory, HasAsked, WantsFile, never_behind};
+ghost use Rattle.run_tool.specs.Wanted.{HasAsked, WantsFile};
+ghost use Rattle.run_tool.specs.Fetches.{told_by, MayFetch};
+ghost use Rattle.run_tool.specs.Files.{AnswersFile};
 
 use crate::ending::{Ending, Status};
 use crate::said::say;
@@ -27,7 +29,7 @@ pub enum Fetched {
 
 /// Fetches the file of that name.
 fn fetch<F: Folder>(alloc: Global, name: &str, folder: &mut F) -> Result<Fetched, NoMemory>
-    ensures fetched { IfOk result (λ fetched. MayFetchFrom F.holds F.faults folder.old folder.new name.now fetched) }
+    ensures fetched { IfOk result (λ fetched. MayFetch (told_by F.holds F.faults folder.old folder.new) name.now fetched) }
     ensures asked { OnOk result (F.asked folder.new ≡ F.asked folder.old ++ name.now ∷ []) }
     ensures lacking { OnErr result ((F.asked folder.new ≡ F.asked folder.old ++ name.now ∷ []) ⊎ (F.asked folder.new ≡ F.asked folder.old)) }
     ensures stays { (file : List ℕ) → F.holds folder.new file ≡ F.holds folder.old file }
@@ -49,12 +51,12 @@ pub fn text_of<F: Folder, K: Sink>(
     folder: &mut F,
     out: &mut K,
 ) -> Result<Vec<u8>, Ending>
-    ensures text { IfOk result (λ text. MayFetchFrom F.holds F.faults folder.old folder.new name.now (Fetched.Text text)) }
+    ensures text { IfOk result (λ text. MayFetch (told_by F.holds F.faults folder.old folder.new) name.now (Fetched.Text text)) }
     ensures unwritten { OnOk result (K.taken out.new ≡ K.taken out.old) }
-    ensures none { IfErr result (GivesOneOf K.taken K.faults out.old out.new (OverFile F.holds F.faults folder.old folder.new name.now none_to_texts)) }
+    ensures none { IfErr result (GivesOneOf K.taken K.faults out.old out.new (AnswersFile (told_by F.holds F.faults folder.old folder.new) name.now none_to_read)) }
     ensures asked { OnOk result (F.asked folder.new ≡ F.asked folder.old ++ name.now ∷ []) }
     ensures stopped { IfErr result (λ ending. HasAsked F.asked folder.old folder.new
-        (WantsFile (F.holds folder.old) (Rose (F.faults folder.old) (F.faults folder.new)) (FoundNoMemory ending) name.now never_behind)) }
+        (WantsFile (told_by F.holds F.faults folder.old folder.new) (FoundNoMemory ending) name.now never_behind)) }
     ensures stays { (file : List ℕ) → F.holds folder.new file ≡ F.holds folder.old file }
     ensures folder_later { F.faults folder.old ≤ F.faults folder.new }
     ensures later { K.faults out.old ≤ K.faults out.new }

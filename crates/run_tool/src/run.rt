@@ -13,13 +13,16 @@ ghost use Rattle.event_script.specs.Sound.{IsSound};
 ghost use Rattle.sts_implements.specs.Images.{ImageImplements};
 ghost use Rattle.sts_words.specs.Orders.{IsBudget};
 ghost use Rattle.sts_words.specs.Views.{spoken};
-ghost use Rattle.run_tool.specs.Answers.{Concludes};
-ghost use Rattle.run_tool.specs.Files.{OverFile};
+ghost use Rattle.run_tool.specs.Answers.{Concludes, of_devices, of_sink};
+ghost use Rattle.run_tool.specs.inner.Handed.{FoundNoMemory};
 ghost use Rattle.run_tool.specs.Scripts.{OverScript};
-ghost use Rattle.run_tool.specs.Runs.{ending_of};
-ghost use Rattle.run_tool.specs.Run.{RunsProgram, RunsText, Finishes, counted_behind, instructions_line};
-ghost use Rattle.run_tool.specs.Completeness.{IsProgramText};
-ghost use Rattle.run_tool.specs.Wanted.{FoundNoMemory, HasAsked, IsRefusedText, Onwards, OrLacks, WantsProgram, WantsScript, wants_none};
+ghost use Rattle.run_tool.specs.inner.Finishing.{ending_of, Finishes, counted_behind};
+ghost use Rattle.run_tool.specs.Run.{RunsProgram, RunsText};
+ghost use Rattle.run_tool.specs.Statistics.{instructions_line};
+ghost use Rattle.run_tool.specs.Wanted.{HasAsked, Onwards, OrLacks, WantsScript, wants_none, WantsFile};
+ghost use Rattle.run_tool.specs.Fetches.{told_by};
+ghost use Rattle.run_tool.specs.Files.{AnswersFile};
+ghost use Rattle.run_tool.specs.Programs.{programs};
 
 use crate::build::image_of;
 use crate::ending::Ending;
@@ -144,7 +147,7 @@ fn run_with<K: Sink, D: Device>(
     requires script { IsSound script }
     requires budget { IsBudget manner.budget }
     ensures { (P : TypedProgram) (texts : List ByteList) → ImageImplements P texts image.items
-        → Concludes K.taken K.faults out.old out.new D.account places.old.items places.new.items [] (RunsProgram P texts script manner.budget manner.stats manner.image) result }
+        → Concludes (of_sink K.taken K.faults out.old out.new) (of_devices D.account places.old.items places.new.items) [] (RunsProgram P texts script manner.budget manner.stats manner.image) result }
 {
     match run_image(alloc, image, script, places, manner.budget, out) {
         Ok((end, stats)) => finish(out, end, manner, &stats, hex),
@@ -177,7 +180,7 @@ pub fn run_program<K: Sink, D: Device>(
     requires script { IsSound script }
     requires budget { IsBudget manner.budget }
     ensures { (P : TypedProgram) (texts : List ByteList) → ImageImplements P texts image.items
-        → Concludes K.taken K.faults out.old out.new D.account places.old.items places.new.items [] (RunsProgram P texts script manner.budget manner.stats manner.image) result }
+        → Concludes (of_sink K.taken K.faults out.old out.new) (of_devices D.account places.old.items places.new.items) [] (RunsProgram P texts script manner.budget manner.stats manner.image) result }
 {
     match hex_of(alloc, &image, manner) {
         Ok(hex) => run_with(alloc, image, &hex, script, manner, out, places),
@@ -198,11 +201,11 @@ fn run_named<F: Folder, K: Sink, D: Device>(
     requires size { vec_len image ≤ flash_end }
     requires budget { IsBudget manner.budget }
     ensures answer { (P : TypedProgram) (texts : List ByteList) → ImageImplements P texts image.items
-        → Concludes K.taken K.faults out.old out.new D.account places.old.items places.new.items []
-        (OverScript (F.holds folder.old) (Rose (F.faults folder.old) (F.faults folder.new)) (option_map spoken script.entry)
+        → Concludes (of_sink K.taken K.faults out.old out.new) (of_devices D.account places.old.items places.new.items) []
+        (OverScript (told_by F.holds F.faults folder.old folder.new) (option_map spoken script.entry)
         (λ read. RunsProgram P texts read manner.budget manner.stats manner.image)) result }
     ensures asked { HasAsked F.asked folder.old folder.new
-        (WantsScript (F.holds folder.old) (Rose (F.faults folder.old) (F.faults folder.new)) (FoundNoMemory result) (option_map spoken script.entry) wants_none) }
+        (WantsScript (told_by F.holds F.faults folder.old folder.new) (FoundNoMemory result) (option_map spoken script.entry) wants_none) }
     ensures folder_later { F.faults folder.old ≤ F.faults folder.new }
 {
     match script_of(alloc, script, folder, out) {
@@ -222,10 +225,10 @@ fn run_text<F: Folder, K: Sink, D: Device>(
     places: &mut Vec<Option<D>>,
 ) -> Ending
     requires budget { IsBudget manner.budget }
-    ensures answer { Concludes K.taken K.faults out.old out.new D.account places.old.items places.new.items []
-        (RunsText (F.holds folder.old) (Rose (F.faults folder.old) (F.faults folder.new)) (option_map spoken script.entry) manner.budget manner.stats manner.image text.now) result }
+    ensures answer { Concludes (of_sink K.taken K.faults out.old out.new) (of_devices D.account places.old.items places.new.items) []
+        (RunsText (told_by F.holds F.faults folder.old folder.new) (option_map spoken script.entry) manner.budget manner.stats manner.image text.now) result }
     ensures asked { HasAsked F.asked folder.old folder.new
-        (OrLacks (FoundNoMemory result) (Onwards (IsProgramText text.now) (IsRefusedText text.now) (WantsScript (F.holds folder.old) (Rose (F.faults folder.old) (F.faults folder.new)) (FoundNoMemory result) (option_map spoken script.entry) wants_none))) }
+        (OrLacks (FoundNoMemory result) (Onwards programs (λ read. WantsScript (told_by F.holds F.faults folder.old folder.new) (FoundNoMemory result) (option_map spoken script.entry) wants_none) text.now)) }
     ensures folder_later { F.faults folder.old ≤ F.faults folder.new }
 {
     match image_of(alloc, text, out) {
@@ -245,11 +248,11 @@ pub fn run<F: Folder, K: Sink, D: Device>(
     places: &mut Vec<Option<D>>,
 ) -> Ending
     requires budget { IsBudget manner.budget }
-    ensures answer { Concludes K.taken K.faults out.old out.new D.account places.old.items places.new.items []
-        (OverFile F.holds F.faults folder.old folder.new name.now
-        (RunsText (F.holds folder.old) (Rose (F.faults folder.old) (F.faults folder.new)) (option_map spoken script.entry) manner.budget manner.stats manner.image)) result }
+    ensures answer { Concludes (of_sink K.taken K.faults out.old out.new) (of_devices D.account places.old.items places.new.items) []
+        (AnswersFile (told_by F.holds F.faults folder.old folder.new) name.now
+        (RunsText (told_by F.holds F.faults folder.old folder.new) (option_map spoken script.entry) manner.budget manner.stats manner.image)) result }
     ensures asked { HasAsked F.asked folder.old folder.new
-        (WantsProgram (F.holds folder.old) (Rose (F.faults folder.old) (F.faults folder.new)) (FoundNoMemory result) name.now (WantsScript (F.holds folder.old) (Rose (F.faults folder.old) (F.faults folder.new)) (FoundNoMemory result) (option_map spoken script.entry) wants_none)) }
+        (WantsFile (told_by F.holds F.faults folder.old folder.new) (FoundNoMemory result) name.now (Onwards programs (λ read. WantsScript (told_by F.holds F.faults folder.old folder.new) (FoundNoMemory result) (option_map spoken script.entry) wants_none))) }
     ensures folder_later { F.faults folder.old ≤ F.faults folder.new }
 {
     match text_of(alloc, name, folder, out) {

@@ -8,11 +8,13 @@ ghost use Rattle.event_script.specs.Sound as script_sound;
 ghost use Rattle.arrival_file.specs.Sound.{IsSound};
 ghost use Rattle.sts_implements.specs.Images.{ImageImplements};
 ghost use Rattle.sts_words.specs.Orders.{IsBudget};
-ghost use Rattle.run_tool.specs.Answers.{Concludes};
-ghost use Rattle.run_tool.specs.Files.{OverFile};
+ghost use Rattle.run_tool.specs.Answers.{Concludes, of_devices, of_sink};
+ghost use Rattle.run_tool.specs.inner.Handed.{FoundNoMemory};
 ghost use Rattle.run_tool.specs.RunAt.{RunsProgramAt, RunsOnScript, RunsOutside, RunsTextAt};
-ghost use Rattle.run_tool.specs.Completeness.{IsProgramText};
-ghost use Rattle.run_tool.specs.Wanted.{FoundNoMemory, HasAsked, IsRefusedText, Onwards, OrLacks, WantsFile, WantsOutside, WantsProgram, none_behind};
+ghost use Rattle.run_tool.specs.Wanted.{HasAsked, Onwards, OrLacks, WantsFile, WantsOutside, none_behind};
+ghost use Rattle.run_tool.specs.Fetches.{told_by};
+ghost use Rattle.run_tool.specs.Files.{AnswersFile};
+ghost use Rattle.run_tool.specs.Programs.{programs};
 
 use crate::arrivals::arrivals_of;
 use crate::build::image_of;
@@ -52,7 +54,7 @@ fn run_board_at<K: Sink, D: Device>(
     requires arrivals { IsSound arrivals.now }
     requires budget { IsBudget budget }
     ensures { (P : TypedProgram) (texts : List ByteList) → ImageImplements P texts image.items
-        → Concludes K.taken K.faults out.old out.new D.account places.old.items places.new.items [] (RunsProgramAt P texts script arrivals.now budget) result }
+        → Concludes (of_sink K.taken K.faults out.old out.new) (of_devices D.account places.old.items places.new.items) [] (RunsProgramAt P texts script arrivals.now budget) result }
 {
     match run_image_at(alloc, image, script, arrivals, places, budget, out) {
         Ok(end) => ending_of(end),
@@ -74,10 +76,10 @@ fn run_on_script<F: Folder, K: Sink, D: Device>(
     requires script { script_sound.IsSound script }
     requires budget { IsBudget outside.budget }
     ensures answer { (P : TypedProgram) (texts : List ByteList) → ImageImplements P texts image.items
-        → Concludes K.taken K.faults out.old out.new D.account places.old.items places.new.items []
-        (RunsOnScript (F.holds folder.old) (Rose (F.faults folder.old) (F.faults folder.new)) outside.entry.arrivals.now outside.entry.budget P texts script) result }
+        → Concludes (of_sink K.taken K.faults out.old out.new) (of_devices D.account places.old.items places.new.items) []
+        (RunsOnScript (told_by F.holds F.faults folder.old folder.new) outside.entry.arrivals.now outside.entry.budget P texts script) result }
     ensures asked { HasAsked F.asked folder.old folder.new
-        (WantsFile (F.holds folder.old) (Rose (F.faults folder.old) (F.faults folder.new)) (FoundNoMemory result) outside.entry.arrivals.now none_behind) }
+        (WantsFile (told_by F.holds F.faults folder.old folder.new) (FoundNoMemory result) outside.entry.arrivals.now none_behind) }
     ensures folder_later { F.faults folder.old ≤ F.faults folder.new }
 {
     match arrivals_of(alloc, outside.arrivals, folder, out) {
@@ -98,10 +100,10 @@ fn run_outside<F: Folder, K: Sink, D: Device>(
     requires size { vec_len image ≤ flash_end }
     requires budget { IsBudget outside.budget }
     ensures answer { (P : TypedProgram) (texts : List ByteList) → ImageImplements P texts image.items
-        → Concludes K.taken K.faults out.old out.new D.account places.old.items places.new.items []
-        (RunsOutside (F.holds folder.old) (Rose (F.faults folder.old) (F.faults folder.new)) outside.entry.script.now outside.entry.arrivals.now outside.entry.budget P texts) result }
+        → Concludes (of_sink K.taken K.faults out.old out.new) (of_devices D.account places.old.items places.new.items) []
+        (RunsOutside (told_by F.holds F.faults folder.old folder.new) outside.entry.script.now outside.entry.arrivals.now outside.entry.budget P texts) result }
     ensures asked { HasAsked F.asked folder.old folder.new
-        (WantsOutside (F.holds folder.old) (Rose (F.faults folder.old) (F.faults folder.new)) (FoundNoMemory result) outside.entry.script.now outside.entry.arrivals.now) }
+        (WantsOutside (told_by F.holds F.faults folder.old folder.new) (FoundNoMemory result) outside.entry.script.now outside.entry.arrivals.now) }
     ensures folder_later { F.faults folder.old ≤ F.faults folder.new }
 {
     match script_of(alloc, Some(outside.script), folder, out) {
@@ -120,10 +122,10 @@ fn run_text_at<F: Folder, K: Sink, D: Device>(
     places: &mut Vec<Option<D>>,
 ) -> Ending
     requires budget { IsBudget outside.budget }
-    ensures answer { Concludes K.taken K.faults out.old out.new D.account places.old.items places.new.items []
-        (RunsTextAt (F.holds folder.old) (Rose (F.faults folder.old) (F.faults folder.new)) outside.entry.script.now outside.entry.arrivals.now outside.entry.budget text.now) result }
+    ensures answer { Concludes (of_sink K.taken K.faults out.old out.new) (of_devices D.account places.old.items places.new.items) []
+        (RunsTextAt (told_by F.holds F.faults folder.old folder.new) outside.entry.script.now outside.entry.arrivals.now outside.entry.budget text.now) result }
     ensures asked { HasAsked F.asked folder.old folder.new
-        (OrLacks (FoundNoMemory result) (Onwards (IsProgramText text.now) (IsRefusedText text.now) (WantsOutside (F.holds folder.old) (Rose (F.faults folder.old) (F.faults folder.new)) (FoundNoMemory result) outside.entry.script.now outside.entry.arrivals.now))) }
+        (OrLacks (FoundNoMemory result) (Onwards programs (λ read. WantsOutside (told_by F.holds F.faults folder.old folder.new) (FoundNoMemory result) outside.entry.script.now outside.entry.arrivals.now) text.now)) }
     ensures folder_later { F.faults folder.old ≤ F.faults folder.new }
 {
     match image_of(alloc, text, out) {
@@ -142,11 +144,11 @@ pub fn run_at<F: Folder, K: Sink, D: Device>(
     places: &mut Vec<Option<D>>,
 ) -> Ending
     requires budget { IsBudget outside.budget }
-    ensures answer { Concludes K.taken K.faults out.old out.new D.account places.old.items places.new.items []
-        (OverFile F.holds F.faults folder.old folder.new name.now
-        (RunsTextAt (F.holds folder.old) (Rose (F.faults folder.old) (F.faults folder.new)) outside.entry.script.now outside.entry.arrivals.now outside.entry.budget)) result }
+    ensures answer { Concludes (of_sink K.taken K.faults out.old out.new) (of_devices D.account places.old.items places.new.items) []
+        (AnswersFile (told_by F.holds F.faults folder.old folder.new) name.now
+        (RunsTextAt (told_by F.holds F.faults folder.old folder.new) outside.entry.script.now outside.entry.arrivals.now outside.entry.budget)) result }
     ensures asked { HasAsked F.asked folder.old folder.new
-        (WantsProgram (F.holds folder.old) (Rose (F.faults folder.old) (F.faults folder.new)) (FoundNoMemory result) name.now (WantsOutside (F.holds folder.old) (Rose (F.faults folder.old) (F.faults folder.new)) (FoundNoMemory result) outside.entry.script.now outside.entry.arrivals.now)) }
+        (WantsFile (told_by F.holds F.faults folder.old folder.new) (FoundNoMemory result) name.now (Onwards programs (λ read. WantsOutside (told_by F.holds F.faults folder.old folder.new) (FoundNoMemory result) outside.entry.script.now outside.entry.arrivals.now))) }
     ensures folder_later { F.faults folder.old ≤ F.faults folder.new }
 {
     match text_of(alloc, name, folder, out) {

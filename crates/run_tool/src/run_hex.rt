@@ -9,12 +9,16 @@ ghost use Rattle.event_script.specs.Sound.{IsSound};
 ghost use Rattle.sts_words.specs.Orders.{IsBudget};
 ghost use Rattle.sts_words.specs.Views.{spoken};
 ghost use Rattle.run_tool.specs.declared.ending.Status.TheVariants as status;
-ghost use Rattle.run_tool.specs.Answers.{Concludes, GivesOneOf, says};
-ghost use Rattle.run_tool.specs.Files.{OverFile};
+ghost use Rattle.run_tool.specs.Answers.{Concludes, of_devices, of_sink, says};
+ghost use Rattle.run_tool.specs.inner.Giving.{GivesOneOf};
+ghost use Rattle.run_tool.specs.inner.Handed.{FoundNoMemory};
 ghost use Rattle.run_tool.specs.Scripts.{OverScript};
-ghost use Rattle.run_tool.specs.Runs.{RunsBoard, ending_of};
-ghost use Rattle.run_tool.specs.RunHex.{RunsHex, image_refused_line};
-ghost use Rattle.run_tool.specs.Wanted.{FoundNoMemory, HasAsked, IsBrokenText, IsSpelledText, Onwards, OrLacks, WantsImage, WantsScript, wants_none};
+ghost use Rattle.run_tool.specs.Runs.{RunsBoard};
+ghost use Rattle.run_tool.specs.inner.Finishing.{ending_of};
+ghost use Rattle.run_tool.specs.RunHex.{RunsHex, image_refused_line, images};
+ghost use Rattle.run_tool.specs.Wanted.{HasAsked, Onwards, OrLacks, WantsScript, wants_none, WantsFile};
+ghost use Rattle.run_tool.specs.Fetches.{told_by};
+ghost use Rattle.run_tool.specs.Files.{AnswersFile};
 
 use crate::ending::{Ending, Status};
 use crate::fetched::text_of;
@@ -74,7 +78,7 @@ fn run_board<K: Sink, D: Device>(
     requires size { vec_len image ≤ flash_bytes }
     requires script { IsSound script }
     requires budget { IsBudget budget }
-    ensures { Concludes K.taken K.faults out.old out.new D.account places.old.items places.new.items [] (RunsBoard image.items script budget) result }
+    ensures { Concludes (of_sink K.taken K.faults out.old out.new) (of_devices D.account places.old.items places.new.items) [] (RunsBoard image.items script budget) result }
 {
     match run_image(alloc, image, script, places, budget, out) {
         Ok((end, _)) => ending_of(end),
@@ -94,10 +98,10 @@ fn run_named<F: Folder, K: Sink, D: Device>(
 ) -> Ending
     requires size { vec_len image ≤ flash_bytes }
     requires budget { IsBudget budget }
-    ensures answer { Concludes K.taken K.faults out.old out.new D.account places.old.items places.new.items []
-        (OverScript (F.holds folder.old) (Rose (F.faults folder.old) (F.faults folder.new)) (option_map spoken script.entry) (λ read. RunsBoard image.items read budget)) result }
+    ensures answer { Concludes (of_sink K.taken K.faults out.old out.new) (of_devices D.account places.old.items places.new.items) []
+        (OverScript (told_by F.holds F.faults folder.old folder.new) (option_map spoken script.entry) (λ read. RunsBoard image.items read budget)) result }
     ensures asked { HasAsked F.asked folder.old folder.new
-        (WantsScript (F.holds folder.old) (Rose (F.faults folder.old) (F.faults folder.new)) (FoundNoMemory result) (option_map spoken script.entry) wants_none) }
+        (WantsScript (told_by F.holds F.faults folder.old folder.new) (FoundNoMemory result) (option_map spoken script.entry) wants_none) }
     ensures folder_later { F.faults folder.old ≤ F.faults folder.new }
 {
     match script_of(alloc, script, folder, out) {
@@ -117,10 +121,10 @@ fn run_hex_text<F: Folder, K: Sink, D: Device>(
     places: &mut Vec<Option<D>>,
 ) -> Ending
     requires budget { IsBudget budget }
-    ensures answer { Concludes K.taken K.faults out.old out.new D.account places.old.items places.new.items []
-        (RunsHex (F.holds folder.old) (Rose (F.faults folder.old) (F.faults folder.new)) (option_map spoken script.entry) budget text.now) result }
+    ensures answer { Concludes (of_sink K.taken K.faults out.old out.new) (of_devices D.account places.old.items places.new.items) []
+        (RunsHex (told_by F.holds F.faults folder.old folder.new) (option_map spoken script.entry) budget text.now) result }
     ensures asked { HasAsked F.asked folder.old folder.new
-        (OrLacks (FoundNoMemory result) (Onwards (IsSpelledText text.now) (IsBrokenText text.now) (WantsScript (F.holds folder.old) (Rose (F.faults folder.old) (F.faults folder.new)) (FoundNoMemory result) (option_map spoken script.entry) wants_none))) }
+        (OrLacks (FoundNoMemory result) (Onwards images (λ image. WantsScript (told_by F.holds F.faults folder.old folder.new) (FoundNoMemory result) (option_map spoken script.entry) wants_none) text.now)) }
     ensures folder_later { F.faults folder.old ≤ F.faults folder.new }
 {
     match read_hex(alloc, text) {
@@ -143,11 +147,11 @@ pub fn run_hex<F: Folder, K: Sink, D: Device>(
     places: &mut Vec<Option<D>>,
 ) -> Ending
     requires budget { IsBudget budget }
-    ensures answer { Concludes K.taken K.faults out.old out.new D.account places.old.items places.new.items []
-        (OverFile F.holds F.faults folder.old folder.new name.now
-        (RunsHex (F.holds folder.old) (Rose (F.faults folder.old) (F.faults folder.new)) (option_map spoken script.entry) budget)) result }
+    ensures answer { Concludes (of_sink K.taken K.faults out.old out.new) (of_devices D.account places.old.items places.new.items) []
+        (AnswersFile (told_by F.holds F.faults folder.old folder.new) name.now
+        (RunsHex (told_by F.holds F.faults folder.old folder.new) (option_map spoken script.entry) budget)) result }
     ensures asked { HasAsked F.asked folder.old folder.new
-        (WantsImage (F.holds folder.old) (Rose (F.faults folder.old) (F.faults folder.new)) (FoundNoMemory result) name.now (WantsScript (F.holds folder.old) (Rose (F.faults folder.old) (F.faults folder.new)) (FoundNoMemory result) (option_map spoken script.entry) wants_none)) }
+        (WantsFile (told_by F.holds F.faults folder.old folder.new) (FoundNoMemory result) name.now (Onwards images (λ image. WantsScript (told_by F.holds F.faults folder.old folder.new) (FoundNoMemory result) (option_map spoken script.entry) wants_none))) }
     ensures folder_later { F.faults folder.old ≤ F.faults folder.new }
 {
     match text_of(alloc, name, folder, out) {

@@ -4,9 +4,11 @@ ghost use Rattle.std.specs.declared.option.Option.{Option};
 ghost use Rattle.sts_base.specs.Numbers.{number_of};
 ghost use Rattle.sts_whole.specs.Accepting as accepting;
 ghost use Rattle.tool_io.specs.Putting.{Puts};
-ghost use Rattle.run_tool.specs.Answers.{says, GivesOneOf};
+ghost use Rattle.run_tool.specs.Answers.{says};
+ghost use Rattle.run_tool.specs.inner.Giving.{GivesOneOf};
 ghost use Rattle.run_tool.specs.Refusals.{Refuses, refused_line};
-ghost use Rattle.run_tool.specs.Programs.{OverProgram, none_to_programs};
+ghost use Rattle.run_tool.specs.Programs.{OverProgram};
+ghost use Rattle.run_tool.specs.inner.Nothing.{none_to_programs};
 
 use crate::ending::{Ending, Status};
 use sts_base::{Code, Refused, number, place};

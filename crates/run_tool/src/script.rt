@@ -8,9 +8,13 @@ ghost use Rattle.event_script.specs.Sound.{IsSound};
 ghost use Rattle.event_script.specs.Verdict.{Tells};
 ghost use Rattle.sts_words.specs.Views.{spoken};
 ghost use Rattle.run_tool.specs.declared.ending.Status.TheVariants as status;
-ghost use Rattle.run_tool.specs.Answers.{GivesOneOf, says};
-ghost use Rattle.run_tool.specs.Scripts.{AnswersScript, OverScript, IsScriptOf, default_script, none_to_scripts, script_refused_line};
-ghost use Rattle.run_tool.specs.Wanted.{FoundNoMemory, HasAsked, WantsScript, names_given, wants_never};
+ghost use Rattle.run_tool.specs.Answers.{says};
+ghost use Rattle.run_tool.specs.inner.Giving.{GivesOneOf};
+ghost use Rattle.run_tool.specs.Scripts.{AnswersScript, OverScript, default_script, script_refused_line};
+ghost use Rattle.run_tool.specs.inner.Handed.{IsScriptOf, FoundNoMemory, names_given, wants_never};
+ghost use Rattle.run_tool.specs.inner.Nothing.{none_to_read};
+ghost use Rattle.run_tool.specs.Wanted.{HasAsked, WantsScript};
+ghost use Rattle.run_tool.specs.Fetches.{told_by};
 
 use crate::ending::{Ending, Status};
 use crate::fetched::text_of;
@@ -47,7 +51,7 @@ fn script_in<K: Sink>(alloc: Global, text: &[u8], out: &mut K) -> Result<Script,
     ensures script { IfOk result (λ script. Tells text.now (Ok script)) }
     ensures sound { IfOk result IsSound }
     ensures unwritten { OnOk result (K.taken out.new ≡ K.taken out.old) }
-    ensures none { IfErr result (GivesOneOf K.taken K.faults out.old out.new (AnswersScript none_to_scripts text.now)) }
+    ensures none { IfErr result (GivesOneOf K.taken K.faults out.old out.new (AnswersScript none_to_read text.now)) }
     ensures later { K.faults out.old ≤ K.faults out.new }
 {
     match read_script(alloc, text) {
@@ -76,14 +80,14 @@ pub fn script_of<F: Folder, K: Sink>(
     folder: &mut F,
     out: &mut K,
 ) -> Result<Script, Ending>
-    ensures script { IfOk result (IsScriptOf (F.holds folder.old) (Rose (F.faults folder.old) (F.faults folder.new)) (option_map spoken name.entry)) }
+    ensures script { IfOk result (IsScriptOf (told_by F.holds F.faults folder.old folder.new) (option_map spoken name.entry)) }
     ensures sound { IfOk result IsSound }
     ensures unwritten { OnOk result (K.taken out.new ≡ K.taken out.old) }
     ensures none { IfErr result (GivesOneOf K.taken K.faults out.old out.new
-        (OverScript (F.holds folder.old) (Rose (F.faults folder.old) (F.faults folder.new)) (option_map spoken name.entry) none_to_scripts)) }
+        (OverScript (told_by F.holds F.faults folder.old folder.new) (option_map spoken name.entry) none_to_read)) }
     ensures asked { OnOk result (F.asked folder.new ≡ F.asked folder.old ++ names_given (option_map spoken name.entry)) }
     ensures stopped { IfErr result (λ ending. HasAsked F.asked folder.old folder.new
-        (WantsScript (F.holds folder.old) (Rose (F.faults folder.old) (F.faults folder.new)) (FoundNoMemory ending) (option_map spoken name.entry) wants_never)) }
+        (WantsScript (told_by F.holds F.faults folder.old folder.new) (FoundNoMemory ending) (option_map spoken name.entry) wants_never)) }
     ensures stays { (file : List ℕ) → F.holds folder.new file ≡ F.holds folder.old file }
     ensures folder_later { F.faults folder.old ≤ F.faults folder.new }
     ensures later { K.faults out.old ≤ K.faults out.new }

@@ -15,8 +15,8 @@ use Rattle.type_derive.specs.Formed.{TextsBelow}
 use Rattle.sts_prelude.specs.Library as l
 use Rattle.sts_prelude.specs.Spelled.{TextSpellsLibrary}
 use Rattle.sts_prelude.specs.declared.text.TheConstants.{LIBRARY}
-use Rattle.formed_programs.proofs.Laws.{program_formed, program_texts_below, typed_names}
-use Rattle.library_laws.specs.Laws.{first, PreludeIsLibrary, LibraryLeavesFirst, TypedLibraryIsLight}
+use Rattle.typed_laws.proofs.Laws.{program_formed, program_texts_below, typed_names}
+use Rattle.typed_laws.specs.LibraryLaws.{first, PreludeIsLibrary, LibraryLeavesFirst, TypedLibraryIsLight}
 use Rattle.typed_laws.specs.Laws.{AcceptedIsWellTyped}
 use Rattle.sts_whole.specs.Accepting.{Accepts}
 use Rattle.sts_whole.specs.Buildable.{IsBuildable}

@@ -7,6 +7,7 @@ use Rattle.board_run.specs.declared.board.Stats.{Stats}
 use Rattle.board_run.specs.declared.engine.Engine.{Engine}
 use Rattle.board_run.specs.declared.end.End.{End}
 use Rattle.board_run.specs.declared.end.End.TheVariants.{Quiet, Script, Panic, Budget, Fault, SinkFault}
+use Rattle.board_run.specs.Outside.{Outside, OverSink, around}
 use Rattle.board_run.specs.Ran.{world_after, HasRun, Ran}
 use Rattle.sts_whole.specs.Runs.{counted_on, RunsTo, RunsImage}
 use Rattle.board_ports.specs.Account.{Account}
@@ -14,12 +15,12 @@ use Rattle.board_ports.specs.Account.{Account}
 abbrev counted : Engine → ℕ → Stats
 counted e executed = record { spawned = e.counts.spawned; blocked = e.counts.blocked; words = e.counts.words; seats = e.counts.most; instructions = executed }
 
-module _ {B : Type 0} (account : B → Account) (image : List ℕ) (script : EventScript) (budget : ℕ) (e : Engine) (executed : ℕ)
-    (taken taken' : Option (List ℕ)) (fs fs' : ℕ) (places places' : List (Option B)) (stats : Stats) (is : stats ≡ counted e executed) where
-  runs_to : (end : Option RunEnd) → HasRun account image script budget e executed taken taken' places places' end → RunsTo account image script budget taken taken' places places' end stats
+module _ {B : Type 0} (account : B → Account) (image : List ℕ) (script : EventScript) (budget : ℕ) (old : Outside B) (new : OverSink B)
+    (stats : Stats) (is : stats ≡ counted new.board.engine new.board.instructions) where
+  runs_to : (end : Option RunEnd) → HasRun account image (world_after image script) budget old new end → RunsTo account image script budget old (around new) end stats
   runs_to end h =
       let free = h.used ++ [] in
-      let b = (world_after image script free executed).board in
+      let executed = new.board.instructions in
       let board = (h.shows []).board in
       record {
         free = free;
@@ -33,7 +34,7 @@ module _ {B : Type 0} (account : B → Account) (image : List ℕ) (script : Eve
         counted = is ∙ sym (ap (λ (x : Board). counted_on x executed) board);
       }
 
-  pub runs_image : (end : End) → Ran account image script budget e executed taken taken' fs fs' places places' end → RunsImage account image script budget taken taken' fs fs' places places' end stats
+  pub runs_image : (end : End) → Ran account image (world_after image script) budget old new end → RunsImage account image script budget old (around new) end stats
   runs_image Quiet h = runs_to _ h
   runs_image Script h = runs_to _ h
   runs_image (Panic code) h = runs_to _ h

@@ -39,8 +39,8 @@ use Rattle.flat_ir.specs.declared.ops.FlatCode.{FlatCode}
 use Rattle.flat_ir.specs.WellFormed.{IsWellFormed, IsFunctionAmong}
 use Rattle.sts_lower.specs.Lowered.{lowered, flat_class, flat_classes, lowered_routines, repeating_functions, repeated_in_program}
 use Rattle.sts_lower.proofs.Laws.{HasFewFields, few_functions, few_fields}
-use Rattle.lowered_lives.specs.Texts.{Has, AllHave, NamesOnly}
-use Rattle.lowered_lives.proofs.Laws.{program_named, program_fits}
+use Rattle.lowered_code.specs.Texts.{Has, AllHave, NamesOnly}
+use Rattle.lowered_code.proofs.Laws.{program_named, program_fits}
 use Rattle.register_assign.specs.declared.places.Placed.{Placed}
 use Rattle.register_assign.specs.Sound.{ArePlacesSound}
 use Rattle.thumb_layout.specs.declared.pieces.What.{What}

@@ -5,7 +5,7 @@ use Rattle.sts_syntax.specs.declared.typed.TypedBody.{TypedBody}
 use Rattle.sts_syntax.specs.declared.units.Item.{Item}
 use Rattle.sts_syntax.specs.Programs.{TopLevel, Class, Function, Main, Program, top_level, top_levels}
 use Rattle.sts_syntax.specs.TypedTrees as e
-use Rattle.sts_syntax.specs.TypedTrees.{TypedStatement, TypedStatements, TypedRoutine, TypedProgram}
+use Rattle.sts_syntax.specs.TypedTrees.{TypedStatement, TypedStatements, TypedProgram}
 use Rattle.sts_syntax.specs.TypedViews.{typed_routines}
 use Rattle.sts_scope.proofs.Laws.{drop_at}
 use Rattle.sts_scope.specs.declared.known.Known.{Known}

@@ -19,7 +19,7 @@ use Rattle.flat_ir.specs.WellFormed.{IsWellFormedFunction, IsFunctionAmong, IsWe
 use Rattle.flat_ir.specs.Liveness.{OnlyParametersAreLive}
 use Rattle.sts_lower.specs.Lowered.{lowered_routine, repeating_function, lowered_routines, repeating_functions, repeated_in_program, lowered}
 use Rattle.lowered_code.specs.Costs.{cost}
-use Rattle.lowered_lives.specs.Texts.{Has, NamesOnly}
+use Rattle.lowered_code.specs.Texts.{Has, NamesOnly}
 use Rattle.register_assign.specs.declared.places.Placed.{Placed}
 use Rattle.thumb_layout.specs.declared.pieces.Piece.{Piece}
 use Rattle.thumb_layout.specs.Cells.{laid}

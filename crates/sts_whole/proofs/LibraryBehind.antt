@@ -12,7 +12,7 @@ use Rattle.sts_lexer.proofs.Laws.{slice_get_left, one_numbering, tokens_same}
 use Rattle.sts_syntax.specs.Programs.{Program}
 use Rattle.sts_prelude.specs.Library as l
 use Rattle.sts_prelude.specs.declared.text.TheConstants.{LIBRARY}
-use Rattle.library_laws.specs.Laws.{first, LibraryLeavesFirst}
+use Rattle.typed_laws.specs.LibraryLaws.{first, LibraryLeavesFirst}
 use Rattle.sts_whole.specs.Accepting.{Reads}
 
 -- a table of distinct strings begins with distinct ones

@@ -21,7 +21,7 @@ use Rattle.sts_scope.specs.declared.kinds.Kind.{Kind}
 use Rattle.sts_scope.specs.Faults.{Fault}
 use Rattle.type_derive.specs.Accepted.{AreDerived, derivation, refusal, typed, IsAccepted, IsRefused}
 use Rattle.type_derive.specs.Laws.{IsOne}
-use Rattle.library_laws.specs.Laws.{LibraryLeavesFirst}
+use Rattle.typed_laws.specs.LibraryLaws.{LibraryLeavesFirst}
 use Rattle.sts_whole.specs.Accepting.{Accepts, IsRefusedFor, RefusesTokens, RefusesProgram}
 use Rattle.sts_whole.specs.Laws.{OneAnswer}
 use Rattle.sts_whole.proofs.LibraryBehind.{AreOne, one_reading}

@@ -3,7 +3,7 @@ use Rattle.std.proofs.Common.{◌≡◌, ℕ, zero, suc, ◌+◌, ◌*◌, ◌<�
 use Rattle.std.specs.Prelude.{◌⊎◌, Option, is_some}
 use Rattle.std.proofs.lemmas.Bool.{cases_lt}
 use Rattle.board_world.specs.Observations.{ByteList, End}
-use Rattle.board_world.specs.Board.{Board, over}
+use Rattle.board_world.specs.Board.{over}
 use Rattle.board_world.specs.Activities.{World}
 use Rattle.board_world.proofs.Laws.{PlainlyKept}
 use Rattle.board_world.specs.Invariants.{SoundEnd}
@@ -12,7 +12,6 @@ use Rattle.board_outside.proofs.Laws.{goes_on_meeting}
 use Rattle.sts_syntax.specs.TypedTrees.{TypedProgram}
 use Rattle.sts_meaning.specs.Steps.{source, source_start}
 use Rattle.bank_model.specs.Fibers.{Fiber, Shared}
-use Rattle.bank_model.specs.BoardMachine.{fibers, bank_start}
 use Rattle.sts_implements.specs.Images.{instructions_of_a_step, ImageImplements, LooksLike}
 use Rattle.sts_implements.proofs.Laws.{looks_like, plainly, plain_faultless}
 use Rattle.event_script.specs.World.{world_entries}

@@ -19,7 +19,7 @@ use Rattle.sts_grammar.specs.Units.{IsProgram}
 use Rattle.type_derive.specs.Accepted.{AreDerived, refusal, typed, DerivedTypesExist}
 use Rattle.sts_whole.specs.Accepting.{Reads, Accepts, IsRefusedFor}
 use Rattle.sts_lexer.specs.Laws.{SomeReading}
-use Rattle.library_laws.specs.Laws.{first, LibraryIsRead}
+use Rattle.typed_laws.specs.LibraryLaws.{first, LibraryIsRead}
 use Rattle.sts_whole.specs.Laws.{OneAnswer, SomeAnswer, TextHasOneAnswer}
 
 token_there : (tokens : List Token) (n : ℕ) → n < length tokens → (token : Token) × (slice_get tokens n ≡ Some token)

@@ -10,6 +10,7 @@ use Rattle.board_outside.specs.Ports.{DevicesAfter}
 use Rattle.board_run.specs.declared.board.Stats.{Stats}
 use Rattle.board_run.specs.declared.end.End.{End}
 use Rattle.board_run.specs.declared.end.End.TheVariants.{Fault, SinkFault}
+use Rattle.board_run.specs.Outside.{Outside}
 use Rattle.board_run.specs.Ran.{world_after, IsExecuted, IsCut, end_told}
 use Rattle.board_ports.specs.Account.{Account}
 
@@ -19,23 +20,21 @@ counted_on b executed = record { spawned = b.spawned; blocked = b.blocked; words
 
 -- For some list of free words, the run of an image after the instructions executed ended so, or not yet; its transcript was taken, the devices met
 -- what it met, and this was counted.
-pub record RunsTo {B : Type 0} (account : B → Account) (image : List ℕ) (script : EventScript) (budget : ℕ)
-    (taken taken' : Option (List ℕ)) (places places' : List (Option B)) (end : Option RunEnd) (stats : Stats) : Type 0 where
+pub record RunsTo {B : Type 0} (account : B → Account) (image : List ℕ) (script : EventScript) (budget : ℕ) (old new : Outside B) (end : Option RunEnd) (stats : Stats) : Type 0 where
   pub free : List ℕ
   pub executed : ℕ
   pub moves : List Move
   pub is_executed : IsExecuted (world_after image script free) budget executed
   pub met : HasMet moves (world_after image script free executed).board
   pub ended : (world_after image script free executed).board.end ≡ end
-  pub written : Took taken taken' (transcript_of (world_after image script free executed).board)
-  pub devices : DevicesAfter account moves places places'
+  pub written : Took old.taken new.taken (transcript_of (world_after image script free executed).board)
+  pub devices : DevicesAfter account moves old.places new.places
   pub counted : stats ≡ counted_on (world_after image script free executed).board executed
 
 -- What a call that ran an image answered: its end, or that the sink failed, where one cut of the run is where the sink and the devices stand.
-abbrev pub RunsImage : {B : Type 0} → (B → Account) → List ℕ → EventScript → ℕ
-    → Option (List ℕ) → Option (List ℕ) → ℕ → ℕ → List (Option B) → List (Option B) → End → Stats → Type 0
-RunsImage account image script budget taken taken' fs fs' places places' SinkFault stats = IsCut account image script budget taken taken' places places' × Rose fs fs'
-RunsImage account image script budget taken taken' fs fs' places places' answer stats = RunsTo account image script budget taken taken' places places' (end_told answer) stats
+abbrev pub RunsImage : {B : Type 0} → (B → Account) → List ℕ → EventScript → ℕ → Outside B → Outside B → End → Stats → Type 0
+RunsImage account image script budget old new SinkFault stats = IsCut account (world_after image script) budget old new × Rose old.faults new.faults
+RunsImage account image script budget old new answer stats = RunsTo account image script budget old new (end_told answer) stats
 
 -- No run of a built image ends by a fault.
 abbrev pub IsFaultless : End → Type 0

@@ -1,14 +1,14 @@
 //! Laws of accepted texts.
 ghost use Rattle.sts_whole.specs.Laws.{AcceptedIsBuildable, OneAnswer, SomeAnswer, TextHasOneAnswer};
 
-use library_laws::{
-    library_is_read, library_leaves_first, prelude_is_library, typed_library_is_light,
-};
 use sts_grammar::{one_program, the_program_is_read};
 use sts_lexer::{one_reading, spellings_stay, texts_are_read_or_refused};
 use sts_prelude::text_spells_library;
 use type_derive::{derived_types_are_one, derived_types_exist};
-use typed_laws::accepted_texts_are_well_typed;
+use typed_laws::{
+    accepted_texts_are_well_typed, library_is_read, library_leaves_first, prelude_is_library,
+    typed_library_is_light,
+};
 
 /// The typed program of an accepted text can be built: it is well typed and within the limits, its texts stand in the tables and are bytes, and the library's
 /// functions, which stand first in it, weigh at most 600.

@@ -3,6 +3,7 @@ ghost use Rattle.std.specs.Prelude.{◌≡◌, ◌≤◌, [], List, ℕ, IfOk, O
 ghost use Rattle.thumb_code.specs.Map.{flash_end};
 ghost use Rattle.tool_io.specs.Putting.{Took};
 ghost use Rattle.event_script.specs.Sound.{IsSound};
+ghost use Rattle.board_run.specs.Outside.{outside_of};
 ghost use Rattle.sts_whole.specs.Runs.{RunsImage};
 
 use board_ports::Device;
@@ -31,8 +32,7 @@ pub fn run_image<K: Sink, D: Device>(
     requires script { IsSound script }
     requires least { 1 ≤ budget }
     requires most { budget ≤ 2147483648 }
-    ensures ran { IfOk result (λ r. RunsImage D.account image.items script budget (K.taken out.old) (K.taken out.new) (K.faults out.old) (K.faults out.new)
-        places.old.items places.new.items r.0 r.1) }
+    ensures ran { IfOk result (λ r. RunsImage D.account image.items script budget (outside_of K.taken K.faults out.old places.old.items) (outside_of K.taken K.faults out.new places.new.items) r.0 r.1) }
     ensures counted { IfOk result (λ r. r.1.instructions ≤ budget) }
     ensures nothing { OnErr result (Took (K.taken out.old) (K.taken out.new) []) }
     ensures unchanged { OnErr result (places.new.items ≡ places.old.items) }

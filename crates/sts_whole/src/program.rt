@@ -4,6 +4,7 @@ ghost use Rattle.tool_io.specs.Putting.{Took};
 ghost use Rattle.sts_whole.specs.Accepting.{Refuses};
 ghost use Rattle.event_script.specs.Sound.{IsSound};
 ghost use Rattle.sts_whole.specs.Built.{Builds};
+ghost use Rattle.board_run.specs.Outside.{outside_of};
 ghost use Rattle.sts_whole.specs.Runs.{RunsImage, IsFaultless};
 
 use crate::accepted_programs_are_buildable;
@@ -51,8 +52,8 @@ pub fn run_text<K: Sink, D: Device>(
     requires script { IsSound script }
     requires least { 1 ≤ budget }
     requires most { budget ≤ 2147483648 }
-    ensures ran { IfOk result (λ r. (image : List ℕ) × Builds text.now image × RunsImage D.account image script budget (K.taken out.old) (K.taken out.new) (K.faults out.old) (K.faults out.new)
-        places.old.items places.new.items r.0 r.1) }
+    ensures ran { IfOk result (λ r. (image : List ℕ) × Builds text.now image × RunsImage D.account image script budget
+        (outside_of K.taken K.faults out.old places.old.items) (outside_of K.taken K.faults out.new places.new.items) r.0 r.1) }
     ensures counted { IfOk result (λ r. r.1.instructions ≤ budget) }
     ensures faultless { IfOk result (λ r. IsFaultless r.0) }
     ensures refused { IfErr result (Refuses text.now) }

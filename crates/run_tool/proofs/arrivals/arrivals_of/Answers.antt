@@ -1,14 +1,16 @@
 use Rattle.std.proofs.Common.{List, subst, Ok, ◌≡◌, refl, inl, le_refl, ap}
-use Rattle.sts_base.specs.Faults.{Rose}
 use Rattle.arrival_file.specs.Verdict.{Tells}
-use Rattle.run_tool.specs.Arrivals.{AnswersArrivals, none_to_arrivals}
+use Rattle.run_tool.specs.Arrivals.{AnswersArrivals}
+use Rattle.run_tool.specs.inner.Nothing.{none_to_read}
 use Rattle.run_tool.proofs.Endings.{if-ok, if-err, text-gives, no-text-gives}
 use Rattle.std.specs.Prelude.{Result, IsErrOf, Err}
 use Rattle.arrival_file.specs.declared.arrival.Arrival.{Arrival}
 use Rattle.run_tool.specs.declared.ending.Ending.{Ending}
 use Rattle.run_tool.specs.declared.ending.Ending.TheVariants.{NoMemory}
-use Rattle.run_tool.specs.Wanted.{OrLacks, WantsFile, never_behind, none_behind}
+use Rattle.run_tool.specs.Wanted.{OrLacks, WantsFile, none_behind}
+use Rattle.run_tool.specs.inner.Handed.{never_behind}
 use Rattle.run_tool.proofs.Wanting.{asked-more, asked-none, file-more, then-behind}
+use Rattle.run_tool.specs.Fetches.{told_by}
 use Rattle.run_tool.proofs.arrivals.arrivals_of.Goals as goal
 
 pub returns-in-Ok-clause-arrivals : goal.returns-in-Ok-clause-arrivals
@@ -17,16 +19,14 @@ returns-in-Ok-clause-arrivals g c =
 
 pub returns-in-Ok-clause-none : goal.returns-in-Ok-clause-none
 returns-in-Ok-clause-none g c =
-    let told = g.F.Folder.holds c.args.folder.now in
-    let rose = Rose (g.F.Folder.faults c.args.folder.now) (g.F.Folder.faults c.text_of.new.folder) in
-    if-err c.arrivals_in.result (λ ending h. text-gives (AnswersArrivals none_to_arrivals) (told c.args.name.now) rose c.in-Ok.text c.deref.result.now ending c.in-Ok.ensures.unwritten c.in-Ok.ensures.later
+    let files = told_by g.F.Folder.holds g.F.Folder.faults c.args.folder.now c.text_of.new.folder in
+    if-err c.arrivals_in.result (λ ending h. text-gives (AnswersArrivals none_to_read) files c.args.name.now c.in-Ok.text c.deref.result.now ending c.in-Ok.ensures.unwritten c.in-Ok.ensures.later
     c.deref.ensures.value c.in-Ok.ensures.text h) c.arrivals_in.ensures.none
 
 pub returns-in-Err-clause-none : goal.returns-in-Err-clause-none
 returns-in-Err-clause-none g c =
-    let told = g.F.Folder.holds c.args.folder.now in
-    let rose = Rose (g.F.Folder.faults c.args.folder.now) (g.F.Folder.faults c.text_of.new.folder) in
-    no-text-gives (AnswersArrivals none_to_arrivals) (told c.args.name.now) rose c.in-Err.ending c.in-Err.ensures.none
+    let files = told_by g.F.Folder.holds g.F.Folder.faults c.args.folder.now c.text_of.new.folder in
+    no-text-gives (AnswersArrivals none_to_read) files c.args.name.now c.in-Err.ending c.in-Err.ensures.none
 
 pub returns-in-Ok-clause-asked : goal.returns-in-Ok-clause-asked
 returns-in-Ok-clause-asked g c =
@@ -35,8 +35,7 @@ returns-in-Ok-clause-asked g c =
     let faults = g.F.Folder.faults in
     let old = c.args.folder.now in
     let new = c.text_of.new.folder in
-    let told = holds old in
-    let rose = Rose (faults old) (faults new) in
+    let files = told_by holds faults old new in
     let lacking = IsErrOf c.arrivals_in.result NoMemory in
     then-behind asked holds faults old new new lacking c.args.name.now none_behind c.in-Ok.text c.deref.result.now c.in-Ok.ensures.asked c.in-Ok.ensures.text c.deref.ensures.value (le_refl (faults new))
     (asked-none asked new (OrLacks lacking (none_behind c.deref.result.now)) (inl refl))
@@ -48,10 +47,9 @@ returns-in-Err-clause-asked g c =
     let faults = g.F.Folder.faults in
     let old = c.args.folder.now in
     let new = c.text_of.new.folder in
-    let told = holds old in
-    let rose = Rose (faults old) (faults new) in
+    let files = told_by holds faults old new in
     let stopped = c.in-Err.ending ≡ NoMemory in
     let result : Result (List Arrival) Ending = Err c.in-Err.ending in
     let lacking = IsErrOf result NoMemory in
-    asked-more asked old new (WantsFile told rose stopped c.args.name.now never_behind) (WantsFile told rose lacking c.args.name.now none_behind)
-    (λ names h. file-more told told rose rose stopped lacking (λ file. refl) (λ r. r) (λ e. ap (λ x. Err x) e) c.args.name.now never_behind none_behind names (λ text names x. absurd x) h) c.in-Err.ensures.stopped
+    asked-more asked old new (WantsFile files stopped c.args.name.now never_behind) (WantsFile files lacking c.args.name.now none_behind)
+    (λ names h. file-more files files stopped lacking (λ file. refl, λ r. r) (λ e. ap (λ x. Err x) e) c.args.name.now never_behind none_behind names (λ text names x. absurd x) h) c.in-Err.ensures.stopped

@@ -2,7 +2,8 @@ use Rattle.std.proofs.Common.{List, refl}
 use Rattle.board_world.specs.Observations.{ByteList}
 use Rattle.sts_syntax.specs.TypedTrees.{TypedProgram}
 use Rattle.run_tool.specs.Big.{big_line}
-use Rattle.run_tool.specs.Programs.{OverProgram, none_to_programs}
+use Rattle.run_tool.specs.Programs.{OverProgram}
+use Rattle.run_tool.specs.inner.Nothing.{none_to_programs}
 use Rattle.run_tool.specs.Run.{RunsProgram}
 use Rattle.run_tool.specs.Scripts.{default_script}
 use Rattle.run_tool.proofs.Endings.{concludes-more, led-concludes, no-program, of-program}
@@ -13,7 +14,7 @@ returns-in-Ok g c =
     let m = c.args.manner in
     let answers = λ (P : TypedProgram) (texts : List ByteList). RunsProgram P texts default_script m.budget m.stats m.image in
     let b = c.in-Ok.ensures.built in
-    concludes-more g.D.Device.account c.args.places.now.items c.run_big.new.places.items (big_line c.args.size) (answers b.program b.tables.texts) (OverProgram answers c.args.text.now) c.run_big.result
+    concludes-more (answers b.program b.tables.texts) (OverProgram answers c.args.text.now) c.run_big.result
     (of-program answers c.args.text.now c.in-Ok.image.items b) (c.run_big.ensures b.program b.tables.texts b.implements)
 
 pub returns-in-Err : goal.returns-in-Err
@@ -21,5 +22,5 @@ returns-in-Err g c =
     let m = c.args.manner in
     let answers = λ (P : TypedProgram) (texts : List ByteList). RunsProgram P texts default_script m.budget m.stats m.image in
     let none = OverProgram none_to_programs c.args.text.now in
-    concludes-more g.D.Device.account c.args.places.now.items c.args.places.now.items (big_line c.args.size) none (OverProgram answers c.args.text.now) c.say_big_refused.result
+    concludes-more none (OverProgram answers c.args.text.now) c.say_big_refused.result
     (no-program answers c.args.text.now) (led-concludes g.D.Device.account c.args.places.now.items c.args.places.now.items refl (big_line c.args.size) none c.say_big_refused.result c.say_big_refused.ensures)

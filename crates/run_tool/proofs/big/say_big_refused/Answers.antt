@@ -3,7 +3,8 @@ use Rattle.sts_whole.specs.Accepting as accepting
 use Rattle.run_tool.specs.Answers.{Led}
 use Rattle.run_tool.specs.Big.{big_line}
 use Rattle.run_tool.specs.Refusals.{Refuses}
-use Rattle.run_tool.specs.Programs.{OverProgram, none_to_programs}
+use Rattle.run_tool.specs.Programs.{OverProgram}
+use Rattle.run_tool.specs.inner.Nothing.{none_to_programs}
 use Rattle.run_tool.proofs.Endings.{gives-more, led-more}
 use Rattle.run_tool.proofs.big.say_big_refused.Goals as goal
 
@@ -21,4 +22,4 @@ returns-in-Program g c =
     let why = subst (λ x. accepting.Refuses c.args.text.now x) c.in-Program.is c.requires in
     let may = Refuses c.args.text.now c.in-Program.code c.in-Program.at in
     let more = OverProgram none_to_programs c.args.text.now in
-    gives-more (Led lead may) (Led lead more) c.refuse_big.result (led-more lead may more (λ answer h. inr (c.in-Program.code, c.in-Program.at, why, h))) c.refuse_big.ensures
+    gives-more (Led lead may) (Led lead more) c.refuse_big.result (led-more lead may more (λ answer h. inr ((c.in-Program.code, c.in-Program.at), why, h))) c.refuse_big.ensures

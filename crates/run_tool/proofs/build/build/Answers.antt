@@ -1,20 +1,21 @@
-use Rattle.sts_base.specs.Faults.{Rose}
 use Rattle.run_tool.specs.Build.{BuildsText}
 use Rattle.run_tool.proofs.Endings.{text-gives, no-text-gives}
 use Rattle.std.proofs.Common.{◌≡◌, refl, inl, le_refl}
 use Rattle.run_tool.specs.declared.ending.Ending.TheVariants.{NoMemory}
-use Rattle.run_tool.specs.Wanted.{OrLacks, WantsFile, never_behind, none_behind}
+use Rattle.run_tool.specs.Wanted.{OrLacks, WantsFile, none_behind}
+use Rattle.run_tool.specs.inner.Handed.{never_behind}
 use Rattle.run_tool.proofs.Wanting.{asked-more, asked-none, file-missed, then-behind}
+use Rattle.run_tool.specs.Fetches.{told_by}
 use Rattle.run_tool.proofs.build.build.Goals as goal
 
 pub returns-in-Ok-clause-answer : goal.returns-in-Ok-clause-answer
 returns-in-Ok-clause-answer g c =
-    text-gives BuildsText (g.F.Folder.holds c.args.folder.now c.args.name.now) (Rose (g.F.Folder.faults c.args.folder.now) (g.F.Folder.faults c.text_of.new.folder))
+    text-gives BuildsText (told_by g.F.Folder.holds g.F.Folder.faults c.args.folder.now c.text_of.new.folder) c.args.name.now
     c.in-Ok.text c.deref.result.now c.build_text.result c.in-Ok.ensures.unwritten c.in-Ok.ensures.later c.deref.ensures.value c.in-Ok.ensures.text c.build_text.ensures
 
 pub returns-in-Err-clause-answer : goal.returns-in-Err-clause-answer
 returns-in-Err-clause-answer g c =
-    no-text-gives BuildsText (g.F.Folder.holds c.args.folder.now c.args.name.now) (Rose (g.F.Folder.faults c.args.folder.now) (g.F.Folder.faults c.text_of.new.folder))
+    no-text-gives BuildsText (told_by g.F.Folder.holds g.F.Folder.faults c.args.folder.now c.text_of.new.folder) c.args.name.now
     c.in-Err.ending c.in-Err.ensures.none
 
 pub returns-in-Ok-clause-asked : goal.returns-in-Ok-clause-asked
@@ -24,8 +25,7 @@ returns-in-Ok-clause-asked g c =
     let faults = g.F.Folder.faults in
     let old = c.args.folder.now in
     let new = c.text_of.new.folder in
-    let told = holds old in
-    let rose = Rose (faults old) (faults new) in
+    let files = told_by holds faults old new in
     let lacking = c.build_text.result ≡ NoMemory in
     then-behind asked holds faults old new new lacking c.args.name.now none_behind c.in-Ok.text c.deref.result.now c.in-Ok.ensures.asked c.in-Ok.ensures.text c.deref.ensures.value (le_refl (faults new))
     (asked-none asked new (OrLacks lacking (none_behind c.deref.result.now)) (inl refl))
@@ -37,8 +37,7 @@ returns-in-Err-clause-asked g c =
     let faults = g.F.Folder.faults in
     let old = c.args.folder.now in
     let new = c.text_of.new.folder in
-    let told = holds old in
-    let rose = Rose (faults old) (faults new) in
+    let files = told_by holds faults old new in
     let lacking = c.in-Err.ending ≡ NoMemory in
-    asked-more asked old new (WantsFile told rose lacking c.args.name.now never_behind) (WantsFile told rose lacking c.args.name.now none_behind)
-    (λ names h. file-missed told rose lacking c.args.name.now none_behind names h) c.in-Err.ensures.stopped
+    asked-more asked old new (WantsFile files lacking c.args.name.now never_behind) (WantsFile files lacking c.args.name.now none_behind)
+    (λ names h. file-missed files lacking c.args.name.now none_behind names h) c.in-Err.ensures.stopped

@@ -1,44 +1,49 @@
 use Rattle.std.proofs.Common.{◌∷◌, ◌≡◌, ◌∙◌, sym, refl, ap, subst, arith, [], take, length, List, ◌++◌}
 use Rattle.std.proofs.Math.Seq.{take-length}
-use Rattle.sts_base.specs.Faults.{Rose}
 use Rattle.tool_io.specs.Putting.{Took}
-use Rattle.tool_io.proofs.Laws.{took-nothing, rose-before, rose-after}
+use Rattle.tool_io.proofs.Laws.{took-nothing}
 use Rattle.class_file.specs.declared.class.Names.{Names}
 use Rattle.class_file.specs.Within.{AreTexts}
-use Rattle.run_tool.specs.ClassBoards.{OverBoard, OverBoards, none_to_board, none_to_all}
-use Rattle.run_tool.specs.ClassReady.{AreReady}
+use Rattle.run_tool.specs.ClassBoards.{OverBoard, OverBoards}
+use Rattle.run_tool.specs.inner.Nothing.{none_to_read, none_to_read}
+use Rattle.run_tool.specs.inner.ClassReady.{AreReady}
 use Rattle.run_tool.proofs.Endings.{gives-more, gives-after}
 use Rattle.run_tool.proofs.ClassRuns.{none-ready, next-ready, next-answered}
 use Rattle.run_tool.specs.declared.ending.Ending.TheVariants.{NoMemory}
-use Rattle.run_tool.specs.Wanted.{names_of_boards}
+use Rattle.run_tool.specs.inner.Handed.{names_of_boards}
 use Rattle.run_tool.proofs.Wanting.{more-behind, no-more}
 use Rattle.run_tool.proofs.WantedReadings.{next-wanted, next-names}
+use Rattle.run_tool.proofs.Readings.{first-part, last-part}
+use Rattle.run_tool.specs.Fetches.{told_by}
 use Rattle.run_tool.proofs.class_boards.boards_of.Goals as goal
 
 pub add-requires : goal.add-requires
 add-requires g c = subst AreTexts (sym c.index-names-at.is) (c.requires.texts c.loop-at.at c.index-names-at.result c.loop-at-test.true)
 
 pub loop-at-init : goal.loop-at-init
-loop-at-init g c =
-    let failed = g.F.Folder.faults c.args.folder.now in (
-      none-ready (g.F.Folder.holds c.args.folder.now) (Rose failed failed) c.args.end c.none-boards.result c.none-boards.ensures.images c.none-boards.ensures.scripts,
-      refl,
-      λ file. refl,
-      omega arith,
-      omega arith,
-      no-more (g.F.Folder.asked c.args.folder.now),
-    )
+loop-at-init g c = (
+  none-ready (told_by g.F.Folder.holds g.F.Folder.faults c.args.folder.now c.args.folder.now) c.args.end c.none-boards.result c.none-boards.ensures.images c.none-boards.ensures.scripts,
+  refl,
+  λ file. refl,
+  omega arith,
+  omega arith,
+  no-more (g.F.Folder.asked c.args.folder.now),
+)
 
 pub loop-at-preserved : goal.loop-at-preserved
 loop-at-preserved g c =
     let i = c.loop-at.invariant in
-    let told = g.F.Folder.holds c.args.folder.now in
-    let mid = g.F.Folder.holds c.loop-at.folder in
-    let failed = g.F.Folder.faults c.args.folder.now in
-    let failed_mid = g.F.Folder.faults c.loop-at.folder in
-    let failed_new = g.F.Folder.faults c.add.new.folder in (
-      next-ready told mid (Rose failed failed_mid) (Rose failed_mid failed_new) (Rose failed failed_new) c.args.end i.2 (λ r. rose-after failed failed_mid failed_new r c.add.ensures.folder_later)
-          (λ r. rose-before failed failed_mid failed_new i.3 r) c.args.names.now c.loop-at.at c.index-names-at.result c.loop-at.boards i.0 c.loop-at-test.true c.index-names-at.is c.add.new.self c.in-Ok.ensures.added,
+    let holds = g.F.Folder.holds in
+    let faults = g.F.Folder.faults in
+    let old = c.args.folder.now in
+    let mid = c.loop-at.folder in
+    let new = c.add.new.folder in
+    let before = told_by holds faults old mid in
+    let files = told_by holds faults old new in
+    let files_mid = told_by holds faults mid new in
+    let was = first-part holds faults old mid new c.add.ensures.folder_later in
+    let on = last-part holds faults old mid new i.2 i.3 in (
+      next-ready before files_mid files c.args.end was on c.args.names.now c.loop-at.at c.index-names-at.result c.loop-at.boards i.0 c.loop-at-test.true c.index-names-at.is c.add.new.self c.in-Ok.ensures.added,
       c.in-Ok.ensures.unwritten ∙ i.1,
       λ file. c.add.ensures.stays file ∙ i.2 file,
       omega (arith, i.3, c.add.ensures.folder_later),
@@ -50,23 +55,26 @@ loop-at-preserved g c =
 pub returns-in-Err-clause-none : goal.returns-in-Err-clause-none
 returns-in-Err-clause-none g c =
     let i = c.loop-at.invariant in
-    let told = g.F.Folder.holds c.args.folder.now in
-    let mid = g.F.Folder.holds c.loop-at.folder in
-    let failed = g.F.Folder.faults c.args.folder.now in
-    let failed_mid = g.F.Folder.faults c.loop-at.folder in
-    let failed_new = g.F.Folder.faults c.add.new.folder in
-    let may = OverBoards told (Rose failed failed_new) c.args.end 0 c.args.names.now none_to_all in
+    let holds = g.F.Folder.holds in
+    let faults = g.F.Folder.faults in
+    let old = c.args.folder.now in
+    let mid = c.loop-at.folder in
+    let new = c.add.new.folder in
+    let before = told_by holds faults old mid in
+    let files = told_by holds faults old new in
+    let files_mid = told_by holds faults mid new in
+    let was = first-part holds faults old mid new c.add.ensures.folder_later in
+    let on = last-part holds faults old mid new i.2 i.3 in
+    let may = OverBoards files c.args.end 0 c.args.names.now none_to_read in
     gives-after may c.in-Err.ending (subst (λ x. Took x (g.K.Sink.taken c.loop-at.out) []) i.1 (took-nothing (g.K.Sink.taken c.loop-at.out))) i.4
-    (gives-more (OverBoard mid (Rose failed_mid failed_new) c.args.end c.loop-at.at c.index-names-at.result none_to_board) may c.in-Err.ending
-    (λ answer h. next-answered told mid (Rose failed failed_mid) (Rose failed_mid failed_new) (Rose failed failed_new) c.args.end i.2 (λ r. rose-after failed failed_mid failed_new r c.add.ensures.folder_later)
-    (λ r. rose-before failed failed_mid failed_new i.3 r) c.args.names.now c.loop-at.at c.index-names-at.result c.loop-at.boards i.0 c.loop-at-test.true c.index-names-at.is answer h) c.in-Err.ensures.none)
+    (gives-more (OverBoard files_mid c.args.end c.loop-at.at c.index-names-at.result none_to_read) may c.in-Err.ending
+    (λ answer h. next-answered before files_mid files c.args.end was on c.args.names.now c.loop-at.at c.index-names-at.result c.loop-at.boards i.0 c.loop-at-test.true c.index-names-at.is answer h) c.in-Err.ensures.none)
 
 pub returns-clause-ready : goal.returns-clause-ready
 returns-clause-ready g c =
-    let failed = g.F.Folder.faults c.args.folder.now in
     let far : c.loop-at.at ≡ length c.args.names.now = omega (arith, c.loop-at-test.false, c.loop-at.auto.at-end) in
     let all : take c.loop-at.at c.args.names.now ≡ c.args.names.now = ap (λ n. take n c.args.names.now) far ∙ take-length c.args.names.now in
-    subst (λ (names : List Names). AreReady (g.F.Folder.holds c.args.folder.now) (Rose failed (g.F.Folder.faults c.loop-at.folder)) c.args.end names c.loop-at.boards) all c.loop-at.invariant.0
+    subst (λ (names : List Names). AreReady (told_by g.F.Folder.holds g.F.Folder.faults c.args.folder.now c.loop-at.folder) c.args.end names c.loop-at.boards) all c.loop-at.invariant.0
 
 pub returns-in-Err-clause-stopped : goal.returns-in-Err-clause-stopped
 returns-in-Err-clause-stopped g c =
@@ -75,16 +83,14 @@ returns-in-Err-clause-stopped g c =
     let faults = g.F.Folder.faults in
     let old = c.args.folder.now in
     let new = c.add.new.folder in
-    let told = holds old in
-    let rose = Rose (faults old) (faults new) in
     let mid = c.loop-at.folder in
     let i = c.loop-at.invariant in
     let done = names_of_boards (take c.loop-at.at c.args.names.now) in
     let h = c.in-Err.ensures.stopped in (
       done ++ h.0,
       more-behind (asked old) (asked mid) (asked new) done h.0 i.5 h.1,
-      next-wanted told (holds mid) (Rose (faults old) (faults mid)) (Rose (faults mid) (faults new)) rose c.args.end i.2 (λ r. rose-after (faults old) (faults mid) (faults new) r c.add.ensures.folder_later)
-          (λ r. rose-before (faults old) (faults mid) (faults new) i.3 r) c.args.names.now c.loop-at.at c.index-names-at.result c.loop-at.boards i.0 c.loop-at-test.true c.index-names-at.is (c.in-Err.ending ≡ NoMemory) h.0 h.2,
+      next-wanted (told_by holds faults old mid) (told_by holds faults mid new) (told_by holds faults old new) c.args.end (first-part holds faults old mid new c.add.ensures.folder_later)
+          (last-part holds faults old mid new i.2 i.3) c.args.names.now c.loop-at.at c.index-names-at.result c.loop-at.boards i.0 c.loop-at-test.true c.index-names-at.is (c.in-Err.ending ≡ NoMemory) h.0 h.2,
     )
 
 pub returns-clause-asked : goal.returns-clause-asked

@@ -1,4 +1,4 @@
-use Rattle.std.proofs.Common.{◌≡◌, ap, ◌∙◌, ◌++◌, inl, inr, subst, sym}
+use Rattle.std.proofs.Common.{◌≡◌, ap, ◌∙◌, ◌++◌, inr, subst, sym}
 use Rattle.std.specs.Prelude.{Ok, Err}
 use Rattle.event_script.specs.Codes.{number_of}
 use Rattle.event_script.specs.Sound.{IsSound}
@@ -6,9 +6,10 @@ use Rattle.event_script.specs.Verdict.{Tells}
 use Rattle.class_file.specs.declared.class.ClassCode.TheVariants.{EndDiffers}
 use Rattle.run_tool.specs.declared.ending.Status.TheVariants.{ScriptRefused}
 use Rattle.run_tool.specs.Answers.{says}
-use Rattle.run_tool.specs.Scripts.{none_to_scripts, script_refused_line}
+use Rattle.run_tool.specs.Scripts.{script_refused_line}
+use Rattle.run_tool.specs.inner.Nothing.{none_to_read}
 use Rattle.run_tool.specs.ClassFiles.{refuses_class}
-use Rattle.run_tool.specs.ClassBoards.{AnswersBoardScript, board_lead}
+use Rattle.run_tool.specs.ClassBoards.{AnswersBoardScript, no_script, other_end, board_lead}
 use Rattle.run_tool.proofs.Endings.{if-ok, gives-more, refuses-script}
 use Rattle.run_tool.proofs.ClassAnswers.{if-errs, ok-so}
 use Rattle.run_tool.proofs.class_boards.script_in.Goals as goal
@@ -24,15 +25,15 @@ returns-in-Ok-clause-ends g c = ok-so c.with_end.result (λ it e ends. ap (λ s.
 
 pub returns-in-Ok-clause-none : goal.returns-in-Ok-clause-none
 returns-in-Ok-clause-none g c =
-    if-errs c.with_end.result (λ ending differs h. gives-more (λ answer. answer ≡ refuses_class EndDiffers) (AnswersBoardScript c.args.number c.args.end none_to_scripts c.args.text.now) ending
-    (λ answer x. inl (c.in-Ok.script, c.in-Ok.ensures.ok, inr (differs, x))) h) c.with_end.ensures.differs c.with_end.ensures.none
+    if-errs c.with_end.result (λ ending differs h. gives-more (λ answer. answer ≡ refuses_class EndDiffers) (AnswersBoardScript c.args.number c.args.end none_to_read c.args.text.now) ending
+    (λ answer x. inr (other_end c.in-Ok.script, (c.in-Ok.ensures.ok, differs), x)) h) c.with_end.ensures.differs c.with_end.ensures.none
 
 pub returns-in-Err-Script-clause-none : goal.returns-in-Err-Script-clause-none
 returns-in-Err-Script-clause-none g c =
-    gives-more (λ answer. answer ≡ says ScriptRefused (board_lead c.args.number ++ script_refused_line (number_of c.in-Err-Script.code))) (AnswersBoardScript c.args.number c.args.end none_to_scripts c.args.text.now)
+    gives-more (λ answer. answer ≡ says ScriptRefused (board_lead c.args.number ++ script_refused_line (number_of c.in-Err-Script.code))) (AnswersBoardScript c.args.number c.args.end none_to_read c.args.text.now)
     c.say_script_refused.result
     (λ answer h. inr (
-      c.in-Err-Script.code,
+      no_script c.in-Err-Script.code,
       refuses-script c.args.text.now c.read_script.result c.in-Err-Script.code (c.in-Err-Script.is ∙ ap Err c.in-Err-Script.field-0-is) c.read_script.ensures.not_json c.read_script.ensures.not_script
           c.read_script.ensures.out_of_order c.read_script.ensures.past_end c.read_script.ensures.too_many,
       h,

@@ -5,47 +5,46 @@ use Rattle.run_tool.proofs.ToldAt.{headline-at}
 use Rattle.run_tool.proofs.ToldClass.{headline-class}
 use Rattle.std.proofs.Common.{◌≡◌, ◌∙◌, ap, refl, map}
 use Rattle.std.specs.String.{string_bytes}
-use Rattle.sts_base.specs.Faults.{Rose}
 use Rattle.sts_words.specs.Words.{order_of}
 use Rattle.run_tool.specs.declared.ending.Ending.TheVariants.{NoMemory}
-use Rattle.run_tool.specs.Answers.{ending_number}
+use Rattle.run_tool.specs.Answers.{ending_number, of_sink}
 use Rattle.run_tool.specs.Wanted.{Wants}
 use Rattle.run_tool.proofs.Wanting.{asked-more, wants-more}
+use Rattle.run_tool.specs.Fetches.{told_by}
 use Rattle.run_tool.proofs.commands.sts_main.Goals as goal
 
 pub returns-clause-headline : goal.returns-clause-headline
 returns-clause-headline g c =
-    headline _ (g.F.Folder.holds c.args.folder.now) _ _ _ _ _ _ _ c.number.result c.one_answer.ensures c.perform.result c.number.ensures c.perform.ensures.answer.ends c.perform.ensures.answer.cut
+    headline (told_by g.F.Folder.holds g.F.Folder.faults c.args.folder.now c.perform.new.folder) _ c.number.result c.one_answer.ensures c.perform.result c.number.ensures c.perform.ensures.answer
 
 pub returns-clause-completes : goal.returns-clause-completes
-returns-clause-completes g c = completes _ _ _ _ (g.F.Folder.holds c.args.folder.now) _ _ _ _ _ c.perform.result c.number.result c.number.ensures c.perform.ensures.answer.ends c.perform.ensures.answer.cut
+returns-clause-completes g c = completes (told_by g.F.Folder.holds g.F.Folder.faults c.args.folder.now c.perform.new.folder) _ c.perform.result c.number.result c.number.ensures c.perform.ensures.answer
 
 pub returns-clause-complete : goal.returns-clause-complete
 returns-clause-complete g c =
-    complete c.one_answer.ensures (g.F.Folder.holds c.args.folder.now) _ _ _ c.number.result
-    (completes _ _ _ _ (g.F.Folder.holds c.args.folder.now) _ _ _ _ _ c.perform.result c.number.result c.number.ensures c.perform.ensures.answer.ends c.perform.ensures.answer.cut)
+    complete c.one_answer.ensures (told_by g.F.Folder.holds g.F.Folder.faults c.args.folder.now c.perform.new.folder) (of_sink g.K.Sink.taken g.K.Sink.faults c.args.out.now c.perform.new.out) _ c.number.result
+    (completes (told_by g.F.Folder.holds g.F.Folder.faults c.args.folder.now c.perform.new.folder) _ c.perform.result c.number.result c.number.ensures c.perform.ensures.answer)
 
 pub returns-clause-headline_at : goal.returns-clause-headline_at
-returns-clause-headline_at g c = headline-at c.one_answer.ensures _ _ _ (g.F.Folder.holds c.args.folder.now) _ _ _ _ _ c.perform.result c.number.result c.number.ensures c.perform.ensures.answer.ends c.perform.ensures.answer.cut
+returns-clause-headline_at g c = headline-at c.one_answer.ensures (told_by g.F.Folder.holds g.F.Folder.faults c.args.folder.now c.perform.new.folder) _ c.perform.result c.number.result c.number.ensures c.perform.ensures.answer
 
 pub returns-clause-headline_class : goal.returns-clause-headline_class
-returns-clause-headline_class g c =
-    headline-class c.one_answer.ensures _ _ _ (g.F.Folder.holds c.args.folder.now) _ _ _ _ _ c.perform.result c.number.result c.number.ensures c.perform.ensures.answer.ends c.perform.ensures.answer.cut
+returns-clause-headline_class g c = headline-class c.one_answer.ensures (told_by g.F.Folder.holds g.F.Folder.faults c.args.folder.now c.perform.new.folder) _ c.perform.result c.number.result c.number.ensures c.perform.ensures.answer
 
 pub returns-clause-refused : goal.returns-clause-refused
-returns-clause-refused g c = refused _ _ _ _ (g.F.Folder.holds c.args.folder.now) _ _ _ _ c.perform.result c.number.result c.number.ensures c.perform.ensures.answer.ends
+returns-clause-refused g c = refused (told_by g.F.Folder.holds g.F.Folder.faults c.args.folder.now c.perform.new.folder) _ c.perform.result c.number.result c.number.ensures c.perform.ensures.answer
 
 pub returns-clause-script_refused : goal.returns-clause-script_refused
-returns-clause-script_refused g c = script-refused _ _ _ _ (g.F.Folder.holds c.args.folder.now) _ _ _ _ c.perform.result c.number.result c.number.ensures c.perform.ensures.answer.ends
+returns-clause-script_refused g c = script-refused (told_by g.F.Folder.holds g.F.Folder.faults c.args.folder.now c.perform.new.folder) _ c.perform.result c.number.result c.number.ensures c.perform.ensures.answer
 
 pub returns-clause-image_refused : goal.returns-clause-image_refused
-returns-clause-image_refused g c = image-refused _ _ _ _ (g.F.Folder.holds c.args.folder.now) _ _ _ _ c.perform.result c.number.result c.number.ensures c.perform.ensures.answer.ends
+returns-clause-image_refused g c = image-refused (told_by g.F.Folder.holds g.F.Folder.faults c.args.folder.now c.perform.new.folder) _ c.perform.result c.number.result c.number.ensures c.perform.ensures.answer
 
 pub returns-clause-faulted : goal.returns-clause-faulted
-returns-clause-faulted g c = faulted _ _ _ _ (g.F.Folder.holds c.args.folder.now) _ _ _ _ c.perform.result c.number.result c.number.ensures c.perform.ensures.answer.ends
+returns-clause-faulted g c = faulted (told_by g.F.Folder.holds g.F.Folder.faults c.args.folder.now c.perform.new.folder) _ c.perform.result c.number.result c.number.ensures c.perform.ensures.answer
 
 pub returns-clause-folder_failed : goal.returns-clause-folder_failed
-returns-clause-folder_failed g c = folder-failed _ _ _ _ (g.F.Folder.holds c.args.folder.now) _ _ _ _ c.perform.result c.number.result c.number.ensures c.perform.ensures.answer.ends
+returns-clause-folder_failed g c = folder-failed (told_by g.F.Folder.holds g.F.Folder.faults c.args.folder.now c.perform.new.folder) _ c.perform.result c.number.result c.number.ensures c.perform.ensures.answer
 
 pub returns-clause-asked : goal.returns-clause-asked
 returns-clause-asked g c =
@@ -54,10 +53,9 @@ returns-clause-asked g c =
     let faults = g.F.Folder.faults in
     let old = c.args.folder.now in
     let new = c.perform.new.folder in
-    let told = holds old in
-    let rose = Rose (faults old) (faults new) in
+    let files = told_by holds faults old new in
     let order = order_of (map string_bytes c.args.words.now) in
     let stopped = c.perform.result ≡ NoMemory in
     let lacking = c.number.result ≡ 30 in
-    asked-more asked old new (Wants told rose stopped order) (Wants told rose lacking order)
-    (λ names h. wants-more told told rose rose stopped lacking (λ file. refl) (λ r. r) (λ e. c.number.ensures ∙ ap ending_number e) order names h) c.perform.ensures.asked
+    asked-more asked old new (Wants files stopped order) (Wants files lacking order)
+    (λ names h. wants-more files files stopped lacking (λ file. refl, λ r. r) (λ e. c.number.ensures ∙ ap ending_number e) order names h) c.perform.ensures.asked

@@ -1,4 +1,3 @@
-use Rattle.std.proofs.Common.{◌≡◌}
 use Rattle.std.specs.Prelude.{IsErrOf}
 use Rattle.tool_folder.specs.declared.folder.FetchFault.TheVariants.{NoMemory}
 use Rattle.run_tool.proofs.Wanting.{noted-name, noted-or-none}

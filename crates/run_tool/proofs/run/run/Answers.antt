@@ -1,42 +1,44 @@
-use Rattle.std.proofs.Common.{refl, [], ◌≡◌}
+use Rattle.std.proofs.Common.{refl, ◌≡◌}
 use Rattle.std.specs.Option.{option_map}
-use Rattle.sts_base.specs.Faults.{Rose}
 use Rattle.sts_words.specs.Views.{spoken}
-use Rattle.tool_io.proofs.Laws.{rose-before}
 use Rattle.run_tool.specs.Run.{RunsText}
 use Rattle.run_tool.specs.Files.{AnswersFile}
 use Rattle.run_tool.proofs.Endings.{no-text-gives, concludes-more, text-concludes, says-concludes}
 use Rattle.run_tool.proofs.ImageRuns.{program-onwards}
 use Rattle.run_tool.specs.declared.ending.Ending.TheVariants.{NoMemory}
-use Rattle.run_tool.specs.Completeness.{IsProgramText}
-use Rattle.run_tool.specs.Wanted.{IsRefusedText, Onwards, OrLacks, WantsFile, WantsScript, never_behind, wants_none}
+use Rattle.run_tool.specs.Wanted.{Onwards, OrLacks, WantsFile, WantsScript, wants_none}
+use Rattle.run_tool.specs.inner.Handed.{never_behind}
 use Rattle.run_tool.proofs.Wanting.{asked-more, file-missed, onwards-more, or-more, then-behind, script-more}
+use Rattle.run_tool.proofs.Readings.{last-part}
+use Rattle.run_tool.specs.Programs.{programs}
+use Rattle.run_tool.specs.Fetches.{told_by}
 use Rattle.run_tool.proofs.run.run.Goals as goal
 
 pub returns-in-Ok-clause-answer : goal.returns-in-Ok-clause-answer
 returns-in-Ok-clause-answer g c =
-    let told = g.F.Folder.holds c.args.folder.now in
-    let mid = g.F.Folder.holds c.text_of.new.folder in
-    let failed = g.F.Folder.faults c.args.folder.now in
-    let failed_mid = g.F.Folder.faults c.text_of.new.folder in
-    let failed_new = g.F.Folder.faults c.run_text.new.folder in
+    let holds = g.F.Folder.holds in
+    let faults = g.F.Folder.faults in
+    let old = c.args.folder.now in
+    let mid = c.text_of.new.folder in
+    let new = c.run_text.new.folder in
+    let files = told_by holds faults old new in
+    let files_mid = told_by holds faults mid new in
+    let on = last-part holds faults old mid new c.in-Ok.ensures.stays c.in-Ok.ensures.folder_later in
     let name = option_map spoken c.args.script in
     let m = c.args.manner in
-    text-concludes g.D.Device.account c.args.places.now.items c.run_text.new.places.items (RunsText told (Rose failed failed_new) name m.budget m.stats m.image) (told c.args.name.now) (Rose failed failed_new)
+    text-concludes g.K.Sink.taken g.K.Sink.faults c.args.out.now c.text_of.new.out c.run_text.new.out (RunsText files name m.budget m.stats m.image) files c.args.name.now
     c.in-Ok.text c.deref.result.now c.run_text.result c.in-Ok.ensures.unwritten c.in-Ok.ensures.later c.deref.ensures.value c.in-Ok.ensures.text
-    (concludes-more g.D.Device.account c.args.places.now.items c.run_text.new.places.items [] (RunsText mid (Rose failed_mid failed_new) name m.budget m.stats m.image c.deref.result.now)
-    (RunsText told (Rose failed failed_new) name m.budget m.stats m.image c.deref.result.now) c.run_text.result
-    (λ answer h. program-onwards mid told (Rose failed_mid failed_new) (Rose failed failed_new) name m.budget m.stats m.image c.deref.result.now answer c.in-Ok.ensures.stays
-    (λ r. rose-before failed failed_mid failed_new c.in-Ok.ensures.folder_later r) h) c.run_text.ensures.answer)
+    (concludes-more (RunsText files_mid name m.budget m.stats m.image c.deref.result.now)
+    (RunsText files name m.budget m.stats m.image c.deref.result.now) c.run_text.result
+    (λ answer h. program-onwards files_mid files name m.budget m.stats m.image c.deref.result.now answer on h) c.run_text.ensures.answer)
 
 pub returns-in-Err-clause-answer : goal.returns-in-Err-clause-answer
 returns-in-Err-clause-answer g c =
-    let told = g.F.Folder.holds c.args.folder.now in
-    let rose = Rose (g.F.Folder.faults c.args.folder.now) (g.F.Folder.faults c.text_of.new.folder) in
+    let files = told_by g.F.Folder.holds g.F.Folder.faults c.args.folder.now c.text_of.new.folder in
     let m = c.args.manner in
-    let answers = RunsText told rose (option_map spoken c.args.script) m.budget m.stats m.image in
-    says-concludes g.D.Device.account c.args.places.now.items c.args.places.now.items refl (AnswersFile answers (told c.args.name.now) rose) c.in-Err.ending
-    (no-text-gives answers (told c.args.name.now) rose c.in-Err.ending c.in-Err.ensures.none)
+    let answers = RunsText files (option_map spoken c.args.script) m.budget m.stats m.image in
+    says-concludes g.D.Device.account c.args.places.now.items c.args.places.now.items refl (AnswersFile files c.args.name.now answers) c.in-Err.ending
+    (no-text-gives answers files c.args.name.now c.in-Err.ending c.in-Err.ensures.none)
 
 pub returns-in-Ok-clause-asked : goal.returns-in-Ok-clause-asked
 returns-in-Ok-clause-asked g c =
@@ -45,20 +47,19 @@ returns-in-Ok-clause-asked g c =
     let faults = g.F.Folder.faults in
     let old = c.args.folder.now in
     let new = c.run_text.new.folder in
-    let told = holds old in
-    let rose = Rose (faults old) (faults new) in
+    let files = told_by holds faults old new in
     let mid = c.text_of.new.folder in
-    let rose_mid = Rose (faults mid) (faults new) in
-    let rises = λ (r : rose_mid). rose-before (faults old) (faults mid) (faults new) c.in-Ok.ensures.folder_later r in
+    let files_mid = told_by holds faults mid new in
+    let on = last-part holds faults old mid new c.in-Ok.ensures.stays c.in-Ok.ensures.folder_later in
     let lacking = c.run_text.result ≡ NoMemory in
     let text = c.deref.result.now in
-    let next = WantsScript told rose lacking (option_map spoken c.args.script) wants_none in
-    let next_mid = WantsScript (holds mid) rose_mid lacking (option_map spoken c.args.script) wants_none in
-    then-behind asked holds faults old mid new lacking c.args.name.now (λ t. Onwards (IsProgramText t) (IsRefusedText t) next) c.in-Ok.text text c.in-Ok.ensures.asked c.in-Ok.ensures.text c.deref.ensures.value
+    let next = WantsScript files lacking (option_map spoken c.args.script) wants_none in
+    let next_mid = WantsScript files_mid lacking (option_map spoken c.args.script) wants_none in
+    then-behind asked holds faults old mid new lacking c.args.name.now (Onwards programs (λ read. next)) c.in-Ok.text text c.in-Ok.ensures.asked c.in-Ok.ensures.text c.deref.ensures.value
     c.run_text.ensures.folder_later
-    (asked-more asked mid new (OrLacks lacking (Onwards (IsProgramText text) (IsRefusedText text) next_mid)) (OrLacks lacking (Onwards (IsProgramText text) (IsRefusedText text) next))
-    (λ names h. or-more lacking lacking (Onwards (IsProgramText text) (IsRefusedText text) next_mid) (Onwards (IsProgramText text) (IsRefusedText text) next) names (λ l. l)
-    (λ x. onwards-more (IsProgramText text) (IsRefusedText text) next_mid next names (λ y. script-more (holds mid) told rose_mid rose lacking lacking c.in-Ok.ensures.stays rises (λ l. l) (option_map spoken c.args.script) wants_none wants_none names (λ names z. z) y) x) h) c.run_text.ensures.asked)
+    (asked-more asked mid new (OrLacks lacking (Onwards programs (λ read. next_mid) text)) (OrLacks lacking (Onwards programs (λ read. next) text))
+    (λ names h. or-more lacking lacking (Onwards programs (λ read. next_mid) text) (Onwards programs (λ read. next) text) names (λ l. l)
+    (λ x. onwards-more programs (λ read. next_mid) (λ read. next) text names (λ read y. script-more files_mid files lacking lacking on (λ l. l) (option_map spoken c.args.script) wants_none wants_none names (λ names z. z) y) x) h) c.run_text.ensures.asked)
 
 pub returns-in-Err-clause-asked : goal.returns-in-Err-clause-asked
 returns-in-Err-clause-asked g c =
@@ -67,9 +68,8 @@ returns-in-Err-clause-asked g c =
     let faults = g.F.Folder.faults in
     let old = c.args.folder.now in
     let new = c.text_of.new.folder in
-    let told = holds old in
-    let rose = Rose (faults old) (faults new) in
+    let files = told_by holds faults old new in
     let lacking = c.in-Err.ending ≡ NoMemory in
-    let next = WantsScript told rose lacking (option_map spoken c.args.script) wants_none in
-    asked-more asked old new (WantsFile told rose lacking c.args.name.now never_behind) (WantsFile told rose lacking c.args.name.now (λ t. Onwards (IsProgramText t) (IsRefusedText t) next))
-    (λ names h. file-missed told rose lacking c.args.name.now (λ t. Onwards (IsProgramText t) (IsRefusedText t) next) names h) c.in-Err.ensures.stopped
+    let next = WantsScript files lacking (option_map spoken c.args.script) wants_none in
+    asked-more asked old new (WantsFile files lacking c.args.name.now never_behind) (WantsFile files lacking c.args.name.now (Onwards programs (λ read. next)))
+    (λ names h. file-missed files lacking c.args.name.now (Onwards programs (λ read. next)) names h) c.in-Err.ensures.stopped

@@ -1,37 +1,37 @@
 use Rattle.std.proofs.Common.{subst, refl, [], ◌≡◌}
 use Rattle.std.specs.Option.{option_map}
-use Rattle.sts_base.specs.Faults.{Rose}
 use Rattle.sts_words.specs.Views.{spoken}
 use Rattle.tool_io.specs.Putting.{Took}
 use Rattle.tool_io.proofs.Laws.{took-nothing}
 use Rattle.run_tool.specs.Runs.{RunsBoard}
-use Rattle.run_tool.specs.Scripts.{OverScript, none_to_scripts}
+use Rattle.run_tool.specs.Scripts.{OverScript}
+use Rattle.run_tool.specs.inner.Nothing.{none_to_read}
 use Rattle.run_tool.proofs.Endings.{gives-more, concludes-more, concludes-after, says-concludes, no-script, over-script}
 use Rattle.run_tool.specs.declared.ending.Ending.TheVariants.{NoMemory}
-use Rattle.run_tool.specs.Wanted.{WantsScript, names_given, wants_never, wants_none}
+use Rattle.run_tool.specs.Wanted.{WantsScript, wants_none}
+use Rattle.run_tool.specs.inner.Handed.{names_given, wants_never}
 use Rattle.run_tool.proofs.Wanting.{asked-more, script-more}
 use Rattle.run_tool.proofs.WantedReadings.{script-read}
+use Rattle.run_tool.specs.Fetches.{told_by}
 use Rattle.run_tool.proofs.run_hex.run_named.Goals as goal
 
 pub returns-in-Ok-clause-answer : goal.returns-in-Ok-clause-answer
 returns-in-Ok-clause-answer g c =
-    let told = g.F.Folder.holds c.args.folder.now in
-    let rose = Rose (g.F.Folder.faults c.args.folder.now) (g.F.Folder.faults c.script_of.new.folder) in
+    let files = told_by g.F.Folder.holds g.F.Folder.faults c.args.folder.now c.script_of.new.folder in
     let name = option_map spoken c.args.script in
-    let may = OverScript told rose name (λ read. RunsBoard c.args.image.items read c.args.budget) in
-    concludes-after g.D.Device.account c.args.places.now.items c.run_board.new.places.items [] may c.run_board.result
+    let may = OverScript files name (λ read. RunsBoard c.args.image.items read c.args.budget) in
+    concludes-after g.K.Sink.taken g.K.Sink.faults c.args.out.now c.script_of.new.out c.run_board.new.out may c.run_board.result
     (subst (λ x. Took x (g.K.Sink.taken c.script_of.new.out) []) c.in-Ok.ensures.unwritten (took-nothing (g.K.Sink.taken c.script_of.new.out))) c.in-Ok.ensures.later
-    (concludes-more g.D.Device.account c.args.places.now.items c.run_board.new.places.items [] (RunsBoard c.args.image.items c.in-Ok.script c.args.budget) may c.run_board.result
-    (λ answer h. over-script told rose name (λ read. RunsBoard c.args.image.items read c.args.budget) c.in-Ok.script answer c.in-Ok.ensures.script h) c.run_board.ensures)
+    (concludes-more (RunsBoard c.args.image.items c.in-Ok.script c.args.budget) may c.run_board.result
+    (λ answer h. over-script files name (λ read. RunsBoard c.args.image.items read c.args.budget) c.in-Ok.script answer c.in-Ok.ensures.script h) c.run_board.ensures)
 
 pub returns-in-Err-clause-answer : goal.returns-in-Err-clause-answer
 returns-in-Err-clause-answer g c =
-    let told = g.F.Folder.holds c.args.folder.now in
-    let rose = Rose (g.F.Folder.faults c.args.folder.now) (g.F.Folder.faults c.script_of.new.folder) in
+    let files = told_by g.F.Folder.holds g.F.Folder.faults c.args.folder.now c.script_of.new.folder in
     let name = option_map spoken c.args.script in
-    let may = OverScript told rose name (λ read. RunsBoard c.args.image.items read c.args.budget) in
+    let may = OverScript files name (λ read. RunsBoard c.args.image.items read c.args.budget) in
     says-concludes g.D.Device.account c.args.places.now.items c.args.places.now.items refl may c.in-Err.ending
-    (gives-more (OverScript told rose name none_to_scripts) may c.in-Err.ending (λ answer h. no-script told rose name (λ read. RunsBoard c.args.image.items read c.args.budget) answer h) c.in-Err.ensures.none)
+    (gives-more (OverScript files name none_to_read) may c.in-Err.ending (λ answer h. no-script files name (λ read. RunsBoard c.args.image.items read c.args.budget) answer h) c.in-Err.ensures.none)
 
 pub returns-in-Ok-clause-asked : goal.returns-in-Ok-clause-asked
 returns-in-Ok-clause-asked g c =
@@ -40,10 +40,9 @@ returns-in-Ok-clause-asked g c =
     let faults = g.F.Folder.faults in
     let old = c.args.folder.now in
     let new = c.script_of.new.folder in
-    let told = holds old in
-    let rose = Rose (faults old) (faults new) in
+    let files = told_by holds faults old new in
     let name = option_map spoken c.args.script in
-    (names_given name, c.in-Ok.ensures.asked, script-read told rose (c.run_board.result ≡ NoMemory) name c.in-Ok.script c.in-Ok.ensures.script)
+    (names_given name, c.in-Ok.ensures.asked, script-read files (c.run_board.result ≡ NoMemory) name c.in-Ok.script c.in-Ok.ensures.script)
 
 pub returns-in-Err-clause-asked : goal.returns-in-Err-clause-asked
 returns-in-Err-clause-asked g c =
@@ -52,9 +51,8 @@ returns-in-Err-clause-asked g c =
     let faults = g.F.Folder.faults in
     let old = c.args.folder.now in
     let new = c.script_of.new.folder in
-    let told = holds old in
-    let rose = Rose (faults old) (faults new) in
+    let files = told_by holds faults old new in
     let name = option_map spoken c.args.script in
     let lacking = c.in-Err.ending ≡ NoMemory in
-    asked-more asked old new (WantsScript told rose lacking name wants_never) (WantsScript told rose lacking name wants_none)
-    (λ names h. script-more told told rose rose lacking lacking (λ file. refl) (λ r. r) (λ l. l) name wants_never wants_none names (λ names x. absurd x) h) c.in-Err.ensures.stopped
+    asked-more asked old new (WantsScript files lacking name wants_never) (WantsScript files lacking name wants_none)
+    (λ names h. script-more files files lacking lacking (λ file. refl, λ r. r) (λ l. l) name wants_never wants_none names (λ names x. absurd x) h) c.in-Err.ensures.stopped

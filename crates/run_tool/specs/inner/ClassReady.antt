@@ -1,5 +1,5 @@
 -- Boards of a class that are made ready.
-use Rattle.std.specs.Prelude.{◌≡◌, ◌≤◌, ◌++◌, ℕ, List, [], ◌∷◌, length, vec_len, Option, Ok, All}
+use Rattle.std.specs.Prelude.{◌≡◌, ◌≤◌, ◌++◌, ℕ, List, [], ◌∷◌, length, vec_len, Ok, All}
 use Rattle.std.specs.declared.vec.Vec.{Vec}
 use Rattle.std.specs.declared.alloc.Global.{Global}
 use Rattle.thumb_code.specs.Map.{flash_end}
@@ -15,7 +15,7 @@ use Rattle.sts_whole.specs.Accepting.{Accepts}
 use Rattle.sts_whole.specs.Built.{Builds}
 use Rattle.run_tool.specs.declared.fetched.Fetched.TheVariants.{Text}
 use Rattle.run_tool.specs.declared.class_boards.Boards.{Boards}
-use Rattle.run_tool.specs.Fetches.{MayFetch}
+use Rattle.run_tool.specs.Fetches.{ToldFiles, MayFetch}
 use Rattle.run_tool.specs.ClassBoards.{BoardSource}
 
 -- an image and a script are those of a board: the image implements its program
@@ -30,25 +30,25 @@ pub record CanRun (until : ℕ) (boards : Boards) : Type 0 where
   pub sound : All IsSound boards.scripts.items
   pub ends : All (λ (script : Script). script.end ≡ until) boards.scripts.items
 
--- The image was built of the text of the file of that name, over a folder that tells this of its files, where `rose` says that its count of faults rose.
-pub record IsImageOf (told : List ℕ → Option (Option (List ℕ))) (rose : Type 0) (name image : List ℕ) : Type 0 where
+-- The image was built of the text of the file of that name.
+pub record IsImageOf (files : ToldFiles) (name image : List ℕ) : Type 0 where
   pub text : Vec ℕ Global
-  pub fetched : MayFetch (told name) rose (Text text)
+  pub fetched : MayFetch files name (Text text)
   pub builds : Builds text.items image
 
--- Over such a folder, and a class with this end:
-module _ (told : List ℕ → Option (Option (List ℕ))) (rose : Type 0) (until : ℕ) where
+-- Over a class with this end:
+module _ (files : ToldFiles) (until : ℕ) where
   -- the script is that of the file of that name, and ends with the class,
   pub record IsBoardScript (name : List ℕ) (script : Script) : Type 0 where
     pub text : Vec ℕ Global
-    pub fetched : MayFetch (told name) rose (Text text)
+    pub fetched : MayFetch files name (Text text)
     pub is : Tells text.items (Ok script)
     pub ends : script.end ≡ until
 
   -- the board's source is that of the files of these names,
   pub record IsSourceOf (names : Names) (board : BoardSource) : Type 0 where
     pub text : Vec ℕ Global
-    pub fetched : MayFetch (told names.program) rose (Text text)
+    pub fetched : MayFetch files names.program (Text text)
     pub accepted : Accepts text.items board.tables board.program
     pub script : IsBoardScript names.script board.script
 
@@ -63,7 +63,7 @@ module _ (told : List ℕ → Option (Option (List ℕ))) (rose : Type 0) (until
   -- the board of these names is one more,
   pub record HasAdded (names : Names) (old new : Boards) : Type 0 where
     pub image : Vec ℕ Global
-    pub is_image : IsImageOf told rose names.program image.items
+    pub is_image : IsImageOf files names.program image.items
     pub fits : vec_len image ≤ flash_end
     pub more : HasScript names.script image old new
 

@@ -1,0 +1,5 @@
+pub mod Giving
+pub mod Nothing
+pub mod Finishing
+pub mod Handed
+pub mod ClassReady
