@@ -51,7 +51,7 @@ fn build_declared(
     ensures { IfOk result (λ r. IsBuilt builder.old builder.new (w.declared_made plan.now d (declaration a.now)) (typed_declaration r)) }
 {
     let site = outer_site(plan, This::Nowhere);
-    let number = global_number(plan, d)?;
+    let number = global_number(plan, d);
     let made = build_global(plan, &site, builder, number, a)?;
     Ok(made)
 }

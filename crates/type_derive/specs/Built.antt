@@ -25,7 +25,7 @@ use Rattle.sts_scope.specs.Entries.{Naming, written_kind}
 use Rattle.sts_scope.specs.Places.{Place, inner}
 use Rattle.sts_scope.specs.Rules.{part_of, takes_at, maker_takes_of}
 use Rattle.type_derive.specs.declared.roles.Role.TheVariants.{Free}
-use Rattle.type_derive.specs.Typing.{finds, constant_of, board_callee, super_method, board_kind, type_of, behind, drawn, text_at}
+use Rattle.type_derive.specs.Typing.{finds, constant_of, board_callee, super_method, board_kind, type_of, behind, drawn, draws, text_at}
 use Rattle.type_derive.specs.Returns.{bound, after, looped, items_of}
 use Rattle.type_derive.specs.Nodes.{kind_role, handler_place}
 use Rattle.type_derive.specs.Making.{Made, Making, pure, ◌>=>◌, a_local}
@@ -162,8 +162,9 @@ module _ (tables : Tables) (names : Naming) (k : Known) (numbers : Numbering) wh
   plain_handler s (Name at x) = e.Handler t.Nothing (routine_of (finds tables k s.place x))
   plain_handler s _ = amiss
 
+  -- a text that draws a frame, as the frame's number
   abbrev pub drawing : Tree → TypedTree
-  drawing (Text at n) = e.Num t.Number (pos (frame_of (drawn (text_at tables n))))
+  drawing (Text at n) = if draws (text_at tables n) then e.Num t.Number (pos (frame_of (drawn (text_at tables n)))) else amiss
   drawing _ = amiss
 
   -- an argument of a call of the board, which is made so where it is neither a function's name nor a drawing

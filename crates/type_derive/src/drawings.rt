@@ -19,7 +19,7 @@ fn is_dot_or_hash(b: u8) -> bool
 }
 
 /// Whether a text draws a frame: its characters other than white space are 25 of `.` and `#`.
-fn draws(bytes: &[u8]) -> bool
+pub fn draws(bytes: &[u8]) -> bool
     ensures { result ≡ typing.draws bytes.now }
 {
     let mut count: usize = 0;

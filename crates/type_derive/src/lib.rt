@@ -24,7 +24,7 @@ pub use callees::{
     super_method, takes_at, takes_of,
 };
 pub use context::Context;
-pub use drawings::is_drawing;
+pub use drawings::{draws, is_drawing};
 pub use evaluation::{part_behind, type_of};
 pub use heads::{head_of, lets_of};
 pub use locals::{Locals, Mark};

@@ -1,5 +1,6 @@
 -- The texts of typed trees are those of the trees that they are made of.
 use Rattle.std.proofs.Common.{ℕ, suc, ◌+◌, ◌<◌, ℤ, Bool, true, false, Option, Some, None, List, [], ◌∷◌, ◌++◌, length}
+use Rattle.std.specs.Prelude.{pos, if◌then◌else◌}
 use Rattle.sts_base.specs.declared.tables.Tables.{Tables}
 use Rattle.sts_syntax.specs.Annotations.{Annotation}
 use Rattle.sts_syntax.specs.declared.typed.Spot.TheVariants.{Local}
@@ -22,11 +23,11 @@ use Rattle.sts_scope.specs.Entries.{Naming, written_kind}
 use Rattle.sts_scope.specs.Places.{inner}
 use Rattle.sts_scope.specs.Rules.{takes_at, maker_takes_of}
 use Rattle.type_derive.specs.declared.roles.Role.TheVariants.{Free}
-use Rattle.type_derive.specs.Typing.{finds, constant_of, board_callee, super_method, type_of, behind}
+use Rattle.type_derive.specs.Typing.{finds, constant_of, board_callee, super_method, type_of, behind, drawn, draws, text_at}
 use Rattle.type_derive.specs.Returns.{bound, looped, items_of}
 use Rattle.type_derive.specs.Making.{Made, Making, pure, ◌>=>◌, a_local}
 use Rattle.sts_scope.specs.Numbers.{Numbering, routine_number}
-use Rattle.type_derive.specs.Built.{Site, in_block, amiss, next_given, later_given, asked_given, board_target, kind_or_nothing, noted, type_in, part_in, class_in, member_read, spot_of, part_target, routine_of, class_found, in_handler_site, behind_statement, first_site, call_takes, routine, plain_handler, drawing, argument_made, made_tree, made_call, made_given, made_items, made_asked, made_body, made_first, made_optional, made_value, made_locals, made_local, made_statement, made_opening, made_statements}
+use Rattle.type_derive.specs.Built.{Site, in_block, amiss, next_given, later_given, asked_given, board_target, kind_or_nothing, noted, type_in, part_in, class_in, member_read, spot_of, part_target, routine_of, class_found, in_handler_site, behind_statement, first_site, call_takes, routine, plain_handler, drawing, frame_of, argument_made, made_tree, made_call, made_given, made_items, made_asked, made_body, made_first, made_optional, made_value, made_locals, made_local, made_statement, made_opening, made_statements}
 use Rattle.type_derive.specs.Formed.{TreeHas, TreesHave, OptionHas, BodyHas, DeclarationHas, DeclarationsHave, StatementHas, FirstHas, StatementsHave}
 
 abbrev pub Whatever : ℤ → Type 0
@@ -130,8 +131,12 @@ module _ (n : ℕ) where
     handler_names s (Name at x) = (tt, tt)
     handler_names s _ = (tt, tt)
 
+    either_names : (drawing : Bool) (a : TypedTree) → OfTree a → OfTree (if drawing then a else amiss)
+    either_names true a h = h
+    either_names false a h = (tt, tt)
+
     drawing_names : (a : Tree) → OfTree (drawing tables names k numbers a)
-    drawing_names (Text at x) = (tt, tt)
+    drawing_names (Text at x) = either_names (draws (text_at tables x)) (e.Num t.Number (pos (frame_of (drawn (text_at tables x))))) (tt, tt)
     drawing_names _ = (tt, tt)
 
     argument_names : (s : Site) (ps : List BoardParameter) (a : Tree) (made : Making TypedTree) → Makes OfTree made → Makes OfTree (argument_made tables names k numbers s ps a made)

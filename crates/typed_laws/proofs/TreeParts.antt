@@ -1,6 +1,6 @@
 -- Parts of trees without a failure are well typed.
 use Rattle.std.proofs.Common.{◌≡◌, ℕ, ℤ, suc, ◌+◌, ◌<◌, refl, sym, ap, ◌∙◌, subst, Bool, true, false, ◌&&◌, ◌||◌, Option, Some, None, List, [], ◌∷◌, ◌++◌, length, inl, inr, arith, append-nil, append_assoc}
-use Rattle.std.specs.Prelude.{not, if◌then◌else◌, unwrap_or}
+use Rattle.std.specs.Prelude.{not, pos, if◌then◌else◌, unwrap_or}
 use Rattle.sts_base.specs.declared.tables.Tables.{Tables}
 use Rattle.sts_base.specs.declared.refused.Code.TheVariants.{BadHandler, NeedsType}
 use Rattle.sts_syntax.specs.Annotations.{Annotation}
@@ -35,13 +35,13 @@ use Rattle.sts_scope.specs.declared.known.Local.{Local as Scoped}
 use Rattle.sts_scope.specs.Rules.{name_kind, kind_at, takes_at, maker_takes_of, part_of, part_kind, part_settable, operate, assign, comparable, below, is_equality, is_arithmetic, is_order, items_type, all_go, all_go_to, goes, call_kind, serves, none_taken, is_nothing, local_kind}
 use Rattle.type_derive.specs.declared.roles.Role.{Role}
 use Rattle.type_derive.specs.declared.roles.Role.TheVariants.{Free, Given, Called, Served}
-use Rattle.type_derive.specs.Typing.{◌>>=◌, Callee, callee, names_function, board_kind, space, space_of, finds, constant_of, board_callee, named_callee, part_callee, callee_of, super_method, made, called, given_to, type_of, types_of, are_given, is_drawing, spelling, text_at}
+use Rattle.type_derive.specs.Typing.{◌>>=◌, Callee, callee, names_function, board_kind, space, space_of, finds, constant_of, board_callee, named_callee, part_callee, callee_of, super_method, made, called, given_to, type_of, types_of, are_given, is_drawing, drawn, spelling, text_at}
 use Rattle.type_derive.specs.Returns.{declared, all_declared, after, after_first}
 use Rattle.type_derive.specs.Nodes.{kind_role, is_called, fault, faults, is_list, own_name, own_member, own_called, own_board, fits}
 use Rattle.sts_scope.specs.Handlers.{handlers, handlers_of}
 use Rattle.type_derive.specs.Making.{Making, pure, ◌>=>◌, a_local}
 use Rattle.sts_scope.specs.Numbers.{Numbering, field_names, slot_names, place_among, routine_number}
-use Rattle.type_derive.specs.Built.{Site, amiss, spots_from, in_handler_site, first_site, made_tree, made_given, made_asked, made_call, type_in, part_in, class_in, member_read, part_target, part_takes, routine_of, routine_takes, class_found, call_takes, board_target, drawing}
+use Rattle.type_derive.specs.Built.{Site, amiss, spots_from, in_handler_site, first_site, made_tree, made_given, made_asked, made_call, type_in, part_in, class_in, member_read, part_target, part_takes, routine_of, routine_takes, class_found, call_takes, board_target, drawing, frame_of}
 use Rattle.type_derive.specs.Formed.{IsFormed, AreFormed}
 use Rattle.typed_laws.specs.Stands.{IsProper, EachProper, Stands}
 use Rattle.type_derive.specs.Libraries.{taken}
@@ -556,7 +556,9 @@ module _ (tables : Tables) (names : Naming) (k : Known) (numbers : Numbering) (P
   given_to_is (Some v) u h = (v, refl, h)
 
   pub drawing_good : (S : Setting) (known : List ℕ) (a : Tree) → is_drawing tables a ≡ true → Good S known t.Number (drawing tables names k numbers a) × (0 ≡ handlers a)
-  drawing_good S known (Text i n) h = (((refl, drawing_int32 (text_at tables n) h), refl), refl)
+  drawing_good S known (Text i n) h =
+      let frame = pos (frame_of (drawn (text_at tables n))) in
+      (subst (λ (drawing : Bool). Good S known t.Number (if drawing then e.Num t.Number frame else amiss)) (sym h) ((refl, drawing_int32 (text_at tables n) h), refl), refl)
   drawing_good S known (Num i n) h = cc
   drawing_good S known (Truth i x) h = cc
   drawing_good S known (Null i) h = cc

@@ -33,7 +33,7 @@ abbrev pub names_upto : (Option Sort → Bool) → Known → ℕ → List (List 
 names_upto which k zero = []
 names_upto which k (suc n) = names_upto which k n ++ names_from which k (length k.classes) n ∷ []
 
--- how many globals are declared before each declaration, counted on from a number
+-- how many globals are declared before each declaration, and before the end, counted on from a number
 abbrev pub globals_from : ℕ → List Entry → List ℕ
-globals_from n [] = []
+globals_from n [] = n ∷ []
 globals_from n (e ∷ rest) = n ∷ globals_from (if is_global e.sort then n + 1 else n) rest

@@ -8,5 +8,5 @@ mod routine_numbers;
 
 pub use counts::counts_fit;
 pub use handler_counts::{declared_handlers, one_more, routine_handlers, statement_handlers};
-pub use member_names::{Members, Names, base_of, is_global, names_of, place_among};
+pub use member_names::{Members, Names, base_of, class_names, is_global, names_of, place_among};
 pub use routine_numbers::{Numbers, behind_member, numbering, unwritten};

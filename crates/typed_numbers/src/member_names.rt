@@ -116,7 +116,7 @@ fn chain(alloc: Global, known: &Environment, class: u32) -> Result<Seq<u32>, NoM
 
 /// The names of a class's fields or methods, its bases' first: each stands at its number.
 #[tactic(auto, using(crate::proofs::Chains::names_chain))]
-fn member_names(
+pub fn class_names(
     alloc: Global,
     which: Members,
     known: &Environment,
@@ -144,7 +144,7 @@ fn all_names(alloc: Global, which: Members, known: &Environment) -> Result<Seq<S
         let Ok(class) = u32::try_from(class) else {
             return Err(NoMemory);
         };
-        all.push(member_names(alloc, which, known, class)?)?;
+        all.push(class_names(alloc, which, known, class)?)?;
     }
     Ok(all)
 }
@@ -158,7 +158,7 @@ pub fn is_global(sort: Sort) -> bool
     }
 }
 
-/// How many globals are declared before each declaration.
+/// How many globals are declared before each declaration, and before the end.
 fn globals_before(alloc: Global, entries: &[Entry]) -> Result<Seq<u32>, NoMemory>
     ensures { IfOk result (λ all. all ≡ globals_from 0 entries.now) }
 {
@@ -170,10 +170,12 @@ fn globals_before(alloc: Global, entries: &[Entry]) -> Result<Seq<u32>, NoMemory
             count = one_more(count)?;
         }
     }
+    all.push(count)?;
     Ok(all)
 }
 
-/// The names of each class's fields and slots, which stand at their numbers, and how many globals are declared before each declaration.
+/// The names of each class's fields and slots, which stand at their numbers, and how many globals are declared before each declaration
+/// and before the end.
 #[derive(Drop)]
 pub struct Names {
     pub fields: Seq<Seq<u32>>,

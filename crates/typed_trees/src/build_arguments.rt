@@ -1,5 +1,5 @@
 // Expressions of a list: what is given to the place of each, and those that are there without being built.
-ghost use Rattle.std.specs.Prelude.{◌≡◌, ◌+◌, ◌*◌, ◌==◌, pos, slice_get, IfOk, if◌then◌else◌};
+ghost use Rattle.std.specs.Prelude.{◌≡◌, ◌+◌, ◌*◌, ◌^◌, ◌<◌, ◌==◌, pos, slice_get, true, if◌then◌else◌};
 ghost use Rattle.std.specs.Option.{option_map};
 ghost use Rattle.sts_syntax.specs.BoardViews.{board_parameter};
 ghost use Rattle.sts_syntax.specs.TypedViews.{typed_tree};
@@ -11,10 +11,10 @@ ghost use Rattle.typed_trees.specs.Sites as s;
 
 use crate::build_numbers::routine_number;
 use crate::build_places::{Plan, Site};
-use sts_base::{NoMemory, Tables};
+use sts_base::Tables;
 use sts_scope::{Base, Found, Kind, flat};
 use sts_syntax::{BoardParameter, Expr, Node, Ty, TypedExpr, TypedNode};
-use type_derive::name_found;
+use type_derive::{draws, name_found};
 
 /// What is given to the places of a list.
 #[derive(Clone, Copy)]
@@ -37,18 +37,12 @@ pub enum Planned {
 }
 
 /// What is planned of the i-th expression of a list.
-pub fn plan_argument(
-    plan: &Plan,
-    site: &Site,
-    takes: Takes,
-    i: usize,
-    a: &Expr,
-) -> Result<Planned, NoMemory>
-    ensures { IfOk result (λ r. call.planned_made plan.now (s.site site.now) r (tree a.now) ≡ call.argument_made plan.now (s.site site.now) (call.places takes.entry) i (tree a.now)) }
+pub fn plan_argument(plan: &Plan, site: &Site, takes: Takes, i: usize, a: &Expr) -> Planned
+    ensures { call.planned_made plan.now (s.site site.now) result (tree a.now) ≡ call.argument_made plan.now (s.site site.now) (call.places takes.entry) i (tree a.now) }
 {
     match takes {
-        Takes::Given(takes) => Ok(Planned::Built(given_at(takes, i))),
-        Takes::Alike(kind) => Ok(Planned::Built(alike_given(i, kind))),
+        Takes::Given(takes) => Planned::Built(given_at(takes, i)),
+        Takes::Alike(kind) => Planned::Built(alike_given(i, kind)),
         Takes::Asked(takes) => asked_one(plan, site, asked_at(takes, i), a),
     }
 }
@@ -81,20 +75,15 @@ fn asked_at(takes: &[BoardParameter], i: usize) -> Option<BoardParameter>
 }
 
 /// What is planned of an argument of a call of the board.
-fn asked_one(
-    plan: &Plan,
-    site: &Site,
-    asked: Option<BoardParameter>,
-    a: &Expr,
-) -> Result<Planned, NoMemory>
-    ensures { IfOk result (λ r. call.planned_made plan.now (s.site site.now) r (tree a.now) ≡ call.asked_one plan.now (s.site site.now) (option_map board_parameter asked) (tree a.now)) }
+fn asked_one(plan: &Plan, site: &Site, asked: Option<BoardParameter>, a: &Expr) -> Planned
+    ensures { call.planned_made plan.now (s.site site.now) result (tree a.now) ≡ call.asked_one plan.now (s.site site.now) (option_map board_parameter asked) (tree a.now) }
 {
     match asked {
-        None => Ok(Planned::Built(None)),
-        Some(BoardParameter::Number) => Ok(Planned::Built(Some(flat(Base::Number)))),
-        Some(BoardParameter::Text) => Ok(Planned::Built(Some(flat(Base::Text)))),
-        Some(BoardParameter::Handler) => Ok(served(plan, site, a)),
-        Some(BoardParameter::Drawing) => Ok(Planned::There(drawing(plan, a)?)),
+        None => Planned::Built(None),
+        Some(BoardParameter::Number) => Planned::Built(Some(flat(Base::Number))),
+        Some(BoardParameter::Text) => Planned::Built(Some(flat(Base::Text))),
+        Some(BoardParameter::Handler) => served(plan, site, a),
+        Some(BoardParameter::Drawing) => Planned::There(drawing(plan, a)),
     }
 }
 
@@ -149,50 +138,51 @@ fn text_at(tables: &Tables, text: u32) -> &[u8]
     }
 }
 
-/// A frame with one light more before it, unless the byte is white space. A frame of more than 31 lights has no number.
-fn light(frame: u32, byte: u8) -> Result<u32, NoMemory>
-    ensures { IfOk result (λ n. n ≡ (if typing.is_white byte then frame else (if byte == 35 then 1 else 0) + 2 * frame)) }
+/// A frame with one light more before it, unless the byte is white space.
+fn light(frame: u32, byte: u8) -> u32
+    requires { frame < 2 ^ 31 }
+    ensures { result ≡ (if typing.is_white byte then frame else (if byte == 35 then 1 else 0) + 2 * frame) }
 {
     if byte == 32 || byte == 9 || byte == 10 || byte == 13 {
-        return Ok(frame);
-    }
-    if frame > 0x3FFF_FFFF {
-        return Err(NoMemory);
-    }
-    if byte == 35 {
-        Ok(1 + 2 * frame)
+        frame
+    } else if byte == 35 {
+        1 + 2 * frame
     } else {
-        Ok(2 * frame)
+        2 * frame
     }
 }
 
 /// The frame that a text draws.
-#[tactic(auto, using(crate::proofs::Drawn::light_more, crate::proofs::Drawn::none_drawn))]
-fn frame_of(bytes: &[u8]) -> Result<i32, NoMemory>
-    ensures { IfOk result (λ z. z ≡ pos (b.frame_of (typing.drawn bytes.now))) }
+#[tactic(auto, using(crate::proofs::Drawn::light_more, crate::proofs::Drawn::none_drawn, crate::proofs::Drawn::is_small))]
+fn frame_of(bytes: &[u8]) -> i32
+    requires { typing.draws bytes.now ≡ true }
+    ensures { result ≡ pos (b.frame_of (typing.drawn bytes.now)) }
 {
     let mut frame: u32 = 0;
     for i in 0..bytes.len() {
-        frame = light(frame, bytes[bytes.len() - 1 - i])?;
+        frame = light(frame, bytes[bytes.len() - 1 - i]);
     }
     match i32::try_from(frame) {
-        Ok(frame) => Ok(frame),
-        Err(_) => Err(NoMemory),
+        Ok(frame) => frame,
+        Err(_) => unreachable!(),
     }
 }
 
 /// A drawing, as the number of its frame.
-fn drawing(plan: &Plan, a: &Expr) -> Result<TypedExpr, NoMemory>
-    ensures { IfOk result (λ r. typed_tree r ≡ call.drawing plan.now (tree a.now)) }
+fn drawing(plan: &Plan, a: &Expr) -> TypedExpr
+    ensures { typed_tree result ≡ call.drawing plan.now (tree a.now) }
 {
     match &a.node {
         Node::Text(text) => {
-            let frame = frame_of(text_at(plan.tables, *text))?;
-            Ok(TypedExpr {
+            let bytes = text_at(plan.tables, *text);
+            if !draws(bytes) {
+                return amiss();
+            }
+            TypedExpr {
                 ty: Ty::NUMBER,
-                node: TypedNode::Num(frame),
-            })
+                node: TypedNode::Num(frame_of(bytes)),
+            }
         }
-        _ => Ok(amiss()),
+        _ => amiss(),
     }
 }

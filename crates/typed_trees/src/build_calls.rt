@@ -28,7 +28,7 @@ fn build_argument(
     requires { IsPlan plan.now }
     ensures { IfOk result (λ r. IsBuilt builder.old builder.new (call.argument_made plan.now (s.site site.now) (call.places takes.entry) i (tree a.now)) (typed_tree r)) }
 {
-    match plan_argument(plan, site, takes, i, a)? {
+    match plan_argument(plan, site, takes, i, a) {
         Planned::There(x) => Ok(x),
         Planned::Built(given) => {
             let x = build_tree(plan, site, builder, given, a)?;

@@ -66,15 +66,15 @@ pub fn this_leaf(site: &Site) -> Noted
 }
 
 /// A name.
-pub fn name_leaf(plan: &Plan, site: &Site, x: u32) -> Result<Noted, NoMemory>
+pub fn name_leaf(plan: &Plan, site: &Site, x: u32) -> Noted
     requires { IsPlan plan.now }
-    ensures tree { IfOk result (λ r. typed_tree r.tree ≡ e.Name (s.noted (rule.name_kind plan.now.known.now (place site.now.scope) (typing.finds plan.now.tables.now plan.now.known.now (place site.now.scope) x))) (s.spot_of plan.now (s.site site.now) (typing.finds plan.now.tables.now plan.now.known.now (place site.now.scope) x))) }
-    ensures kind { IfOk result (λ r. r.kind ≡ rule.name_kind plan.now.known.now (place site.now.scope) (typing.finds plan.now.tables.now plan.now.known.now (place site.now.scope) x)) }
+    ensures tree { typed_tree result.tree ≡ e.Name (s.noted (rule.name_kind plan.now.known.now (place site.now.scope) (typing.finds plan.now.tables.now plan.now.known.now (place site.now.scope) x))) (s.spot_of plan.now (s.site site.now) (typing.finds plan.now.tables.now plan.now.known.now (place site.now.scope) x)) }
+    ensures kind { result.kind ≡ rule.name_kind plan.now.known.now (place site.now.scope) (typing.finds plan.now.tables.now plan.now.known.now (place site.now.scope) x) }
 {
     let found = name_found(plan.tables, plan.known, &site.scope, x);
     let kind = name_kind(plan.known, &site.scope, found);
-    let at = spot_of(plan, site, found)?;
-    Ok(noted(noted_type(kind), TypedNode::Name(at), kind))
+    let at = spot_of(plan, site, found);
+    noted(noted_type(kind), TypedNode::Name(at), kind)
 }
 
 /// The type of a member that is read, of what has a type or none.

@@ -12,9 +12,9 @@ use sts_base::NoMemory;
 use sts_scope::{Found, Kind, Part, class_of};
 use sts_syntax::Spot;
 use type_derive::part_of;
-use typed_numbers::place_among;
+use typed_numbers::{Members, class_names, place_among};
 
-/// The number of a class's field of a name. A class that isn't there has none.
+/// The number of a class's field of a name. The names of a class that isn't there aren't kept: they are looked for anew.
 #[tactic(auto, using(crate::proofs::Listed::names_there, crate::proofs::Listed::names_are))]
 pub fn field_number(plan: &Plan, class: u32, name: u32) -> Result<u32, NoMemory>
     requires { IsPlan plan.now }
@@ -23,11 +23,12 @@ pub fn field_number(plan: &Plan, class: u32, name: u32) -> Result<u32, NoMemory>
     if (class as usize) < plan.known.classes().len() {
         place_among(names_at(&plan.names.fields, class), name)
     } else {
-        Err(NoMemory)
+        let names = class_names(plan.alloc, Members::Fields, plan.known, class)?;
+        place_among(names.as_slice(), name)
     }
 }
 
-/// The number of a class's slot of a name. A class that isn't there has none.
+/// The number of a class's slot of a name. The names of a class that isn't there aren't kept: they are looked for anew.
 #[tactic(auto, using(crate::proofs::Listed::names_there, crate::proofs::Listed::names_are))]
 pub fn slot_number(plan: &Plan, class: u32, name: u32) -> Result<u32, NoMemory>
     requires { IsPlan plan.now }
@@ -36,20 +37,20 @@ pub fn slot_number(plan: &Plan, class: u32, name: u32) -> Result<u32, NoMemory>
     if (class as usize) < plan.known.classes().len() {
         place_among(names_at(&plan.names.slots, class), name)
     } else {
-        Err(NoMemory)
+        let names = class_names(plan.alloc, Members::Methods, plan.known, class)?;
+        place_among(names.as_slice(), name)
     }
 }
 
-/// The number of a global by its declaration. One that isn't there has none.
-#[tactic(auto, using(crate::proofs::Globals::globals_at))]
-pub fn global_number(plan: &Plan, d: usize) -> Result<u32, NoMemory>
+/// The number of a global by its declaration; behind the last declaration, how many globals there are.
+#[tactic(auto, using(crate::proofs::Globals::globals_long, crate::proofs::Globals::global_there, crate::proofs::Globals::global_behind))]
+pub fn global_number(plan: &Plan, d: usize) -> u32
     requires { IsPlan plan.now }
-    ensures { IfOk result (λ n. n ≡ number.global_number plan.now.known.now d) }
+    ensures { result ≡ number.global_number plan.now.known.now d }
 {
-    match plan.names.globals.get(d) {
-        Some(n) => Ok(*n),
-        None => Err(NoMemory),
-    }
+    let count = plan.known.entries().len();
+    let at = if d < count { d } else { count };
+    plan.names.globals.as_slice()[at]
 }
 
 /// Where the value of a local is.
@@ -63,17 +64,14 @@ fn local_spot(site: &Site, i: usize) -> Spot
 }
 
 /// Where the value of a name is.
-pub fn spot_of(plan: &Plan, site: &Site, found: Found) -> Result<Spot, NoMemory>
+pub fn spot_of(plan: &Plan, site: &Site, found: Found) -> Spot
     requires { IsPlan plan.now }
-    ensures { IfOk result (λ at. at ≡ s.spot_of plan.now (s.site site.now) found) }
+    ensures { result ≡ s.spot_of plan.now (s.site site.now) found }
 {
     match found {
-        Found::Local(i) => Ok(local_spot(site, i)),
-        Found::Global(d) => Ok(Spot::Global(global_number(plan, d)?)),
-        Found::Captured => Ok(Spot::Global(0)),
-        Found::Function(_) => Ok(Spot::Global(0)),
-        Found::Class(_) => Ok(Spot::Global(0)),
-        Found::Unknown => Ok(Spot::Global(0)),
+        Found::Local(i) => local_spot(site, i),
+        Found::Global(d) => Spot::Global(global_number(plan, d)),
+        Found::Captured | Found::Function(_) | Found::Class(_) | Found::Unknown => Spot::Global(0),
     }
 }
 

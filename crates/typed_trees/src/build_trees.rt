@@ -41,7 +41,7 @@ pub fn build_tree(
         Node::Truth(v) => Ok(truth_leaf(*v)),
         Node::Null => Ok(null_leaf()),
         Node::This => Ok(this_leaf(site)),
-        Node::Name(x) => name_leaf(plan, site, *x),
+        Node::Name(x) => Ok(name_leaf(plan, site, *x)),
         Node::Unary(op, a) => {
             let x = build_part(plan, site, builder, None, a)?;
             Ok(prefix_of(*op, x))

@@ -758,7 +758,7 @@ pub build_statements::build_statements-returns-in_err-push-clause-site : goal.bu
 build_statements::build_statements-returns-in_err-push-clause-site t c = IfOk-from_err c.from_residual-in_err-push.result _ c.from_residual-in_err-push.ensures.0
 
 pub build_calls::build_argument-returns-in_err-x-in-Built : goal.build_calls::build_argument-returns-in_err-x-in-Built
-build_calls::build_argument-returns-in_err-x-in-Built t c = IfOk-from_err c.from_residual-in_err-x-in-Built.result _ c.from_residual-in_err-x-in-Built.ensures.0
+build_calls::build_argument-returns-in_err-x-in-Built t c = IfOk-from_err c.from_residual.result _ c.from_residual.ensures.0
 
 pub build_calls::build_arguments-returns-in_err-x : goal.build_calls::build_arguments-returns-in_err-x
 build_calls::build_arguments-returns-in_err-x t c = IfOk-from_err c.from_residual.result _ c.from_residual.ensures.0
@@ -869,10 +869,10 @@ pub build_trees::build_tree-returns-in-This-clause-kind : goal.build_trees::buil
 build_trees::build_tree-returns-in-This-clause-kind t c = this_kind c.args.plan.now (s.site c.args.site.now) c.args.given c.args.e.now c.this_leaf.result.kind c.in-This.is c.this_leaf.ensures.kind
 
 pub build_trees::build_tree-returns-in-Name-clause-built : goal.build_trees::build_tree-returns-in-Name-clause-built
-build_trees::build_tree-returns-in-Name-clause-built t c = IfOk-weaker c.name_leaf.result _ _ (λ r h. name_built c.args.plan.now (s.site c.args.site.now) c.args.given c.args.e.now c.in-Name.x c.args.builder.now (typed_tree r.tree) c.in-Name.is h) c.name_leaf.ensures.tree
+build_trees::build_tree-returns-in-Name-clause-built t c = name_built c.args.plan.now (s.site c.args.site.now) c.args.given c.args.e.now c.in-Name.x c.args.builder.now (typed_tree c.name_leaf.result.tree) c.in-Name.is c.name_leaf.ensures.tree
 
 pub build_trees::build_tree-returns-in-Name-clause-kind : goal.build_trees::build_tree-returns-in-Name-clause-kind
-build_trees::build_tree-returns-in-Name-clause-kind t c = IfOk-weaker c.name_leaf.result _ _ (λ r h. name_kind c.args.plan.now (s.site c.args.site.now) c.args.given c.args.e.now c.in-Name.x r.kind c.in-Name.is h) c.name_leaf.ensures.kind
+build_trees::build_tree-returns-in-Name-clause-kind t c = name_kind c.args.plan.now (s.site c.args.site.now) c.args.given c.args.e.now c.in-Name.x c.name_leaf.result.kind c.in-Name.is c.name_leaf.ensures.kind
 
 pub build_trees::build_tree-returns-in_ok-x-in-Unary-clause-built : goal.build_trees::build_tree-returns-in_ok-x-in-Unary-clause-built
 build_trees::build_tree-returns-in_ok-x-in-Unary-clause-built t c = unary_built c.args.plan.now (s.site c.args.site.now) c.args.given c.args.e.now c.in-Unary.op c.in-Unary.a c.deref.result.now c.args.builder.now c.build_part.new.builder c.in_ok-x-in-Unary.x (typed_tree c.prefix_of.result.tree) c.in-Unary.is c.deref.ensures c.in_ok-x-in-Unary.ensures.kind c.prefix_of.ensures.tree c.in_ok-x-in-Unary.ensures.built

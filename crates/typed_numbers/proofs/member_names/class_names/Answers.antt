@@ -3,7 +3,7 @@ use Rattle.sts_scope.specs.declared.entries.Entry.{Entry}
 use Rattle.sts_scope.specs.Numbers.{added, own_names}
 use Rattle.typed_numbers.specs.Building.{picks, names_along}
 use Rattle.typed_numbers.proofs.Chains.{along_next}
-use Rattle.typed_numbers.proofs.member_names.member_names.Goals as goal
+use Rattle.typed_numbers.proofs.member_names.class_names.Goals as goal
 
 pub loop-i-preserved : goal.loop-i-preserved
 loop-i-preserved c =
