@@ -70,12 +70,8 @@ fn write_answer(
             how,
             parse_expr(alloc, all, tables, 0),
         ),
-        Asked::Stmt(how) => {
-            let outcome = parse_stmt(alloc, all, tables, 0, false, false);
-            write_outcome(alloc, line, lexed, how, outcome)
-        }
-        Asked::Inside(how) => {
-            let outcome = parse_stmt(alloc, all, tables, 0, true, true);
+        Asked::Stmt { inside, how } => {
+            let outcome = parse_stmt(alloc, all, tables, 0, inside, inside);
             write_outcome(alloc, line, lexed, how, outcome)
         }
         Asked::Unit(how) => {
@@ -91,20 +87,23 @@ fn write_answer(
     }
 }
 
-/// The lines behind a row: none where the line is no row.
-pub fn answer(alloc: Global, row: &str) -> Result<String, AllocError> {
-    let mut lines = String::new(alloc);
-    let Some(row) = row_of(alloc, row)? else {
-        return Ok(lines);
-    };
+/// Writes the line of what a row asks for.
+fn write_row(alloc: Global, lines: &mut String, row: &Row) -> Result<(), AllocError> {
     lines.push_str("   ")?;
     match row.asked {
-        Asked::Entries => write_entries(alloc, &mut lines, row.text.as_slice())?,
+        Asked::Entries => write_entries(alloc, lines, row.text.as_slice())?,
         _ => match read(alloc, row.text.as_slice()) {
-            Ok(lexed) => write_answer(alloc, &mut lines, &row, &lexed)?,
-            Err(refused) => write_refusal(&mut lines, refused, true)?,
+            Ok(lexed) => write_answer(alloc, lines, row, &lexed)?,
+            Err(refused) => write_refusal(lines, refused, true)?,
         },
     }
-    lines.push('\n')?;
-    Ok(lines)
+    lines.push('\n')
+}
+
+/// Writes the lines behind a row: none where the line is no row.
+pub fn write_lines(alloc: Global, lines: &mut String, line: &str) -> Result<(), AllocError> {
+    match row_of(alloc, line)? {
+        Some(row) => write_row(alloc, lines, &row),
+        None => Ok(()),
+    }
 }

@@ -56,14 +56,24 @@ fn write_all(
     Ok(())
 }
 
+/// Writes why texts are refused, where they are, and then all names and all texts that they have.
+fn write_readings(
+    line: &mut String,
+    refusals: [Option<Refused>; 2],
+    tables: &Tables,
+) -> Result<(), AllocError> {
+    for refused in refusals {
+        write_reading(line, refused)?;
+    }
+    write_all(line, " names", &tables.names)?;
+    write_all(line, "; texts", &tables.texts)
+}
+
 /// Writes how the first line of a text is read, how the second is, and then all names and all texts, in their order.
 pub fn write_entries(alloc: Global, line: &mut String, text: &[u8]) -> Result<(), AllocError> {
     let (first, second) = text.split_once_str(b"\n").unwrap_or((text, b""));
     let mut tables = empty(alloc);
-    let refused = refusal(alloc, first, &mut tables);
-    write_reading(line, refused)?;
-    let refused = refusal(alloc, second, &mut tables);
-    write_reading(line, refused)?;
-    write_all(line, " names", &tables.names)?;
-    write_all(line, "; texts", &tables.texts)
+    let first = refusal(alloc, first, &mut tables);
+    let second = refusal(alloc, second, &mut tables);
+    write_readings(line, [first, second], &tables)
 }

@@ -19,10 +19,8 @@ pub enum How {
 pub enum Asked {
     /// the longest expression from the first token on
     Expr(How),
-    /// the longest statement from the first token on, outside of functions and loops
-    Stmt(How),
-    /// the same, in a function and in a loop
-    Inside(How),
+    /// the longest statement from the first token on, outside of functions and loops, or inside of one of each
+    Stmt { inside: bool, how: How },
     /// the whole text
     Unit(How),
     /// the text cut behind each of its tokens
@@ -40,24 +38,55 @@ pub struct Row {
     pub text: Vec<u8>,
 }
 
+/// What the words ask for.
+static ASKED: [(&str, Asked); 14] = [
+    ("expr", Asked::Expr(How::Tree)),
+    ("expr-places", Asked::Expr(How::Places)),
+    ("expr-end", Asked::Expr(How::End)),
+    (
+        "stmt",
+        Asked::Stmt {
+            inside: false,
+            how: How::Tree,
+        },
+    ),
+    (
+        "stmt-places",
+        Asked::Stmt {
+            inside: false,
+            how: How::Places,
+        },
+    ),
+    (
+        "stmt-end",
+        Asked::Stmt {
+            inside: false,
+            how: How::End,
+        },
+    ),
+    (
+        "inside",
+        Asked::Stmt {
+            inside: true,
+            how: How::Tree,
+        },
+    ),
+    ("unit", Asked::Unit(How::Tree)),
+    ("unit-places", Asked::Unit(How::Places)),
+    ("unit-end", Asked::Unit(How::End)),
+    ("cuts", Asked::Cuts),
+    ("tokens", Asked::Tokens(How::Tree)),
+    ("tokens-places", Asked::Tokens(How::Places)),
+    ("entries", Asked::Entries),
+];
+
 fn asked_of(word: &str) -> Option<Asked> {
-    match word {
-        "expr" => Some(Asked::Expr(How::Tree)),
-        "expr-places" => Some(Asked::Expr(How::Places)),
-        "expr-end" => Some(Asked::Expr(How::End)),
-        "stmt" => Some(Asked::Stmt(How::Tree)),
-        "stmt-places" => Some(Asked::Stmt(How::Places)),
-        "stmt-end" => Some(Asked::Stmt(How::End)),
-        "inside" => Some(Asked::Inside(How::Tree)),
-        "unit" => Some(Asked::Unit(How::Tree)),
-        "unit-places" => Some(Asked::Unit(How::Places)),
-        "unit-end" => Some(Asked::Unit(How::End)),
-        "cuts" => Some(Asked::Cuts),
-        "tokens" => Some(Asked::Tokens(How::Tree)),
-        "tokens-places" => Some(Asked::Tokens(How::Places)),
-        "entries" => Some(Asked::Entries),
-        _ => None,
+    for (name, asked) in &ASKED {
+        if *name == word {
+            return Some(*asked);
+        }
     }
+    None
 }
 
 /// How many times a piece stands in the text: as the number before its `*` says, or else once.
