@@ -1,6 +1,6 @@
 // Rows of the board's interface.
 
-use std::alloc::{AllocError, Global};
+use std::alloc::AllocError;
 use sts_syntax::{
     BaseType, BoardAction, BoardParameter, ServicePlace, Ty, board_call, board_constant,
 };
@@ -27,47 +27,44 @@ fn type_name(ty: Ty) -> &'static str {
     }
 }
 
-/// What stands at the places of a service: `_` for a written argument.
-fn show_places(alloc: Global, number: u8, places: &[ServicePlace]) -> Result<String, AllocError> {
-    let mut shown = format!(in alloc; "service {number}")?;
+/// Writes what stands at the places of a service: `_` for a written argument.
+fn write_places(line: &mut String, number: u8, places: &[ServicePlace]) -> Result<(), AllocError> {
+    write!(line, "service {number}")?;
     for place in places {
         match place {
-            ServicePlace::Written => shown.push_str(" _")?,
-            ServicePlace::Always(value) => {
-                let value = format!(in alloc; " {value}")?;
-                shown.push_str(value.as_str())?;
-            }
+            ServicePlace::Written => line.push_str(" _")?,
+            ServicePlace::Always(value) => write!(line, " {value}")?,
         }
     }
-    Ok(shown)
+    Ok(())
 }
 
-fn show_action(alloc: Global, action: BoardAction) -> Result<String, AllocError> {
+fn write_action(line: &mut String, action: BoardAction) -> Result<(), AllocError> {
     match action {
-        BoardAction::Service(number, places) => show_places(alloc, number, places),
-        BoardAction::Library(function) => format!(in alloc; "library {function}"),
-        BoardAction::Repeats => format!(in alloc; "repeats"),
+        BoardAction::Service(number, places) => write_places(line, number, places),
+        BoardAction::Library(function) => write!(line, "library {function}"),
+        BoardAction::Repeats => line.push_str("repeats"),
     }
 }
 
-/// The row of a call, or a dash where there is none.
-pub fn show_call(alloc: Global, space: &str, name: &str) -> Result<String, AllocError> {
+/// Writes the row of a call, or a dash where there is none.
+pub fn write_call(line: &mut String, space: &str, name: &str) -> Result<(), AllocError> {
     let Some(call) = board_call(space.as_bytes(), name.as_bytes()) else {
-        return format!(in alloc; "  -\n");
+        return line.push_str("  -\n");
     };
-    let mut shown = format!(in alloc; "  takes")?;
+    line.push_str("  takes")?;
     for parameter in call.takes() {
-        shown.push_str(parameter_name(*parameter))?;
+        line.push_str(parameter_name(*parameter))?;
     }
-    let gives = type_name(call.gives());
-    let action = show_action(alloc, call.action())?;
-    format!(in alloc; "{shown}; gives {gives}; {action}\n")
+    write!(line, "; gives {}; ", type_name(call.gives()))?;
+    write_action(line, call.action())?;
+    line.push('\n')
 }
 
-/// The value of a constant, or a dash where there is none.
-pub fn show_constant(alloc: Global, space: &str, name: &str) -> Result<String, AllocError> {
+/// Writes the value of a constant, or a dash where there is none.
+pub fn write_constant(line: &mut String, space: &str, name: &str) -> Result<(), AllocError> {
     match board_constant(space.as_bytes(), name.as_bytes()) {
-        Some(value) => format!(in alloc; "  {value}\n"),
-        None => format!(in alloc; "  -\n"),
+        Some(value) => write!(line, "  {value}\n"),
+        None => line.push_str("  -\n"),
     }
 }

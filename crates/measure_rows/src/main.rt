@@ -14,9 +14,9 @@ use std::io;
 fn main(rt: HostRuntime) -> io::Result<()> {
     for line in rt.lines(rt.alloc()) {
         let line = line?;
-        println!(rt; "{line}")?;
-        let answer = rows::answer(rt.alloc(), line.as_str())?;
-        print!(rt; "{answer}")?;
+        let mut answer = String::new(rt.alloc());
+        rows::write_answer(rt.alloc(), &mut answer, &line)?;
+        print!(rt; "{line}\n{answer}")?;
     }
     Ok(())
 }

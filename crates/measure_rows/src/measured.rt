@@ -23,12 +23,12 @@ fn routine_of(alloc: Global, name: &str) -> Result<TypedBody, NoMemory>
     }
 }
 
-/// The words of a function's frame, and its weight.
-pub fn show_measures(alloc: Global, name: &str) -> Result<String, AllocError> {
+/// Writes the words of a function's frame, and its weight.
+pub fn write_measures(alloc: Global, line: &mut String, name: &str) -> Result<(), AllocError> {
     let Ok(body) = routine_of(alloc, name) else {
         return Err(AllocError);
     };
     let words = frame_words(&body);
     let weight = weight(&body);
-    format!(in alloc; "  frame {words}, weight {weight}\n")
+    write!(line, "  frame {words}, weight {weight}\n")
 }
