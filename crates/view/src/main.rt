@@ -80,6 +80,23 @@ fn program_of<D: Folder>(
     }
 }
 
+/// Writes the view as a text, with what explains lines below them. The sentences of lines are named here alone: the proof of a function that names a
+/// long table takes a minute.
+fn write_text<K: Sink>(
+    alloc: Global,
+    below: &[Below<'_>],
+    input: &[u8],
+    width: usize,
+    out: &mut K,
+) -> Result<(), ViewFault> {
+    view_text(alloc, &NOTES, below, input, width, out)
+}
+
+/// Writes the view as a page.
+fn write_page<K: Sink>(alloc: Global, input: &[u8], out: &mut K) -> Result<(), ViewFault> {
+    view_page(alloc, PAGE_HEAD, PAGE_TAIL, input, out)
+}
+
 /// Writes the text that explains the first refusal by a program's text.
 fn write_explained<K: Sink>(
     alloc: Global,
@@ -89,7 +106,7 @@ fn write_explained<K: Sink>(
     out: &mut K,
 ) -> Result<(), ViewFault> {
     let Some(refusal) = first_refusal(input) else {
-        return view_text(alloc, &NOTES, &[], input, width, out);
+        return write_text(alloc, &[], input, width, out);
     };
     match refusal.explained(alloc, program) {
         Err(_) => Err(ViewFault::NoMemory),
@@ -98,7 +115,7 @@ fn write_explained<K: Sink>(
                 line: refusal.told,
                 text: text.as_bytes(),
             }];
-            view_text(alloc, &NOTES, &below, input, width, out)
+            write_text(alloc, &below, input, width, out)
         }
     }
 }
@@ -113,8 +130,8 @@ fn write_view<K: Sink>(
 ) -> u8 {
     let written = match program {
         Some(text) => write_explained(alloc, asked.width, input, text, out),
-        None if asked.html => view_page(alloc, PAGE_HEAD, PAGE_TAIL, input, out),
-        None => view_text(alloc, &NOTES, &[], input, asked.width, out),
+        None if asked.html => write_page(alloc, input, out),
+        None => write_text(alloc, &[], input, asked.width, out),
     };
     match written {
         Ok(()) => 0,
@@ -137,28 +154,37 @@ fn tell<K: Sink>(status: u8, out: &mut K) -> u8 {
     }
 }
 
-fn main(rt: HostRuntime) -> ExitCode {
+/// Reads the files that were asked for, writes the view, and gives the status.
+fn show<K: Sink>(rt: HostRuntime, asked: &Asked<'_>, out: &mut K) -> u8 {
     let alloc: Global = rt.alloc();
-    let Some(words) = words_given(&rt) else {
-        return ExitCode::from(NO_MEMORY);
-    };
-    let Ok(mut out) = StdSink::new(alloc, rt.stdout()) else {
-        return ExitCode::from(NO_MEMORY);
-    };
-    let asked = match read_words(alloc, words.as_slice()) {
-        Ok(Some(asked)) => asked,
-        Ok(None) => return ExitCode::from(tell(USAGE, &mut out)),
-        Err(_) => return ExitCode::from(NO_MEMORY),
-    };
     let stdin = rt.stdin();
     let mut folder = DiskFolder::new(alloc, rt);
     let input = match asked.file {
         Some(name) => file_of(alloc, &mut folder, name),
         None => all_of(alloc, stdin),
     };
-    let status = match (input, program_of(alloc, &mut folder, asked.program)) {
-        (Ok(bytes), Ok(program)) => write_view(alloc, &asked, &bytes, program.as_deref(), &mut out),
-        (Err(status), _) | (_, Err(status)) => tell(status, &mut out),
+    match (input, program_of(alloc, &mut folder, asked.program)) {
+        (Ok(bytes), Ok(program)) => write_view(alloc, asked, &bytes, program.as_deref(), out),
+        (Err(status), _) | (_, Err(status)) => tell(status, out),
+    }
+}
+
+/// Does what the words ask for, and gives the status.
+fn answer<K: Sink>(rt: HostRuntime, words: &[String], out: &mut K) -> u8 {
+    match read_words(rt.alloc(), words) {
+        Ok(Some(asked)) => show(rt, &asked, out),
+        Ok(None) => tell(USAGE, out),
+        Err(_) => NO_MEMORY,
+    }
+}
+
+fn main(rt: HostRuntime) -> ExitCode {
+    let Some(words) = words_given(&rt) else {
+        return ExitCode::from(NO_MEMORY);
+    };
+    let status = match StdSink::new(rt.alloc(), rt.stdout()) {
+        Ok(mut out) => answer(rt, words.as_slice(), &mut out),
+        Err(_) => NO_MEMORY,
     };
     ExitCode::from(status)
 }
