@@ -1,9 +1,10 @@
 // The sentence of each code, as docs/LANGUAGE.md has it, for where no row fits.
+ghost use Rattle.std.specs.Prelude.{◌<◌, ◌≤◌};
 
 use around_place::Explanation;
 
-/// The explanation of what is no code, and those of the codes 1 to 15.
-static OWN: [Explanation; 16] = [
+/// The explanation of what is no code, and those of the codes 1 to 7.
+static LOW: [Explanation; 8] = [
     Explanation {
         sentence: "This number is no code of a refusal.",
         example: "",
@@ -44,6 +45,10 @@ static OWN: [Explanation; 16] = [
         example: "",
         opened: None,
     },
+];
+
+/// Those of the codes 8 to 15.
+static HIGH: [Explanation; 8] = [
     Explanation {
         sentence: "A name or member isn't known, or a class is used as a value, `this` stands outside a method, or a name begins with `$`: see how the name is written, upper and lower case; declare it before it is used, in this block or outside.",
         example: "let x = 1; serial.writeNumber(x)",
@@ -86,7 +91,24 @@ static OWN: [Explanation; 16] = [
     },
 ];
 
+fn low(code: u32) -> Explanation
+    requires { code < 8 }
+{
+    LOW[code as usize]
+}
+
+fn high(code: u32) -> Explanation
+    requires from { 8 ≤ code }
+    requires upto { code < 16 }
+{
+    HIGH[code as usize - 8]
+}
+
 /// What a code says by itself.
 pub fn own_of(code: u32) -> Explanation {
-    OWN[if code < 16 { code as usize } else { 0 }]
+    match code {
+        0..=7 => low(code),
+        8..=15 => high(code),
+        _ => low(0),
+    }
 }

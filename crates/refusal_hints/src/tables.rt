@@ -10,18 +10,23 @@ mod tokens;
 mod types;
 
 use around_place::Row;
-use calls::{calls_1, calls_2, calls_3, calls_4};
-use control::{control_1, control_2, control_3, control_4};
-use forms::{forms_1, forms_2, forms_3, forms_4, forms_5, forms_6, forms_7};
-use marks::{marks_1, marks_2, marks_3};
-use names::{names_1, names_2, names_3, names_4, names_5, names_6, names_7, names_8};
+use calls::{calls_1, calls_2, calls_3, calls_4, calls_5, calls_6, calls_7, calls_8};
+use control::{control_1, control_2, control_3, control_4, control_5, control_6};
+use forms::{
+    forms_1, forms_2, forms_3, forms_4, forms_5, forms_6, forms_7, forms_8, forms_9, forms_10,
+};
+use marks::{marks_1, marks_2, marks_3, marks_4};
+use names::{
+    names_1, names_2, names_3, names_4, names_5, names_6, names_7, names_8, names_9, names_10,
+    names_11,
+};
 use rest::{captured, handlers_1, handlers_2, twice, untold};
 use takes::{takes_1, takes_2, takes_3};
 use tokens::{characters_1, characters_2, numbers, texts};
-use types::{types_1, types_2, types_3, types_4};
+use types::{types_1, types_2, types_3, types_4, types_5};
 
 /// Tables, one behind the other.
-pub type Rows = [&'static [Row]; 14];
+pub type Rows = [&'static [Row]; 20];
 
 /// Code 6: what is written otherwise.
 fn of_syntax() -> Rows {
@@ -30,6 +35,8 @@ fn of_syntax() -> Rows {
         control_2(),
         control_3(),
         control_4(),
+        control_5(),
+        control_6(),
         forms_1(),
         forms_2(),
         forms_3(),
@@ -37,9 +44,13 @@ fn of_syntax() -> Rows {
         forms_5(),
         forms_6(),
         forms_7(),
+        forms_8(),
+        forms_9(),
+        forms_10(),
         marks_1(),
         marks_2(),
         marks_3(),
+        marks_4(),
     ]
 }
 
@@ -50,6 +61,10 @@ fn of_names() -> Rows {
         calls_2(),
         calls_3(),
         calls_4(),
+        calls_5(),
+        calls_6(),
+        calls_7(),
+        calls_8(),
         names_1(),
         names_2(),
         names_3(),
@@ -58,7 +73,9 @@ fn of_names() -> Rows {
         names_6(),
         names_7(),
         names_8(),
-        &[],
+        names_9(),
+        names_10(),
+        names_11(),
         &[],
     ]
 }
@@ -73,6 +90,12 @@ fn of_types() -> Rows {
         types_2(),
         types_3(),
         types_4(),
+        types_5(),
+        &[],
+        &[],
+        &[],
+        &[],
+        &[],
         &[],
         &[],
         &[],
@@ -85,22 +108,10 @@ fn of_types() -> Rows {
 
 /// Two tables alone.
 fn few(first: &'static [Row], second: &'static [Row]) -> Rows {
-    [
-        first,
-        second,
-        &[],
-        &[],
-        &[],
-        &[],
-        &[],
-        &[],
-        &[],
-        &[],
-        &[],
-        &[],
-        &[],
-        &[],
-    ]
+    let mut tables: Rows = [&[]; 20];
+    tables[0] = first;
+    tables[1] = second;
+    tables
 }
 
 /// The rows of a code, in order: those of one table behind those of another.

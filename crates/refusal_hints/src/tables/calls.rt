@@ -7,7 +7,7 @@ pub fn calls_1() -> &'static [Row] {
     &CALLS_1
 }
 
-static CALLS_1: [Row; 14] = [
+static CALLS_1: [Row; 7] = [
     Row {
         at: &[Is("basic"), Is("."), Like("pause")],
         sentence: "The call is `basic.pause`, in these capitals and small letters. Where it stands so, a name `basic` of the program hides the board's: give that another.",
@@ -50,6 +50,14 @@ static CALLS_1: [Row; 14] = [
         example: "led.plot(2, 2)",
         ..ANYWHERE
     },
+];
+
+/// Code 8: the calls of the board, written otherwise or hidden, part 2.
+pub fn calls_2() -> &'static [Row] {
+    &CALLS_2
+}
+
+static CALLS_2: [Row; 7] = [
     Row {
         at: &[Is("led"), Is("."), Like("unplot")],
         sentence: "The call is `led.unplot`, in these capitals and small letters. Where it stands so, a name `led` of the program hides the board's: give that another.",
@@ -94,12 +102,12 @@ static CALLS_1: [Row; 14] = [
     },
 ];
 
-/// Code 8: the calls of the board, written otherwise or hidden, part 2.
-pub fn calls_2() -> &'static [Row] {
-    &CALLS_2
+/// Code 8: the calls of the board, written otherwise or hidden, part 3.
+pub fn calls_3() -> &'static [Row] {
+    &CALLS_3
 }
 
-static CALLS_2: [Row; 14] = [
+static CALLS_3: [Row; 7] = [
     Row {
         at: &[Is("control"), Is("."), Like("onEventFlags")],
         sentence: "The call is `control.onEventFlags`, in these capitals and small letters. Where it stands so, a name `control` of the program hides the board's: give that another.",
@@ -142,6 +150,14 @@ static CALLS_2: [Row; 14] = [
         example: "serial.writeNumber(5)",
         ..ANYWHERE
     },
+];
+
+/// Code 8: the calls of the board, written otherwise or hidden, part 4.
+pub fn calls_4() -> &'static [Row] {
+    &CALLS_4
+}
+
+static CALLS_4: [Row; 7] = [
     Row {
         at: &[Is("serial"), Is("."), Like("writeString")],
         sentence: "The call is `serial.writeString`, in these capitals and small letters. Where it stands so, a name `serial` of the program hides the board's: give that another.",
@@ -186,12 +202,12 @@ static CALLS_2: [Row; 14] = [
     },
 ];
 
-/// Code 8: the calls of the board, written otherwise or hidden, part 3.
-pub fn calls_3() -> &'static [Row] {
-    &CALLS_3
+/// Code 8: the calls of the board, written otherwise or hidden, part 5.
+pub fn calls_5() -> &'static [Row] {
+    &CALLS_5
 }
 
-static CALLS_3: [Row; 14] = [
+static CALLS_5: [Row; 7] = [
     Row {
         at: &[Like("pause"), Is("(")],
         sentence: "`pause` is one of `basic`: `basic.pause`.",
@@ -234,6 +250,14 @@ static CALLS_3: [Row; 14] = [
         example: "led.plot(2, 2)",
         ..ANYWHERE
     },
+];
+
+/// Code 8: the calls of the board, written otherwise or hidden, part 6.
+pub fn calls_6() -> &'static [Row] {
+    &CALLS_6
+}
+
+static CALLS_6: [Row; 7] = [
     Row {
         at: &[Like("unplot"), Is("(")],
         sentence: "`unplot` is one of `led`: `led.unplot`.",
@@ -278,12 +302,12 @@ static CALLS_3: [Row; 14] = [
     },
 ];
 
-/// Code 8: the calls of the board, written otherwise or hidden, part 4.
-pub fn calls_4() -> &'static [Row] {
-    &CALLS_4
+/// Code 8: the calls of the board, written otherwise or hidden, part 7.
+pub fn calls_7() -> &'static [Row] {
+    &CALLS_7
 }
 
-static CALLS_4: [Row; 14] = [
+static CALLS_7: [Row; 7] = [
     Row {
         at: &[Like("onEventFlags"), Is("(")],
         sentence: "`onEventFlags` is one of `control`: `control.onEventFlags`.",
@@ -326,6 +350,14 @@ static CALLS_4: [Row; 14] = [
         example: "serial.writeNumber(5)",
         ..ANYWHERE
     },
+];
+
+/// Code 8: the calls of the board, written otherwise or hidden, part 8.
+pub fn calls_8() -> &'static [Row] {
+    &CALLS_8
+}
+
+static CALLS_8: [Row; 7] = [
     Row {
         at: &[Like("writeString"), Is("(")],
         sentence: "`writeString` is one of `serial`: `serial.writeString`.",

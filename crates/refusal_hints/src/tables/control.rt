@@ -8,7 +8,7 @@ pub fn control_1() -> &'static [Row] {
     &CONTROL_1
 }
 
-static CONTROL_1: [Row; 14] = [
+static CONTROL_1: [Row; 9] = [
     Row {
         line: &[Is("for"), Is("("), Is("let"), Name],
         at: &[Is("in")],
@@ -73,6 +73,14 @@ static CONTROL_1: [Row; 14] = [
         example: "for (let i = 0; i < 5; i++) { }",
         ..ANYWHERE
     },
+];
+
+/// Code 6: tests and loops that are written otherwise, and forms that aren't here, part 2.
+pub fn control_2() -> &'static [Row] {
+    &CONTROL_2
+}
+
+static CONTROL_2: [Row; 9] = [
     Row {
         line: &[Is("for"), Is("(")],
         at: &[Is(";")],
@@ -107,14 +115,6 @@ static CONTROL_1: [Row; 14] = [
         example: "if (a == 1) { } else if (a == 2) { }",
         ..ANYWHERE
     },
-];
-
-/// Code 6: tests and loops that are written otherwise, and forms that aren't here, part 2.
-pub fn control_2() -> &'static [Row] {
-    &CONTROL_2
-}
-
-static CONTROL_2: [Row; 14] = [
     Row {
         line: &[Is("elif")],
         sentence: "`elif` is written `else if`.",
@@ -142,6 +142,14 @@ static CONTROL_2: [Row; 14] = [
         example: "if (a == 1) { } else if (a == 2) { }",
         ..ANYWHERE
     },
+];
+
+/// Code 6: tests and loops that are written otherwise, and forms that aren't here, part 3.
+pub fn control_3() -> &'static [Row] {
+    &CONTROL_3
+}
+
+static CONTROL_3: [Row; 9] = [
     Row {
         before: &[Is("then")],
         sentence: "There is no `then`: the block follows the test.",
@@ -206,6 +214,14 @@ static CONTROL_2: [Row; 14] = [
         example: "if (a <= 1) { }",
         ..ANYWHERE
     },
+];
+
+/// Code 6: tests and loops that are written otherwise, and forms that aren't here, part 4.
+pub fn control_4() -> &'static [Row] {
+    &CONTROL_4
+}
+
+static CONTROL_4: [Row; 9] = [
     Row {
         before: &[Is("<")],
         at: &[Is(">")],
@@ -213,14 +229,6 @@ static CONTROL_2: [Row; 14] = [
         example: "if (a != 1) { }",
         ..ANYWHERE
     },
-];
-
-/// Code 6: tests and loops that are written otherwise, and forms that aren't here, part 3.
-pub fn control_3() -> &'static [Row] {
-    &CONTROL_3
-}
-
-static CONTROL_3: [Row; 14] = [
     Row {
         at: &[Is("else")],
         sentence: "An `else` stands right behind the block of its `if`, with no `;` between them.",
@@ -272,6 +280,14 @@ static CONTROL_3: [Row; 14] = [
         example: "let x = 5",
         ..ANYWHERE
     },
+];
+
+/// Code 6: tests and loops that are written otherwise, and forms that aren't here, part 5.
+pub fn control_5() -> &'static [Row] {
+    &CONTROL_5
+}
+
+static CONTROL_5: [Row; 9] = [
     Row {
         at: &[Is("switch")],
         sentence: "There is no `switch`: write `if` and `else if`.",
@@ -308,14 +324,6 @@ static CONTROL_3: [Row; 14] = [
         example: "basic.showNumber(5)",
         ..ANYWHERE
     },
-];
-
-/// Code 6: tests and loops that are written otherwise, and forms that aren't here, part 4.
-pub fn control_4() -> &'static [Row] {
-    &CONTROL_4
-}
-
-static CONTROL_4: [Row; 12] = [
     Row {
         at: &[Is("export")],
         sentence: "Nothing is exported: take `export` out.",
@@ -335,6 +343,14 @@ static CONTROL_4: [Row; 12] = [
         example: "let x: number = 5",
         ..ANYWHERE
     },
+];
+
+/// Code 6: tests and loops that are written otherwise, and forms that aren't here, part 6.
+pub fn control_6() -> &'static [Row] {
+    &CONTROL_6
+}
+
+static CONTROL_6: [Row; 9] = [
     Row {
         at: &[Is("try")],
         sentence: "There is no `try`, since nothing is thrown: test beforehand by `if`.",

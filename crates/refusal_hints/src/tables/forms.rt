@@ -8,7 +8,7 @@ pub fn forms_1() -> &'static [Row] {
     &FORMS_1
 }
 
-static FORMS_1: [Row; 14] = [
+static FORMS_1: [Row; 9] = [
     Row {
         line: &[Is("class")],
         at: &[Is(",")],
@@ -75,6 +75,14 @@ static FORMS_1: [Row; 14] = [
         example: "const KIND = 5",
         ..ANYWHERE
     },
+];
+
+/// Code 6: declarations, functions and calls that are written otherwise, part 2.
+pub fn forms_2() -> &'static [Row] {
+    &FORMS_2
+}
+
+static FORMS_2: [Row; 10] = [
     Row {
         before: &[Is("const"), Name],
         sentence: "A `const` gets its value at once, by `=`.",
@@ -108,14 +116,6 @@ static FORMS_1: [Row; 14] = [
         example: "let b: boolean = true",
         ..ANYWHERE
     },
-];
-
-/// Code 6: declarations, functions and calls that are written otherwise, part 2.
-pub fn forms_2() -> &'static [Row] {
-    &FORMS_2
-}
-
-static FORMS_2: [Row; 14] = [
     Row {
         before: &[Is("let"), Name],
         at: &[Is("-")],
@@ -151,6 +151,14 @@ static FORMS_2: [Row; 14] = [
         example: "let x: number = 5",
         ..ANYWHERE
     },
+];
+
+/// Code 6: declarations, functions and calls that are written otherwise, part 3.
+pub fn forms_3() -> &'static [Row] {
+    &FORMS_3
+}
+
+static FORMS_3: [Row; 10] = [
     Row {
         before: &[Is("let"), Name, Is(":")],
         at: &[Is("=")],
@@ -213,20 +221,20 @@ static FORMS_2: [Row; 14] = [
         example: "function f(): void { }",
         ..ANYWHERE
     },
-];
-
-/// Code 6: declarations, functions and calls that are written otherwise, part 3.
-pub fn forms_3() -> &'static [Row] {
-    &FORMS_3
-}
-
-static FORMS_3: [Row; 14] = [
     Row {
         at: &[Is("void"), Name],
         sentence: "A function begins with `function`; the type of its result stands behind its parameters.",
         example: "function f(): void { }",
         ..ANYWHERE
     },
+];
+
+/// Code 6: declarations, functions and calls that are written otherwise, part 4.
+pub fn forms_4() -> &'static [Row] {
+    &FORMS_4
+}
+
+static FORMS_4: [Row; 10] = [
     Row {
         before: &[Is("int")],
         at: &[Name, Is("(")],
@@ -303,6 +311,14 @@ static FORMS_3: [Row; 14] = [
         example: "function f(a: number, b: number): void { }",
         ..ANYWHERE
     },
+];
+
+/// Code 6: declarations, functions and calls that are written otherwise, part 5.
+pub fn forms_5() -> &'static [Row] {
+    &FORMS_5
+}
+
+static FORMS_5: [Row; 10] = [
     Row {
         line: &[Is("function")],
         before: &[Name],
@@ -327,14 +343,6 @@ static FORMS_3: [Row; 14] = [
         example: "function f(a: number[]): void { }",
         ..ANYWHERE
     },
-];
-
-/// Code 6: declarations, functions and calls that are written otherwise, part 4.
-pub fn forms_4() -> &'static [Row] {
-    &FORMS_4
-}
-
-static FORMS_4: [Row; 14] = [
     Row {
         line: &[Is("function")],
         before: &[Is(")")],
@@ -389,6 +397,14 @@ static FORMS_4: [Row; 14] = [
         example: "basic.forever(function () { })",
         ..ANYWHERE
     },
+];
+
+/// Code 6: declarations, functions and calls that are written otherwise, part 6.
+pub fn forms_6() -> &'static [Row] {
+    &FORMS_6
+}
+
+static FORMS_6: [Row; 9] = [
     Row {
         line: &[Is("input"), Is("."), Is("onButtonPressed")],
         before: &[Is(")")],
@@ -441,14 +457,6 @@ static FORMS_4: [Row; 14] = [
         example: "basic.forever(() => { basic.pause(1) })",
         ..ANYWHERE
     },
-];
-
-/// Code 6: declarations, functions and calls that are written otherwise, part 5.
-pub fn forms_5() -> &'static [Row] {
-    &FORMS_5
-}
-
-static FORMS_5: [Row; 14] = [
     Row {
         before: &[Name],
         at: &[Is("=>")],
@@ -462,6 +470,14 @@ static FORMS_5: [Row; 14] = [
         example: "if (a == 1 && b == 2) { }",
         ..ANYWHERE
     },
+];
+
+/// Code 6: declarations, functions and calls that are written otherwise, part 7.
+pub fn forms_7() -> &'static [Row] {
+    &FORMS_7
+}
+
+static FORMS_7: [Row; 10] = [
     Row {
         at: &[Is("or")],
         sentence: "`or` is written `||`.",
@@ -528,6 +544,14 @@ static FORMS_5: [Row; 14] = [
         example: "basic.pause(100)",
         ..ANYWHERE
     },
+];
+
+/// Code 6: declarations, functions and calls that are written otherwise, part 8.
+pub fn forms_8() -> &'static [Row] {
+    &FORMS_8
+}
+
+static FORMS_8: [Row; 10] = [
     Row {
         before: &[Is("led")],
         at: &[Is(",")],
@@ -543,14 +567,6 @@ static FORMS_5: [Row; 14] = [
         example: "basic.pause(100)",
         ..ANYWHERE
     },
-];
-
-/// Code 6: declarations, functions and calls that are written otherwise, part 6.
-pub fn forms_6() -> &'static [Row] {
-    &FORMS_6
-}
-
-static FORMS_6: [Row; 14] = [
     Row {
         line: &[Is("led")],
         alone: true,
@@ -612,6 +628,14 @@ static FORMS_6: [Row; 14] = [
         example: "serial.writeLine(\"x\")",
         ..ANYWHERE
     },
+];
+
+/// Code 6: declarations, functions and calls that are written otherwise, part 9.
+pub fn forms_9() -> &'static [Row] {
+    &FORMS_9
+}
+
+static FORMS_9: [Row; 10] = [
     Row {
         before: &[Is("print")],
         at: &[Text],
@@ -655,14 +679,6 @@ static FORMS_6: [Row; 14] = [
         example: "let b = a[1][2]",
         ..ANYWHERE
     },
-];
-
-/// Code 6: declarations, functions and calls that are written otherwise, part 7.
-pub fn forms_7() -> &'static [Row] {
-    &FORMS_7
-}
-
-static FORMS_7: [Row; 14] = [
     Row {
         at: &[Is("."), Number],
         sentence: "Numbers are whole, so none begins with a point: count in tenths.",
@@ -690,6 +706,14 @@ static FORMS_7: [Row; 14] = [
         example: "class Point { x = 1; y = 2 }",
         ..ANYWHERE
     },
+];
+
+/// Code 6: declarations, functions and calls that are written otherwise, part 10.
+pub fn forms_10() -> &'static [Row] {
+    &FORMS_10
+}
+
+static FORMS_10: [Row; 10] = [
     Row {
         before: &[Is("extends")],
         at: &[Is("{")],

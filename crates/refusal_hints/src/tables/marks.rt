@@ -8,7 +8,7 @@ pub fn marks_1() -> &'static [Row] {
     &MARKS_1
 }
 
-static MARKS_1: [Row; 11] = [
+static MARKS_1: [Row; 8] = [
     Row {
         last: true,
         inside: Unclosed(b'{'),
@@ -65,6 +65,14 @@ static MARKS_1: [Row; 11] = [
         example: "if (true) { basic.pause(1) }",
         ..ANYWHERE
     },
+];
+
+/// Code 6: brackets and marks that are missing or too many, part 2.
+pub fn marks_2() -> &'static [Row] {
+    &MARKS_2
+}
+
+static MARKS_2: [Row; 8] = [
     Row {
         at: &[Is("}")],
         inside: Unclosed(b'['),
@@ -86,14 +94,6 @@ static MARKS_1: [Row; 11] = [
         example: "basic.pause(1);",
         ..ANYWHERE
     },
-];
-
-/// Code 6: brackets and marks that are missing or too many, part 2.
-pub fn marks_2() -> &'static [Row] {
-    &MARKS_2
-}
-
-static MARKS_2: [Row; 11] = [
     Row {
         at: &[Is(";")],
         inside: Unclosed(b'['),
@@ -131,6 +131,14 @@ static MARKS_2: [Row; 11] = [
         example: "",
         ..ANYWHERE
     },
+];
+
+/// Code 6: brackets and marks that are missing or too many, part 3.
+pub fn marks_3() -> &'static [Row] {
+    &MARKS_3
+}
+
+static MARKS_3: [Row; 8] = [
     Row {
         at: &[Is("}")],
         inside: Nothing,
@@ -174,14 +182,6 @@ static MARKS_2: [Row; 11] = [
         example: "led.plot(1, i)",
         ..ANYWHERE
     },
-];
-
-/// Code 6: brackets and marks that are missing or too many, part 3.
-pub fn marks_3() -> &'static [Row] {
-    &MARKS_3
-}
-
-static MARKS_3: [Row; 10] = [
     Row {
         before: &[Name],
         at: &[Number],
@@ -198,6 +198,14 @@ static MARKS_3: [Row; 10] = [
         example: "led.plot(i, i)",
         ..ANYWHERE
     },
+];
+
+/// Code 6: brackets and marks that are missing or too many, part 4.
+pub fn marks_4() -> &'static [Row] {
+    &MARKS_4
+}
+
+static MARKS_4: [Row; 8] = [
     Row {
         before: &[Text],
         at: &[Name],

@@ -7,7 +7,7 @@ pub fn names_1() -> &'static [Row] {
     &NAMES_1
 }
 
-static NAMES_1: [Row; 13] = [
+static NAMES_1: [Row; 9] = [
     Row {
         at: &[With(b'$')],
         sentence: "Names that begin with `$` are the library's: choose another.",
@@ -66,6 +66,14 @@ static NAMES_1: [Row; 13] = [
         example: "pins.digitalWritePin(DigitalPin.P0, 1)",
         ..ANYWHERE
     },
+];
+
+/// Code 8: names and members that aren't known, part 2.
+pub fn names_2() -> &'static [Row] {
+    &NAMES_2
+}
+
+static NAMES_2: [Row; 9] = [
     Row {
         at: &[Is("EventFlags"), Is("."), Any],
         sentence: "`EventFlags` has Reentrant, QueueIfBusy and DropIfBusy.",
@@ -90,14 +98,6 @@ static NAMES_1: [Row; 13] = [
         example: "seed = (seed * 1103515245 + 12345) & 0x7fffffff",
         ..ANYWHERE
     },
-];
-
-/// Code 8: names and members that aren't known, part 2.
-pub fn names_2() -> &'static [Row] {
-    &NAMES_2
-}
-
-static NAMES_2: [Row; 13] = [
     Row {
         at: &[Is("randint")],
         sentence: "There is no `randint`: nothing is by chance, so that a run can be told beforehand.",
@@ -128,6 +128,14 @@ static NAMES_2: [Row; 13] = [
         example: "basic.showLeds(`.#.#. ##### ##### .###. ..#..`)",
         ..ANYWHERE
     },
+];
+
+/// Code 8: names and members that aren't known, part 3.
+pub fn names_3() -> &'static [Row] {
+    &NAMES_3
+}
+
+static NAMES_3: [Row; 10] = [
     Row {
         at: &[Is("basic"), Is("."), Is("showArrow")],
         sentence: "`basic` has no `showArrow`; use `showLeds` with the picture.",
@@ -176,14 +184,6 @@ static NAMES_2: [Row; 13] = [
         example: "control.onEvent(50, 1, function () { })",
         ..ANYWHERE
     },
-];
-
-/// Code 8: names and members that aren't known, part 3.
-pub fn names_3() -> &'static [Row] {
-    &NAMES_3
-}
-
-static NAMES_3: [Row; 13] = [
     Row {
         at: &[Is("input"), Is("."), Is("temperature")],
         sentence: "The board has no sensor for `temperature`: a script's `raise` brings a number, told by `control.eventValue`.",
@@ -196,6 +196,14 @@ static NAMES_3: [Row; 13] = [
         example: "control.onEvent(50, 0, function () { serial.writeNumber(control.eventValue()) })",
         ..ANYWHERE
     },
+];
+
+/// Code 8: names and members that aren't known, part 4.
+pub fn names_4() -> &'static [Row] {
+    &NAMES_4
+}
+
+static NAMES_4: [Row; 9] = [
     Row {
         at: &[Is("input"), Is("."), Is("acceleration")],
         sentence: "The board has no sensor for `acceleration`: a script's `raise` brings a number, told by `control.eventValue`.",
@@ -250,6 +258,14 @@ static NAMES_3: [Row; 13] = [
         example: "pins.digitalWritePin(DigitalPin.P0, 1)",
         ..ANYWHERE
     },
+];
+
+/// Code 8: names and members that aren't known, part 5.
+pub fn names_5() -> &'static [Row] {
+    &NAMES_5
+}
+
+static NAMES_5: [Row; 10] = [
     Row {
         at: &[Is("pins"), Is("."), Is("analogReadPin")],
         sentence: "Pins are only set: `pins` has no `analogReadPin`.",
@@ -262,14 +278,6 @@ static NAMES_3: [Row; 13] = [
         example: "control.panic(1)",
         ..ANYWHERE
     },
-];
-
-/// Code 8: names and members that aren't known, part 4.
-pub fn names_4() -> &'static [Row] {
-    &NAMES_4
-}
-
-static NAMES_4: [Row; 13] = [
     Row {
         at: &[Is("control"), Is("."), Is("waitMicros")],
         sentence: "`control` has no `waitMicros`: times are milliseconds, by `basic.pause`.",
@@ -318,6 +326,14 @@ static NAMES_4: [Row; 13] = [
         example: "serial.writeLine(\"hello\")",
         ..ANYWHERE
     },
+];
+
+/// Code 8: names and members that aren't known, part 6.
+pub fn names_6() -> &'static [Row] {
+    &NAMES_6
+}
+
+static NAMES_6: [Row; 9] = [
     Row {
         at: &[Is("alert"), Is("(")],
         sentence: "There is no `alert`: the display shows a text by `basic.showString`.",
@@ -348,14 +364,6 @@ static NAMES_4: [Row; 13] = [
         example: "let n = 5",
         ..ANYWHERE
     },
-];
-
-/// Code 8: names and members that aren't known, part 5.
-pub fn names_5() -> &'static [Row] {
-    &NAMES_5
-}
-
-static NAMES_5: [Row; 13] = [
     Row {
         at: &[Is("String"), Is("(")],
         sentence: "Numbers aren't made into texts: show or write the number itself.",
@@ -380,6 +388,14 @@ static NAMES_5: [Row; 13] = [
         example: "serial.writeNumber(a.length)",
         ..ANYWHERE
     },
+];
+
+/// Code 8: names and members that aren't known, part 7.
+pub fn names_7() -> &'static [Row] {
+    &NAMES_7
+}
+
+static NAMES_7: [Row; 10] = [
     Row {
         before: &[Is(":")],
         at: &[Is("int")],
@@ -443,14 +459,6 @@ static NAMES_5: [Row; 13] = [
         example: "let a: number[] = []",
         ..ANYWHERE
     },
-];
-
-/// Code 8: names and members that aren't known, part 6.
-pub fn names_6() -> &'static [Row] {
-    &NAMES_6
-}
-
-static NAMES_6: [Row; 13] = [
     Row {
         before: &[Is(":")],
         at: &[Is("Array")],
@@ -458,6 +466,14 @@ static NAMES_6: [Row; 13] = [
         example: "let a: number[] = []",
         ..ANYWHERE
     },
+];
+
+/// Code 8: names and members that aren't known, part 8.
+pub fn names_8() -> &'static [Row] {
+    &NAMES_8
+}
+
+static NAMES_8: [Row; 9] = [
     Row {
         before: &[Is(":")],
         at: &[Name],
@@ -513,6 +529,14 @@ static NAMES_6: [Row; 13] = [
         example: "class A { x = 1; f(): void { this.x = 2 } }",
         ..ANYWHERE
     },
+];
+
+/// Code 8: names and members that aren't known, part 9.
+pub fn names_9() -> &'static [Row] {
+    &NAMES_9
+}
+
+static NAMES_9: [Row; 10] = [
     Row {
         at: &[Is("super")],
         sentence: "`super` stands in a class with a base alone.",
@@ -532,14 +556,6 @@ static NAMES_6: [Row; 13] = [
         example: "let a: number[] = []",
         ..ANYWHERE
     },
-];
-
-/// Code 8: names and members that aren't known, part 7.
-pub fn names_7() -> &'static [Row] {
-    &NAMES_7
-}
-
-static NAMES_7: [Row; 13] = [
     Row {
         at: &[Is("new"), Name],
         sentence: "No class of this name is here: see upper and lower case, or write the class.",
@@ -583,6 +599,14 @@ static NAMES_7: [Row; 13] = [
         example: "serial.writeLine(\"hello\")",
         ..ANYWHERE
     },
+];
+
+/// Code 8: names and members that aren't known, part 10.
+pub fn names_10() -> &'static [Row] {
+    &NAMES_10
+}
+
+static NAMES_10: [Row; 9] = [
     Row {
         at: &[Like("pins"), Is("."), Any],
         sentence: "`pins` has digitalWritePin.",
@@ -619,14 +643,6 @@ static NAMES_7: [Row; 13] = [
         example: "serial.writeNumber(a.length)",
         ..ANYWHERE
     },
-];
-
-/// Code 8: names and members that aren't known, part 8.
-pub fn names_8() -> &'static [Row] {
-    &NAMES_8
-}
-
-static NAMES_8: [Row; 13] = [
     Row {
         at: &[Name, Is("."), Is("length")],
         sentence: "The length of a list can be asked, that of a text can't.",
@@ -645,6 +661,14 @@ static NAMES_8: [Row; 13] = [
         example: "basic.showNumber(n)",
         ..ANYWHERE
     },
+];
+
+/// Code 8: names and members that aren't known, part 11.
+pub fn names_11() -> &'static [Row] {
+    &NAMES_11
+}
+
+static NAMES_11: [Row; 10] = [
     Row {
         at: &[Name, Is("."), Is("charAt")],
         sentence: "A text is shown and written as a whole: its letters can't be asked.",

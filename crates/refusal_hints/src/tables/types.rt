@@ -7,7 +7,7 @@ pub fn types_1() -> &'static [Row] {
     &TYPES_1
 }
 
-static TYPES_1: [Row; 12] = [
+static TYPES_1: [Row; 9] = [
     Row {
         at: &[Text, Is("+")],
         sentence: "`+` adds numbers; texts can't be joined. Write the parts by a call each.",
@@ -62,6 +62,14 @@ static TYPES_1: [Row; 12] = [
         example: "if (p.x == 3) { }",
         ..ANYWHERE
     },
+];
+
+/// Code 11: types that don't fit, part 2.
+pub fn types_2() -> &'static [Row] {
+    &TYPES_2
+}
+
+static TYPES_2: [Row; 10] = [
     Row {
         at: &[Is("while"), Is("("), Name, Is("="), Any],
         sentence: "`=` sets; equal is written `==`.",
@@ -82,14 +90,6 @@ static TYPES_1: [Row; 12] = [
         example: "if (a != 0) { }",
         ..ANYWHERE
     },
-];
-
-/// Code 11: types that don't fit, part 2.
-pub fn types_2() -> &'static [Row] {
-    &TYPES_2
-}
-
-static TYPES_2: [Row; 12] = [
     Row {
         at: &[Is("while"), Is("("), Name, Is(")")],
         sentence: "A test is true or false; for a number write a comparison.",
@@ -132,6 +132,14 @@ static TYPES_2: [Row; 12] = [
         example: "if (a != 0 && b != 0) { }",
         ..ANYWHERE
     },
+];
+
+/// Code 11: types that don't fit, part 3.
+pub fn types_3() -> &'static [Row] {
+    &TYPES_3
+}
+
+static TYPES_3: [Row; 9] = [
     Row {
         at: &[Any, Is("||")],
         sentence: "`||` takes true or false on both sides; for a number write a comparison.",
@@ -162,14 +170,6 @@ static TYPES_2: [Row; 12] = [
         example: "for (let i = 0; i < 5; i++) { }",
         ..ANYWHERE
     },
-];
-
-/// Code 11: types that don't fit, part 3.
-pub fn types_3() -> &'static [Row] {
-    &TYPES_3
-}
-
-static TYPES_3: [Row; 12] = [
     Row {
         at: &[Is("return")],
         sentence: "What is returned isn't of the type that the function's result has.",
@@ -197,6 +197,14 @@ static TYPES_3: [Row; 12] = [
         example: "let b: boolean = true",
         ..ANYWHERE
     },
+];
+
+/// Code 11: types that don't fit, part 4.
+pub fn types_4() -> &'static [Row] {
+    &TYPES_4
+}
+
+static TYPES_4: [Row; 10] = [
     Row {
         before: &[Is("let")],
         at: &[Name, Is(":")],
@@ -246,14 +254,6 @@ static TYPES_3: [Row; 12] = [
         example: "let b = a[0]",
         ..ANYWHERE
     },
-];
-
-/// Code 11: types that don't fit, part 4.
-pub fn types_4() -> &'static [Row] {
-    &TYPES_4
-}
-
-static TYPES_4: [Row; 12] = [
     Row {
         at: &[Name, Is("++")],
         sentence: "A `const` is never set anew: declare it by `let`. Only a number is counted up.",
@@ -266,6 +266,14 @@ static TYPES_4: [Row; 12] = [
         example: "let c = 1",
         ..ANYWHERE
     },
+];
+
+/// Code 11: types that don't fit, part 5.
+pub fn types_5() -> &'static [Row] {
+    &TYPES_5
+}
+
+static TYPES_5: [Row; 10] = [
     Row {
         at: &[Name, Is("=")],
         sentence: "What is set isn't of the type that the name has; or it is a `const`, which is never set anew: declare it by `let`.",
