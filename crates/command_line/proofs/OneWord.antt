@@ -10,7 +10,8 @@ use Rattle.sts_words.specs.Orders.{most_budget}
 use Rattle.sts_words.specs.Numbers.{number_within}
 use Rattle.sts_words.specs.Words.{a_name, a_budget, the_stats, the_image, Said, is_name, behind_budget, joined_part, part_of}
 use Rattle.sts_words.specs.Reading.{added, next}
-use Rattle.command_line.proofs.Spelled.{same-text, Plain, number-plain, name-plain, joined-text}
+use Rattle.sts_words.proofs.Laws.{same-text, joined-text, Plain, name-plain}
+use Rattle.command_line.proofs.Spelled.{number-plain}
 use Rattle.command_line.proofs.Steps as step
 use Rattle.command_line.proofs.Steps.{at, held, rules, whole, Settles, Passes, name_built, script_built, arrivals_built, budget_built, stats_built, image_built, row_for, first-use}
 use Rattle.command_line.proofs.Has.{Has, has-stats, has-image, has-budget, has-name, has-script, has-arrivals, no-stats, no-image, no-budget, no-name, no-script, no-arrivals, no-row}

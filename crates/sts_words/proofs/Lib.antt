@@ -1,3 +1,4 @@
 mod Digits
 pub mod Laws
 mod Parts
+mod Spelled

@@ -121,14 +121,14 @@ added-all names budget stats image (a_name word ∷ rest) h =
     one-name names budget stats image word rest h (nat_le (length names) 2) refl (λ room. added-all (names ++ word ∷ []) budget stats image rest room)
 added-all names None stats image (a_budget number ∷ rest) h = added-all names (Some number) stats image rest h
 added-all names (Some had) stats image (a_budget number ∷ rest) h = sym (many-budgets (names ++ names_of rest) (had ∷ number ∷ budgets_of rest) (counted stats + count_of_stats rest) (counted image + count_of_images rest) (omega arith))
-added-all names budget true image (the_stats ∷ rest) h = sym (many-stats (names ++ names_of rest) (listed budget ++ budgets_of rest) (1 + (count_of_stats rest + 1)) (counted image + count_of_images rest) (omega arith))
+added-all names budget true image (the_stats ∷ rest) h = sym (many-stats (names ++ names_of rest) (listed budget ++ budgets_of rest) (1 + suc (count_of_stats rest)) (counted image + count_of_images rest) (omega arith))
 added-all names budget false image (the_stats ∷ rest) h =
-    let same : 1 + count_of_stats rest ≡ 0 + (count_of_stats rest + 1) = omega arith in
+    let same : 1 + count_of_stats rest ≡ 0 + suc (count_of_stats rest) = omega arith in
     added-all names budget true image rest h
     ∙ ap (λ x. packed (names ++ names_of rest) (listed budget ++ budgets_of rest) x (counted image + count_of_images rest)) same
-added-all names budget stats true (the_image ∷ rest) h = sym (many-images (names ++ names_of rest) (listed budget ++ budgets_of rest) (counted stats + count_of_stats rest) (1 + (count_of_images rest + 1)) (omega arith))
+added-all names budget stats true (the_image ∷ rest) h = sym (many-images (names ++ names_of rest) (listed budget ++ budgets_of rest) (counted stats + count_of_stats rest) (1 + suc (count_of_images rest)) (omega arith))
 added-all names budget stats false (the_image ∷ rest) h =
-    let same : 1 + count_of_images rest ≡ 0 + (count_of_images rest + 1) = omega arith in
+    let same : 1 + count_of_images rest ≡ 0 + suc (count_of_images rest) = omega arith in
     added-all names budget stats true rest h
     ∙ ap (λ x. packed (names ++ names_of rest) (listed budget ++ budgets_of rest) (counted stats + count_of_stats rest) x) same
 

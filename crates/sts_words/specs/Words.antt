@@ -1,5 +1,5 @@
 -- Which lists of words are taken, and what they ask for.
-use Rattle.std.specs.Prelude.{ℕ, ◌+◌, ◌==◌, ◌&&◌, ◌||◌, nat_le, nat_lt, is_some, Bool, true, false, not, List, [], ◌∷◌, length, take, drop, slice_get, unwrap_or, if◌then◌else◌, codes, option_and_then, Option, Some, None}
+use Rattle.std.specs.Prelude.{ℕ, ◌+◌, ◌==◌, ◌&&◌, ◌||◌, nat_le, nat_lt, is_some, Bool, true, false, not, List, [], ◌∷◌, length, take, drop, slice_get, unwrap_or, if◌then◌else◌, codes, option_and_then, filter, filter_map, Option, Some, None}
 use Rattle.std.specs.Option.{option_map}
 use Rattle.std.specs.Str.{bytes_eq}
 use Rattle.sts_words.specs.Numbers.{number_within}
@@ -53,35 +53,36 @@ parts_from awaits (word ∷ rest) =
     else if bytes_eq word (codes "--budget") then parts_from true rest
     else in_front (part_of word) (parts_from false rest)
 
--- the names among parts, in their order
+-- the name, or the number of a budget, that a part is
+abbrev pub name_in : Part → Option (List ℕ)
+name_in (a_name word) = Some word
+name_in other = None
+
+abbrev pub budget_in : Part → Option ℕ
+budget_in (a_budget number) = Some number
+budget_in other = None
+
+abbrev pub is_stats : Part → Bool
+is_stats the_stats = true
+is_stats other = false
+
+abbrev pub is_image : Part → Bool
+is_image the_image = true
+is_image other = false
+
+-- the names and the budgets among parts, in their order
 abbrev pub names_of : List Part → List (List ℕ)
-names_of [] = []
-names_of (a_name word ∷ rest) = word ∷ names_of rest
-names_of (a_budget number ∷ rest) = names_of rest
-names_of (the_stats ∷ rest) = names_of rest
-names_of (the_image ∷ rest) = names_of rest
+names_of parts = filter_map name_in parts
 
 abbrev pub budgets_of : List Part → List ℕ
-budgets_of [] = []
-budgets_of (a_name word ∷ rest) = budgets_of rest
-budgets_of (a_budget number ∷ rest) = number ∷ budgets_of rest
-budgets_of (the_stats ∷ rest) = budgets_of rest
-budgets_of (the_image ∷ rest) = budgets_of rest
+budgets_of parts = filter_map budget_in parts
 
 -- how often `--stats` and `--image` stand among parts
 abbrev pub count_of_stats : List Part → ℕ
-count_of_stats [] = 0
-count_of_stats (a_name word ∷ rest) = count_of_stats rest
-count_of_stats (a_budget number ∷ rest) = count_of_stats rest
-count_of_stats (the_stats ∷ rest) = count_of_stats rest + 1
-count_of_stats (the_image ∷ rest) = count_of_stats rest
+count_of_stats parts = length (filter is_stats parts)
 
 abbrev pub count_of_images : List Part → ℕ
-count_of_images [] = 0
-count_of_images (a_name word ∷ rest) = count_of_images rest
-count_of_images (a_budget number ∷ rest) = count_of_images rest
-count_of_images (the_stats ∷ rest) = count_of_images rest
-count_of_images (the_image ∷ rest) = count_of_images rest + 1
+count_of_images parts = length (filter is_image parts)
 
 -- what parts say together
 pub record Said : Type 0 where

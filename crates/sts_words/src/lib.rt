@@ -7,7 +7,9 @@ mod numbers;
 mod order;
 mod reading;
 mod said;
+mod theorems;
 
 pub use order::Order;
 pub use reading::{asked_by, read_words};
 pub use said::{Given, Names};
+pub use theorems::words_spell_their_parts;
