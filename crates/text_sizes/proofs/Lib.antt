@@ -1,0 +1,5 @@
+mod Tokens
+mod Headings
+mod Functions
+mod Declarations
+pub mod Laws
