@@ -1,3 +1,5 @@
+pub mod Laws
 pub mod Parameters
 pub mod Refusals
 pub mod SeenNames
+pub mod Standing

@@ -1,5 +1,5 @@
 // The headings of functions and of members of classes.
-ghost use Rattle.std.specs.Prelude.{◌≡◌, ℕ, ◌+◌, ◌||◌, ◌==◌, ◌≤◌, length, drop, take, is_some, not, false, IfOk, OnOk, IfErr};
+ghost use Rattle.std.specs.Prelude.{◌≡◌, ℕ, ◌+◌, ◌^◌, ◌<◌, ◌||◌, ◌==◌, length, is_some, not, false, IfOk, OnOk, IfErr};
 ghost use Rattle.std.specs.BTreeSet.{contains};
 ghost use Rattle.std.specs.Ordering.{nat_cmp};
 ghost use Rattle.sts_syntax.specs.Annotations.{annotation};
@@ -11,12 +11,14 @@ ghost use Rattle.sts_scope.specs.Entries as entry;
 ghost use Rattle.sts_scope.specs.Lookup as look;
 ghost use Rattle.sts_scope.specs.Headings as heading;
 ghost use Rattle.sts_base.specs.declared.refused.Code.TheVariants as code;
+ghost use Rattle.text_headings.specs.Standing.{classes_before, IsItemAt, IsTextAt};
 
+use crate::numbers::{class_at, globals_in};
 use std::alloc::Global;
 use std::collections::BTreeSet;
 use sts_base::{Code, Refused};
 use sts_scope::{ByNumber, Environment, Owner, unless};
-use sts_syntax::{Binding, Body, Form, Item, Member, Param, Shape, Stmt};
+use sts_syntax::{Binding, Body, Item, Member, Param, Shape};
 
 /// The name of a type is known.
 fn check_type(classes: &ByNumber, shape: &Shape) -> Result<(), Refused>
@@ -137,17 +139,6 @@ fn check_method(
     check_routine(alloc, classes, body)
 }
 
-/// So many declarations further, if memory could hold so many.
-fn further(d: usize, by: usize) -> Result<usize, Refused>
-    ensures ok { IfOk result (λ n. n ≡ d + by) }
-    ensures err { IfErr result (λ e. e ≡ Refused.NoMemory) }
-{
-    match d.checked_add(by) {
-        Some(n) => Ok(n),
-        None => Err(Refused::NoMemory),
-    }
-}
-
 /// A constructor is no second one.
 #[tactic(auto, using(crate::proofs::Parameters::method_at))]
 fn check_constructor(
@@ -173,17 +164,18 @@ fn check_member(
     made: bool,
     member: &Member,
 ) -> Result<usize, Refused>
+    requires { d + length (entry.member_entry (value_at classes.now.values.items) c (class_member member.now)) < 2 ^ 64 }
     ensures found { Finds result (heading.member_fault (value_at classes.now.values.items) known.now.entries known.now.classes c d made (class_member member.now)) }
     ensures next { IfOk result (λ n. n ≡ d + length (entry.member_entry (value_at classes.now.values.items) c (class_member member.now))) }
 {
     match member {
         Member::Field(b) => {
             check_field(classes, known, c, d, b)?;
-            further(d, 1)
+            Ok(d + 1)
         }
         Member::Method { name, body } => {
             check_method(alloc, classes, known, c, d, *name, body)?;
-            further(d, 1)
+            Ok(d + 1)
         }
         Member::Constructor(body) => {
             check_constructor(alloc, classes, made, body)?;
@@ -212,6 +204,7 @@ fn check_members(
     first: usize,
     members: &[Member],
 ) -> Result<usize, Refused>
+    requires { first + length (entry.member_entries (value_at classes.now.values.items) c (class_members members.now)) < 2 ^ 64 }
     ensures found { Finds result (heading.members_fault (value_at classes.now.values.items) known.now.entries known.now.classes c first false (class_members members.now)) }
     ensures next { IfOk result (λ n. n ≡ first + length (entry.member_entries (value_at classes.now.values.items) c (class_members members.now))) }
 {
@@ -224,42 +217,18 @@ fn check_members(
     Ok(d)
 }
 
-/// How many globals a statement of the main program declares.
-fn globals_in(s: &Stmt) -> usize
-    ensures { result ≡ length (entry.main_entries (statement s.now)) }
-{
-    match &s.form {
-        Form::Let { fixed: _, each } => each.len(),
-        Form::Block(_) => 0,
-        Form::If(_, _, _) => 0,
-        Form::While(_, _) => 0,
-        Form::DoWhile(_, _) => 0,
-        Form::For(_, _, _, _) => 0,
-        Form::ForOf {
-            fixed: _,
-            name: _,
-            list: _,
-            body: _,
-        } => 0,
-        Form::Return(_) => 0,
-        Form::Break => 0,
-        Form::Continue => 0,
-        Form::Plain(_) => 0,
-        Form::Empty => 0,
-    }
-}
-
-/// A part of a text, before which stand c classes and d declarations. How many are declared behind it.
+/// A part of a text, whose first declaration is the d-th. How many are declared behind it.
 fn check_item(
     alloc: Global,
     classes: &ByNumber,
     known: &Environment,
-    c: u32,
     d: usize,
     item: &Item,
 ) -> Result<usize, Refused>
-    ensures found { Finds result (heading.item_fault (value_at classes.now.values.items) known.now.entries known.now.classes c d (top_level item.now)) }
-    ensures next { IfOk result (λ n. n ≡ d + length (entry.item_entries (value_at classes.now.values.items) c (top_level item.now))) }
+    requires room { d + length (entry.item_entries (value_at classes.now.values.items) (classes_before known.now.entries d) (top_level item.now)) < 2 ^ 64 }
+    requires stands { IsItemAt (value_at classes.now.values.items) known.now.entries d (top_level item.now) }
+    ensures found { Finds result (heading.item_fault (value_at classes.now.values.items) known.now.entries known.now.classes (classes_before known.now.entries d) d (top_level item.now)) }
+    ensures next { IfOk result (λ n. n ≡ d + length (entry.item_entries (value_at classes.now.values.items) (classes_before known.now.entries d) (top_level item.now))) }
 {
     match item {
         Item::Class {
@@ -269,54 +238,33 @@ fn check_item(
             base_at: _,
             members,
         } => {
-            let first = further(d, 1)?;
-            check_members(alloc, classes, known, c, first, members.as_slice())
+            let c = class_at(known, d);
+            check_members(alloc, classes, known, c, d + 1, members.as_slice())
         }
         Item::Function { name: _, body } => {
             check_routine(alloc, classes, body)?;
-            further(d, 1)
+            Ok(d + 1)
         }
-        Item::Stmt(s) => further(d, globals_in(s)),
+        Item::Stmt(s) => Ok(d + globals_in(s)),
     }
 }
 
-/// The number of the class behind a part of a text.
-fn class_behind(c: u32, item: &Item) -> Result<u32, Refused>
-    ensures ok { IfOk result (λ n. n ≡ c + entry.classes_in (top_level item.now)) }
-    ensures err { IfErr result (λ e. e ≡ Refused.NoMemory) }
-{
-    match item {
-        Item::Class {
-            at: _,
-            name: _,
-            base: _,
-            base_at: _,
-            members: _,
-        } => match c.checked_add(1) {
-            Some(n) => Ok(n),
-            None => Err(Refused::NoMemory),
-        },
-        Item::Function { name: _, body: _ } => Ok(c),
-        Item::Stmt(_) => Ok(c),
-    }
-}
-
-/// The headings of a text, before which stand so many classes and declarations.
+/// The headings of a text, whose first declaration is this one.
 pub fn check_headings(
     alloc: Global,
     classes: &ByNumber,
     known: &Environment,
-    first_class: u32,
     first: usize,
     items: &[Item],
 ) -> Result<(), Refused>
-    ensures { Finds result (heading.headings_fault (value_at classes.now.values.items) known.now.entries known.now.classes first_class first (top_levels items.now)) }
+    requires { IsTextAt (value_at classes.now.values.items) known.now.entries first (top_levels items.now) }
+    ensures { Finds result (heading.headings_fault (value_at classes.now.values.items) known.now.entries known.now.classes (classes_before known.now.entries first) first (top_levels items.now)) }
 {
-    let mut c = first_class;
+    // (all of them are in memory: that bounds every number of one)
+    let _count = known.entries().len();
     let mut d = first;
     for i in 0..items.len() {
-        d = check_item(alloc, classes, known, c, d, &items[i])?;
-        c = class_behind(c, &items[i])?;
+        d = check_item(alloc, classes, known, d, &items[i])?;
     }
     Ok(())
 }

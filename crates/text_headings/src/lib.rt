@@ -3,7 +3,9 @@
 
 mod heading_checks;
 mod names;
+mod numbers;
 mod resolution;
 
 pub use heading_checks::check_written;
+pub use numbers::{class_at, globals_in};
 pub use resolution::{Scopes, headings, resolve};

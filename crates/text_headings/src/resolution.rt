@@ -6,6 +6,7 @@ ghost use Rattle.sts_scope.specs.Faults.{Finds};
 ghost use Rattle.sts_scope.specs.Known.{IsDeclared};
 ghost use Rattle.sts_scope.specs.Scopes as scope;
 ghost use Rattle.text_headings.specs.Lists.{is_one, AreScopes};
+ghost use Rattle.text_headings.specs.Standing.{IsTextDeclared};
 
 use crate::heading_checks::check_headings;
 use crate::names::{check_bases, check_chains, check_names};
@@ -42,6 +43,7 @@ fn check_all(
 ) -> Result<(), Refused>
     requires entries { declared.now.known.library ≤ length declared.now.known.entries }
     requires classes { declared.now.first_class ≤ length declared.now.known.classes }
+    requires stands { IsTextDeclared (program text.now) declared.now }
     ensures { Finds result (scope.passes tables.now.names (program text.now) (value_at declared.now.classes.values.items) declared.now.known.entries declared.now.known.classes declared.now.known.library declared.now.first_class) }
 {
     let known = &declared.known;
@@ -53,7 +55,6 @@ fn check_all(
         alloc,
         &declared.classes,
         known,
-        first,
         known.library(),
         text.items.as_slice(),
     )

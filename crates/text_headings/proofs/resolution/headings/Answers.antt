@@ -2,7 +2,13 @@ use Rattle.std.proofs.Common.{◌∙◌, arith}
 use Rattle.std.proofs.lemmas.Grind.{common_steps}
 use Rattle.sts_syntax.specs.Programs.{program}
 use Rattle.text_headings.proofs.Refusals.{refusal_is}
+use Rattle.text_headings.proofs.Standing.{text_declared}
 use Rattle.text_headings.proofs.resolution.headings.Goals as goal
+
+pub check_all-requires-clause-stands : goal.check_all-requires-clause-stands
+check_all-requires-clause-stands c =
+    let w = c.in_ok-declared.ensures.known in
+    text_declared (program c.args.library.now) (program c.args.text.now) c.in_ok-declared.declared w.names w.entries w.counted w.first_class
 
 pub returns-in_err-check_all-clause-found : goal.returns-in_err-check_all-clause-found
 returns-in_err-check_all-clause-found c =
