@@ -21,6 +21,8 @@ use Rattle.type_derive.specs.Limits.{limits_fault}
 use Rattle.type_derive.specs.Accepted.{known, typed, refusal, type_refusal, IsAccepted}
 use Rattle.type_derive.specs.Solved.{IsSolved}
 use Rattle.type_derive.proofs.Laws.{types_exist}
+use Rattle.text_headings.specs.Standing.{IsTextDeclared}
+use Rattle.text_headings.proofs.Laws.{text_declared}
 use Rattle.sts_whole.specs.Checking.{Refuses}
 use Rattle.type_check.specs.Texts.{type_failure}
 
@@ -33,6 +35,10 @@ module _ (tables : Tables) (library text : Program) where
   heading_refused r.NoMemory h = tt
 
   module _ (d : Declared) (s : IsSolved tables library text d) where
+    -- what the text declares stands behind the library's declarations
+    pub text_behind : IsTextDeclared text d
+    text_behind = text_declared library text d s.names (ap (λ (x : Known). x.entries) s.known_is) (ap (λ (x : Known). x.library) s.known_is) s.first_class
+
     abbrev k : Known
     k = known library text d.known.kinds
 

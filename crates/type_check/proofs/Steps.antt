@@ -1,6 +1,6 @@
 -- Going through statements and declared names.
 use Rattle.std.proofs.Common.{◌≡◌, ℕ, ◌+◌, ◌<◌, Bool, not, Option, Some, None, List, length, get_or, drop, refl, sym, ap, ◌∙◌, subst, Result}
-use Rattle.std.specs.Prelude.{is_some, if◌then◌else◌}
+use Rattle.std.specs.Prelude.{is_some}
 use Rattle.sts_base.specs.declared.refused.Refused.{Refused}
 use Rattle.sts_base.specs.declared.refused.Code.TheVariants.{Mismatch, UnknownName, NeedsType}
 use Rattle.std.specs.declared.alloc.Global.{Global}
@@ -24,7 +24,6 @@ use Rattle.type_derive.specs.Typing.{type_of}
 use Rattle.sts_scope.proofs.Laws.{drop_at}
 use Rattle.type_derive.specs.Moves.{Extends}
 use Rattle.type_derive.specs.Returns as derive
-use Rattle.type_derive.specs.Returns.{is_alone}
 use Rattle.type_derive.specs.Nodes as node
 use Rattle.type_derive.proofs.Laws.{stays, further, extends_to, after_extends}
 use Rattle.type_derive.specs.declared.context.Context.{Context}

@@ -2,6 +2,7 @@
 ghost use Rattle.sts_syntax.specs.Programs.{program};
 ghost use Rattle.sts_scope.specs.Faults.{Finds};
 ghost use Rattle.sts_scope.specs.Values.{value_at};
+ghost use Rattle.text_headings.specs.Standing.{IsTextDeclared};
 ghost use Rattle.type_check.specs.Texts.{type_failure};
 
 use crate::overrides::check_all_overrides;
@@ -12,13 +13,14 @@ use sts_scope::Declared;
 use sts_syntax::Unit;
 use type_derive::Context;
 
-/// The first failure of overriding methods, then of nodes.
+/// The first failure of overriding methods, then of nodes, in a text whose declarations stand behind the library's.
 pub fn find_failure(
     alloc: Global,
     text: &Unit,
     tables: &Tables,
     declared: &Declared,
 ) -> Result<(), Refused>
+    requires { IsTextDeclared (program text.now) declared.now }
     ensures { Finds result (type_failure tables.now (value_at declared.now.classes.values.items) declared.now.known declared.now.first_class (program text.now)) }
 {
     let context = Context {
@@ -28,6 +30,7 @@ pub fn find_failure(
         known: &declared.known,
     };
     let first = declared.known.library();
-    check_all_overrides(&context, declared.first_class, first, text.items.as_slice())?;
-    check_nodes(&context, declared.first_class, first, text.items.as_slice())
+    let items = text.items.as_slice();
+    check_all_overrides(&context, first, items)?;
+    check_nodes(&context, first, items)
 }

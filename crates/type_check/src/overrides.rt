@@ -1,20 +1,22 @@
 // Methods against those of bases that they stand in for.
-ghost use Rattle.std.specs.Prelude.{◌≡◌, ◌+◌, length, IfOk, IfErr};
+ghost use Rattle.std.specs.Prelude.{◌≡◌, ◌+◌, ◌^◌, ◌<◌, length, IfOk};
 ghost use Rattle.sts_base.specs.declared.refused.Code.TheVariants as code;
 ghost use Rattle.sts_syntax.specs.Programs.{class_member, class_members, top_level, top_levels};
-ghost use Rattle.sts_syntax.specs.Views.{statement, routine};
+ghost use Rattle.sts_syntax.specs.Views.{routine};
 ghost use Rattle.sts_scope.specs.Entries as entry;
 ghost use Rattle.sts_scope.specs.Faults as failure;
 ghost use Rattle.sts_scope.specs.Faults.{Finds};
 ghost use Rattle.sts_scope.specs.Headings as heading;
 ghost use Rattle.sts_scope.specs.Lookup as look;
+ghost use Rattle.text_headings.specs.Standing.{classes_before, IsItemAt, IsTextAt};
 ghost use Rattle.type_derive.specs.Passes as pass;
 ghost use Rattle.type_derive.specs.Naming.{naming};
 ghost use Rattle.type_check.specs.Texts.{override_fault};
 
 use sts_base::{Code, Refused};
 use sts_scope::{Environment, Kind, same, unless};
-use sts_syntax::{Body, Form, Item, Member, Stmt};
+use sts_syntax::{Body, Item, Member};
+use text_headings::{class_at, globals_in};
 use type_derive::{Context, kind_at, takes_at};
 
 /// Whether two lists of types are the same.
@@ -76,26 +78,15 @@ fn check_override(known: &Environment, c: u32, d: usize, member: &Member) -> Res
     }
 }
 
-/// So many declarations further, if memory could hold so many.
-pub fn further(d: usize, by: usize) -> Result<usize, Refused>
-    ensures ok { IfOk result (λ n. n ≡ d + by) }
-    ensures err { IfErr result (λ e. e ≡ Refused.NoMemory) }
-{
-    match d.checked_add(by) {
-        Some(n) => Ok(n),
-        None => Err(Refused::NoMemory),
-    }
-}
-
 /// The number of the declaration behind a member; a constructor is none.
-pub fn behind_member(context: &Context, c: u32, d: usize, member: &Member) -> Result<usize, Refused>
-    ensures ok { IfOk result (λ n. n ≡ d + length (entry.member_entry (naming context.now) c (class_member member.now))) }
-    ensures err { IfErr result (λ e. e ≡ Refused.NoMemory) }
+pub fn behind_member(context: &Context, c: u32, d: usize, member: &Member) -> usize
+    requires { d + length (entry.member_entry (naming context.now) c (class_member member.now)) < 2 ^ 64 }
+    ensures { result ≡ d + length (entry.member_entry (naming context.now) c (class_member member.now)) }
 {
     match member {
-        Member::Field(_) => further(d, 1),
-        Member::Method { name: _, body: _ } => further(d, 1),
-        Member::Constructor(_) => Ok(d),
+        Member::Field(_) => d + 1,
+        Member::Method { name: _, body: _ } => d + 1,
+        Member::Constructor(_) => d,
     }
 }
 
@@ -106,46 +97,24 @@ fn check_overrides(
     first: usize,
     members: &[Member],
 ) -> Result<usize, Refused>
+    requires { first + length (entry.member_entries (naming context.now) c (class_members members.now)) < 2 ^ 64 }
     ensures found { Finds result (pass.overrides_fault context.now.known.now c first (class_members members.now)) }
     ensures next { IfOk result (λ n. n ≡ first + length (entry.member_entries (naming context.now) c (class_members members.now))) }
 {
     let mut d = first;
     for i in 0..members.len() {
         check_override(context.known, c, d, &members[i])?;
-        d = behind_member(context, c, d, &members[i])?;
+        d = behind_member(context, c, d, &members[i]);
     }
     Ok(d)
 }
 
-/// How many globals a statement of the main program declares.
-pub fn globals_in(s: &Stmt) -> usize
-    ensures { result ≡ length (entry.main_entries (statement s.now)) }
-{
-    match &s.form {
-        Form::Let { fixed: _, each } => each.len(),
-        Form::Block(_) => 0,
-        Form::If(_, _, _) => 0,
-        Form::While(_, _) => 0,
-        Form::DoWhile(_, _) => 0,
-        Form::For(_, _, _, _) => 0,
-        Form::ForOf {
-            fixed: _,
-            name: _,
-            list: _,
-            body: _,
-        } => 0,
-        Form::Return(_) => 0,
-        Form::Break => 0,
-        Form::Continue => 0,
-        Form::Plain(_) => 0,
-        Form::Empty => 0,
-    }
-}
-
-/// A part of a text, before which stand c classes and d declarations. How many declarations stand behind it.
-fn check_item_overrides(context: &Context, c: u32, d: usize, item: &Item) -> Result<usize, Refused>
-    ensures found { Finds result (pass.item_overrides context.now.known.now c d (top_level item.now)) }
-    ensures next { IfOk result (λ n. n ≡ d + length (entry.item_entries (naming context.now) c (top_level item.now))) }
+/// A part of a text, whose first declaration is the d-th. The number of the declaration behind it.
+fn check_item_overrides(context: &Context, d: usize, item: &Item) -> Result<usize, Refused>
+    requires room { d + length (entry.item_entries (naming context.now) (classes_before context.now.known.now.entries d) (top_level item.now)) < 2 ^ 64 }
+    requires stands { IsItemAt (naming context.now) context.now.known.now.entries d (top_level item.now) }
+    ensures found { Finds result (pass.item_overrides context.now.known.now (classes_before context.now.known.now.entries d) d (top_level item.now)) }
+    ensures next { IfOk result (λ n. n ≡ d + length (entry.item_entries (naming context.now) (classes_before context.now.known.now.entries d) (top_level item.now))) }
 {
     match item {
         Item::Class {
@@ -155,49 +124,24 @@ fn check_item_overrides(context: &Context, c: u32, d: usize, item: &Item) -> Res
             base_at: _,
             members,
         } => {
-            let first = further(d, 1)?;
-            check_overrides(context, c, first, members.as_slice())
+            let c = class_at(context.known, d);
+            check_overrides(context, c, d + 1, members.as_slice())
         }
-        Item::Function { name: _, body: _ } => further(d, 1),
-        Item::Stmt(s) => further(d, globals_in(s)),
+        Item::Function { name: _, body: _ } => Ok(d + 1),
+        Item::Stmt(s) => Ok(d + globals_in(s)),
     }
 }
 
-/// The number of the class behind a part of a text.
-pub fn class_behind(c: u32, item: &Item) -> Result<u32, Refused>
-    ensures ok { IfOk result (λ n. n ≡ c + entry.classes_in (top_level item.now)) }
-    ensures err { IfErr result (λ e. e ≡ Refused.NoMemory) }
+/// All methods of a text, whose first declaration is this one, against those of bases.
+pub fn check_all_overrides(context: &Context, first: usize, items: &[Item]) -> Result<(), Refused>
+    requires { IsTextAt (naming context.now) context.now.known.now.entries first (top_levels items.now) }
+    ensures { Finds result (pass.all_overrides context.now.known.now (naming context.now) (classes_before context.now.known.now.entries first) first (top_levels items.now)) }
 {
-    match item {
-        Item::Class {
-            at: _,
-            name: _,
-            base: _,
-            base_at: _,
-            members: _,
-        } => match c.checked_add(1) {
-            Some(n) => Ok(n),
-            None => Err(Refused::NoMemory),
-        },
-        Item::Function { name: _, body: _ } => Ok(c),
-        Item::Stmt(_) => Ok(c),
-    }
-}
-
-/// All methods of a text, before which stand so many classes and declarations, against those of bases.
-pub fn check_all_overrides(
-    context: &Context,
-    first_class: u32,
-    first: usize,
-    items: &[Item],
-) -> Result<(), Refused>
-    ensures { Finds result (pass.all_overrides context.now.known.now (naming context.now) first_class first (top_levels items.now)) }
-{
-    let mut c = first_class;
+    // (all declarations are in memory: that bounds every number of one)
+    let _count = context.known.entries().len();
     let mut d = first;
     for i in 0..items.len() {
-        d = check_item_overrides(context, c, d, &items[i])?;
-        c = class_behind(c, &items[i])?;
+        d = check_item_overrides(context, d, &items[i])?;
     }
     Ok(())
 }

@@ -1,5 +1,5 @@
 // The nodes of a text, in text order.
-ghost use Rattle.std.specs.Prelude.{◌≡◌, ◌+◌, Some, None, length, false, IfOk};
+ghost use Rattle.std.specs.Prelude.{◌≡◌, ◌+◌, ◌^◌, ◌<◌, Some, None, length, false, IfOk};
 ghost use Rattle.sts_syntax.specs.Programs.{class_member, class_members, top_level, top_levels};
 ghost use Rattle.sts_syntax.specs.Views.{trees, statement, statements, declaration, declarations, routine};
 ghost use Rattle.sts_scope.specs.Entries as entry;
@@ -7,6 +7,7 @@ ghost use Rattle.sts_scope.specs.Faults.{Finds, ◌then◌};
 ghost use Rattle.sts_scope.specs.Lookup as look;
 ghost use Rattle.sts_scope.specs.Places as name;
 ghost use Rattle.sts_scope.specs.declared.known.This.TheVariants as this;
+ghost use Rattle.text_headings.specs.Standing.{classes_before, IsItemAt, IsTextAt};
 ghost use Rattle.type_derive.specs.Passes as pass;
 ghost use Rattle.type_derive.specs.Scopes.{place};
 ghost use Rattle.type_check.specs.Contexts as c;
@@ -16,11 +17,11 @@ ghost use Rattle.type_check.specs.Texts.{member_nodes, super_fault, unmade_fault
 use crate::arguments::all_go;
 use crate::bounds::bound;
 use crate::fault::{initial, kinds_of, statement, statements};
-use crate::overrides::{behind_member, class_behind, further, globals_in};
+use crate::overrides::behind_member;
 use sts_base::{Code, Refused};
 use sts_scope::{Base, ClassHead, Kind, This, flat, or_no_memory, unless};
 use sts_syntax::{Binding, Body, Expr, Form, Item, Member, Stmt};
-use text_headings::check_written;
+use text_headings::{check_written, class_at, globals_in};
 use type_derive::{Context, Scope, head_of, kind_at, outer_scope, routine_scope};
 
 /// A field or a global, which is declared outside all functions.
@@ -218,21 +219,24 @@ fn check_members(
     first: usize,
     members: &[Member],
 ) -> Result<usize, Refused>
+    requires { first + length (entry.member_entries (naming context.now) c (class_members members.now)) < 2 ^ 64 }
     ensures found { Finds result (pass.members_nodes context.now.tables.now (naming context.now) context.now.known.now c first (class_members members.now)) }
     ensures next { IfOk result (λ n. n ≡ first + length (entry.member_entries (naming context.now) c (class_members members.now))) }
 {
     let mut d = first;
     for i in 0..members.len() {
         check_member(context, c, d, &members[i])?;
-        d = behind_member(context, c, d, &members[i])?;
+        d = behind_member(context, c, d, &members[i]);
     }
     Ok(d)
 }
 
-/// A part of a text, before which stand c classes and d declarations. How many declarations stand behind it.
-fn check_item(context: &Context, c: u32, d: usize, item: &Item) -> Result<usize, Refused>
-    ensures found { Finds result (pass.item_nodes context.now.tables.now (naming context.now) context.now.known.now c d (top_level item.now)) }
-    ensures next { IfOk result (λ n. n ≡ d + length (entry.item_entries (naming context.now) c (top_level item.now))) }
+/// A part of a text, whose first declaration is the d-th. The number of the declaration behind it.
+fn check_item(context: &Context, d: usize, item: &Item) -> Result<usize, Refused>
+    requires room { d + length (entry.item_entries (naming context.now) (classes_before context.now.known.now.entries d) (top_level item.now)) < 2 ^ 64 }
+    requires stands { IsItemAt (naming context.now) context.now.known.now.entries d (top_level item.now) }
+    ensures found { Finds result (pass.item_nodes context.now.tables.now (naming context.now) context.now.known.now (classes_before context.now.known.now.entries d) d (top_level item.now)) }
+    ensures next { IfOk result (λ n. n ≡ d + length (entry.item_entries (naming context.now) (classes_before context.now.known.now.entries d) (top_level item.now))) }
 {
     match item {
         Item::Class {
@@ -242,34 +246,30 @@ fn check_item(context: &Context, c: u32, d: usize, item: &Item) -> Result<usize,
             base_at: _,
             members,
         } => {
-            let first = further(d, 1)?;
-            check_members(context, c, first, members.as_slice())
+            let c = class_at(context.known, d);
+            check_members(context, c, d + 1, members.as_slice())
         }
         Item::Function { name: _, body } => {
             check_body(context, This::Nowhere, kind_at(context.known, d), body)?;
-            further(d, 1)
+            Ok(d + 1)
         }
         Item::Stmt(s) => {
             check_main(context, s)?;
-            further(d, globals_in(s))
+            Ok(d + globals_in(s))
         }
     }
 }
 
-/// The nodes of a text, before which stand so many classes and declarations.
-pub fn check_nodes(
-    context: &Context,
-    first_class: u32,
-    first: usize,
-    items: &[Item],
-) -> Result<(), Refused>
-    ensures { Finds result (pass.nodes_fault context.now.tables.now (naming context.now) context.now.known.now first_class first (top_levels items.now)) }
+/// The nodes of a text, whose first declaration is this one.
+pub fn check_nodes(context: &Context, first: usize, items: &[Item]) -> Result<(), Refused>
+    requires { IsTextAt (naming context.now) context.now.known.now.entries first (top_levels items.now) }
+    ensures { Finds result (pass.nodes_fault context.now.tables.now (naming context.now) context.now.known.now (classes_before context.now.known.now.entries first) first (top_levels items.now)) }
 {
-    let mut c = first_class;
+    // (all declarations are in memory: that bounds every number of one)
+    let _count = context.known.entries().len();
     let mut d = first;
     for i in 0..items.len() {
-        d = check_item(context, c, d, &items[i])?;
-        c = class_behind(c, &items[i])?;
+        d = check_item(context, d, &items[i])?;
     }
     Ok(())
 }

@@ -7,7 +7,7 @@ use Rattle.sts_syntax.specs.TypedViews.{typed_program}
 use Rattle.type_derive.specs.Accepted.{typed}
 use Rattle.type_derive.specs.Solved.{IsSolved}
 use Rattle.sts_whole.specs.Checking.{Refuses}
-use Rattle.sts_whole.proofs.Checked.{heading_refused, found_refused, counts_refused, limits_refused, accepted}
+use Rattle.sts_whole.proofs.Checked.{text_behind, heading_refused, found_refused, counts_refused, limits_refused, accepted}
 use Rattle.sts_whole.proofs.checking.check.Goals as goal
 
 pub returns-in_err-declared-clause-refused : goal.returns-in_err-declared-clause-refused
@@ -18,6 +18,15 @@ returns-in_err-declared-clause-refused c =
     let why = err_from_is_err_and c.from_residual.result c.from_residual.ensures.1 in
     rw (why.1) (subst (λ (w : Refused). Refuses w tables library text) (sym (why.2))
     (heading_refused tables library text c.in_err-declared.field-0.0 c.in_err-declared.ensures.found))
+
+pub find_failure-requires : goal.find_failure-requires
+find_failure-requires c =
+    let tables = c.args.tables.now in
+    let library = program c.args.library.now in
+    let text = program c.args.text.now in
+    let s : IsSolved tables library text c.solve.new.declared =
+    subst (λ r. OnOk r (IsSolved tables library text c.solve.new.declared)) c.in_ok-or_no_memory.ensures.ok c.solve.ensures in
+    text_behind tables library text c.solve.new.declared s
 
 pub returns-in_err-find_failure-clause-refused : goal.returns-in_err-find_failure-clause-refused
 returns-in_err-find_failure-clause-refused c =

@@ -1,0 +1,50 @@
+use Rattle.std.proofs.Common.{◌<◌, length, refl, arith}
+use Rattle.std.proofs.lemmas.Grind.{common_steps}
+use Rattle.sts_syntax.specs.Programs.{top_level, top_levels}
+use Rattle.sts_scope.specs.Entries.{item_entries}
+use Rattle.type_derive.specs.Naming.{naming}
+use Rattle.type_derive.specs.Passes.{item_overrides, all_overrides}
+use Rattle.text_headings.specs.Standing.{classes_before}
+use Rattle.text_headings.proofs.Laws.{item_stands, room_left, rest_stands, faults_step, faults_kept}
+use Rattle.type_check.proofs.overrides.check_all_overrides.Goals as goal
+
+pub check_item_overrides-requires-clause-room : goal.check_item_overrides-requires-clause-room
+check_item_overrides-requires-clause-room c =
+    let names = naming c.args.context.now in
+    let all = c.args.context.now.known.now.entries in
+    let d = c.loop-i.d in
+    let x = c.index-items-i.result in
+    let lt : c.loop-i.i < length c.args.items.now = omega arith in
+    let left = room_left d (item_entries names (classes_before all d) (top_level x)) all (item_stands names all d c.args.items.now c.loop-i.i x lt c.index-items-i.is c.loop-i.invariant.stands) in
+    grind (arith, common_steps, left)
+
+pub check_item_overrides-requires-clause-stands : goal.check_item_overrides-requires-clause-stands
+check_item_overrides-requires-clause-stands c =
+    let lt : c.loop-i.i < length c.args.items.now = omega arith in
+    item_stands (naming c.args.context.now) c.args.context.now.known.now.entries c.loop-i.d c.args.items.now c.loop-i.i c.index-items-i.result lt c.index-items-i.is c.loop-i.invariant.stands
+
+pub returns-in_err-d : goal.returns-in_err-d
+returns-in_err-d c =
+    let names = naming c.args.context.now in
+    let all = c.args.context.now.known.now.entries in
+    let lt : c.loop-i.i < length c.args.items.now = omega arith in
+    let s = faults_step names all c.loop-i.d c.args.items.now c.loop-i.i c.index-items-i.result lt c.index-items-i.is (all_overrides c.args.context.now.known.now names) (item_overrides c.args.context.now.known.now) (λ m n y ys. refl) in
+    grind (arith, common_steps, s)
+
+pub loop-i-preserved : goal.loop-i-preserved
+loop-i-preserved c =
+    let names = naming c.args.context.now in
+    let all = c.args.context.now.known.now.entries in
+    let d = c.loop-i.d in
+    let items = c.args.items.now in
+    let i = c.loop-i.i in
+    let x = c.index-items-i.result in
+    let is = c.index-items-i.is in
+    let n = c.in_ok-d.d in
+    let lt : i < length items = omega arith in
+    let stands = c.loop-i.invariant.stands in
+    record {
+      stands = rest_stands names all d items i x lt is stands n c.in_ok-d.ensures.next;
+      found = faults_kept names all d items i x lt is stands n c.in_ok-d.ensures.next (all_overrides c.args.context.now.known.now names) (item_overrides c.args.context.now.known.now) (λ m n y ys. refl)
+          (all_overrides c.args.context.now.known.now names (classes_before all c.args.first) c.args.first (top_levels items)) c.in_ok-d.ensures.found c.loop-i.invariant.found;
+    }
