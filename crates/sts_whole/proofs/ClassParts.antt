@@ -1,5 +1,5 @@
 -- The functions of a class, one member after another.
-use Rattle.std.proofs.Common.{◌≡◌, ℕ, suc, ◌+◌, ◌<◌, List, ◌∷◌, ◌++◌, length, drop, get_or, ap, sym, ◌∙◌, arith, length-append, append_assoc}
+use Rattle.std.proofs.Common.{◌≡◌, ℕ, suc, ◌+◌, ◌^◌, ◌<◌, List, ◌∷◌, ◌++◌, length, drop, get_or, refl, ap, sym, ◌∙◌, arith, length-append, append_assoc}
 use Rattle.sts_syntax.specs.declared.units.Member.{Member}
 use Rattle.sts_syntax.specs.Programs.{ClassMember, Field, Method, Constructor, class_member, class_members}
 use Rattle.sts_scope.proofs.Laws.{drop_at}
@@ -42,6 +42,19 @@ pub declared_left : (names : Naming) (c d d' : ℕ) (xs : List Member) (i : ℕ)
 declared_left names c d d' xs i x whole lt is hd inv =
     let e = ap (λ (q : List Member). length (member_entries names c (class_members q))) (drop_at xs i x lt is) ∙ members_behind names c (class_member x) (class_members (drop (i + 1) xs)) in
     omega (arith, e, hd, inv)
+
+-- a member has a number where all that are left have numbers, and so have those behind it
+pub member_numbered : (names : Naming) (c d : ℕ) (xs : List Member) (i : ℕ) (x : Member) → i < length xs → x ≡ get_or xs i x
+    → d + length (member_entries names c (class_members (drop i xs))) < 2 ^ 64 → d + length (member_entry names c (class_member x)) < 2 ^ 64
+member_numbered names c d xs i x lt is h =
+    let e = ap (λ (q : List Member). length (member_entries names c (class_members q))) (drop_at xs i x lt is) ∙ members_behind names c (class_member x) (class_members (drop (i + 1) xs)) in
+    omega (arith, e, h)
+
+pub members_numbered : (names : Naming) (c d d' : ℕ) (xs : List Member) (i : ℕ) (x : Member) → i < length xs → x ≡ get_or xs i x → d' ≡ d + length (member_entry names c (class_member x))
+    → d + length (member_entries names c (class_members (drop i xs))) < 2 ^ 64 → d' + length (member_entries names c (class_members (drop (i + 1) xs))) < 2 ^ 64
+members_numbered names c d d' xs i x lt is hd h =
+    let e = declared_left names c d d' xs i x (d + length (member_entries names c (class_members (drop i xs)))) lt is hd refl in
+    omega (arith, e, h)
 
 pub functions_left : (n n' : ℕ) (xs : List Member) (i : ℕ) (x : Member) (whole : ℕ) → i < length xs → x ≡ get_or xs i x → n' ≡ n + member_routines (class_member x)
     → n + members_routines (class_members (drop i xs)) ≡ whole → n' + members_routines (class_members (drop (i + 1) xs)) ≡ whole

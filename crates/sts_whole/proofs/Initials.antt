@@ -1,11 +1,13 @@
 -- Initialisers, one member after another.
-use Rattle.std.proofs.Common.{◌≡◌, ℕ, suc, ◌+◌, List, [], ◌∷◌, ◌++◌, length, refl, ap, ◌∙◌, arith}
+use Rattle.std.proofs.Common.{◌≡◌, ℕ, suc, ◌+◌, ◌<◌, List, [], ◌∷◌, ◌++◌, length, drop, get_or, refl, ap, sym, ◌∙◌, arith}
 use Rattle.sts_syntax.specs.declared.trees.Binding.{Binding, out-Binding}
 use Rattle.sts_syntax.specs.declared.typed.TypedStmt.{TypedStmt}
-use Rattle.sts_syntax.specs.Programs.{ClassMember, Field, Method, Constructor}
+use Rattle.sts_syntax.specs.declared.units.Member.{Member}
+use Rattle.sts_syntax.specs.Programs.{ClassMember, Field, Method, Constructor, class_member, class_members}
 use Rattle.sts_syntax.specs.TypedViews.{typed_statement}
 use Rattle.sts_syntax.specs.Views.{declaration, optional_annotation, optional_expression}
 use Rattle.sts_syntax.proofs.Laws.{declaration_parts}
+use Rattle.sts_scope.proofs.Laws.{drop_at}
 use Rattle.sts_scope.specs.declared.known.This.TheVariants as this
 use Rattle.sts_scope.specs.Entries.{member_entry}
 use Rattle.sts_scope.specs.Handlers.{member_routines, declared_handlers, routine_handlers}
@@ -23,7 +25,7 @@ pub initial_is : (l : Plan) (c n : ℕ) (a : Binding) → w.initial_made l c n (
 unfolding s.first_made
 initial_is l c n a = ap (λ q. w.initial_made l c n q) (declaration_parts a)
 
-pub initials_next : (l : Plan) (c n d : ℕ) (m : ClassMember) (rest : List ClassMember) → w.initials l c n d (m ∷ rest)
+initials_next : (l : Plan) (c n d : ℕ) (m : ClassMember) (rest : List ClassMember) → w.initials l c n d (m ∷ rest)
     ≡ w.member_initials l c n d m ++ w.initials l c (n + member_routines m) (d + length (member_entry (naming l) c m)) rest
 initials_next l c n d (Field a) rest =
     let e : suc d ≡ d + 1 = omega arith in ap (λ q. w.member_initials l c n d (Field a) ++ w.initials l c (n + declared_handlers a) q rest) e
@@ -33,3 +35,14 @@ initials_next l c n d (Method x r) rest =
 initials_next l c n d (Constructor r) rest =
     let e : d ≡ d + 0 = omega arith in let h : suc n + routine_handlers r ≡ n + suc (routine_handlers r) = omega arith in
     ap (λ q. w.initials l c (suc n + routine_handlers r) q rest) e ∙ ap (λ q. w.initials l c q (d + 0) rest) h
+
+-- what is left is the next member's, and what is left behind it
+pub initials_left : (l : Plan) (c n d n' d' : ℕ) (xs : List Member) (i : ℕ) (x : Member) → i < length xs → x ≡ get_or xs i x
+    → n' ≡ n + member_routines (class_member x) → d' ≡ d + length (member_entry (naming l) c (class_member x))
+    → w.initials l c n d (class_members (drop i xs)) ≡ w.member_initials l c n d (class_member x) ++ w.initials l c n' d' (class_members (drop (i + 1) xs))
+initials_left l c n d n' d' xs i x lt is hn hd =
+    let m = class_member x in
+    let rest = class_members (drop (i + 1) xs) in
+    let here = w.member_initials l c n d m in
+    ap (λ (q : List Member). w.initials l c n d (class_members q)) (drop_at xs i x lt is) ∙ initials_next l c n d m rest
+    ∙ ap (λ (q : ℕ). here ++ w.initials l c q (d + length (member_entry (naming l) c m)) rest) (sym hn) ∙ ap (λ (q : ℕ). here ++ w.initials l c n' q rest) (sym hd)

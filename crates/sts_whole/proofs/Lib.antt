@@ -26,5 +26,6 @@ pub mod Counted
 pub mod Globally
 pub mod Initials
 pub mod Items
+pub mod Numbered
 pub mod Mains
 pub mod Makers

@@ -1,15 +1,16 @@
 -- Statements of the main program, and the globals that they declare.
 use Rattle.std.proofs.Common.{◌≡◌, ℕ, suc, ◌+◌, ◌<◌, ◌≤◌, List, [], ◌∷◌, ◌++◌, length, drop, get_or, refl, ap, sym, ◌∙◌, subst, append-nil, add-one}
-use Rattle.std.specs.Prelude.{Some, None}
+use Rattle.std.specs.Prelude.{Some, None, Bool}
 use Rattle.sts_syntax.specs.declared.trees.Binding.{Binding}
 use Rattle.sts_syntax.specs.declared.typed.TypedBinding.{TypedBinding}
-use Rattle.sts_syntax.specs.Trees.{Statement, Declaration, Declare}
+use Rattle.sts_syntax.specs.Trees.{Statement, Declaration, Declare, Declarations}
 use Rattle.sts_syntax.specs.Trees as t
 use Rattle.sts_syntax.specs.TypedTrees.{TypedDeclaration}
 use Rattle.sts_syntax.specs.TypedViews.{typed_declaration, typed_declarations}
 use Rattle.sts_syntax.specs.Views.{declaration, declarations}
 use Rattle.sts_scope.proofs.Laws.{drop_at}
 use Rattle.sts_scope.specs.declared.known.This.TheVariants as this
+use Rattle.sts_scope.specs.Entries.{global_entries, main_entries}
 use Rattle.type_derive.specs.Making.{Making, pure, ◌>=>◌}
 use Rattle.sts_scope.specs.Numbers.{global_number}
 use Rattle.type_derive.specs.Heads.{Declares, lets_of}
@@ -86,3 +87,25 @@ main_with l d (t.Plain j a) h is = absurd cc
 main_with l d (t.Let j fixed each) h is =
     let same : h ≡ record { fixed = fixed; each = each } = cc in
     ap (λ (y : Declares). w.lets_made l d y.fixed y.each) same
+
+globals_long : (fixed : Bool) (each : List Binding) → length (global_entries fixed (declarations each)) ≡ length each
+globals_long fixed [] = refl
+globals_long fixed (a ∷ rest) = ap suc (globals_long fixed rest)
+
+-- a statement declares as many globals as it lists
+pub main_long : (a : Statement) (h : Declares) (each : List Binding) → lets_of a ≡ Some h → h.each ≡ declarations each → length (main_entries a) ≡ length each
+main_long (t.Block j all) h each is same = absurd cc
+main_long (t.IfOnly j test a) h each is same = absurd cc
+main_long (t.IfElse j test a b) h each is same = absurd cc
+main_long (t.While j test a) h each is same = absurd cc
+main_long (t.DoWhile j a test) h each is same = absurd cc
+main_long (t.For j first test step a) h each is same = absurd cc
+main_long (t.ForOf j fixed x list a) h each is same = absurd cc
+main_long (t.Return j value) h each is same = absurd cc
+main_long (t.Break j) h each is same = absurd cc
+main_long (t.Continue j) h each is same = absurd cc
+main_long (t.Empty j) h each is same = absurd cc
+main_long (t.Plain j a) h each is same = absurd cc
+main_long (t.Let j fixed listed) h each is same =
+    let whole : h ≡ record { fixed = fixed; each = listed } = cc in
+    ap (λ (y : Declares). length (global_entries fixed y.each)) (sym whole) ∙ ap (λ (q : Declarations). length (global_entries fixed q)) same ∙ globals_long fixed each

@@ -8,3 +8,4 @@ pub mod Buildable
 pub mod Laws
 pub mod Checking
 pub mod Wholes
+pub mod Numbered

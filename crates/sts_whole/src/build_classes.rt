@@ -1,5 +1,5 @@
 // Classes of a typed program with the functions in them, and the types of its globals.
-ghost use Rattle.std.specs.Prelude.{◌≡◌, suc, ◌+◌, ◌<◌, ◌++◌, [], length, map, get_or, Some, None, IfOk, OnOk};
+ghost use Rattle.std.specs.Prelude.{◌≡◌, suc, ◌+◌, ◌^◌, ◌<◌, ◌++◌, [], length, map, get_or, Some, None, IfOk, OnOk};
 ghost use Rattle.sts_syntax.specs.Types as value;
 ghost use Rattle.sts_syntax.specs.Programs.{class_member, class_members};
 ghost use Rattle.sts_syntax.specs.TypedViews as view;
@@ -12,11 +12,12 @@ ghost use Rattle.sts_scope.specs.Handlers as h;
 ghost use Rattle.sts_scope.specs.Numbers as number;
 ghost use Rattle.typed_numbers.specs.Building.{numbering_of};
 ghost use Rattle.typed_trees.specs.Sites.{IsPlan, naming};
+ghost use Rattle.sts_whole.specs.Numbered.{AreNumbered};
 ghost use Rattle.sts_whole.specs.Wholes as w;
 
 use crate::build_initials::{Initial, build_field};
 use crate::build_makers::{add_constructor, add_unwritten};
-use crate::build_parts::{ClassParts, Next, further, next_member};
+use crate::build_parts::{ClassParts, Next, next_member};
 use lent_lists::Gathered;
 use sts_base::{NoMemory, Seq};
 use sts_scope::Entry;
@@ -93,15 +94,13 @@ fn class_entry(plan: &Plan, class: u32) -> Result<TypedClass, NoMemory>
 
 /// All classes.
 pub fn class_entries(plan: &Plan) -> Result<Seq<TypedClass>, NoMemory>
-    requires { IsPlan plan.now }
+    requires plan { IsPlan plan.now }
+    requires few { length plan.now.known.now.classes < 2 ^ 32 }
     ensures { IfOk result (λ all. view.class_entries all ≡ w.class_entries plan.now 0 plan.now.known.now.classes) }
 {
     let mut all = Seq::new(plan.alloc);
     for class in 0..plan.known.classes().len() {
-        let Ok(class) = u32::try_from(class) else {
-            return Err(NoMemory);
-        };
-        all.push(class_entry(plan, class)?)?;
+        all.push(class_entry(plan, class as u32)?)?;
     }
     Ok(all)
 }
@@ -152,7 +151,8 @@ fn add_member(
     next: Next,
     member: &Member,
 ) -> Result<(), NoMemory>
-    requires { IsPlan plan.now }
+    requires plan { IsPlan plan.now }
+    requires numbered { AreNumbered plan.now parts.now }
     ensures { OnOk result (typed_routines routines.new ≡ typed_routines routines.old ++ w.member_made plan.now parts.now.class (w.initials_of plan.now parts.now) next.function next.declaration (class_member member.now)) }
 {
     let class = parts.class;
@@ -174,7 +174,8 @@ fn add_members(
     routines: &mut Gathered<TypedBody>,
     parts: &ClassParts,
 ) -> Result<Next, NoMemory>
-    requires { IsPlan plan.now }
+    requires plan { IsPlan plan.now }
+    requires numbered { AreNumbered plan.now parts.now }
     ensures routines { OnOk result (typed_routines routines.new ≡ typed_routines routines.old ++ w.members_made plan.now parts.now.class (w.initials_of plan.now parts.now) parts.now.first.function parts.now.first.declaration (class_members parts.now.members.now)) }
     ensures declaration { IfOk result (λ n. n.declaration ≡ parts.now.first.declaration + length (entry.member_entries (naming plan.now) parts.now.class (class_members parts.now.members.now))) }
     ensures function { IfOk result (λ n. n.function ≡ parts.now.first.function + h.members_routines (class_members parts.now.members.now)) }
@@ -195,7 +196,8 @@ pub fn add_class(
     next: Next,
     members: &[Member],
 ) -> Result<Next, NoMemory>
-    requires { IsPlan plan.now }
+    requires plan { IsPlan plan.now }
+    requires declarations { next.declaration + suc (length (entry.member_entries (naming plan.now) class (class_members members.now))) < 2 ^ 64 }
     ensures routines { OnOk result (typed_routines routines.new ≡ typed_routines routines.old ++ w.class_made plan.now class next.function (suc next.declaration) (class_members members.now)) }
     ensures declaration { IfOk result (λ n. n.declaration ≡ next.declaration + suc (length (entry.member_entries (naming plan.now) class (class_members members.now)))) }
     ensures function { IfOk result (λ n. n.function ≡ next.function + (h.unwritten (class_members members.now) + h.members_routines (class_members members.now))) }
@@ -204,9 +206,8 @@ pub fn add_class(
     let Some(function) = next.function.checked_add(count) else {
         return Err(NoMemory);
     };
-    let declaration = further(next.declaration, 1)?;
     let first = Next {
-        declaration,
+        declaration: next.declaration + 1,
         function,
     };
     let parts = ClassParts {

@@ -1,16 +1,16 @@
 // Statements of the main program: a declaration in it gives globals their first values.
-ghost use Rattle.std.specs.Prelude.{◌≡◌, ◌+◌, ◌++◌, length, IfOk, OnOk};
+ghost use Rattle.std.specs.Prelude.{◌≡◌, ◌+◌, ◌^◌, ◌<◌, ◌++◌, length, IfOk, OnOk};
 ghost use Rattle.sts_syntax.specs.Types.{value_types};
 ghost use Rattle.sts_syntax.specs.TypedViews.{typed_declaration, typed_declarations, typed_routines, typed_statement};
 ghost use Rattle.sts_syntax.specs.Views.{declaration, declarations, statement};
 ghost use Rattle.sts_scope.specs.declared.known.This.TheVariants as this;
+ghost use Rattle.sts_scope.specs.Entries as entry;
 ghost use Rattle.typed_trees.specs.Sites as s;
 ghost use Rattle.typed_trees.specs.Sites.{IsPlan};
 ghost use Rattle.typed_trees.specs.Steps.{IsBuilt};
 ghost use Rattle.sts_whole.specs.Wholes as w;
 
 use crate::build_initials::outer_site;
-use crate::build_parts::further;
 use sts_base::{NoMemory, Seq};
 use sts_scope::This;
 use sts_syntax::{Binding, Spot, Stmt, TypedBinding, TypedStmt};
@@ -63,15 +63,14 @@ fn build_globals(
     first: usize,
     each: &[Binding],
 ) -> Result<Seq<TypedBinding>, NoMemory>
-    requires { IsPlan plan.now }
+    requires plan { IsPlan plan.now }
+    requires numbered { first + length each.now < 2 ^ 64 }
     ensures { IfOk result (λ r. IsBuilt builder.old builder.new (w.globals_made plan.now first (declarations each.now)) (typed_declarations r)) }
 {
     let mut made = Seq::new(plan.alloc);
-    let mut d = first;
     for i in 0..each.len() {
-        let a = build_declared(plan, builder, d, &each[i])?;
+        let a = build_declared(plan, builder, first + i, &each[i])?;
         made.push(a)?;
-        d = further(d, 1)?;
     }
     Ok(made)
 }
@@ -84,7 +83,8 @@ fn build_lets(
     fixed: bool,
     each: &[Binding],
 ) -> Result<TypedStmt, NoMemory>
-    requires { IsPlan plan.now }
+    requires plan { IsPlan plan.now }
+    requires numbered { d + length each.now < 2 ^ 64 }
     ensures { IfOk result (λ r. IsBuilt builder.old builder.new (w.lets_made plan.now d fixed (declarations each.now)) (typed_statement r)) }
 {
     let each = build_globals(plan, builder, d, each)?;
@@ -108,7 +108,8 @@ pub fn build_main(
     d: usize,
     a: &Stmt,
 ) -> Result<TypedStmt, NoMemory>
-    requires { IsPlan plan.now }
+    requires plan { IsPlan plan.now }
+    requires numbered { d + length (entry.main_entries (statement a.now)) < 2 ^ 64 }
     ensures { IfOk result (λ r. IsBuilt builder.old builder.new (w.main_made plan.now d (statement a.now)) (typed_statement r)) }
 {
     match lets_of(a) {

@@ -9,6 +9,7 @@ ghost use Rattle.sts_syntax.specs.Programs.{class_member};
 ghost use Rattle.sts_scope.specs.Numbers as number;
 ghost use Rattle.typed_trees.specs.Sites as s;
 ghost use Rattle.typed_trees.specs.Sites.{IsPlan};
+ghost use Rattle.sts_whole.specs.Numbered.{AreNumbered};
 ghost use Rattle.sts_whole.specs.Wholes as w;
 
 use crate::build_parts::{ClassParts, Next, next_member};
@@ -156,13 +157,13 @@ fn add_member_initial(
 }
 
 /// The initialisers of a class's own fields, in text order.
-#[tactic(auto, using(crate::proofs::Initials::initials_next))]
 pub fn add_initials(
     plan: &Plan,
     all: &mut Seq<TypedStmt>,
     parts: &ClassParts,
 ) -> Result<(), NoMemory>
-    requires { IsPlan plan.now }
+    requires plan { IsPlan plan.now }
+    requires numbered { AreNumbered plan.now parts.now }
     ensures { OnOk result (w.typed_list all.new ≡ w.typed_list all.old ++ w.initials_of plan.now parts.now) }
 {
     let mut next = parts.first;

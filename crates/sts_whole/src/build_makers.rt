@@ -11,6 +11,7 @@ ghost use Rattle.typed_trees.specs.Sites as s;
 ghost use Rattle.typed_trees.specs.Sites.{IsPlan};
 ghost use Rattle.typed_trees.specs.Steps.{IsBuilt};
 ghost use Rattle.typed_trees.specs.Functions as functions;
+ghost use Rattle.sts_whole.specs.Numbered.{AreNumbered};
 ghost use Rattle.sts_whole.specs.Wholes as w;
 
 use crate::build_initials::{add_initials, add_statement};
@@ -79,7 +80,8 @@ fn build_plain(
     parts: &ClassParts,
     all: &[Stmt],
 ) -> Result<Seq<TypedStmt>, NoMemory>
-    requires { IsPlan plan.now }
+    requires plan { IsPlan plan.now }
+    requires numbered { AreNumbered plan.now parts.now }
     ensures { IfOk result (λ r. IsBuilt builder.old builder.new (w.behind_made plan.now (s.site site.old) (w.initials_of plan.now parts.now) (statements all.now)) (typed_statements r)) }
 {
     let mut made = Seq::new(plan.alloc);
@@ -98,7 +100,8 @@ fn build_headed(
     args: &[Expr],
     rest: &[Stmt],
 ) -> Result<Seq<TypedStmt>, NoMemory>
-    requires { IsPlan plan.now }
+    requires plan { IsPlan plan.now }
+    requires numbered { AreNumbered plan.now parts.now }
     ensures { IfOk result (λ r. IsBuilt builder.old builder.new (w.headed_made plan.now (s.site site.old) base (w.initials_of plan.now parts.now) (trees args.now) (statements rest.now)) (typed_statements r)) }
 {
     let takes = plan.known.maker_takes(base);
@@ -119,7 +122,8 @@ fn build_derived(
     base: u32,
     all: &[Stmt],
 ) -> Result<Seq<TypedStmt>, NoMemory>
-    requires { IsPlan plan.now }
+    requires plan { IsPlan plan.now }
+    requires numbered { AreNumbered plan.now parts.now }
     ensures { IfOk result (λ r. IsBuilt builder.old builder.new (w.maker_statements plan.now (s.site site.old) (Some base) (w.initials_of plan.now parts.now) (statements all.now)) (typed_statements r)) }
 {
     match all {
@@ -149,7 +153,8 @@ fn build_made(
     parts: &ClassParts,
     all: &[Stmt],
 ) -> Result<Seq<TypedStmt>, NoMemory>
-    requires { IsPlan plan.now }
+    requires plan { IsPlan plan.now }
+    requires numbered { AreNumbered plan.now parts.now }
     ensures { IfOk result (λ r. IsBuilt builder.old builder.new (w.maker_statements plan.now (s.site site.old) (base plan.now.known.now.classes parts.now.class) (w.initials_of plan.now parts.now) (statements all.now)) (typed_statements r)) }
 {
     match base_of(plan.known, parts.class) {
@@ -173,7 +178,8 @@ fn build_constructor(
     n: u32,
     all: &[Stmt],
 ) -> Result<Function, NoMemory>
-    requires { IsPlan plan.now }
+    requires plan { IsPlan plan.now }
+    requires numbered { AreNumbered plan.now parts.now }
     ensures own { IfOk result (λ f. typed_routine f.own ≡ (functions.routine plan.now (value_types params) (value.Object parts.now.class) (w.maker_statements plan.now (s.site site.old) (base plan.now.known.now.classes parts.now.class) (w.initials_of plan.now parts.now) (statements all.now)) n).it) }
     ensures inner { IfOk result (λ f. typed_routines f.inner ≡ (functions.routine plan.now (value_types params) (value.Object parts.now.class) (w.maker_statements plan.now (s.site site.old) (base plan.now.known.now.classes parts.now.class) (w.initials_of plan.now parts.now) (statements all.now)) n).routines) }
 {
@@ -227,7 +233,8 @@ pub fn add_constructor(
     n: u32,
     body: &Body,
 ) -> Result<(), NoMemory>
-    requires { IsPlan plan.now }
+    requires plan { IsPlan plan.now }
+    requires numbered { AreNumbered plan.now parts.now }
     ensures { OnOk result (typed_routines routines.new ≡ typed_routines routines.old ++ w.constructor_made plan.now parts.now.class n (w.initials_of plan.now parts.now) (routine body.now)) }
 {
     let class = parts.class;
@@ -273,7 +280,8 @@ fn add_passed(
 /// The constructor of a class in which none is written.
 #[tactic(auto, using(crate::proofs::Constructors::list_before))]
 fn unwritten_constructor(plan: &Plan, parts: &ClassParts) -> Result<TypedBody, NoMemory>
-    requires { IsPlan plan.now }
+    requires plan { IsPlan plan.now }
+    requires numbered { AreNumbered plan.now parts.now }
     ensures { IfOk result (λ r. typed_routine r ≡ w.constructor_unwritten plan.now parts.now.class (w.initials_of plan.now parts.now)) }
 {
     let class = parts.class;
@@ -299,7 +307,8 @@ pub fn add_unwritten(
     parts: &ClassParts,
     count: u32,
 ) -> Result<(), NoMemory>
-    requires { IsPlan plan.now }
+    requires plan { IsPlan plan.now }
+    requires numbered { AreNumbered plan.now parts.now }
     ensures { OnOk result (typed_routines routines.new ≡ typed_routines routines.old ++ w.unwritten_made plan.now count parts.now.class (w.initials_of plan.now parts.now)) }
 {
     if count == 0 {

@@ -1,5 +1,5 @@
 // How far a walk through the parts of a program is.
-ghost use Rattle.std.specs.Prelude.{◌≡◌, ◌+◌, length, IfOk};
+ghost use Rattle.std.specs.Prelude.{◌≡◌, ◌+◌, ◌^◌, ◌<◌, length, IfOk};
 ghost use Rattle.sts_syntax.specs.Programs.{class_member};
 ghost use Rattle.sts_syntax.specs.Views.{statement};
 ghost use Rattle.sts_scope.specs.Entries as entry;
@@ -35,32 +35,28 @@ pub struct Whole {
     pub declaration: usize,
 }
 
-/// So many declarations further, if memory could hold so many.
-pub fn further(d: usize, by: usize) -> Result<usize, NoMemory>
-    ensures { IfOk result (λ n. n ≡ d + by) }
-{
-    d.checked_add(by).ok_or(NoMemory)
-}
-
-/// The declaration behind a member; a constructor is none.
-fn declaration_behind(plan: &Plan, class: u32, d: usize, member: &Member) -> Result<usize, NoMemory>
-    ensures { IfOk result (λ n. n ≡ d + length (entry.member_entry (naming plan.now) class (class_member member.now))) }
+/// How many declarations a member is: a constructor is none.
+fn declarations_in(plan: &Plan, class: u32, member: &Member) -> usize
+    ensures { result ≡ length (entry.member_entry (naming plan.now) class (class_member member.now)) }
 {
     match member {
-        Member::Field(_) => further(d, 1),
-        Member::Method { name: _, body: _ } => further(d, 1),
-        Member::Constructor(_) => Ok(d),
+        Member::Field(_) => 1,
+        Member::Method { name: _, body: _ } => 1,
+        Member::Constructor(_) => 0,
     }
 }
 
 /// Behind a member of a class.
 pub fn next_member(plan: &Plan, class: u32, next: Next, member: &Member) -> Result<Next, NoMemory>
+    requires { next.declaration + length (entry.member_entry (naming plan.now) class (class_member member.now)) < 2 ^ 64 }
     ensures declaration { IfOk result (λ n. n.declaration ≡ next.declaration + length (entry.member_entry (naming plan.now) class (class_member member.now))) }
     ensures function { IfOk result (λ n. n.function ≡ next.function + h.member_routines (class_member member.now)) }
 {
+    let function = behind_member(member, next.function)?;
+    let declaration = next.declaration + declarations_in(plan, class, member);
     Ok(Next {
-        declaration: declaration_behind(plan, class, next.declaration, member)?,
-        function: behind_member(member, next.function)?,
+        declaration,
+        function,
     })
 }
 

@@ -1,16 +1,18 @@
 // Whole programs: the functions of the library, those of a text, and its main program.
-ghost use Rattle.std.specs.Prelude.{◌≡◌, ℕ, Option, ◌+◌, ◌∷◌, [], ◌++◌, length, IfOk, OnOk};
+ghost use Rattle.std.specs.Prelude.{◌≡◌, ℕ, suc, true, Option, ◌+◌, ◌^◌, ◌<◌, ◌∷◌, [], ◌++◌, length, IfOk, OnOk};
 ghost use Rattle.sts_syntax.specs.Types.{value_types};
 ghost use Rattle.sts_syntax.specs.TypedViews.{typed_statements, typed_routines, typed_program};
 ghost use Rattle.sts_syntax.specs.Programs.{Class, Function, Main, class_members, top_level, top_levels, program};
 ghost use Rattle.sts_syntax.specs.Views.{routine, statement};
 ghost use Rattle.sts_scope.specs.Scopes.{all_names, library_classes};
+ghost use Rattle.sts_scope.specs.Entries as entry;
 ghost use Rattle.type_derive.specs.Accepted as accepted;
 ghost use Rattle.sts_scope.specs.Handlers as h;
 ghost use Rattle.type_derive.specs.Solved.{IsSolved};
 ghost use Rattle.sts_scope.specs.Numbers as number;
 ghost use Rattle.type_derive.specs.Programs.{◌before◌};
 ghost use Rattle.typed_numbers.specs.Building.{numbering_of};
+ghost use Rattle.typed_numbers.specs.Counts.{counts_fit};
 ghost use Rattle.typed_trees.specs.Sites.{IsPlan, naming};
 ghost use Rattle.sts_whole.specs.Wholes as w;
 ghost use Rattle.sts_whole.specs.Wholes.{Adds};
@@ -18,11 +20,11 @@ ghost use Rattle.sts_whole.specs.Wholes.{Adds};
 use crate::build_classes::{add_class, class_entries, global_types};
 use crate::build_globals::build_main;
 use crate::build_initials::add_statement;
-use crate::build_parts::{Next, Whole, further, globals_in};
+use crate::build_parts::{Next, Whole, globals_in};
 use lent_lists::Gathered;
 use std::alloc::Global;
 use sts_base::{NoMemory, Seq, Tables};
-use sts_scope::Declared;
+use sts_scope::{Declared, Environment};
 use sts_syntax::{Body, Item, Member, Stmt, Ty, Typed, TypedBody, Unit};
 use type_derive::kind_at;
 use typed_numbers::{names_of, numbering, one_more, routine_handlers, statement_handlers};
@@ -35,7 +37,8 @@ fn add_library_item(
     item: &Item,
     next: Next,
 ) -> Result<Next, NoMemory>
-    requires { IsPlan plan.now }
+    requires plan { IsPlan plan.now }
+    requires numbered { next.declaration + 1 < 2 ^ 64 }
     ensures routines { OnOk result (typed_routines routines.new ≡ typed_routines routines.old ++ w.library_item plan.now next.declaration next.function (top_level item.now)) }
     ensures declaration { IfOk result (λ n. n.declaration ≡ w.library_declaration next.declaration (top_level item.now)) }
     ensures function { IfOk result (λ n. n.function ≡ w.library_function next.function (top_level item.now)) }
@@ -46,9 +49,7 @@ fn add_library_item(
     let gives = kind_at(plan.known, next.declaration);
     add_function(plan, routines, true, next.function, gives, body)?;
     let function = routine_handlers(body, one_more(next.function)?)?;
-    let Some(declaration) = next.declaration.checked_add(1) else {
-        return Err(NoMemory);
-    };
+    let declaration = next.declaration + 1;
     Ok(Next {
         declaration,
         function,
@@ -76,7 +77,8 @@ pub fn add_library(
 
 /// The functions of a class of a text.
 fn add_class_item(plan: &Plan, whole: &mut Whole, members: &[Member]) -> Result<(), NoMemory>
-    requires { IsPlan plan.now }
+    requires plan { IsPlan plan.now }
+    requires declarations { whole.old.declaration + suc (length (entry.member_entries (naming plan.now) whole.old.class (class_members members.now))) < 2 ^ 64 }
     ensures { OnOk result ((at x : ℕ) (base : Option ℕ) (base_at : ℕ) → Adds plan.now whole.old whole.new (Class at x base base_at (class_members members.now))) }
 {
     let next = Next {
@@ -93,7 +95,8 @@ fn add_class_item(plan: &Plan, whole: &mut Whole, members: &[Member]) -> Result<
 
 /// A function of a text, and those that stand in it.
 fn add_function_item(plan: &Plan, whole: &mut Whole, body: &Body) -> Result<(), NoMemory>
-    requires { IsPlan plan.now }
+    requires plan { IsPlan plan.now }
+    requires numbered { whole.old.declaration + 1 < 2 ^ 64 }
     ensures { OnOk result ((x : ℕ) → Adds plan.now whole.old whole.new (Function x (routine body.now))) }
 {
     let n = whole.builder.function;
@@ -101,13 +104,14 @@ fn add_function_item(plan: &Plan, whole: &mut Whole, body: &Body) -> Result<(), 
     let gives = kind_at(plan.known, d);
     add_function(plan, &mut whole.builder.routines, false, n, gives, body)?;
     whole.builder.function = routine_handlers(body, one_more(n)?)?;
-    whole.declaration = further(d, 1)?;
+    whole.declaration = d + 1;
     Ok(())
 }
 
 /// A statement of the main program.
 fn add_main_item(plan: &Plan, whole: &mut Whole, a: &Stmt) -> Result<(), NoMemory>
-    requires { IsPlan plan.now }
+    requires plan { IsPlan plan.now }
+    requires numbered { whole.old.declaration + length (entry.main_entries (statement a.now)) < 2 ^ 64 }
     ensures { OnOk result (Adds plan.now whole.old whole.new (Main (statement a.now))) }
 {
     let n = whole.builder.function;
@@ -115,13 +119,14 @@ fn add_main_item(plan: &Plan, whole: &mut Whole, a: &Stmt) -> Result<(), NoMemor
     let made = build_main(plan, &mut whole.builder, d, a)?;
     add_statement(&mut whole.stmts, made)?;
     whole.builder.function = statement_handlers(a, n)?;
-    whole.declaration = further(d, globals_in(a))?;
+    whole.declaration = d + globals_in(a);
     Ok(())
 }
 
 /// A part of a text.
 fn add_item(plan: &Plan, whole: &mut Whole, item: &Item) -> Result<(), NoMemory>
-    requires { IsPlan plan.now }
+    requires plan { IsPlan plan.now }
+    requires declarations { whole.old.declaration + length (entry.item_entries (naming plan.now) whole.old.class (top_level item.now)) < 2 ^ 64 }
     ensures { OnOk result (Adds plan.now whole.old whole.new (top_level item.now)) }
 {
     match item {
@@ -148,7 +153,8 @@ fn add_item(plan: &Plan, whole: &mut Whole, item: &Item) -> Result<(), NoMemory>
 
 /// The parts of a text: its classes, its functions and the statements of the main program.
 fn add_items(plan: &Plan, whole: &mut Whole, items: &[Item]) -> Result<(), NoMemory>
-    requires { IsPlan plan.now }
+    requires plan { IsPlan plan.now }
+    requires declarations { whole.old.declaration + length (entry.entries_from (naming plan.now) whole.old.class (top_levels items.now)) < 2 ^ 64 }
     ensures stmts { OnOk result (typed_statements whole.new.stmts ≡ (w.typed_list whole.old.stmts before (w.items_of plan.now whole.old (top_levels items.now)).it)) }
     ensures locals { OnOk result (value_types whole.new.builder.locals ≡ value_types whole.old.builder.locals ++ (w.items_of plan.now whole.old (top_levels items.now)).locals) }
     ensures routines { OnOk result (typed_routines whole.new.builder.routines ≡ typed_routines whole.old.builder.routines ++ (w.items_of plan.now whole.old (top_levels items.now)).routines) }
@@ -197,6 +203,7 @@ fn build_whole(
 ) -> Result<Whole, NoMemory>
     requires plan { IsPlan plan.now }
     requires count { plan.now.numbers.now.library ≡ h.all_routines (top_levels library.now) }
+    requires declarations { plan.now.known.now.library + length (entry.entries_from (naming plan.now) first_class (top_levels text.now)) < 2 ^ 64 }
     ensures stmts { IfOk result (λ r. typed_statements r.stmts ≡ (w.text_made plan.now first_class (top_levels library.now) (top_levels text.now)).it) }
     ensures locals { IfOk result (λ r. value_types r.builder.locals ≡ (w.text_made plan.now first_class (top_levels library.now) (top_levels text.now)).locals) }
     ensures routines { IfOk result (λ r. typed_routines r.builder.routines ≡ w.library_made plan.now 0 0 (top_levels library.now) ++ (w.text_made plan.now first_class (top_levels library.now) (top_levels text.now)).routines) }
@@ -228,6 +235,8 @@ fn build_program(
 ) -> Result<Typed, NoMemory>
     requires plan { IsPlan plan.now }
     requires count { plan.now.numbers.now.library ≡ h.all_routines (top_levels library.now) }
+    requires few { length plan.now.known.now.classes < 2 ^ 32 }
+    requires declarations { plan.now.known.now.library + length (entry.entries_from (naming plan.now) first_class (top_levels text.now)) < 2 ^ 64 }
     ensures { IfOk result (λ t. typed_program t ≡ w.program_made plan.now first_class (top_levels library.now) (top_levels text.now)) }
 {
     let classes = class_entries(plan)?;
@@ -252,6 +261,8 @@ fn build_planned(
 ) -> Result<Typed, NoMemory>
     requires plan { IsPlan plan.now }
     requires count { plan.now.numbers.now.library ≡ h.all_routines (top_levels library.now) }
+    requires few { length plan.now.known.now.classes < 2 ^ 32 }
+    requires declarations { length plan.now.known.now.entries < 2 ^ 64 }
     requires names { (y : ℕ) → naming plan.now y ≡ all_names (top_levels library.now) (top_levels text.now) y }
     requires known { plan.now.known.now ≡ accepted.known (top_levels library.now) (top_levels text.now) plan.now.known.now.kinds }
     requires numbers { numbering_of plan.now.numbers.now ≡ number.numbering (top_levels library.now ++ top_levels text.now) }
@@ -260,6 +271,13 @@ fn build_planned(
 {
     let made = build_program(plan, library, text, first_class)?;
     Ok(made)
+}
+
+/// The declarations that are known are in memory, so 64 bits count them.
+fn declarations_have_numbers(known: &Environment)
+    ensures { length known.now.entries < 2 ^ 64 }
+{
+    let _count = known.entries().len();
 }
 
 /// The typed program of a library and a text behind it, whose declarations are known with their types. Where an expression has a failure, what its
@@ -271,9 +289,11 @@ pub fn typed_of(
     tables: &Tables,
     declared: &Declared,
 ) -> Result<Typed, NoMemory>
-    requires { IsSolved tables.now (program library.now) (program text.now) declared.now }
+    requires solved { IsSolved tables.now (program library.now) (program text.now) declared.now }
+    requires counts { counts_fit declared.now.known ≡ true }
     ensures { IfOk result (λ t. typed_program t ≡ accepted.typed tables.now (program library.now) (program text.now) declared.now.known.kinds) }
 {
+    declarations_have_numbers(&declared.known);
     let numbers = numbering(alloc, library, text)?;
     let names = names_of(alloc, &declared.known)?;
     let plan = Plan {

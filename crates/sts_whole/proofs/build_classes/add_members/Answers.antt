@@ -3,8 +3,14 @@ use Rattle.sts_syntax.specs.Programs.{class_member, class_members}
 use Rattle.sts_syntax.specs.TypedViews.{typed_routines}
 use Rattle.typed_trees.specs.Sites.{naming}
 use Rattle.sts_whole.specs.Wholes as w
-use Rattle.sts_whole.proofs.ClassParts.{members_left, declared_left, functions_left, step_list}
+use Rattle.sts_whole.proofs.ClassParts.{members_left, declared_left, functions_left, member_numbered, step_list}
 use Rattle.sts_whole.proofs.build_classes.add_members.Goals as goal
+
+pub next_member-requires : goal.next_member-requires
+next_member-requires c =
+    let l = c.args.plan.now in let parts = c.args.parts.now in let xs = parts.members.now in let i = c.loop-member.member-index in
+    let lt : i < length xs = omega (arith, c.loop-member-test.true) in
+    member_numbered (naming l) parts.class c.loop-member.next.declaration xs i c.member-item.result lt c.member-item.is (omega (arith, c.loop-member.invariant.declaration, c.requires.numbered))
 
 pub loop-member-preserved : goal.loop-member-preserved
 loop-member-preserved c =

@@ -1,5 +1,4 @@
-use Rattle.std.proofs.Common.{ap, ◌∙◌, arith, length}
-use Rattle.sts_whole.specs.Wholes as w
+use Rattle.std.proofs.Common.{ap, arith, length}
 use Rattle.sts_whole.proofs.Classes.{class_next}
 use Rattle.sts_whole.proofs.build_classes.class_entries.Goals as goal
 
@@ -7,4 +6,4 @@ pub loop-class-preserved : goal.loop-class-preserved
 loop-class-preserved c =
     let k = c.args.plan.now.known.now in
     class_next c.args.plan.now c.loop-class.class k.classes c.loop-class.all c.push.new.self c.in_ok-class_entry.field-0 (omega (arith, c.loop-class-test.true, ap length c.classes-class-end.ensures))
-    (c.in_ok-class_entry.ensures ∙ ap (λ n. w.class_entry c.args.plan.now n) c.in-Ok.ensures.1) c.in_ok-push.ensures.ok c.loop-class.invariant
+    c.in_ok-class_entry.ensures c.in_ok-push.ensures.ok c.loop-class.invariant

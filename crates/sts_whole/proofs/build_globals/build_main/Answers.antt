@@ -1,11 +1,16 @@
-use Rattle.std.proofs.Common.{sym, subst}
+use Rattle.std.proofs.Common.{refl, sym, subst, arith}
 use Rattle.sts_syntax.specs.TypedTrees.{TypedStatement}
 use Rattle.sts_syntax.specs.TypedViews.{typed_statement}
 use Rattle.sts_syntax.specs.Views.{declarations, statement}
 use Rattle.type_derive.specs.Making.{Making}
 use Rattle.typed_trees.specs.Steps.{IsBuilt}
-use Rattle.sts_whole.proofs.Mains.{main_without, main_with}
+use Rattle.sts_whole.proofs.Mains.{main_without, main_with, main_long}
 use Rattle.sts_whole.proofs.build_globals.build_main.Goals as goal
+
+pub build_lets-requires-clause-numbered : goal.build_lets-requires-clause-numbered
+build_lets-requires-clause-numbered c =
+    let h = c.in-Some.lets in
+    omega (arith, c.requires.numbered, main_long (statement c.args.a.now) (record { fixed = h.fixed; each = declarations h.each.now }) h.each.now (sym c.in-Some.ensures) refl)
 
 pub returns-in_ok-made-in-None : goal.returns-in_ok-made-in-None
 returns-in_ok-made-in-None c =

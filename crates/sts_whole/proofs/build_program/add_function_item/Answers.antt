@@ -1,4 +1,4 @@
-use Rattle.std.proofs.Common.{◌++◌, ap, sym, ◌∙◌, append-nil, add-zero, arith}
+use Rattle.std.proofs.Common.{◌++◌, refl, ap, sym, ◌∙◌, append-nil, add-zero, arith}
 use Rattle.std.specs.Prelude.{Option, false}
 use Rattle.sts_scope.specs.declared.kinds.Kind.{Kind}
 use Rattle.sts_syntax.specs.Types.{value_types}
@@ -21,5 +21,5 @@ returns c = λ x.
       local = sym (add-zero old.builder.local);
       function = omega (arith, n, f);
       class = sym (add-zero old.class);
-      declaration = c.in_ok-whole-2.ensures;
+      declaration = refl;
     }

@@ -1,12 +1,14 @@
-use Rattle.std.proofs.Common.{◌≡◌, ◌++◌, drop}
+use Rattle.std.proofs.Common.{◌≡◌, ◌+◌, ◌^◌, ◌<◌, ◌++◌, drop, length}
 use Rattle.sts_syntax.specs.Programs.{top_levels}
 use Rattle.sts_syntax.specs.Types.{value_types}
 use Rattle.sts_syntax.specs.TypedViews.{typed_routines}
+use Rattle.sts_scope.specs.Entries as entry
 use Rattle.type_derive.specs.Programs.{◌before◌}
+use Rattle.typed_trees.specs.Sites.{naming}
 use Rattle.sts_whole.specs.Wholes as w
 use Rattle.sts_whole.proofs.build_program.add_items.Given as goal
 
--- what is built, and what is left to build, is the whole
+-- what is built, and what is left to build, is the whole, and what is left has numbers
 abbrev pub invariant-loop-item : goal.invariant-loop-item
 invariant-loop-item l =
     let first = l.initial.whole in
@@ -16,4 +18,5 @@ invariant-loop-item l =
       stmts : (w.typed_list l.whole.stmts before left.it) ≡ (w.typed_list first.stmts before all.it);
       locals : value_types l.whole.builder.locals ++ left.locals ≡ value_types first.builder.locals ++ all.locals;
       routines : typed_routines l.whole.builder.routines ++ left.routines ≡ typed_routines first.builder.routines ++ all.routines;
+      declarations : l.whole.declaration + length (entry.entries_from (naming l.plan) l.whole.class (top_levels (drop l.item-index l.items))) < 2 ^ 64;
     }

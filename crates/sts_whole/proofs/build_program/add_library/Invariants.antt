@@ -1,4 +1,4 @@
-use Rattle.std.proofs.Common.{◌≡◌, ◌++◌, drop}
+use Rattle.std.proofs.Common.{◌≡◌, ◌≤◌, ◌++◌, drop}
 use Rattle.sts_syntax.specs.TypedViews.{typed_routines}
 use Rattle.sts_syntax.specs.Programs.{top_levels}
 use Rattle.sts_whole.specs.Wholes as w
@@ -6,5 +6,8 @@ use Rattle.sts_whole.proofs.build_program.add_library.Given as goal
 
 abbrev pub invariant-loop-item : goal.invariant-loop-item
 invariant-loop-item l =
-    typed_routines l.routines ++ w.library_made l.plan l.next.declaration l.next.function (top_levels (drop l.item-index l.items))
-    ≡ typed_routines l.fn.routines ++ w.library_made l.plan 0 0 (top_levels l.items)
+    record {
+      made : typed_routines l.routines ++ w.library_made l.plan l.next.declaration l.next.function (top_levels (drop l.item-index l.items))
+          ≡ typed_routines l.fn.routines ++ w.library_made l.plan 0 0 (top_levels l.items);
+      numbered : l.next.declaration ≤ l.item-index;
+    }

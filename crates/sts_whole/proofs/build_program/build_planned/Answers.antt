@@ -1,8 +1,15 @@
-use Rattle.std.proofs.Common.{◌∙◌}
+use Rattle.std.proofs.Common.{◌∙◌, arith}
 use Rattle.std.proofs.Math.Path.{fun_ext}
 use Rattle.sts_syntax.specs.Programs.{top_levels}
 use Rattle.sts_whole.proofs.Items.{whole_is}
+use Rattle.sts_whole.proofs.Numbered.{text_declared}
 use Rattle.sts_whole.proofs.build_program.build_planned.Goals as goal
+
+pub build_program-requires-clause-declarations : goal.build_program-requires-clause-declarations
+build_program-requires-clause-declarations c =
+    let l = c.args.plan.now in
+    let e = text_declared l c.args.first_class (top_levels c.args.library.now) (top_levels c.args.text.now) l.known.now.kinds (fun_ext c.requires.names) c.requires.known c.requires.first in
+    omega (arith, e, c.requires.declarations)
 
 pub returns : goal.returns
 returns c =

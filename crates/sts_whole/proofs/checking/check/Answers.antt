@@ -8,7 +8,11 @@ use Rattle.type_derive.specs.Accepted.{typed}
 use Rattle.type_derive.specs.Solved.{IsSolved}
 use Rattle.sts_whole.specs.Checking.{Refuses}
 use Rattle.sts_whole.proofs.Checked.{text_behind, heading_refused, found_refused, counts_refused, limits_refused, accepted}
+use Rattle.sts_whole.proofs.Numbered.{counts_hold}
 use Rattle.sts_whole.proofs.checking.check.Goals as goal
+
+pub typed_of-requires-clause-counts : goal.typed_of-requires-clause-counts
+typed_of-requires-clause-counts c = counts_hold c.solve.new.declared.known c.in_ok-check_counts.ensures
 
 pub returns-in_err-declared-clause-refused : goal.returns-in_err-declared-clause-refused
 returns-in_err-declared-clause-refused c =
