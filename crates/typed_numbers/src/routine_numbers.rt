@@ -1,5 +1,5 @@
 // The numbers of functions: of each declaration that is one, and of each class's constructor.
-ghost use Rattle.std.specs.Prelude.{◌≡◌, ◌+◌, ◌++◌, ◌∷◌, [], IfOk, OnOk};
+ghost use Rattle.std.specs.Prelude.{◌≡◌, ◌+◌, ◌^◌, ◌<◌, ◌++◌, ◌∷◌, [], IfOk, OnOk};
 ghost use Rattle.sts_syntax.specs.Programs.{class_member, class_members, top_level, top_levels, program};
 ghost use Rattle.sts_syntax.specs.Views.{statement, declarations};
 ghost use Rattle.sts_scope.specs.Handlers as h;
@@ -142,11 +142,12 @@ impl Numbers {
     }
 }
 
-/// The numbers of all functions of a library and a text behind it.
+/// The numbers of all functions of a library and a text behind it, which 32 bits count.
 #[tactic(auto, using(crate::proofs::Numbered::numbers_append, crate::proofs::Numbered::makers_append))]
 pub fn numbering(alloc: Global, library: &Unit, text: &Unit) -> Result<Numbers, NoMemory>
     ensures numbers { IfOk result (λ n. numbering_of n ≡ number.numbering (program library.now ++ program text.now)) }
     ensures library { IfOk result (λ n. n.library ≡ h.all_routines (program library.now)) }
+    ensures counted { IfOk result (λ n. h.all_routines (program library.now) + h.all_routines (program text.now) < 2 ^ 32) }
 {
     let mut numbers = Numbers {
         routines: Seq::new(alloc),
