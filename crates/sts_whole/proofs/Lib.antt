@@ -18,6 +18,7 @@ mod FailurePlaces
 mod PassPlaces
 mod TextPlaces
 pub mod PlaceLaws
+mod AtMost
 pub mod Checked
 pub mod ClassParts
 pub mod Classes

@@ -1,4 +1,4 @@
--- What is still to be built has numbers.
+-- What is still to be built has numbers: of declarations and of functions.
 use Rattle.std.proofs.Common.{◌≡◌, ℕ, ◌+◌, ◌^◌, ◌<◌, ◌≤◌, ◌&&◌, Bool, true, false, Option, None, List, [], ◌∷◌, ◌++◌, length, drop, get_or, refl, ap, sym, ◌∙◌, arith, length-append, zero-add}
 use Rattle.std.specs.Prelude.{nat_le}
 use Rattle.std.specs.List.{list_all}
@@ -6,22 +6,25 @@ use Rattle.std.proofs.lemmas.Bool.Decides.{nat_tests}
 use Rattle.sts_base.specs.declared.refused.Code.TheVariants.{OverLimit}
 use Rattle.sts_syntax.specs.declared.units.Item.{Item}
 use Rattle.sts_syntax.specs.Programs.{TopLevel, Class, Function, Main, Program, top_level, top_levels}
+use Rattle.sts_syntax.specs.TypedTrees.{TypedRoutine}
 use Rattle.sts_scope.proofs.Laws.{drop_at}
 use Rattle.sts_scope.specs.declared.kinds.Kind.{Kind}
 use Rattle.sts_scope.specs.declared.known.Known.{Known}
 use Rattle.sts_scope.specs.Entries.{Naming, class_names, classes_in, item_class, item_entries, entries_from}
 use Rattle.sts_scope.specs.Faults.{unless}
+use Rattle.sts_scope.specs.Handlers.{item_routines, all_routines}
 use Rattle.sts_scope.specs.Lookup.{is_field}
 use Rattle.sts_scope.specs.Numbers.{is_method}
 use Rattle.sts_scope.specs.Scopes.{is_global, names_of, all_names, library_entries, library_classes}
 use Rattle.type_derive.specs.Accepted.{known}
-use Rattle.typed_numbers.specs.Building.{names_upto}
+use Rattle.typed_numbers.specs.Building.{numbering_of, names_upto}
 use Rattle.typed_numbers.specs.Counts.{is_short, counts_fit}
 use Rattle.typed_trees.specs.declared.build_places.Plan.{Plan}
 use Rattle.typed_trees.specs.Sites.{naming}
 use Rattle.sts_whole.specs.declared.build_parts.Whole.{Whole}
 use Rattle.sts_whole.specs.Wholes as w
 use Rattle.sts_whole.specs.Wholes.{Adds}
+use Rattle.sts_whole.proofs.AtMost.{library_at_most, text_at_most}
 
 -- a part of the library is one declaration at most
 pub library_next : (d : ℕ) (i : TopLevel) → w.library_declaration d i ≤ d + 1
@@ -55,6 +58,11 @@ pub item_declared : (f : Naming) (c d : ℕ) (xs : List Item) (i : ℕ) (x : Ite
     → d + length (entries_from f c (top_levels (drop i xs))) < 2 ^ 64 → d + length (item_entries f c (top_level x)) < 2 ^ 64
 item_declared f c d xs i x lt is h = let e = entries_left f c xs i x lt is in omega (arith, e, h)
 
+pub item_counted : (n : ℕ) (xs : List Item) (i : ℕ) (x : Item) → i < length xs → x ≡ get_or xs i x → n + all_routines (top_levels (drop i xs)) < 2 ^ 32 → n + item_routines (top_level x) < 2 ^ 32
+item_counted n xs i x lt is h =
+    let e = ap (λ (q : List Item). all_routines (top_levels q)) (drop_at xs i x lt is) in
+    omega (arith, e, h)
+
 pub items_declared : (l : Plan) (old new : Whole) (xs : List Item) (i : ℕ) (x : Item) → i < length xs → x ≡ get_or xs i x → Adds l old new (top_level x)
     → old.declaration + length (entries_from (naming l) old.class (top_levels (drop i xs))) < 2 ^ 64 → new.declaration + length (entries_from (naming l) new.class (top_levels (drop (i + 1) xs))) < 2 ^ 64
 items_declared l old new xs i x lt is a h =
@@ -62,6 +70,12 @@ items_declared l old new xs i x lt is a h =
     let e = entries_left (naming l) old.class xs i x lt is in
     let k = ap (λ (q : ℕ). length (entries_from (naming l) q rest)) a.class in
     omega (arith, e, k, h, a.declaration)
+
+pub items_counted : (l : Plan) (old new : Whole) (xs : List Item) (i : ℕ) (x : Item) → i < length xs → x ≡ get_or xs i x → Adds l old new (top_level x)
+    → old.builder.function + all_routines (top_levels (drop i xs)) < 2 ^ 32 → new.builder.function + all_routines (top_levels (drop (i + 1) xs)) < 2 ^ 32
+items_counted l old new xs i x lt is a h =
+    let e = ap (λ (q : List Item). all_routines (top_levels q)) (drop_at xs i x lt is) in
+    omega (arith, e, h, a.function)
 
 entries_long : (f : Naming) (c : ℕ) (xs ys : Program) → length (entries_from f c (xs ++ ys)) ≡ length (entries_from f c xs) + length (entries_from f (c + length (class_names xs)) ys)
 entries_long f c [] ys =
@@ -91,6 +105,17 @@ text_declared l c library text kinds en ek ec =
     ∙ ap (λ (q : Naming). library_entries library text + length (entries_from q c text)) en
     ∙ ap (λ (q : ℕ). library_entries library text + length (entries_from f q text)) (ec ∙ sym z)
     ∙ sym all ∙ ap (λ (q : Known). length q.entries) (sym ek)
+
+-- all functions of a library and a text have numbers where those that stand in their trees have
+pub routines_counted : (l : Plan) (c : ℕ) (library text : Program) (all : List TypedRoutine) → all ≡ w.library_made l 0 0 library ++ (w.text_made l c library text).routines
+    → all_routines library + all_routines text < 2 ^ 32 → length all < 2 ^ 32
+routines_counted l c library text all is h =
+    let first = w.library_made l 0 0 library in
+    let rest = (w.text_made l c library text).routines in
+    let a : length first ≤ all_routines library = library_at_most l.tables.now (naming l) l.known.now (numbering_of l.numbers.now) 0 0 library in
+    let b : length rest ≤ all_routines text = text_at_most l.tables.now (naming l) l.known.now (numbering_of l.numbers.now) c l.known.now.library 0 (all_routines library) text in
+    let e : length all ≡ length first + length rest = ap length is ∙ length-append first rest in
+    omega (arith, a, b, e, h)
 
 -- what the counted limits say of the classes
 both : (x y : Bool) → (x && y) ≡ true → (x ≡ true) × (y ≡ true)

@@ -198,17 +198,15 @@ pub fn add_class(
 ) -> Result<Next, NoMemory>
     requires plan { IsPlan plan.now }
     requires declarations { next.declaration + suc (length (entry.member_entries (naming plan.now) class (class_members members.now))) < 2 ^ 64 }
+    requires functions { next.function + (h.unwritten (class_members members.now) + h.members_routines (class_members members.now)) < 2 ^ 32 }
     ensures routines { OnOk result (typed_routines routines.new ≡ typed_routines routines.old ++ w.class_made plan.now class next.function (suc next.declaration) (class_members members.now)) }
     ensures declaration { IfOk result (λ n. n.declaration ≡ next.declaration + suc (length (entry.member_entries (naming plan.now) class (class_members members.now)))) }
     ensures function { IfOk result (λ n. n.function ≡ next.function + (h.unwritten (class_members members.now) + h.members_routines (class_members members.now))) }
 {
     let count = unwritten(members);
-    let Some(function) = next.function.checked_add(count) else {
-        return Err(NoMemory);
-    };
     let first = Next {
         declaration: next.declaration + 1,
-        function,
+        function: next.function + count,
     };
     let parts = ClassParts {
         class,

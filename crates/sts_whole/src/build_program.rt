@@ -79,6 +79,7 @@ pub fn add_library(
 fn add_class_item(plan: &Plan, whole: &mut Whole, members: &[Member]) -> Result<(), NoMemory>
     requires plan { IsPlan plan.now }
     requires declarations { whole.old.declaration + suc (length (entry.member_entries (naming plan.now) whole.old.class (class_members members.now))) < 2 ^ 64 }
+    requires functions { whole.old.builder.function + (h.unwritten (class_members members.now) + h.members_routines (class_members members.now)) < 2 ^ 32 }
     ensures { OnOk result ((at x : ℕ) (base : Option ℕ) (base_at : ℕ) → Adds plan.now whole.old whole.new (Class at x base base_at (class_members members.now))) }
 {
     let next = Next {
@@ -127,6 +128,7 @@ fn add_main_item(plan: &Plan, whole: &mut Whole, a: &Stmt) -> Result<(), NoMemor
 fn add_item(plan: &Plan, whole: &mut Whole, item: &Item) -> Result<(), NoMemory>
     requires plan { IsPlan plan.now }
     requires declarations { whole.old.declaration + length (entry.item_entries (naming plan.now) whole.old.class (top_level item.now)) < 2 ^ 64 }
+    requires functions { whole.old.builder.function + h.item_routines (top_level item.now) < 2 ^ 32 }
     ensures { OnOk result (Adds plan.now whole.old whole.new (top_level item.now)) }
 {
     match item {
@@ -155,6 +157,7 @@ fn add_item(plan: &Plan, whole: &mut Whole, item: &Item) -> Result<(), NoMemory>
 fn add_items(plan: &Plan, whole: &mut Whole, items: &[Item]) -> Result<(), NoMemory>
     requires plan { IsPlan plan.now }
     requires declarations { whole.old.declaration + length (entry.entries_from (naming plan.now) whole.old.class (top_levels items.now)) < 2 ^ 64 }
+    requires functions { whole.old.builder.function + h.all_routines (top_levels items.now) < 2 ^ 32 }
     ensures stmts { OnOk result (typed_statements whole.new.stmts ≡ (w.typed_list whole.old.stmts before (w.items_of plan.now whole.old (top_levels items.now)).it)) }
     ensures locals { OnOk result (value_types whole.new.builder.locals ≡ value_types whole.old.builder.locals ++ (w.items_of plan.now whole.old (top_levels items.now)).locals) }
     ensures routines { OnOk result (typed_routines whole.new.builder.routines ≡ typed_routines whole.old.builder.routines ++ (w.items_of plan.now whole.old (top_levels items.now)).routines) }
@@ -188,10 +191,11 @@ fn with_main(plan: &Plan, whole: Whole) -> Result<Seq<TypedBody>, NoMemory>
 
 /// How many functions there are, which is the number of the next.
 #[tactic(auto, using(crate::proofs::Items::routines_long))]
-fn count(routines: &Gathered<TypedBody>) -> Result<u32, NoMemory>
-    ensures { IfOk result (λ n. n ≡ length (typed_routines routines.now)) }
+fn count(routines: &Gathered<TypedBody>) -> u32
+    requires { length (typed_routines routines.now) < 2 ^ 32 }
+    ensures { result ≡ length (typed_routines routines.now) }
 {
-    u32::try_from(routines.len()).or(Err(NoMemory))
+    routines.len() as u32
 }
 
 /// What a library and a text behind it are built of: all functions, and the statements and locals of the main program.
@@ -204,6 +208,7 @@ fn build_whole(
     requires plan { IsPlan plan.now }
     requires count { plan.now.numbers.now.library ≡ h.all_routines (top_levels library.now) }
     requires declarations { plan.now.known.now.library + length (entry.entries_from (naming plan.now) first_class (top_levels text.now)) < 2 ^ 64 }
+    requires functions { h.all_routines (top_levels library.now) + h.all_routines (top_levels text.now) < 2 ^ 32 }
     ensures stmts { IfOk result (λ r. typed_statements r.stmts ≡ (w.text_made plan.now first_class (top_levels library.now) (top_levels text.now)).it) }
     ensures locals { IfOk result (λ r. value_types r.builder.locals ≡ (w.text_made plan.now first_class (top_levels library.now) (top_levels text.now)).locals) }
     ensures routines { IfOk result (λ r. typed_routines r.builder.routines ≡ w.library_made plan.now 0 0 (top_levels library.now) ++ (w.text_made plan.now first_class (top_levels library.now) (top_levels text.now)).routines) }
@@ -237,12 +242,13 @@ fn build_program(
     requires count { plan.now.numbers.now.library ≡ h.all_routines (top_levels library.now) }
     requires few { length plan.now.known.now.classes < 2 ^ 32 }
     requires declarations { plan.now.known.now.library + length (entry.entries_from (naming plan.now) first_class (top_levels text.now)) < 2 ^ 64 }
+    requires functions { h.all_routines (top_levels library.now) + h.all_routines (top_levels text.now) < 2 ^ 32 }
     ensures { IfOk result (λ t. typed_program t ≡ w.program_made plan.now first_class (top_levels library.now) (top_levels text.now)) }
 {
     let classes = class_entries(plan)?;
     let globals = global_types(plan)?;
     let whole = build_whole(plan, library, text, first_class)?;
-    let main = count(&whole.builder.routines)?;
+    let main = count(&whole.builder.routines);
     let functions = with_main(plan, whole)?;
     Ok(Typed {
         classes,
@@ -263,6 +269,7 @@ fn build_planned(
     requires count { plan.now.numbers.now.library ≡ h.all_routines (top_levels library.now) }
     requires few { length plan.now.known.now.classes < 2 ^ 32 }
     requires declarations { length plan.now.known.now.entries < 2 ^ 64 }
+    requires functions { h.all_routines (top_levels library.now) + h.all_routines (top_levels text.now) < 2 ^ 32 }
     requires names { (y : ℕ) → naming plan.now y ≡ all_names (top_levels library.now) (top_levels text.now) y }
     requires known { plan.now.known.now ≡ accepted.known (top_levels library.now) (top_levels text.now) plan.now.known.now.kinds }
     requires numbers { numbering_of plan.now.numbers.now ≡ number.numbering (top_levels library.now ++ top_levels text.now) }

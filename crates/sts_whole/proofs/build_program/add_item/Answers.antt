@@ -2,6 +2,7 @@ use Rattle.std.proofs.Common.{◌+◌, ◌^◌, ◌<◌, List, length, sym, ap, 
 use Rattle.sts_syntax.specs.declared.units.Member.{Member}
 use Rattle.sts_syntax.specs.Programs.{TopLevel, Class, class_members, top_level}
 use Rattle.sts_scope.specs.Entries.{item_entries}
+use Rattle.sts_scope.specs.Handlers.{item_routines}
 use Rattle.typed_trees.specs.Sites.{naming}
 use Rattle.sts_whole.specs.Wholes.{Adds}
 use Rattle.sts_whole.proofs.build_program.add_item.Goals as goal
@@ -11,6 +12,12 @@ add_class_item-requires-clause-declarations c =
     let k = c.in-Class in
     let e = ap top_level k.is ∙ sym (ap (λ (xs : List Member). Class k.at k.name k.base k.base_at (class_members xs)) c.as_slice.ensures) in
     subst (λ (i : TopLevel). c.args.whole.now.declaration + length (item_entries (naming c.args.plan.now) c.args.whole.now.class i) < 2 ^ 64) e c.requires.declarations
+
+pub add_class_item-requires-clause-functions : goal.add_class_item-requires-clause-functions
+add_class_item-requires-clause-functions c =
+    let k = c.in-Class in
+    let e = ap top_level k.is ∙ sym (ap (λ (xs : List Member). Class k.at k.name k.base k.base_at (class_members xs)) c.as_slice.ensures) in
+    subst (λ (i : TopLevel). c.args.whole.now.builder.function + item_routines i < 2 ^ 32) e c.requires.functions
 
 pub add_function_item-requires-clause-numbered : goal.add_function_item-requires-clause-numbered
 add_function_item-requires-clause-numbered c =

@@ -3,6 +3,7 @@ use Rattle.sts_syntax.specs.Programs.{top_levels}
 use Rattle.sts_syntax.specs.Types.{value_types}
 use Rattle.sts_syntax.specs.TypedViews.{typed_routines}
 use Rattle.sts_scope.specs.Entries as entry
+use Rattle.sts_scope.specs.Handlers as h
 use Rattle.type_derive.specs.Programs.{◌before◌}
 use Rattle.typed_trees.specs.Sites.{naming}
 use Rattle.sts_whole.specs.Wholes as w
@@ -19,4 +20,5 @@ invariant-loop-item l =
       locals : value_types l.whole.builder.locals ++ left.locals ≡ value_types first.builder.locals ++ all.locals;
       routines : typed_routines l.whole.builder.routines ++ left.routines ≡ typed_routines first.builder.routines ++ all.routines;
       declarations : l.whole.declaration + length (entry.entries_from (naming l.plan) l.whole.class (top_levels (drop l.item-index l.items))) < 2 ^ 64;
+      functions : l.whole.builder.function + h.all_routines (top_levels (drop l.item-index l.items)) < 2 ^ 32;
     }
