@@ -1,5 +1,6 @@
 """Functions of flat code with their code, written by hand in the words of an assembler (checks/emitted_code.txt), and the bytes that GNU as for ARM
-gives: crates/emit_rows is run on the functions, and must write these bytes. With --write both files of the crate are made of them."""
+gives: crates/thumb_rows is run on the functions, and must write these bytes. They are the last rows of its two files, behind the title that both have. With --write these are made
+anew of them."""
 
 import os
 import subprocess
@@ -7,7 +8,8 @@ import sys
 import tempfile
 
 top = os.path.dirname(os.path.dirname(os.path.abspath(__file__)))
-crate = os.path.join(top, "crates", "emit_rows")
+crate = os.path.join(top, "crates", "thumb_rows")
+TITLE = "-- emitted functions\n"
 
 
 def blocks(path):
@@ -38,14 +40,15 @@ with tempfile.TemporaryDirectory() as folder:
 
 # 11 pieces at the entry, a label and two pieces a copy, and a label and three for the return
 rows.append(("copies 20000", f"{11 + 3 * 20000 + 4} pieces"))
-wanted = {"stdin": "".join(row + "\n" for row, code in rows), "stdout": "".join(code + "\n" for row, code in rows)}
+wanted = {"stdin": "".join(f"emit {row}\n" for row, code in rows), "stdout": "".join(code + "\n" for row, code in rows)}
 wrong = 0
 for name, text in wanted.items():
     path = os.path.join(crate, name)
+    before, title, there = open(path, encoding="utf-8").read().partition(TITLE)
     if sys.argv[1:] == ["--write"]:
-        open(path, "w", encoding="utf-8").write(text)
-    elif open(path, encoding="utf-8").read() != text:
-        print(f"emitted_code: {path} isn't what the assembler gives")
+        open(path, "w", encoding="utf-8").write(before + TITLE + text)
+    elif not title or there != text or name == "stdin" and "\nemit " in before:
+        print(f"emitted_code: the end of {path} isn't what the assembler gives")
         wrong += 1
 print(f"emitted_code: {len(rows)} rows, {wrong} wrong")
 sys.exit(1 if wrong else 0)

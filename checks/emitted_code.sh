@@ -1,5 +1,5 @@
 #!/bin/sh
-# The rows of crates/emit_rows are those of checks/emitted_code.txt, and the bytes that its program must write are what GNU as for ARM gives for the
+# The rows `emit` of crates/thumb_rows are those of checks/emitted_code.txt, and the bytes that its program must write are what GNU as for ARM gives for the
 # code that stands there, written by hand. (That the program writes them, a run of the crate shows.) Without the assembler it is skipped (status 77).
 # usage: checks/emitted_code.sh [--write]
 set -eu

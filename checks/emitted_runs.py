@@ -1,4 +1,4 @@
-"""Runs the code of functions of flat code, as crates/emit_rows writes it, on QEMU's processor, and compares what they give with what their ops mean.
+"""Runs the code of functions of flat code, as crates/thumb_rows writes it, on QEMU's processor, and compares what they give with what their ops mean.
 
     checks/emitted_runs.py FOLDER
 
@@ -116,7 +116,7 @@ def panics(code):
 
 
 class Function:
-    """A line of emit_rows, calls with two arguments and SP each, and what they give: a word and 0, or the code of a panic and PANIC."""
+    """A row `emit` of thumb_rows, calls with two arguments and SP each, and what they give: a word and 0, or the code of a panic and PANIC."""
 
     def __init__(self, line, calls, wanted, ram=None):
         self.line, self.ram = line, ram or {}
@@ -208,7 +208,7 @@ def run(function, code):
 
 random.seed(1)
 functions = [*operators(), *flow(), *heap()]
-rows = subprocess.run([sys.argv[2]], input="".join(it.line + "\n" for it in functions), capture_output=True, text=True)
+rows = subprocess.run([sys.argv[2]], input="".join(f"emit {it.line}\n" for it in functions), capture_output=True, text=True)
 codes = rows.stdout.split("\n")[:-1]
 assert len(codes) == len(functions), rows.stderr[-500:]
 calls = wrong = 0

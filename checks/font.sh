@@ -1,9 +1,12 @@
 #!/bin/sh
-# Compares the font's table in the documents with what a test of part_rows writes of board_drivers. Ends with 0 where they agree.
+# Compares the font's table in the documents with the lines that the rows `drawn` of crates/part_rows must write of board_drivers. (That the program writes them, a run of the crate shows.)
+# Ends with 0 where they agree.
 set -eu
 cd "$(dirname "$0")/.."
-written=$(cd crates/part_rows && rt try --test | sed -n 's/^ *glyph \([0-9]*\) \(.*\)$/\1 \2/p')
+written=$(sed -n 's/^glyph \([0-9]*\) \(.*\)$/\1 \2/p' crates/part_rows/stdout)
+asked=$(sed -n 's/^drawn //p' crates/part_rows/stdin)
 listed=$(sed -n 's/^| \([0-9]*\) | [^|]* | `\([.#/]*\)` | [0-9]* |$/\1 \2/p' docs/MACHINE.md)
 [ "$(printf '%s\n' "$listed" | wc -l)" -eq 41 ] || { echo "the table hasn't 41 glyphs"; exit 1; }
 [ "$written" = "$listed" ] || { echo "the table isn't the font"; exit 1; }
+[ "$asked" = "$(printf '%s\n' "$listed" | sed 's/ .*//')" ] || { echo "the rows don't ask for the table's bytes"; exit 1; }
 echo "the table is the font"

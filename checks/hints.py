@@ -22,9 +22,12 @@ def refusals(texts):
 
 
 def explained(asked):
-    """The sentence, the example and the open bracket of each text at a place, by hint_rows."""
-    lines = "".join(f"{place} {text.hex()}\n" for place, text in asked)
-    out = subprocess.run([rows], input=lines.encode(), stdout=subprocess.PIPE, check=True).stdout.decode()
+    """The sentence, the example and the open bracket of each text at a place, by input_rows."""
+    # (a file, since of a pipe the program reads a byte at a time)
+    with tempfile.TemporaryFile() as lines:
+        lines.write("".join(f"hint {place} {text.hex()}\n" for place, text in asked).encode())
+        lines.seek(0)
+        out = subprocess.run([rows], stdin=lines, stdout=subprocess.PIPE, check=True).stdout.decode()
     answers = [line.split("\t") for line in out.splitlines()]
     assert len(answers) == len(asked)
     return answers

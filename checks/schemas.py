@@ -4,6 +4,7 @@ import json
 import random
 import subprocess
 import sys
+import tempfile
 
 import jsonschema
 
@@ -134,8 +135,11 @@ class Classes:
         return {}
 
     def answers(self, contents):
-        rows = "".join("class " + "".join(f"%{byte:02X}" for byte in content) + "\n" for content in contents)
-        said = subprocess.run([ROWS], input=rows.encode(), stdout=subprocess.PIPE, timeout=300, check=True).stdout.decode().split("\n")[:-1]
+        # (a file, since of a pipe the program reads a byte at a time)
+        with tempfile.TemporaryFile() as rows:
+            rows.write("".join("class " + "".join(f"%{byte:02X}" for byte in content) + "\n" for content in contents).encode())
+            rows.seek(0)
+            said = subprocess.run([ROWS], stdin=rows, stdout=subprocess.PIPE, timeout=300, check=True).stdout.decode().split("\n")[:-1]
         assert len(said) == len(contents)
         yield from (int(it.split()[1]) if it.startswith("refused ") else None for it in said)
 

@@ -1,4 +1,4 @@
-"""Runs the routine of the switch on QEMU's processor for each number of words, and compares words and instructions with those of crates/switch_rows.
+"""Runs the routine of the switch on QEMU's processor for each number of words, and compares words and instructions with those of crates/thumb_rows.
 
     checks/switch_runs.py FOLDER
 
@@ -47,7 +47,7 @@ target: .word   {target}
 
 
 def rows(lines):
-    given = subprocess.run([sys.argv[2]], input="".join(it + "\n" for it in lines), capture_output=True, text=True)
+    given = subprocess.run([sys.argv[2]], input="".join(f"switch {it}\n" for it in lines), capture_output=True, text=True)
     found = given.stdout.split("\n")[:-1]
     assert len(found) == len(lines), given.stderr[-500:]
     return found

@@ -1,7 +1,7 @@
 #!/bin/sh
 # The routine of the switch is run by another program's processor, QEMU, for 0 to 1,024 words: it copies them, changes no other word, and takes as many instructions
-# as crates/switch_rows, which executes the same bytes by the instruction table. Without the assembler or QEMU it is skipped (status 77).
-# PROGRAM is switch_rows, as bin/compile makes it where it is left out.
+# as crates/thumb_rows, which executes the same bytes by the instruction table. Without the assembler or QEMU it is skipped (status 77).
+# PROGRAM is thumb_rows, as bin/compile makes it where it is left out.
 # usage: checks/switch_runs.sh [PROGRAM]
 set -eu
 for tool in arm-none-eabi-as qemu-arm; do
@@ -13,5 +13,5 @@ done
 folder=$(mktemp -d)
 trap 'rm -rf "$folder"' EXIT
 top=$(cd "$(dirname "$0")/.." && pwd)
-program=${1:-$("$top/bin/compile" switch_rows)}
+program=${1:-$("$top/bin/compile" thumb_rows)}
 python3 "$top/checks/switch_runs.py" "$folder" "$program"

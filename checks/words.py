@@ -10,6 +10,7 @@ import random
 import re
 import subprocess
 import sys
+import tempfile
 
 COUNT = 100_000
 SECONDS = 60
@@ -87,8 +88,11 @@ def random_list(chance):
 def main():
     chance = random.Random(int(sys.argv[2]))
     lists = [random_list(chance) for _ in range(COUNT)]
-    text = "".join(f"{line_of(it)}\n" for it in lists).encode("utf-8")
-    ran = subprocess.run([sys.argv[1]], input=text, stdout=subprocess.PIPE, timeout=SECONDS, check=True)
+    # (a file, since of a pipe the program reads a byte at a time)
+    with tempfile.TemporaryFile() as rows:
+        rows.write("".join(f"words{line_of(it)}\n" for it in lists).encode("utf-8"))
+        rows.seek(0)
+        ran = subprocess.run([sys.argv[1]], stdin=rows, stdout=subprocess.PIPE, timeout=SECONDS, check=True)
     lines = ran.stdout.decode("utf-8").split("\n")[:-1]
     dues = [due(it) for it in lists]
     wrong = [(words, line, right) for words, line, right in zip(lists, lines, dues) if line != right]

@@ -4,11 +4,12 @@
 # usage: bench/divide/run.sh [SEED] [COUNT]
 set -eu
 here=$(cd "$(dirname "$0")" && pwd)
-crate=$here/../../crates/divide_rows
-program=$crate/out/divide_rows
+crate=$here/../../crates/thumb_rows
+program=$crate/out/thumb_rows
 [ -x "$program" ] || (cd "$crate" && rt run -- < /dev/null > /dev/null) || [ -x "$program" ]
 folder=$(mktemp -d)
 trap 'rm -rf "$folder"' EXIT
 python3 "$here/pairs.py" write "${1:-1}" "${2:-1000000}" > "$folder/pairs"
-"$program" < "$folder/pairs" > "$folder/answers"
+sed "s/^/divide /" "$folder/pairs" > "$folder/rows"
+"$program" < "$folder/rows" > "$folder/answers"
 python3 "$here/pairs.py" test "$folder/pairs" < "$folder/answers"

@@ -1,6 +1,6 @@
-"""Compares what `file_rows` says of random class files and arrivals with a reading of docs/FORMATS.md written anew, over Python's own JSON.
+"""Compares what `input_rows` says of random class files and arrivals with a reading of docs/FORMATS.md written anew, over Python's own JSON.
 
-usage: bench/files/readings.py PROGRAM SEED COUNT      PROGRAM is `file_rows`, as built
+usage: bench/files/readings.py PROGRAM SEED COUNT      PROGRAM is `input_rows`, as built
 
 Half of the files are changed at a place or two: a byte, a cut, or a number that isn't as it should be. Each row that differs is printed; the last line has how many did, and how many files there were
 of each answer.
@@ -10,6 +10,7 @@ import json
 import random
 import subprocess
 import sys
+import tempfile
 
 DEEPEST = 127
 LATEST = 1 << 30
@@ -240,7 +241,11 @@ def main(program, seed, count):
         rows.append(f"{kind} {spelled(data)}")
         due.append(answer(read, data))
         counts[f"{kind} {due[-1]}" if due[-1].startswith("refused") else f"{kind} read"] += 1
-    said = subprocess.run([program], input="".join(f"{row}\n" for row in rows).encode(), capture_output=True, check=True).stdout.decode().split("\n")
+    # (a file, since of a pipe the program reads a byte at a time)
+    with tempfile.TemporaryFile() as asked:
+        asked.write("".join(f"{row}\n" for row in rows).encode())
+        asked.seek(0)
+        said = subprocess.run([program], stdin=asked, capture_output=True, check=True).stdout.decode().split("\n")
     at = differences = 0
     for row, answer_due in zip(rows, due):
         lines = answer_due.count("\n") + 1

@@ -1,87 +1,116 @@
-//! Worked rows: clicks, the frame, and the font as text.
+// Clicks, frames, and the font.
 
+use crate::refusals::{no_memory, refused};
 use board_drivers::{Buttons, Display, glyph};
 use board_world::Event;
 use message_bus::Bus;
 use std::alloc::{AllocError, Global};
-use std::test::Fail;
+use std::io;
+use sts_base::NoMemory;
 
-#[test]
-fn a_click_is_shorter_than_a_second(rt: HostRuntime) -> Result<(), Fail> {
-    let mut bus = Bus::new(rt.alloc())?;
+/// What a click comes to: whether button 2 and 1 are down in it, and 2 behind it, and the events of the bus.
+#[derive(Clone, Copy)]
+struct Click {
+    down: [bool; 3],
+    events: [Option<Event>; 4],
+}
+
+/// Button 2 goes down and up at these moments, each time twice.
+fn clicked(alloc: Global, down: u32, up: u32) -> Result<Click, NoMemory> {
+    let mut bus = Bus::new(alloc)?;
     let mut buttons = Buttons::new();
-    let rows = [(100, 1099, 3), (2000, 3000, 4), (5000, 5000, 3)];
-    for (down, up, click) in rows {
-        buttons.down(2, down, &mut bus);
-        buttons.down(2, down + 1, &mut bus);
-        assert!(rt; buttons.is_down(2));
-        assert!(rt; !buttons.is_down(1));
-        buttons.up(2, up, &mut bus);
-        buttons.up(2, up + 1, &mut bus);
-        assert!(rt; !buttons.is_down(2));
-        for value in [1, 2, click] {
-            assert_eq!(rt; bus.next(), Some(Event { source: 2, value }));
-        }
-        assert_eq!(rt; bus.next(), None);
+    buttons.down(2, down, &mut bus);
+    buttons.down(2, down.saturating_add(1), &mut bus);
+    let within = buttons.is_down(2);
+    let other = buttons.is_down(1);
+    buttons.up(2, up, &mut bus);
+    buttons.up(2, up.saturating_add(1), &mut bus);
+    let behind = buttons.is_down(2);
+    let a = bus.next();
+    let b = bus.next();
+    let c = bus.next();
+    let d = bus.next();
+    Ok(Click {
+        down: [within, other, behind],
+        events: [a, b, c, d],
+    })
+}
+
+fn write_event(text: &mut String, event: Option<Event>) -> Result<(), AllocError> {
+    match event {
+        Some(Event { source, value }) => write!(text, " {source}:{value}"),
+        None => text.push_str(" none"),
+    }
+}
+
+fn write_clicked(text: &mut String, click: &Click) -> Result<(), AllocError> {
+    let down = click.down;
+    write!(text, "{down:?}")?;
+    for event in &click.events {
+        write_event(text, *event)?;
+    }
+    text.push('\n')
+}
+
+/// A number of a row.
+fn number(word: &str) -> io::Result<u32> {
+    match word.parse::<u32>() {
+        Ok(number) => Ok(number),
+        Err(_) => Err(refused("no number")),
+    }
+}
+
+/// Writes what a click between two moments comes to.
+pub fn write_click(alloc: Global, text: &mut String, asked: &str) -> io::Result<()> {
+    let Some((down, up)) = asked.split_once(' ') else {
+        return Err(refused("no two moments"));
+    };
+    let click = clicked(alloc, number(down)?, number(up)?).map_err(no_memory)?;
+    write_clicked(text, &click)?;
+    Ok(())
+}
+
+/// Shows frames one behind the other, and writes of each whether it changed what is shown, and what is shown then.
+pub fn write_frames(text: &mut String, asked: &str) -> io::Result<()> {
+    let mut display = Display::new();
+    for word in asked.split(' ') {
+        let changed = display.show(number(word)?);
+        let frame = display.frame();
+        write!(text, "{changed} {frame}\n")?;
     }
     Ok(())
 }
 
-#[test]
-fn a_frame_changes_once(rt: HostRuntime) {
-    let mut display = Display::new();
-    for (frame, changed) in [(0, false), (4_329_631, true), (4_329_631, false), (0, true)] {
-        assert_eq!(rt; display.show(frame), changed);
-        assert_eq!(rt; display.frame(), frame);
+/// The byte of a row.
+fn byte(word: &str) -> io::Result<u8> {
+    match word.parse::<u8>() {
+        Ok(byte) => Ok(byte),
+        Err(_) => Err(refused("no byte")),
     }
 }
 
-#[test]
-fn bytes_have_their_glyphs(rt: HostRuntime) {
-    let rows = [
-        (b'T', 4_329_631),
-        (b't', 4_329_631),
-        (b' ', 0),
-        (b'-', 14336),
-        (b'.', 4_194_304),
-        (b'?', 4_203_054),
-        (b'#', 4_203_054),
-        (b'@', 4_203_054),
-        (b'[', 4_203_054),
-        (b'`', 4_203_054),
-        (b'{', 4_203_054),
-        (0, 4_203_054),
-        (255, 4_203_054),
-    ];
-    for (byte, frame) in rows {
-        assert_eq!(rt; glyph(byte), frame);
-    }
+/// Writes the frame of a byte's glyph.
+pub fn write_glyph(text: &mut String, asked: &str) -> io::Result<()> {
+    let frame = glyph(byte(asked)?);
+    write!(text, "{frame}\n")?;
+    Ok(())
 }
 
-/// The rows of a frame from the top, `#` for a light that is lit.
-fn rows_of(alloc: Global, frame: u32) -> Result<String, AllocError> {
-    let mut rows = String::new(alloc);
-    for y in 0..5u32 {
-        if y > 0 {
-            rows.push('/')?;
+/// Writes the rows of a frame from the top, `#` for a light that is lit.
+fn write_lights(text: &mut String, frame: u32) -> Result<(), AllocError> {
+    for at in 0..25u32 {
+        if at > 0 && at % 5 == 0 {
+            text.push('/')?;
         }
-        for x in 0..5u32 {
-            rows.push(if frame >> (5 * y + x) & 1 == 1 {
-                '#'
-            } else {
-                '.'
-            })?;
-        }
+        text.push(if frame >> at & 1 == 1 { '#' } else { '.' })?;
     }
-    Ok(rows)
+    text.push('\n')
 }
 
-/// Writes the font, which checks/font.sh compares with the document.
-#[test]
-fn the_font_is_written(rt: HostRuntime) -> Result<(), Fail> {
-    for byte in b"0123456789ABCDEFGHIJKLMNOPQRSTUVWXYZ -!?." {
-        let rows = rows_of(rt.alloc(), glyph(*byte))?;
-        println!(rt; "glyph {byte} {rows}")?;
-    }
+/// Writes a byte's glyph as a line of the font.
+pub fn write_drawn(text: &mut String, asked: &str) -> io::Result<()> {
+    let byte = byte(asked)?;
+    write!(text, "glyph {byte} ")?;
+    write_lights(text, glyph(byte))?;
     Ok(())
 }

@@ -1,42 +1,86 @@
-//! Worked rows: who wakes when, and in which order.
+// Who wakes when, and in which order.
 
+use crate::refusals::{no_memory, refused};
 use board_world::Event;
 use fiber_queues::Queues;
-use std::test::Fail;
+use std::alloc::{AllocError, Global};
+use std::io;
+use sts_base::NoMemory;
 
-#[test]
-fn sleepers_of_one_moment_wake_in_the_order_in_which_they_went_to_sleep(
-    rt: HostRuntime,
-) -> Result<(), Fail> {
-    let mut queues = Queues::new(rt.alloc())?;
+/// Wake times, and keys in the order in which they come; none where nobody comes.
+#[derive(Clone, Copy)]
+struct Woken {
+    times: [Option<u32>; 2],
+    woken: [Option<usize>; 4],
+    ready: [Option<usize>; 5],
+}
+
+/// Four sleepers, of whom two wake at one moment: the least wake time, and that behind a waking of all that are due at 5.
+fn sleepers(alloc: Global) -> Result<Woken, NoMemory> {
+    let mut queues = Queues::new(alloc)?;
     queues.sleep(9, 5);
     queues.sleep(3, 5);
     queues.sleep(1, 4);
     queues.sleep(2, 6);
-    assert_eq!(rt; queues.next_wake(), Some(4));
+    let first = queues.next_wake();
     queues.wake_due(5);
-    assert_eq!(rt; queues.next_wake(), Some(6));
-    for key in [Some(9), Some(3), Some(1), None] {
-        assert_eq!(rt; queues.next(), key);
-    }
-    Ok(())
+    let then = queues.next_wake();
+    let a = queues.next();
+    let b = queues.next();
+    let c = queues.next();
+    let d = queues.next();
+    Ok(Woken {
+        times: [first, then],
+        woken: [None; 4],
+        ready: [a, b, c, d, None],
+    })
 }
 
-#[test]
-fn waiters_wake_one_by_one_behind_the_ready_ones(rt: HostRuntime) -> Result<(), Fail> {
-    let wanted = |source: i32, value: i32| Event { source, value };
-    let mut queues = Queues::new(rt.alloc())?;
+fn wanted(source: i32, value: i32) -> Event {
+    Event { source, value }
+}
+
+/// Three waiters, for an event with its value, for any event of a source, and for a value of any source, behind one who is ready.
+fn waiters(alloc: Global) -> Result<Woken, NoMemory> {
+    let mut queues = Queues::new(alloc)?;
     queues.wait(8, wanted(1, 3));
     queues.wait(6, wanted(2, 0));
     queues.wait(7, wanted(0, 3));
     queues.ready(4);
-    assert_eq!(rt; queues.next_wake(), None);
-    for key in [Some(8), Some(7), None] {
-        assert_eq!(rt; queues.wake_waiter(wanted(1, 3)), key);
-    }
-    assert_eq!(rt; queues.wake_waiter(wanted(2, -5)), Some(6));
-    for key in [Some(4), Some(8), Some(7), Some(6), None] {
-        assert_eq!(rt; queues.next(), key);
-    }
+    let time = queues.next_wake();
+    let first = queues.wake_waiter(wanted(1, 3));
+    let second = queues.wake_waiter(wanted(1, 3));
+    let third = queues.wake_waiter(wanted(1, 3));
+    let last = queues.wake_waiter(wanted(2, -5));
+    let a = queues.next();
+    let b = queues.next();
+    let c = queues.next();
+    let d = queues.next();
+    let e = queues.next();
+    Ok(Woken {
+        times: [time, None],
+        woken: [first, second, third, last],
+        ready: [a, b, c, d, e],
+    })
+}
+
+/// Writes wake times, who was woken, and who is ready.
+fn write_woken(text: &mut String, all: &Woken) -> Result<(), AllocError> {
+    let Woken {
+        times,
+        woken,
+        ready,
+    } = all;
+    write!(text, "{times:?} {woken:?} {ready:?}\n")
+}
+
+/// Writes what `sleepers` or `waiters` come to.
+pub fn write_lists(alloc: Global, text: &mut String, asked: &str) -> io::Result<()> {
+    let woken = match asked {
+        "sleepers" => sleepers(alloc),
+        "waiters" => waiters(alloc),
+        _ => return Err(refused("no such lists")),
+    };
+    write_woken(text, &woken.map_err(no_memory)?)?;
     Ok(())
 }
