@@ -1,5 +1,6 @@
 // The limits of listeners and events, and a listener that begins again.
-ghost use Rattle.std.specs.Prelude.{◌≡◌, pos};
+ghost use Rattle.std.specs.Prelude.{◌≡◌, ◌<◌, length, pos, IfSome};
+ghost use Rattle.message_bus.specs.BusState.{alive_at};
 
 use crate::refusals::no_memory;
 use board_world::{Event, Listener};
@@ -69,6 +70,17 @@ fn queued(alloc: Global) -> Result<(u32, u32, Option<Event>), NoMemory> {
     Ok((waiting, in_order, bus.next()))
 }
 
+/// The event with which the first listener begins again at the end of its activity. It lives on then.
+#[tactic(auto, using(crate::proofs::Ending::ends_lives, crate::proofs::Ending::ends_stands))]
+fn again(bus: &mut Bus) -> Option<Event>
+    requires stands { 0 < length bus.old.listeners }
+    requires lives { 0 < alive_at 0 bus.old.listeners }
+    ensures lives { IfSome result (λ e. 0 < alive_at 0 bus.new.listeners) }
+    ensures stands { length bus.new.listeners ≡ length bus.old.listeners }
+{
+    bus.again(0)
+}
+
 /// Whether a listener of mode 16 begins with event 1, is busy at events 2 and 3, begins again with each of them at its ends and then doesn't, and begins with event 4.
 fn begins_again(alloc: Global) -> Result<bool, NoMemory> {
     let mut bus = Bus::new(alloc)?;
@@ -90,13 +102,13 @@ fn begins_again(alloc: Global) -> Result<bool, NoMemory> {
     if bus.dispatch(event(3)) != 0 {
         return Ok(false);
     }
-    if bus.again(0) != Some(event(2)) {
+    let Some(first) = again(&mut bus) else {
         return Ok(false);
-    }
-    if bus.again(0) != Some(event(3)) {
+    };
+    let Some(second) = again(&mut bus) else {
         return Ok(false);
-    }
-    if bus.again(0).is_some() {
+    };
+    if first != event(2) || second != event(3) || again(&mut bus).is_some() {
         return Ok(false);
     }
     Ok(bus.begins(event(4)))
