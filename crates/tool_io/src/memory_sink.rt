@@ -1,5 +1,5 @@
 // A sink in memory, which fails at the calls that it is told to and past its room.
-ghost use Rattle.std.specs.Prelude.{◌≡◌, ◌≤◌, ◌<◌, ◌+◌, ◌-◌, ◌++◌, ◌↔◌, List, ℕ, Some, [], OnOk, OnErr, IfOk, IsOk, Contains, vec_capacity, vec_len, length};
+ghost use Rattle.std.specs.Prelude.{◌≡◌, ◌≤◌, ◌<◌, ◌+◌, ◌-◌, ◌++◌, ◌↔◌, List, ℕ, Some, [], OnOk, OnErr, IfOk, IsOk, Contains, vec_capacity, vec_len, length, max};
 ghost use Rattle.tool_io.specs.Putting.{Puts};
 ghost use Rattle.tool_io.specs.Memory.{next_call, one_more};
 
@@ -37,22 +37,21 @@ impl MemorySink {
         })
     }
 
-    /// Makes room for so many bytes more than it has room for. After `NoMemory` it is unchanged.
+    /// Makes room for so many bytes, if it has room for less. After `NoMemory` it is unchanged.
     pub fn reserve(&mut self, _alloc: Global, bytes: usize) -> Result<(), NoMemory>
-        ensures room { OnOk result (self.new.room ≡ self.old.room + bytes) }
+        ensures room { OnOk result (self.new.room ≡ max self.old.room bytes) }
         ensures unchanged { OnErr result (self.new.room ≡ self.old.room) }
         ensures taken { self.new.taken.items ≡ self.old.taken.items }
         ensures failing { self.new.failing ≡ self.old.failing }
         ensures calls { self.new.calls ≡ self.old.calls }
         ensures faults { self.new.faults ≡ self.old.faults }
     {
-        let Some(room) = self.room.checked_add(bytes) else {
-            return Err(NoMemory);
-        };
-        if self.taken.try_reserve(room).is_err() {
-            return Err(NoMemory);
+        if self.room < bytes {
+            if self.taken.try_reserve(bytes).is_err() {
+                return Err(NoMemory);
+            }
+            self.room = bytes;
         }
-        self.room = room;
         Ok(())
     }
 

@@ -20,10 +20,11 @@ pub fn show_puts<K: Sink, W: Write>(out: &mut W, sink: &mut K, pieces: &[&str]) 
     Ok(())
 }
 
-/// A sink with room for five bytes in two parts, whose second put fails.
+/// A sink with room for five bytes, which is asked for again and less, whose second put fails.
 fn sink(alloc: Global) -> Result<MemorySink, NoMemory> {
     let mut sink = MemorySink::new(alloc, numbers(alloc, 2, 9)?)?;
     sink.reserve(alloc, 3)?;
+    sink.reserve(alloc, 5)?;
     sink.reserve(alloc, 2)?;
     Ok(sink)
 }
