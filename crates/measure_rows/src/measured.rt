@@ -1,16 +1,17 @@
 // The measures of worked functions.
-ghost use Rattle.std.specs.Prelude.{◌<◌, ◌^◌, IfOk};
-ghost use Rattle.sts_syntax.specs.Sizes.{routine_nodes};
+ghost use Rattle.std.specs.Prelude.{◌<◌, ◌^◌, length, IfOk};
 ghost use Rattle.sts_syntax.specs.TypedViews.{typed_routine};
+ghost use Rattle.sts_syntax.specs.Weights as w;
 
 use crate::routines::{counts_on, deep, mid, starts_at_one, waits, worker, writes_mid};
 use std::alloc::{AllocError, Global};
 use sts_base::NoMemory;
 use sts_syntax::{TypedBody, frame_words, weight};
 
-/// The function of a name, which has few nodes.
+/// The function of a name, which is light and has few locals.
 fn routine_of(alloc: Global, name: &str) -> Result<TypedBody, NoMemory>
-    ensures { IfOk result (λ b. routine_nodes (typed_routine b) < 2 ^ 32) }
+    ensures light { IfOk result (λ b. w.weight (typed_routine b) < 2 ^ 40) }
+    ensures few { IfOk result (λ b. length (typed_routine b).locals < 2 ^ 32) }
 {
     match name {
         "deep" => deep(alloc),

@@ -1,112 +1,18 @@
--- Measures of statements and functions: how they are bounded by the number of nodes, and lists step by step.
-use Rattle.std.proofs.Common.{◌≡◌, ℕ, suc, ◌+◌, ◌*◌, ◌≤◌, List, [], ◌∷◌, ◌++◌, length, refl, ap, ◌∙◌, arith, lit≤, Option, Some, None, length-append}
+-- Measures of statements and functions: how they are bounded by the weight.
+use Rattle.std.proofs.Common.{◌≡◌, ℕ, suc, ◌+◌, ◌*◌, ◌≤◌, List, [], ◌∷◌, length, refl, ap, ◌∙◌, arith, Option, Some, None}
 use Rattle.sts_syntax.specs.declared.types.Ty.{Ty}
 use Rattle.sts_syntax.specs.declared.typed.Callee.{Callee}
 use Rattle.sts_syntax.specs.declared.typed.Callee.TheVariants as c
 use Rattle.sts_syntax.specs.declared.typed.TypedStmt.{TypedStmt}
 use Rattle.sts_syntax.specs.declared.typed.TypedStmt.TheVariants as s
-use Rattle.sts_syntax.specs.BoardTable.{row_of, ServicePlace, Written, Always, BoardAction, Service, Library, Repeats, placed, arranged}
 use Rattle.sts_syntax.specs.Types.{value_types}
 use Rattle.sts_syntax.specs.TypedTrees.{TypedTree, Num, Text, Truth, Null, This, Name, Unary, Binary, Both, Either, Choice, Set, Bump, Field, Length, Item, Call, SuperCall, Make, Items, Handler, TypedTrees, none, more, TypedDeclaration, TypedStatement, Block, Let, IfOnly, IfElse, While, DoWhile, For, ForOf, Return, Break, Continue, Plain, Empty, TypedStatements, done, also, OptionalTypedStatement, omitted, written}
 use Rattle.sts_syntax.specs.TypedViews.{typed_statement, typed_statements}
-use Rattle.sts_syntax.specs.Measures.{total, argument_sizes, hold, outgoing, outgoing_all, how_many, passed, optional_size, greatest_first, greatest_in, greatest_optional, greatest_of}
-use Rattle.sts_syntax.specs.Weights.{call_weight, weight_of, weights, optional_weight, declared_weight, statement_weight, first_weight, statements_weight}
-use Rattle.sts_syntax.specs.Nodes.{nodes, nodes_of, optional_nodes, declared_nodes, expressions, first_expressions, expressions_of}
-use Rattle.sts_syntax.specs.Sizes.{statement_nodes, first_nodes, statements_nodes}
-use Rattle.sts_syntax.proofs.Measured.{few_places, places_of, arguments_total}
+use Rattle.sts_syntax.specs.Measures.{total, hold, outgoing, outgoing_all, how_many, passed, optional_size, greatest_first, greatest_in, greatest_optional, greatest_of}
+use Rattle.sts_syntax.specs.Weights.{weight_of, weights, optional_weight, declared_weight, statement_weight, first_weight, statements_weight}
+use Rattle.sts_syntax.proofs.Measured.{arguments_total}
 use Rattle.sts_syntax.proofs.Holds.{hold_le, weighs}
 use Rattle.sts_syntax.proofs.TypedLaws.{typed_block_statement}
-
-own_few : (places : List ServicePlace) → total (placed (λ n. 1) places []) ≤ length places
-own_few [] = omega arith
-own_few (Written ∷ ps) = omega (arith, own_few ps)
-own_few (Always n ∷ ps) = omega (arith, own_few ps)
-
-action_few : (action : BoardAction) → total (arranged (λ n. 1) action []) ≤ length (places_of action)
-action_few (Service number places) = own_few places
-action_few (Library function) = omega arith
-action_few Repeats = omega arith
-
--- what a call weighs beside its written arguments
-call_few : (f : Callee) → call_weight f + total (argument_sizes 1 f []) ≤ 5
-call_few (c.Function f) = lit≤ tt
-call_few (c.Slot s) = lit≤ tt
-call_few c.Push = lit≤ tt
-call_few c.Pop = lit≤ tt
-call_few (c.Board call) = omega (arith, action_few (row_of call).action, few_places call)
-
-mutual
-  lighter_tree : (a : TypedTree) → weight_of a ≤ 5 * length (nodes a)
-  lighter_tree (Num t n) = lit≤ tt
-  lighter_tree (Text t n) = lit≤ tt
-  lighter_tree (Truth t b) = lit≤ tt
-  lighter_tree (Null t) = lit≤ tt
-  lighter_tree (This t) = lit≤ tt
-  lighter_tree (Name t x) = lit≤ tt
-  lighter_tree (Unary t op a) = omega (arith, lighter_tree a)
-  lighter_tree (Binary t op a b) = omega (arith, length-append (nodes a) (nodes b), lighter_tree a, lighter_tree b)
-  lighter_tree (Both t a b) = omega (arith, length-append (nodes a) (nodes b), lighter_tree a, lighter_tree b)
-  lighter_tree (Either t a b) = omega (arith, length-append (nodes a) (nodes b), lighter_tree a, lighter_tree b)
-  lighter_tree (Choice t test a b) =
-      omega (arith, length-append (nodes test ++ nodes a) (nodes b), length-append (nodes test) (nodes a), lighter_tree test, lighter_tree a, lighter_tree b)
-  lighter_tree (Set t None x r) = omega (arith, length-append (nodes x) (nodes r), lighter_tree x, lighter_tree r)
-  lighter_tree (Set t (Some op) x r) = omega (arith, length-append (nodes x) (nodes r), lighter_tree x, lighter_tree r)
-  lighter_tree (Bump t x by late) = omega (arith, lighter_tree x)
-  lighter_tree (Field t a f) = omega (arith, lighter_tree a)
-  lighter_tree (Length t a) = omega (arith, lighter_tree a)
-  lighter_tree (Item t a i) = omega (arith, length-append (nodes a) (nodes i), lighter_tree a, lighter_tree i)
-  lighter_tree (Call t f args) = omega (arith, call_few f, arguments_total f (weights args), lighter_trees args)
-  lighter_tree (SuperCall t f args) = omega (arith, lighter_trees args)
-  lighter_tree (Make t class args) = omega (arith, lighter_trees args)
-  lighter_tree (Items t items) = omega (arith, lighter_trees items)
-  lighter_tree (Handler t f) = lit≤ tt
-
-  lighter_trees : (args : TypedTrees) → total (weights args) ≤ 5 * length (nodes_of args)
-  lighter_trees none = omega arith
-  lighter_trees (more a rest) = omega (arith, length-append (nodes a) (nodes_of rest), lighter_tree a, lighter_trees rest)
-
-lighter_optional : (a : Option TypedTree) → optional_weight a ≤ 5 * length (optional_nodes a)
-lighter_optional None = omega arith
-lighter_optional (Some a) = lighter_tree a
-
-lighter_declared : (each : List TypedDeclaration) → declared_weight each ≤ length each + 5 * length (declared_nodes each)
-lighter_declared [] = omega arith
-lighter_declared (d ∷ rest) = omega (arith, length-append (optional_nodes d.first) (declared_nodes rest), lighter_optional d.first, lighter_declared rest)
-
-mutual
-  lighter_statement : (a : TypedStatement) → statement_weight a ≤ 4 * statement_nodes a + 5 * length (expressions a)
-  lighter_statement (Block all) = omega (arith, lighter all)
-  lighter_statement (Let fixed each) = omega (arith, lighter_declared each)
-  lighter_statement (IfOnly test a) = omega (arith, length-append (nodes test) (expressions a), lighter_tree test, lighter_statement a)
-  lighter_statement (IfElse test a b) =
-      omega (arith, length-append (nodes test ++ expressions a) (expressions b), length-append (nodes test) (expressions a), lighter_tree test, lighter_statement a, lighter_statement b)
-  lighter_statement (While test a) = omega (arith, length-append (nodes test) (expressions a), lighter_tree test, lighter_statement a)
-  lighter_statement (DoWhile a test) = omega (arith, length-append (expressions a) (nodes test), lighter_tree test, lighter_statement a)
-  lighter_statement (For first test step a) =
-      omega (
-        arith,
-        length-append (first_expressions first ++ optional_nodes test ++ optional_nodes step) (expressions a),
-        length-append (first_expressions first ++ optional_nodes test) (optional_nodes step),
-        length-append (first_expressions first) (optional_nodes test),
-        lighter_first first,
-        lighter_optional test,
-        lighter_optional step,
-        lighter_statement a,
-      )
-  lighter_statement (ForOf fixed name list a) = omega (arith, length-append (nodes list) (expressions a), lighter_tree list, lighter_statement a)
-  lighter_statement (Return value) = omega (arith, lighter_optional value)
-  lighter_statement Break = lit≤ tt
-  lighter_statement Continue = lit≤ tt
-  lighter_statement (Plain a) = omega (arith, lighter_tree a)
-  lighter_statement Empty = lit≤ tt
-
-  lighter_first : (a : OptionalTypedStatement) → first_weight a ≤ 4 * first_nodes a + 5 * length (first_expressions a)
-  lighter_first omitted = omega arith
-  lighter_first (written a) = lighter_statement a
-
-  pub lighter : (all : TypedStatements) → statements_weight all ≤ 4 * statements_nodes all + 5 * length (expressions_of all)
-  lighter done = omega arith
-  lighter (also a rest) = omega (arith, length-append (expressions a) (expressions_of rest), lighter_statement a, lighter rest)
 
 -- no measure of an expression is greater than three times its weight, so neither is that of statements
 module _ (size : TypedTree → ℕ) (size_le : (a : TypedTree) → size a ≤ 3 * weight_of a) where

@@ -15,5 +15,4 @@ pub mod TypeRules
 pub mod WellTyped
 pub mod WellTypedPrograms
 pub mod BoardViews
-pub mod Sizes
 pub mod LibraryRoutines

@@ -1,11 +1,10 @@
 // How much a function of a typed program takes: the words of its frame, and its weight, which bounds its code.
-ghost use Rattle.std.specs.Prelude.{◌≡◌, ◌<◌, ◌^◌, max};
+ghost use Rattle.std.specs.Prelude.{◌≡◌, ◌+◌, ◌-◌, ◌<◌, ◌^◌, min, max, length};
 ghost use Rattle.sts_syntax.specs.Measures as m;
 ghost use Rattle.sts_syntax.specs.Weights as w;
-ghost use Rattle.sts_syntax.specs.Sizes.{routine_nodes};
 ghost use Rattle.sts_syntax.specs.TypedViews.{typed_tree, optional_typed_tree, typed_declarations, typed_statement, typed_statements, typed_routine};
 
-use crate::measures::{hold, outgoing, weight_of};
+use crate::measures::{hold, outgoing, sum, weight_of};
 use crate::{TypedBinding, TypedBody, TypedExpr, TypedStmt};
 use sts_base::Seq;
 
@@ -120,8 +119,7 @@ fn statements_words(all: &[TypedStmt]) -> Words
 }
 
 fn optional_weight(e: &Option<TypedExpr>) -> u64
-    requires few { w.optional_weight (optional_typed_tree e.now) < 2 ^ 40 }
-    ensures { result ≡ w.optional_weight (optional_typed_tree e.now) }
+    ensures { result ≡ min (w.optional_weight (optional_typed_tree e.now)) (2 ^ 64 - 1) }
 {
     match e {
         None => 0,
@@ -130,54 +128,59 @@ fn optional_weight(e: &Option<TypedExpr>) -> u64
 }
 
 fn declared_weight(each: &[TypedBinding]) -> u64
-    requires few { w.declared_weight (typed_declarations each.now) < 2 ^ 40 }
-    ensures { result ≡ w.declared_weight (typed_declarations each.now) }
+    ensures { result ≡ min (w.declared_weight (typed_declarations each.now)) (2 ^ 64 - 1) }
 {
-    let mut sum = 0;
+    let mut weight = 0;
     for binding in each {
-        sum += 1 + optional_weight(&binding.first);
+        weight = sum(weight, sum(1, optional_weight(&binding.first)));
     }
-    sum
+    weight
+}
+
+/// What each turn of a loop weighs: its test, its step and a body of this weight.
+fn turn_weight(test: &Option<TypedExpr>, step: &Option<TypedExpr>, body: u64) -> u64
+    ensures { result ≡ min (w.optional_weight (optional_typed_tree test.now) + w.optional_weight (optional_typed_tree step.now) + body) (2 ^ 64 - 1) }
+{
+    sum(optional_weight(test), sum(optional_weight(step), body))
 }
 
 #[cycle(statement_weight)]
 fn statement_weight(s: &TypedStmt) -> u64
-    requires few { w.statement_weight (typed_statement s.now) < 2 ^ 40 }
-    ensures { result ≡ w.statement_weight (typed_statement s.now) }
+    ensures { result ≡ min (w.statement_weight (typed_statement s.now)) (2 ^ 64 - 1) }
 {
     match s {
-        TypedStmt::Block(all) => 1 + statements_weight(all.as_slice()),
-        TypedStmt::Let { each, .. } => 1 + declared_weight(each.as_slice()),
-        TypedStmt::If(test, a, None) => 1 + weight_of(test) + statement_weight(a),
+        TypedStmt::Block(all) => sum(1, statements_weight(all.as_slice())),
+        TypedStmt::Let { each, .. } => sum(1, declared_weight(each.as_slice())),
+        TypedStmt::If(test, a, None) => sum(1, sum(weight_of(test), statement_weight(a))),
         TypedStmt::If(test, a, Some(b)) => {
-            1 + weight_of(test) + statement_weight(a) + statement_weight(b)
+            let branches = sum(statement_weight(a), statement_weight(b));
+            sum(1, sum(weight_of(test), branches))
         }
-        TypedStmt::While(test, a) => 1 + weight_of(test) + statement_weight(a),
-        TypedStmt::DoWhile(a, test) => 1 + statement_weight(a) + weight_of(test),
+        TypedStmt::While(test, a) => sum(1, sum(weight_of(test), statement_weight(a))),
+        TypedStmt::DoWhile(a, test) => sum(1, sum(statement_weight(a), weight_of(test))),
         TypedStmt::For(first, test, step, a) => {
-            let turn = optional_weight(test) + optional_weight(step) + statement_weight(a);
+            let turn = turn_weight(test, step, statement_weight(a));
             match first {
-                None => 1 + turn,
-                Some(first) => 1 + statement_weight(first) + turn,
+                None => sum(1, turn),
+                Some(first) => sum(1, sum(statement_weight(first), turn)),
             }
         }
-        TypedStmt::ForOf { list, body, .. } => 4 + weight_of(list) + statement_weight(body),
-        TypedStmt::Return(value) => 1 + optional_weight(value),
-        TypedStmt::Plain(a) => 1 + weight_of(a),
+        TypedStmt::ForOf { list, body, .. } => sum(4, sum(weight_of(list), statement_weight(body))),
+        TypedStmt::Return(value) => sum(1, optional_weight(value)),
+        TypedStmt::Plain(a) => sum(1, weight_of(a)),
         TypedStmt::Break | TypedStmt::Continue | TypedStmt::Empty => 1,
     }
 }
 
 #[cycle(statement_weight)]
 fn statements_weight(all: &[TypedStmt]) -> u64
-    requires few { w.statements_weight (typed_statements all.now) < 2 ^ 40 }
-    ensures { result ≡ w.statements_weight (typed_statements all.now) }
+    ensures { result ≡ min (w.statements_weight (typed_statements all.now)) (2 ^ 64 - 1) }
 {
-    let mut sum = 0;
+    let mut weight = 0;
     for a in all {
-        sum += statement_weight(a);
+        weight = sum(weight, statement_weight(a));
     }
-    sum
+    weight
 }
 
 /// The greatest number of values that are pending at once in a function that weighs less than 2^40; 1 where it has no expression.
@@ -196,21 +199,20 @@ pub fn outgoing_words(body: &TypedBody) -> u64
     statements_words(body.stmts.as_slice()).outgoing
 }
 
-/// The words of a function's frame, for a function with fewer than 2^32 nodes.
-#[tactic(auto, using(crate::proofs::FrameBounds::lighter, crate::proofs::FrameBounds::pending_le, crate::proofs::FrameBounds::outgoing_words_le, crate::proofs::FrameBounds::locals_are))]
+/// The words of a function's frame, for a function that weighs less than 2^40 and has fewer than 2^32 locals.
+#[tactic(auto, using(crate::proofs::FrameBounds::pending_le, crate::proofs::FrameBounds::outgoing_words_le, crate::proofs::FrameBounds::locals_are))]
 pub fn frame_words(body: &TypedBody) -> u64
-    requires { routine_nodes (typed_routine body.now) < 2 ^ 32 }
+    requires light { w.weight (typed_routine body.now) < 2 ^ 40 }
+    requires few { length (typed_routine body.now).locals < 2 ^ 32 }
     ensures { result ≡ m.frame_words (typed_routine body.now) }
 {
     let words = statements_words(body.stmts.as_slice());
     5 + body.locals.len() as u64 + words.pending.max(1) + words.outgoing
 }
 
-/// The weight of a function with fewer than 2^32 nodes, main and constructors that are not written included.
-#[tactic(auto, using(crate::proofs::FrameBounds::lighter))]
+/// The weight of a function, main and constructors that are not written included; 2^64 - 1 where it is greater.
 pub fn weight(body: &TypedBody) -> u64
-    requires { routine_nodes (typed_routine body.now) < 2 ^ 32 }
-    ensures { result ≡ w.weight (typed_routine body.now) }
+    ensures { result ≡ min (w.weight (typed_routine body.now)) (2 ^ 64 - 1) }
 {
-    4 + statements_weight(body.stmts.as_slice())
+    sum(4, statements_weight(body.stmts.as_slice()))
 }

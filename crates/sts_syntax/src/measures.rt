@@ -1,5 +1,5 @@
 // How much a function of a typed program takes: the words of its frame, and its weight, which bounds its code.
-ghost use Rattle.std.specs.Prelude.{◌≡◌, ℕ, List, ◌+◌, ◌<◌, ◌≤◌, ◌^◌, [], map, length, drop};
+ghost use Rattle.std.specs.Prelude.{◌≡◌, ℕ, List, ◌+◌, ◌-◌, ◌<◌, ◌≤◌, ◌^◌, [], map, length, drop, min};
 ghost use Rattle.sts_syntax.specs.BoardTable.{placed};
 ghost use Rattle.sts_syntax.specs.BoardViews.{service_place};
 ghost use Rattle.sts_syntax.specs.Measures as m;
@@ -40,7 +40,8 @@ fn own_numbers(callee: Callee) -> u64
 }
 
 fn call_weight(callee: Callee) -> u64
-    ensures { result ≡ w.call_weight callee }
+    ensures weight { result ≡ w.call_weight callee }
+    ensures few { result ≤ 2 }
 {
     match callee {
         Callee::Slot(_) => 2,
@@ -48,11 +49,17 @@ fn call_weight(callee: Callee) -> u64
     }
 }
 
+/// A sum, or 2^64 - 1 where it is greater.
+pub(crate) fn sum(a: u64, b: u64) -> u64
+    ensures { result ≡ min (a + b) (2 ^ 64 - 1) }
+{
+    a.saturating_add(b)
+}
+
 /// The weight of an expression.
 #[cycle(weight)]
 pub(crate) fn weight_of(e: &TypedExpr) -> u64
-    requires few { w.weight_of (typed_tree e.now) < 2 ^ 40 }
-    ensures { result ≡ w.weight_of (typed_tree e.now) }
+    ensures { result ≡ min (w.weight_of (typed_tree e.now)) (2 ^ 64 - 1) }
 {
     match &e.node {
         TypedNode::Num(_)
@@ -62,35 +69,40 @@ pub(crate) fn weight_of(e: &TypedExpr) -> u64
         | TypedNode::Name(_)
         | TypedNode::Handler(_) => 1,
         TypedNode::Text(_) => 2,
-        TypedNode::Unary(_, a) | TypedNode::Field(a, _) | TypedNode::Length(a) => 1 + weight_of(a),
+        TypedNode::Unary(_, a) | TypedNode::Field(a, _) | TypedNode::Length(a) => sum(
+            1,
+            weight_of(a),
+        ),
         TypedNode::Binary(_, a, b)
         | TypedNode::Both(a, b)
         | TypedNode::Either(a, b)
-        | TypedNode::Item(a, b) => 1 + weight_of(a) + weight_of(b),
-        TypedNode::Choice(test, a, b) => 1 + weight_of(test) + weight_of(a) + weight_of(b),
-        TypedNode::Set(None, target, a) => 1 + weight_of(target) + weight_of(a),
-        TypedNode::Set(Some(_), target, a) => 3 + weight_of(target) + weight_of(a),
-        TypedNode::Bump { target, .. } => 3 + weight_of(target),
-        TypedNode::Call(callee, args) => {
-            call_weight(*callee) + own_numbers(*callee) + weights(args)
+        | TypedNode::Item(a, b) => sum(1, sum(weight_of(a), weight_of(b))),
+        TypedNode::Choice(test, a, b) => {
+            let branches = sum(weight_of(a), weight_of(b));
+            sum(1, sum(weight_of(test), branches))
         }
-        TypedNode::SuperCall(_, args) => 1 + weights(args),
-        TypedNode::Make(_, args) => 3 + weights(args),
-        TypedNode::Items(items) => 2 + weights(items),
+        TypedNode::Set(None, target, a) => sum(1, sum(weight_of(target), weight_of(a))),
+        TypedNode::Set(Some(_), target, a) => sum(3, sum(weight_of(target), weight_of(a))),
+        TypedNode::Bump { target, .. } => sum(3, weight_of(target)),
+        TypedNode::Call(callee, args) => {
+            sum(call_weight(*callee) + own_numbers(*callee), weights(args))
+        }
+        TypedNode::SuperCall(_, args) => sum(1, weights(args)),
+        TypedNode::Make(_, args) => sum(3, weights(args)),
+        TypedNode::Items(items) => sum(2, weights(items)),
     }
 }
 
 /// The weight of a list of expressions.
 #[cycle(weight)]
 fn weights(all: &Seq<TypedExpr>) -> u64
-    requires few { m.total (w.weights (typed_trees all.now)) < 2 ^ 40 }
-    ensures { result ≡ m.total (w.weights (typed_trees all.now)) }
+    ensures { result ≡ min (m.total (w.weights (typed_trees all.now))) (2 ^ 64 - 1) }
 {
-    let mut sum = 0;
+    let mut weight = 0;
     for a in all.as_slice() {
-        sum += weight_of(a);
+        weight = sum(weight, weight_of(a));
     }
-    sum
+    weight
 }
 
 /// The greatest number of values that are pending at once while an expression is evaluated, its own one included.

@@ -8,13 +8,7 @@ pub statement_weight-statements_weight-requires : goal.statement_weight-statemen
 statement_weight-statements_weight-requires t c =
     let w = ap statement_weight (block_is c.args.s.now c.in-Block.all c.in-Block.is) in
     let s = ap (λ xs. statements_weight (typed_statements xs)) c.as_slice.ensures in
-    (omega (arith, w, s, c.decreases), omega (arith, w, s, c.requires.few))
-
-pub statement_weight-overflow_add-result : goal.statement_weight-overflow_add-result
-statement_weight-overflow_add-result t c =
-    let w = ap statement_weight (block_is c.args.s.now c.in-Block.all c.in-Block.is) in
-    let s = ap (λ xs. statements_weight (typed_statements xs)) c.as_slice.ensures in
-    omega (arith, w, s, c.statements_weight.ensures, c.requires.few)
+    omega (arith, w, s, c.decreases)
 
 pub statement_weight-returns-in-Block : goal.statement_weight-returns-in-Block
 statement_weight-returns-in-Block t c =

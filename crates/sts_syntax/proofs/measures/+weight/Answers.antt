@@ -9,13 +9,7 @@ pub weight_of-weights-requires : goal.weight_of-weights-requires
 weight_of-weights-requires t c =
     let w = ap weight_of (call_is c.args.e.now c.in-Call.callee c.in-Call.args c.in-Call.is) in
     let a = arguments_total c.in-Call.callee (weights (typed_trees c.in-Call.args)) in
-    (omega (arith, w, a, c.decreases, one_more c.in-Call.callee), omega (arith, w, a, c.requires.few, one_more c.in-Call.callee))
-
-pub weight_of-overflow_add-result-in-Call-2 : goal.weight_of-overflow_add-result-in-Call-2
-weight_of-overflow_add-result-in-Call-2 t c =
-    let w = ap weight_of (call_is c.args.e.now c.in-Call.callee c.in-Call.args c.in-Call.is) in
-    let a = arguments_total c.in-Call.callee (weights (typed_trees c.in-Call.args)) in
-    omega (arith, w, c.requires.few, c.weights.ensures, c.call_weight.ensures, c.own_numbers.ensures.sum, a)
+    omega (arith, w, a, c.decreases, one_more c.in-Call.callee)
 
 pub weight_of-returns-in-Call : goal.weight_of-returns-in-Call
 weight_of-returns-in-Call t c =
@@ -26,12 +20,7 @@ weight_of-returns-in-Call t c =
 pub weight_of-weights-requires-in-SuperCall : goal.weight_of-weights-requires-in-SuperCall
 weight_of-weights-requires-in-SuperCall t c =
     let w = ap weight_of (super_call_is c.args.e.now c.in-SuperCall.field-0 c.in-SuperCall.args c.in-SuperCall.is) in
-    (omega (arith, w, c.decreases), omega (arith, w, c.requires.few))
-
-pub weight_of-overflow_add-result-in-SuperCall : goal.weight_of-overflow_add-result-in-SuperCall
-weight_of-overflow_add-result-in-SuperCall t c =
-    let w = ap weight_of (super_call_is c.args.e.now c.in-SuperCall.field-0 c.in-SuperCall.args c.in-SuperCall.is) in
-    omega (arith, w, c.requires.few, c.weights-in-SuperCall.ensures)
+    omega (arith, w, c.decreases)
 
 pub weight_of-returns-in-SuperCall : goal.weight_of-returns-in-SuperCall
 weight_of-returns-in-SuperCall t c =
@@ -41,12 +30,7 @@ weight_of-returns-in-SuperCall t c =
 pub weight_of-weights-requires-in-Make : goal.weight_of-weights-requires-in-Make
 weight_of-weights-requires-in-Make t c =
     let w = ap weight_of (make_is c.args.e.now c.in-Make.field-0 c.in-Make.args c.in-Make.is) in
-    (omega (arith, w, c.decreases), omega (arith, w, c.requires.few))
-
-pub weight_of-overflow_add-result-in-Make : goal.weight_of-overflow_add-result-in-Make
-weight_of-overflow_add-result-in-Make t c =
-    let w = ap weight_of (make_is c.args.e.now c.in-Make.field-0 c.in-Make.args c.in-Make.is) in
-    omega (arith, w, c.requires.few, c.weights-in-Make.ensures)
+    omega (arith, w, c.decreases)
 
 pub weight_of-returns-in-Make : goal.weight_of-returns-in-Make
 weight_of-returns-in-Make t c =
@@ -56,12 +40,7 @@ weight_of-returns-in-Make t c =
 pub weight_of-weights-requires-in-Items : goal.weight_of-weights-requires-in-Items
 weight_of-weights-requires-in-Items t c =
     let w = ap weight_of (items_is c.args.e.now c.in-Items.items c.in-Items.is) in
-    (omega (arith, w, c.decreases), omega (arith, w, c.requires.few))
-
-pub weight_of-overflow_add-result-in-Items : goal.weight_of-overflow_add-result-in-Items
-weight_of-overflow_add-result-in-Items t c =
-    let w = ap weight_of (items_is c.args.e.now c.in-Items.items c.in-Items.is) in
-    omega (arith, w, c.requires.few, c.weights-in-Items.ensures)
+    omega (arith, w, c.decreases)
 
 pub weight_of-returns-in-Items : goal.weight_of-returns-in-Items
 weight_of-returns-in-Items t c =
