@@ -2,7 +2,6 @@
 #![tactic(auto)]
 
 mod limits;
-mod statement_counts;
 mod text_bytes;
 mod uses;
 

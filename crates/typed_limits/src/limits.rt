@@ -1,5 +1,5 @@
 // The counted limits of a typed program.
-ghost use Rattle.std.specs.Prelude.{◌≡◌, ◌+◌, true, false, OnOk, IfOk, IfSome, is_some, drop, length};
+ghost use Rattle.std.specs.Prelude.{◌≡◌, ◌-◌, ◌^◌, min, true, false, OnOk, IfOk, IfSome, is_some, drop, length};
 ghost use Rattle.std.specs.List.{list_all};
 ghost use Rattle.sts_syntax.specs.TypedViews.{class_entry, class_entries, typed_routine, typed_routines, typed_program};
 ghost use Rattle.sts_syntax.specs.BoardTable.{library_size};
@@ -8,7 +8,6 @@ ghost use Rattle.sts_syntax.specs.Nodes.{expressions_of, all_expressions};
 ghost use Rattle.typed_limits.specs.Limits as l;
 ghost use Rattle.typed_limits.specs.Uses.{noted};
 
-use crate::statement_counts::{count_on, statements_count};
 use crate::text_bytes::texts_fit;
 use crate::uses::{Uses, note_statements};
 use std::alloc::Global;
@@ -40,36 +39,26 @@ fn classes_fit(classes: &[TypedClass]) -> bool
 
 /// The weight of a function, of which what its expressions use is noted.
 fn weigh(body: &TypedBody, uses: &mut Uses) -> Result<u64, NoMemory>
-    ensures weight { IfOk result (λ n. n ≡ w.weight (typed_routine body.now)) }
+    ensures weight { IfOk result (λ n. n ≡ min (w.weight (typed_routine body.now)) (2 ^ 64 - 1)) }
     ensures uses { OnOk result (uses.new ≡ noted uses.old (expressions_of (typed_routine body.now).all)) }
 {
-    let before = uses.nodes;
     note_statements(body.stmts.as_slice(), uses)?;
-    let nodes = statements_count(body.stmts.as_slice(), uses.nodes - before)?;
-    count_on(nodes, body.locals.len())?;
     Ok(weight(body))
 }
 
 /// Whether a function of this weight has at most 8 parameters, 64 locals, 64 values that are pending at once, and a weight of 1,200.
 #[tactic(auto, using(crate::proofs::Lengths::types_length))]
 fn routine_fits(body: &TypedBody, weight: u64) -> bool
-    requires { weight ≡ w.weight (typed_routine body.now) }
+    requires { weight ≡ min (w.weight (typed_routine body.now)) (2 ^ 64 - 1) }
     ensures { result ≡ l.routine_fits (typed_routine body.now) }
 {
     body.params.len() <= 8 && body.locals.len() <= 64 && weight <= 1200 && pending_words(body) <= 64
 }
 
-/// A sum, of which 64 bits hold no more than there is memory for.
-fn sum_of(a: u64, b: u64) -> Result<u64, NoMemory>
-    ensures { IfOk result (λ n. n ≡ a + b) }
-{
-    a.checked_add(b).ok_or(NoMemory)
-}
-
 /// The weight of some functions together, if each fits; what their expressions use is noted then.
 fn fitting_weight(bodies: &[TypedBody], uses: &mut Uses) -> Result<Option<u64>, NoMemory>
     ensures fits { IfOk result (λ sum. list_all l.routine_fits (typed_routines bodies.now) ≡ is_some sum) }
-    ensures weight { IfOk result (λ sum. IfSome sum (λ n. n ≡ w.routines_weight (typed_routines bodies.now))) }
+    ensures weight { IfOk result (λ sum. IfSome sum (λ n. n ≡ min (w.routines_weight (typed_routines bodies.now)) (2 ^ 64 - 1))) }
     ensures uses { IfOk result (λ sum. IfSome sum (λ n. uses.new ≡ noted uses.old (all_expressions (typed_routines bodies.now)))) }
 {
     let mut sum: u64 = 0;
@@ -78,7 +67,7 @@ fn fitting_weight(bodies: &[TypedBody], uses: &mut Uses) -> Result<Option<u64>, 
         if !routine_fits(body, weight) {
             return Ok(None);
         }
-        sum = sum_of(sum, weight)?;
+        sum = sum.saturating_add(weight);
     }
     Ok(Some(sum))
 }
@@ -86,7 +75,7 @@ fn fitting_weight(bodies: &[TypedBody], uses: &mut Uses) -> Result<Option<u64>, 
 /// The weight of a program's functions behind the library's, if each function fits; what the expressions of all use is noted then.
 fn own_weight(bodies: &[TypedBody], uses: &mut Uses) -> Result<Option<u64>, NoMemory>
     ensures fits { IfOk result (λ sum. list_all l.routine_fits (typed_routines bodies.now) ≡ is_some sum) }
-    ensures weight { IfOk result (λ sum. IfSome sum (λ n. n ≡ w.routines_weight (drop library_size (typed_routines bodies.now)))) }
+    ensures weight { IfOk result (λ sum. IfSome sum (λ n. n ≡ min (w.routines_weight (drop library_size (typed_routines bodies.now))) (2 ^ 64 - 1))) }
     ensures uses { IfOk result (λ sum. IfSome sum (λ n. uses.new ≡ noted uses.old (all_expressions (typed_routines bodies.now)))) }
 {
     let (library, own) = bodies.split_at(bodies.len().min(LIBRARY));
@@ -100,7 +89,7 @@ fn own_weight(bodies: &[TypedBody], uses: &mut Uses) -> Result<Option<u64>, NoMe
 /// Whether a program keeps the counted limits: at most 256 globals, 64 classes that fit, functions that fit, a weight of 3,600 for the text's own part, and 16,384
 /// bytes for the texts that it names.
 ///
-/// `NoMemory` is for want of memory, and for 2^32 expressions, statements and locals of one function, which no memory holds.
+/// `NoMemory` is for want of memory alone.
 pub fn program_fits(alloc: Global, typed: &Typed, texts: &[Seq<u8>]) -> Result<bool, NoMemory>
     ensures { IfOk result (λ fits. fits ≡ l.program_fits texts.now (typed_program typed.now)) }
 {
@@ -114,7 +103,6 @@ pub fn program_fits(alloc: Global, typed: &Typed, texts: &[Seq<u8>]) -> Result<b
         return Ok(false);
     }
     let mut uses = Uses {
-        nodes: 0,
         texts: Seq::new(alloc),
         repeats: 0,
     };
@@ -122,7 +110,8 @@ pub fn program_fits(alloc: Global, typed: &Typed, texts: &[Seq<u8>]) -> Result<b
         return Ok(false);
     };
     let more = 8 * uses.repeats as u64 + 2 * typed.classes.len() as u64;
-    if sum_of(own, more)? > 3600 {
+    let whole = own.saturating_add(more);
+    if whole > 3600 {
         return Ok(false);
     }
     texts_fit(alloc, uses.texts.as_slice(), texts, 16_384)

@@ -1,22 +1,18 @@
-// What the expressions of a typed program use: how many they are, the texts that they name, and calls of `forever`.
+// What the expressions of a typed program use: the texts that they name, and calls of `forever`.
 ghost use Rattle.std.specs.Prelude.{◌≡◌, ◌+◌, OnOk, IfOk};
 ghost use Rattle.sts_syntax.specs.TypedViews.{typed_tree, typed_trees, optional_typed_tree, typed_declarations, typed_statement, typed_statements};
 ghost use Rattle.sts_syntax.specs.Nodes.{nodes, nodes_of, optional_nodes, declared_nodes, expressions, expressions_of};
-ghost use Rattle.sts_syntax.specs.Sizes.{statement_nodes, statements_nodes};
 ghost use Rattle.typed_limits.specs.Uses.{with_node, noted};
 
-use crate::statement_counts::one_more;
 use sts_base::{NoMemory, Seq};
 use sts_syntax::{BoardAction, Callee, TypedBinding, TypedExpr, TypedNode, TypedStmt};
 
 /// What expressions use.
 #[derive(Drop)]
 pub struct Uses {
-    /// how many expressions there are
-    pub nodes: u32,
     /// the numbers of the texts among them, in text order
     pub texts: Seq<u32>,
-    /// how many of them are calls of `forever`
+    /// how many of them are calls of `forever`; 2^32 - 1 where there are more
     pub repeats: u32,
 }
 
@@ -24,12 +20,11 @@ pub struct Uses {
 fn note(e: &TypedExpr, uses: &mut Uses) -> Result<(), NoMemory>
     ensures { OnOk result (uses.new ≡ with_node uses.old (typed_tree e.now)) }
 {
-    uses.nodes = one_more(uses.nodes)?;
     match &e.node {
         TypedNode::Text(text) => uses.texts.push(*text),
         TypedNode::Call(Callee::Board(call), _) => {
             match call.action() {
-                BoardAction::Repeats => uses.repeats = one_more(uses.repeats)?,
+                BoardAction::Repeats => uses.repeats = uses.repeats.saturating_add(1),
                 BoardAction::Service(_, _) | BoardAction::Library(_) => {}
             }
             Ok(())

@@ -23,7 +23,8 @@ loop-body-preserved c =
     let fit : routine_fits (typed_routine b) ≡ true = sym c.if-not-routine_fits.ensures in
     record {
       fits = sym (ap (λ (f : Bool). f && list_all routine_fits rest) fit) ∙ sym (ap (λ (xs : List TypedBody). list_all routine_fits (typed_routines xs)) next) ∙ c.loop-body.invariant.fits;
-      weight = (let w = ap (λ (xs : List TypedBody). routines_weight (typed_routines xs)) next in omega (arith, w, c.in_ok-weight.ensures.weight, c.in_ok-sum.ensures, c.loop-body.invariant.weight));
+      weight = (let w = ap (λ (xs : List TypedBody). routines_weight (typed_routines xs)) next in omega (arith, w, c.in_ok-weight.ensures.weight, c.saturating_add-sum.ensures, c.loop-body.invariant.weight));
+      most = omega (arith, c.saturating_add-sum.ensures);
       uses = ap (λ (u : Uses). noted u (all_expressions rest)) c.in_ok-weight.ensures.uses
           ∙ sym (noted_append c.loop-body.uses (expressions_of (typed_routine b).all) (all_expressions rest))
           ∙ ap (λ (xs : List TypedBody). noted c.loop-body.uses (all_expressions (typed_routines xs))) (sym next)

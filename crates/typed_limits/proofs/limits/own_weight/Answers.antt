@@ -1,4 +1,4 @@
-use Rattle.std.proofs.Common.{◌≡◌, ◌++◌, List, ◌<◌, ◌≤◌, length, take, drop, sym, ap, subst, ◌∙◌, arith}
+use Rattle.std.proofs.Common.{◌≡◌, ◌-◌, ◌^◌, min, ◌++◌, List, ◌<◌, ◌≤◌, length, take, drop, sym, ap, subst, ◌∙◌, arith}
 use Rattle.std.specs.Prelude.{IfSome}
 use Rattle.sts_syntax.specs.declared.typed.TypedBody.{TypedBody}
 use Rattle.sts_syntax.specs.TypedTrees.{TypedRoutine, TypedTree}
@@ -21,7 +21,7 @@ returns-clause-weight c =
     let short : n < library_size → length (typed_routines bodies) ≤ n = λ less. omega (arith, less, c.min.ensures, l) in
     let is : typed_routines c.split_at.result.1.now ≡ drop library_size (typed_routines bodies) =
     ap typed_routines c.split_at.ensures.back ∙ drop_routines n bodies ∙ drop_least library_size n (typed_routines bodies) least short in
-    subst (λ (rs : List TypedRoutine). IfSome c.in_ok-sum.sum (λ m. m ≡ routines_weight rs)) is c.in_ok-sum.ensures.weight
+    subst (λ (rs : List TypedRoutine). IfSome c.in_ok-sum.sum (λ m. m ≡ min (routines_weight rs) (2 ^ 64 - 1))) is c.in_ok-sum.ensures.weight
 
 pub returns-clause-uses : goal.returns-clause-uses
 returns-clause-uses c =
