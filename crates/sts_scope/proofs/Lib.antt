@@ -1,4 +1,5 @@
 pub mod Lists
+pub mod Deeper
 pub mod Statements
 pub mod Whole
 pub mod Chains

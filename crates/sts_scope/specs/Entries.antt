@@ -1,6 +1,6 @@
 -- What a program declares by name, in text order: globals, functions and classes, and the fields and methods of classes.
 use Rattle.std.specs.Prelude.{ℕ, ◌+◌, Bool, Option, Some, None, List, [], ◌∷◌, ◌++◌, ◌==◌, length, unwrap_or}
-use Rattle.std.specs.Option.{option_map}
+use Rattle.std.specs.Option.{option_map, option_and_then}
 use Rattle.std.specs.List.{position_from}
 use Rattle.sts_syntax.specs.Annotations as s
 use Rattle.sts_syntax.specs.Annotations.{Annotation}
@@ -13,7 +13,7 @@ use Rattle.sts_scope.specs.declared.entries.Sort.{Sort}
 use Rattle.sts_scope.specs.declared.entries.Sort.TheVariants as sort
 use Rattle.sts_scope.specs.declared.entries.Entry.{Entry}
 use Rattle.sts_scope.specs.declared.entries.ClassHead.{ClassHead}
-use Rattle.sts_scope.specs.Kinds.{number, boolean, text, nothing, object, array}
+use Rattle.sts_scope.specs.Kinds.{number, boolean, text, nothing, object, array_of}
 
 -- the names of the classes, in text order
 abbrev pub item_class : TopLevel → List ℕ
@@ -33,14 +33,14 @@ class_number names x = position_from (λ y. y == x) 0 names
 abbrev pub Naming : Type 0
 Naming = ℕ → Option ℕ
 
--- the type that is written, if its name is known
+-- the type that is written, if its name is known and it hasn't too many `[]`
 abbrev pub kind_of : Naming → Annotation → Option Kind
 kind_of names s.Number = Some number
 kind_of names s.Boolean = Some boolean
 kind_of names s.Text = Some text
 kind_of names s.Nothing = Some nothing
 kind_of names (s.Named at x) = option_map object (names x)
-kind_of names (s.ListOf a) = option_map array (kind_of names a)
+kind_of names (s.ListOf a) = option_and_then array_of (kind_of names a)
 
 abbrev pub written_kind : Naming → Option Annotation → Option Kind
 written_kind names None = None

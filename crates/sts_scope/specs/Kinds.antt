@@ -1,5 +1,5 @@
 -- Types as names and calls are given them: a base, and how many `[]` stand behind it.
-use Rattle.std.specs.Prelude.{ℕ, ◌+◌, ◌-◌, Bool, true, false, not, ◌&&◌, ◌||◌, ◌==◌, Option, Some, None, List, [], ◌∷◌}
+use Rattle.std.specs.Prelude.{ℕ, ◌+◌, ◌-◌, Bool, true, false, not, ◌&&◌, ◌||◌, ◌==◌, nat_lt, if◌then◌else◌, Option, Some, None, List, [], ◌∷◌}
 use Rattle.sts_syntax.specs.Types as t
 use Rattle.sts_syntax.specs.Layered.{layered}
 use Rattle.sts_syntax.specs.Types.{ValueType, ListOf}
@@ -32,12 +32,17 @@ empty = flat b.Empty
 abbrev pub object : ℕ → Kind
 object c = flat (b.Class c)
 
+-- one `[]` more
 abbrev pub array : Kind → Kind
 array t = record { base = t.base; depth = t.depth + 1 }
 
--- so many `[]` more
-abbrev pub deepened : ℕ → Kind → Kind
-deepened n t = record { base = t.base; depth = t.depth + n }
+-- how many `[]` a type has at most
+abbrev pub most_brackets : ℕ
+most_brackets = 4294967295
+
+-- the type of an array of items of a type: a type of more `[]` isn't known
+abbrev pub array_of : Kind → Option Kind
+array_of t = if nat_lt t.depth most_brackets then Some (array t) else None
 
 -- the type of an array's items
 abbrev pub item : Kind → Kind

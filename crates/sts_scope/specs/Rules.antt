@@ -14,7 +14,7 @@ use Rattle.sts_scope.specs.declared.known.Found.{Found}
 use Rattle.sts_scope.specs.declared.known.Found.TheVariants as found
 use Rattle.sts_scope.specs.declared.known.Part.{Part}
 use Rattle.sts_scope.specs.declared.known.Part.TheVariants as part
-use Rattle.sts_scope.specs.Kinds.{number, boolean, nothing, null, empty, object, array, item, same, is_array, class_of, takes_null}
+use Rattle.sts_scope.specs.Kinds.{number, boolean, nothing, null, empty, object, array_of, item, same, is_array, class_of, takes_null}
 use Rattle.sts_scope.specs.Lookup.{base_of, member_number, sort_of}
 use Rattle.sts_scope.specs.Places.{Place}
 use Rattle.sts_syntax.specs.declared.operators.TheConstants.{NEGATE, PLUS, NOT, COMPLEMENT, BIT_OR, BIT_XOR, BIT_AND, EQUAL, UNEQUAL, LESS, GREATER, AT_MOST, AT_LEAST, SHIFT_LEFT, SHIFT_RIGHT, SHIFT_RIGHT_UNSIGNED, ADD, SUBTRACT, MULTIPLY, DIVIDE, REMAINDER}
@@ -100,9 +100,9 @@ counted t = if same t number then Some number else None
 unfoldable pub element : Kind → Kind → Option Kind
 element a i = if is_array a && same i number then Some (item a) else None
 
--- the first item's type, which the others go to; `[]` alone has no type
+-- an array of the first item's type, which the others go to; `[]` alone has no type
 unfoldable pub items_type : List ClassHead → Kind → List Kind → Option Kind
-items_type classes t ts = if all_go_to classes t ts then Some (array t) else None
+items_type classes t ts = if all_go_to classes t ts then array_of t else None
 
 -- the type of a declaration, by its number
 abbrev pub kind_at : Known → ℕ → Option Kind

@@ -60,9 +60,10 @@ pub fn number_classes(classes: &mut ByNumber, first: u32, items: &[Item]) -> Res
     Ok(count)
 }
 
-/// The type that is written, if its name is known.
-pub fn kind_of(classes: &ByNumber, shape: &Shape) -> Result<Option<Kind>, NoMemory>
-    ensures { IfOk result (λ kind. kind ≡ entry.kind_of (value_at classes.now.values.items) (annotation shape.now)) }
+/// The type that is written, if its name is known and it hasn't too many `[]`.
+#[tactic(auto, using(crate::proofs::Deeper::same_kind, crate::proofs::Deeper::deeper_item, crate::proofs::Deeper::too_deep))]
+pub fn kind_of(classes: &ByNumber, shape: &Shape) -> Option<Kind>
+    ensures { result ≡ entry.kind_of (value_at classes.now.values.items) (annotation shape.now) }
 {
     let mut at = shape;
     let mut depth = 0;
@@ -77,38 +78,41 @@ pub fn kind_of(classes: &ByNumber, shape: &Shape) -> Result<Option<Kind>, NoMemo
                 None => None,
             },
             Shape::List(item) => {
-                depth = following(depth)?;
+                if depth == u32::MAX {
+                    return None;
+                }
+                depth += 1;
                 at = item;
                 continue;
             }
         };
         return match base {
-            Some(base) => Ok(Some(Kind { base, depth })),
-            None => Ok(None),
+            Some(base) => Some(Kind { base, depth }),
+            None => None,
         };
     }
 }
 
-/// The type that is written, if there is one and its name is known.
-pub fn written_kind(classes: &ByNumber, shape: &Option<Shape>) -> Result<Option<Kind>, NoMemory>
-    ensures { IfOk result (λ kind. kind ≡ entry.written_kind (value_at classes.now.values.items) (optional_annotation shape.now)) }
+/// The type that is written, if there is one and it is known.
+pub fn written_kind(classes: &ByNumber, shape: &Option<Shape>) -> Option<Kind>
+    ensures { result ≡ entry.written_kind (value_at classes.now.values.items) (optional_annotation shape.now) }
 {
     match shape {
         Some(shape) => kind_of(classes, shape),
-        None => Ok(None),
+        None => None,
     }
 }
 
 /// The type of a parameter; one that isn't known counts as nothing.
-fn parameter_kind(classes: &ByNumber, param: &Param) -> Result<Kind, NoMemory>
-    ensures { IfOk result (λ kind. kind ≡ unwrap_or (entry.written_kind (value_at classes.now.values.items) (optional_annotation param.now.shape)) nothing) }
+fn parameter_kind(classes: &ByNumber, param: &Param) -> Kind
+    ensures { result ≡ unwrap_or (entry.written_kind (value_at classes.now.values.items) (optional_annotation param.now.shape)) nothing }
 {
-    match written_kind(classes, &param.shape)? {
-        Some(kind) => Ok(kind),
-        None => Ok(Kind {
+    match written_kind(classes, &param.shape) {
+        Some(kind) => kind,
+        None => Kind {
             base: Base::Nothing,
             depth: 0,
-        }),
+        },
     }
 }
 
@@ -122,7 +126,7 @@ pub fn parameter_kinds(
 {
     let mut kinds = Seq::new(alloc);
     for i in 0..params.len() {
-        let kind = parameter_kind(classes, &params[i])?;
+        let kind = parameter_kind(classes, &params[i]);
         kinds.push(kind)?;
     }
     Ok(kinds)
@@ -147,7 +151,7 @@ pub fn add_declared(
 ) -> Result<(), NoMemory>
     ensures { OnOk result (Adds known.old known.new (entry.declared_entry owner sort (declaration b.now) ∷ []) (entry.declared_kind (value_at classes.now.values.items) (declaration b.now) ∷ []) []) }
 {
-    let kind = written_kind(classes, &b.shape)?;
+    let kind = written_kind(classes, &b.shape);
     let entry = Entry {
         at: b.at,
         owner,
@@ -172,7 +176,7 @@ pub fn add_routine(
     ensures { OnOk result (Adds known.old known.new (entry.routine_entry (value_at classes.now.values.items) owner name sort (routine body.now) ∷ []) (entry.routine_gives (value_at classes.now.values.items) (routine body.now) ∷ []) []) }
 {
     let takes = parameter_kinds(alloc, classes, body.params.as_slice())?;
-    let kind = written_kind(classes, &body.gives)?;
+    let kind = written_kind(classes, &body.gives);
     let entry = Entry {
         at: body.at,
         owner,

@@ -1,11 +1,10 @@
 // Types, and which goes where.
-ghost use Rattle.std.specs.Prelude.{◌≡◌, ◌<◌, ◌+◌, length, IfOk, IfErr};
+ghost use Rattle.std.specs.Prelude.{◌≡◌, ◌<◌, ◌+◌, length};
 ghost use Rattle.sts_scope.specs.Kinds as kind;
 ghost use Rattle.sts_scope.specs.Rules as rule;
 
 use crate::environment::Environment;
 use crate::kinds::{Base, Kind};
-use sts_base::Refused;
 
 /// A type without `[]`.
 pub fn flat(base: Base) -> Kind
@@ -83,17 +82,17 @@ pub fn item(t: Kind) -> Kind
     }
 }
 
-/// The type of an array of items of a type, if memory could hold one value of it.
-pub fn array(t: Kind) -> Result<Kind, Refused>
-    ensures ok { IfOk result (λ u. u ≡ kind.array t) }
-    ensures err { IfErr result (λ e. e ≡ Refused.NoMemory) }
+/// The type of an array of items of a type. None exactly where it would have more `[]` than a type may have.
+pub fn array_of(t: Kind) -> Option<Kind>
+    ensures { result ≡ kind.array_of t }
 {
-    match t.depth.checked_add(1) {
-        Some(depth) => Ok(Kind {
+    if t.depth < u32::MAX {
+        Some(Kind {
             base: t.base,
-            depth,
-        }),
-        None => Err(Refused::NoMemory),
+            depth: t.depth + 1,
+        })
+    } else {
+        None
     }
 }
 

@@ -25,7 +25,7 @@ pub use collect::{Declared, declarations_of};
 pub use entries::{ClassHead, Entry, Owner, Sort};
 pub use environment::Environment;
 pub use faults::{or_no_memory, unless};
-pub use kind_rules::{array, below, class_of, flat, goes, is_array, item, same, takes_null};
+pub use kind_rules::{array_of, below, class_of, flat, goes, is_array, item, same, takes_null};
 pub use kinds::{Base, Kind};
 pub use known::{Found, Known, Local, Part, This};
 pub use lookup::{is_dollar, sort_of};

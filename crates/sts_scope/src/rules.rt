@@ -1,12 +1,11 @@
 // The type of a node from the types of its parts.
-ghost use Rattle.std.specs.Prelude.{◌≡◌, ◌<◌, ◌+◌, length, IfOk, IfErr};
+ghost use Rattle.std.specs.Prelude.{◌≡◌, ◌<◌, ◌+◌, length};
 ghost use Rattle.sts_scope.specs.Kinds as kind;
 ghost use Rattle.sts_scope.specs.Rules as rule;
 
 use crate::environment::Environment;
-use crate::kind_rules::{array, below, flat, goes, is_array, item, same, takes_null};
+use crate::kind_rules::{below, flat, goes, is_array, item, same, takes_null};
 use crate::kinds::{Base, Kind};
-use sts_base::Refused;
 use sts_syntax::operators::{
     ADD, AT_LEAST, AT_MOST, BIT_AND, BIT_OR, BIT_XOR, COMPLEMENT, DIVIDE, EQUAL, GREATER, LESS,
     MULTIPLY, NEGATE, NOT, PLUS, REMAINDER, SHIFT_LEFT, SHIFT_RIGHT, SHIFT_RIGHT_UNSIGNED,
