@@ -1,5 +1,5 @@
 -- Going through a list item by item: what is left of it, and the first places in it.
-use Rattle.std.proofs.Common.{◌≡◌, ℕ, zero, suc, ◌+◌, ◌==◌, ◌<◌, ◌≤◌, Some, None, Option, List, [], ◌∷◌, ◌++◌, length, get_or, drop, refl, sym, ap, ◌∙◌, arith, drop-cons, Bool, true, false, cond}
+use Rattle.std.proofs.Common.{◌≡◌, ℕ, zero, suc, ◌+◌, ◌==◌, ◌<◌, ◌≤◌, Some, None, Option, List, [], ◌∷◌, ◌++◌, length, get_or, drop, refl, sym, ap, ◌∙◌, arith, drop-cons, length-append, Bool, true, false, cond}
 use Rattle.std.specs.List.{position_from}
 use Rattle.sts_syntax.specs.declared.units.Item.{Item}
 use Rattle.sts_syntax.specs.Programs.{top_level, top_levels}
@@ -39,6 +39,15 @@ position-append p n (x ∷ xs) ys =
 pub names_step : (items : List Item) (i : ℕ) (x : Item) → i < length items → x ≡ get_or items i x →
     class_names (top_levels (drop i items)) ≡ item_class (top_level x) ++ class_names (top_levels (drop (i + 1) items))
 names_step items i x lt is = ap (λ xs. class_names (top_levels xs)) (drop_at items i x lt is)
+
+-- where all are fewer than a limit, the next one's number is below it
+pub number_fits : (items : List Item) (i : ℕ) (x : Item) (count first limit : ℕ) → i < length items → x ≡ get_or items i x →
+    count + length (class_names (top_levels (drop i items))) ≡ first + length (class_names (top_levels items)) → first + length (class_names (top_levels items)) < limit →
+    count + length (item_class (top_level x)) < limit
+number_fits items i x count first limit lt is same few =
+    let rest = class_names (top_levels (drop (i + 1) items)) in
+    let parts : length (class_names (top_levels (drop i items))) ≡ length (item_class (top_level x)) + length rest = ap length (names_step items i x lt is) ∙ length-append (item_class (top_level x)) rest in
+    omega (arith, parts, same, few)
 
 -- what is numbered with the next ones is what is numbered with all
 pub numbered : (y count next : ℕ) (old new : Option ℕ) (xs ys all : List ℕ) →

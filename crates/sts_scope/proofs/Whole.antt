@@ -1,14 +1,16 @@
 -- A library and a text behind it: what they declare together.
-use Rattle.std.proofs.Common.{◌≡◌, ℕ, ◌+◌, ◌≤◌, ◌==◌, Option, List, [], ◌∷◌, ◌++◌, length, refl, sym, ap, ◌∙◌, arith, append_assoc, length-append}
+use Rattle.std.proofs.Common.{◌≡◌, ℕ, ◌+◌, ◌<◌, ◌≤◌, ◌==◌, Option, List, [], ◌∷◌, ◌++◌, length, get_or, drop, refl, sym, ap, ◌∙◌, arith, append_assoc, length-append}
 use Rattle.std.proofs.Math.Path.{fun_ext}
 use Rattle.std.specs.List.{position_from}
-use Rattle.sts_syntax.specs.Programs.{TopLevel, Class, Function, Main, Program}
+use Rattle.sts_syntax.specs.declared.units.Item.{Item}
+use Rattle.sts_syntax.specs.Programs.{TopLevel, Class, Function, Main, Program, top_level, top_levels}
+use Rattle.sts_scope.specs.declared.entries.ClassHead.{ClassHead}
 use Rattle.sts_scope.specs.declared.known.Known.{Known}
 use Rattle.sts_scope.specs.Values.{value_at, or_else}
 use Rattle.sts_scope.specs.Adding.{Adds}
 use Rattle.sts_scope.specs.Entries.{Naming, class_names, item_class, item_entries, item_heads, item_kinds, entries_from, heads_of, written_kinds}
 use Rattle.sts_scope.specs.Scopes.{all_names, all_entries, all_classes, all_kinds, library_entries, library_classes}
-use Rattle.sts_scope.proofs.Lists.{position-append}
+use Rattle.sts_scope.proofs.Lists.{position-append, number_fits}
 
 pub names-append : (xs ys : Program) → class_names (xs ++ ys) ≡ class_names xs ++ class_names ys
 names-append [] ys = refl
@@ -41,6 +43,49 @@ head_count f [] = refl
 head_count f (x ∷ xs) =
     length-append (item_heads f x) (heads_of f xs) ∙ ap (λ n. n + length (heads_of f xs)) (item_head_count f x) ∙ ap (λ n. length (item_class x) + n) (head_count f xs)
     ∙ sym (length-append (item_class x) (class_names xs))
+
+item_names_are_entries : (f : Naming) (c : ℕ) (x : TopLevel) → length (item_class x) ≤ length (item_entries f c x)
+item_names_are_entries f c (Class at name base base_at members) = omega arith
+item_names_are_entries f c (Function name r) = omega arith
+item_names_are_entries f c (Main a) = omega arith
+
+-- each class is a declaration
+pub class_names_are_entries : (f : Naming) (c : ℕ) (xs : Program) → length (class_names xs) ≤ length (entries_from f c xs)
+class_names_are_entries f c [] = omega arith
+class_names_are_entries f c (x ∷ xs) =
+    let n = length-append (item_class x) (class_names xs) in
+    let m = length-append (item_entries f c x) (entries_from f (c + length (item_class x)) xs) in
+    let one = item_names_are_entries f c x in
+    let rest = class_names_are_entries f (c + length (item_class x)) xs in
+    omega (arith, n, m, one, rest)
+
+-- where all are fewer than a limit, those before the next one and it are
+pub heads_fit : (f : Naming) (items : List Item) (i : ℕ) (x : Item) (now old : List ClassHead) (limit : ℕ) → i < length items → x ≡ get_or items i x →
+    now ++ heads_of f (top_levels (drop i items)) ≡ old ++ heads_of f (top_levels items) → length old + length (class_names (top_levels items)) < limit →
+    length now + length (item_class (top_level x)) < limit
+heads_fit f items i x now old limit lt is same few =
+    let count : length now + length (class_names (top_levels (drop i items))) ≡ length old + length (class_names (top_levels items)) =
+    ap (λ n. length now + n) (sym (head_count f (top_levels (drop i items)))) ∙ sym (length-append now (heads_of f (top_levels (drop i items)))) ∙ ap length same
+    ∙ length-append old (heads_of f (top_levels items)) ∙ ap (λ n. length old + n) (head_count f (top_levels items)) in
+    number_fits items i x (length now) (length old) limit lt is count few
+
+-- the classes of both, and of each
+pub both_names : (library text : Program) → length (class_names (library ++ text)) ≡ length (class_names library) + length (class_names text)
+both_names library text = ap length (names-append library text) ∙ length-append (class_names library) (class_names text)
+
+-- where the classes of both are fewer than a limit, those of the first and then of the second are, and all that were added
+pub second_fits : (f : Naming) (library text : Program) (old new : List ClassHead) (limit : ℕ) → length (class_names (library ++ text)) < limit → old ≡ [] → new ≡ old ++ heads_of f library →
+    length new + length (class_names text) < limit
+second_fits f library text old new limit few none is =
+    let each : length new ≡ length (class_names library) = ap length (is ∙ ap (λ cs. cs ++ heads_of f library) none) ∙ head_count f library in
+    omega (arith, each, both_names library text, few)
+
+pub all_fit : (f : Naming) (library text : Program) (old mid new : List ClassHead) (limit : ℕ) → length (class_names (library ++ text)) < limit → old ≡ [] → mid ≡ old ++ heads_of f library →
+    new ≡ mid ++ heads_of f text → length new < limit
+all_fit f library text old mid new limit few none first second =
+    let each : length new ≡ length mid + length (class_names text) = ap length second ∙ length-append mid (heads_of f text) ∙ ap (λ n. length mid + n) (head_count f text) in
+    let fits = second_fits f library text old mid limit few none first in
+    omega (arith, each, fits)
 
 -- numbers that are given twice, for the library and behind it for the text
 pub all_named : (library text : Program) (first second : List (Option ℕ)) (count : ℕ) →

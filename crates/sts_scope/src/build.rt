@@ -1,5 +1,5 @@
 // Putting together what a text declares.
-ghost use Rattle.std.specs.Prelude.{◌≡◌, ℕ, ◌+◌, ◌==◌, length, ◌++◌, ◌∷◌, [], IfOk, OnOk, unwrap_or};
+ghost use Rattle.std.specs.Prelude.{◌≡◌, ℕ, ◌+◌, ◌<◌, ◌^◌, ◌==◌, length, ◌++◌, ◌∷◌, [], IfOk, OnOk, unwrap_or};
 ghost use Rattle.std.specs.List.{position_from};
 ghost use Rattle.sts_syntax.specs.Programs.{top_level, top_levels, class_member, class_members};
 ghost use Rattle.sts_syntax.specs.Views.{statement, declaration, declarations, routine, parameters, optional_annotation};
@@ -15,18 +15,9 @@ use std::alloc::Global;
 use sts_base::{NoMemory, Seq};
 use sts_syntax::{Binding, Body, Item, Param, Shape};
 
-/// The number behind this one, if memory could hold so many.
-fn following(count: u32) -> Result<u32, NoMemory>
-    ensures { IfOk result (λ n. n ≡ count + 1) }
-{
-    match count.checked_add(1) {
-        Some(n) => Ok(n),
-        None => Err(NoMemory),
-    }
-}
-
 /// Numbers a class, unless its name has a number already.
 fn number_class(classes: &mut ByNumber, count: u32, item: &Item) -> Result<u32, NoMemory>
+    requires { count + length (entry.item_class (top_level item.now)) < 2 ^ 32 }
     ensures names { OnOk result ((y : ℕ) → value_at classes.new.values.items y ≡ or_else (value_at classes.old.values.items y) (position_from (λ z. z == y) count (entry.item_class (top_level item.now)))) }
     ensures count { IfOk result (λ n. n ≡ count + length (entry.item_class (top_level item.now))) }
 {
@@ -41,7 +32,7 @@ fn number_class(classes: &mut ByNumber, count: u32, item: &Item) -> Result<u32, 
             if classes.get(*name).is_none() {
                 classes.set(*name, count)?;
             }
-            following(count)
+            Ok(count + 1)
         }
         Item::Function { name: _, body: _ } => Ok(count),
         Item::Stmt(_) => Ok(count),
@@ -50,6 +41,7 @@ fn number_class(classes: &mut ByNumber, count: u32, item: &Item) -> Result<u32, 
 
 /// Numbers the classes of some parts of a text, behind those that have numbers.
 pub fn number_classes(classes: &mut ByNumber, first: u32, items: &[Item]) -> Result<u32, NoMemory>
+    requires { first + length (entry.class_names (top_levels items.now)) < 2 ^ 32 }
     ensures names { OnOk result ((y : ℕ) → value_at classes.new.values.items y ≡ or_else (value_at classes.old.values.items y) (position_from (λ z. z == y) first (entry.class_names (top_levels items.now)))) }
     ensures count { IfOk result (λ n. n ≡ first + length (entry.class_names (top_levels items.now))) }
 {

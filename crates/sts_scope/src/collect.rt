@@ -1,5 +1,5 @@
 // All declarations of a library and a text.
-ghost use Rattle.std.specs.Prelude.{◌≡◌, ℕ, ◌+◌, ◌==◌, length, ◌++◌, ◌∷◌, [], IfOk, OnOk};
+ghost use Rattle.std.specs.Prelude.{◌≡◌, ℕ, ◌+◌, ◌<◌, ◌^◌, ◌==◌, length, ◌++◌, ◌∷◌, [], IfOk, OnOk};
 ghost use Rattle.sts_syntax.specs.Programs.{top_level, top_levels, class_member, class_members, program};
 ghost use Rattle.sts_syntax.specs.Views.{statement, declarations, routine};
 ghost use Rattle.sts_scope.specs.Values.{value_at};
@@ -137,14 +137,12 @@ fn class_number(classes: &ByNumber, name: Option<u32>) -> Option<u32>
     }
 }
 
-/// The number of the class that comes next, if memory could hold so many.
-fn next_class(known: &Known) -> Result<u32, NoMemory>
-    ensures { IfOk result (λ n. n ≡ length known.now.classes) }
+/// The number of the class that comes next.
+fn next_class(known: &Known) -> u32
+    requires { length known.now.classes < 2 ^ 32 }
+    ensures { result ≡ length known.now.classes }
 {
-    match u32::try_from(known.classes.len()) {
-        Ok(n) => Ok(n),
-        Err(_) => Err(NoMemory),
-    }
+    known.classes.len() as u32
 }
 
 /// Adds what a part of a text declares.
@@ -154,6 +152,7 @@ fn add_item(
     known: &mut Known,
     item: &Item,
 ) -> Result<(), NoMemory>
+    requires { length known.old.classes + length (entry.item_class (top_level item.now)) < 2 ^ 32 }
     ensures { OnOk result (Adds known.old known.new (entry.item_entries (value_at classes.now.values.items) (length known.old.classes) (top_level item.now)) (entry.item_kinds (value_at classes.now.values.items) (top_level item.now)) (entry.item_heads (value_at classes.now.values.items) (top_level item.now))) }
 {
     match item {
@@ -164,7 +163,7 @@ fn add_item(
             base_at,
             members,
         } => {
-            let class = next_class(known)?;
+            let class = next_class(known);
             let takes = maker_takes(alloc, classes, members.as_slice())?;
             let head = ClassHead {
                 at: *at,
@@ -204,6 +203,7 @@ fn add_items(
     known: &mut Known,
     items: &[Item],
 ) -> Result<(), NoMemory>
+    requires { length known.old.classes + length (entry.class_names (top_levels items.now)) < 2 ^ 32 }
     ensures { OnOk result (Adds known.old known.new (entry.entries_from (value_at classes.now.values.items) (length known.old.classes) (top_levels items.now)) (entry.written_kinds (value_at classes.now.values.items) (top_levels items.now)) (entry.heads_of (value_at classes.now.values.items) (top_levels items.now))) }
 {
     for i in 0..items.len() {
@@ -225,6 +225,7 @@ pub struct Declared {
 
 /// What a library and a text declare, with the types that are written.
 pub fn declarations_of(alloc: Global, library: &Unit, text: &Unit) -> Result<Declared, NoMemory>
+    requires few { length (entry.class_names (program library.now ++ program text.now)) < 2 ^ 32 }
     ensures { IfOk result (λ r. IsDeclared (program library.now) (program text.now) r) }
 {
     let mut classes = ByNumber::new(alloc);

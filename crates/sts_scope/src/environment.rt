@@ -1,5 +1,5 @@
 // What is known of a program, with the lines of its classes.
-ghost use Rattle.std.specs.Prelude.{◌≡◌, ◌<◌, Some, length, set, IfOk};
+ghost use Rattle.std.specs.Prelude.{◌≡◌, ◌<◌, ◌^◌, Some, length, set, IfOk};
 ghost use Rattle.sts_scope.specs.Lookup as look;
 ghost use Rattle.sts_scope.specs.Bases as base;
 ghost use Rattle.sts_scope.specs.Rules as rule;
@@ -24,6 +24,7 @@ pub struct Environment {
 }
 
 impl Model for Environment {
+    ghost use Rattle.std.specs.Prelude.{◌<◌, ◌^◌, length};
     ghost use Rattle.sts_scope.specs.declared.known.Known.{Known};
     ghost use Rattle.sts_scope.specs.Lines.{AreLines};
 
@@ -31,12 +32,13 @@ impl Model for Environment {
 
     ghost view = { λ e. record { entries = e.entries; classes = e.classes; kinds = e.kinds; library = e.library } };
 
-    ghost invariant = { λ e. AreLines e.entries e.classes e.maps e.lines };
+    ghost invariant = { λ e. AreLines e.entries e.classes e.maps e.lines × (length e.classes < 2 ^ 32) };
 }
 
 impl Environment {
     /// What is known of a program, with the lines of its classes.
     pub fn new(alloc: Global, known: Known) -> Result<Environment, NoMemory>
+        requires few { length known.classes < 2 ^ 32 }
         ensures { IfOk result (λ e. e ≡ known) }
     {
         let mut maps = MadeMaps::new(alloc);
@@ -58,9 +60,10 @@ impl Environment {
         &self.entries
     }
 
-    /// The classes, in text order.
+    /// The classes, in text order: 32 bits count them.
     pub fn classes(&self) -> &[ClassHead]
-        ensures { result.now ≡ self.now.classes }
+        ensures all { result.now ≡ self.now.classes }
+        ensures few { length result.now < 2 ^ 32 }
     {
         self.classes.as_slice()
     }

@@ -1,5 +1,5 @@
 // The lines of classes: of each class itself, its base, the base's base, and so on.
-ghost use Rattle.std.specs.Prelude.{◌≡◌, ℕ, ◌+◌, ◌<◌, ◌≤◌, ◌++◌, ◌∷◌, [], List, not, true, false, Some, None, length, get_or, set, if◌then◌else◌, IfOk, IfSome, OnOk};
+ghost use Rattle.std.specs.Prelude.{◌≡◌, ℕ, ◌+◌, ◌<◌, ◌≤◌, ◌^◌, ◌++◌, ◌∷◌, [], List, not, true, false, Some, None, length, get_or, set, if◌then◌else◌, IfOk, IfSome, OnOk};
 ghost use Rattle.std.specs.List.{All};
 ghost use Rattle.std.specs.BTreeMap.{get};
 ghost use Rattle.std.specs.Ordering.{nat_cmp};
@@ -84,17 +84,7 @@ fn nearest_maker(class: &ClassHead, c: u32, above: Option<u32>) -> Option<u32>
     }
 }
 
-/// The number behind this one, if memory could hold so many.
-fn following(n: usize) -> Result<usize, NoMemory>
-    ensures { IfOk result (λ m. m ≡ n + 1) }
-{
-    match n.checked_add(1) {
-        Some(m) => Ok(m),
-        None => Err(NoMemory),
-    }
-}
-
-/// The line of the class c, where that of its base is known.
+/// The line of the class c, where that of its base is known and leaves a class out.
 #[tactic(auto, using(crate::proofs::Longer::line_longer, crate::proofs::Longer::lines_stay))]
 fn longer(
     maps: &mut MadeMaps,
@@ -104,11 +94,12 @@ fn longer(
     above: Line,
 ) -> Result<Line, NoMemory>
     requires there { c < length classes.now }
+    requires short { above.len < length classes.now }
     requires above { IsLine entries.now classes.now maps.old (look.base_of classes.now c) above }
     ensures stays { Stays maps.old maps.new }
     ensures line { IfOk result (λ line. IsLine entries.now classes.now maps.new (Some c) line) }
 {
-    let len = following(above.len)?;
+    let len = above.len + 1;
     let all = maps.make(above.classes, c, 0)?;
     let members = entries.put_members(maps, c, above.members)?;
     let maker = nearest_maker(&classes[c as usize], c, above.maker);
@@ -120,7 +111,7 @@ fn longer(
     })
 }
 
-/// Notes the line of the class c, if that of its base is known.
+/// Notes the line of the class c, if that of its base is known. One of more classes than there are is none.
 #[tactic(auto, using(crate::proofs::Longer::above_is, crate::proofs::Longer::lines_set, crate::proofs::Longer::lines_stay))]
 fn note_line(
     maps: &mut MadeMaps,
@@ -136,11 +127,14 @@ fn note_line(
     if at >= classes.len() || at >= all.len() {
         return Ok(());
     }
-    if let Some(above) = line_above(all, base_of(classes, at)) {
-        let line = longer(maps, entries, classes, c, above)?;
-        all.set(at, Some(line));
+    match line_above(all, base_of(classes, at)) {
+        Some(above) if above.len < classes.len() => {
+            let line = longer(maps, entries, classes, c, above)?;
+            all.set(at, Some(line));
+            Ok(())
+        }
+        _ => Ok(()),
     }
-    Ok(())
 }
 
 /// So many lines, none of which is known.
@@ -241,16 +235,14 @@ pub fn lines_of(
     entries: &SymbolTable,
     classes: &[ClassHead],
 ) -> Result<Table<Option<Line>>, NoMemory>
+    requires few { length classes.now < 2 ^ 32 }
     ensures { IfOk result (λ all. AreLines entries.now classes.now maps.new all) }
 {
     let mut all = no_lines(alloc, classes.len())?;
     let mut seen = none_seen(alloc, classes.len())?;
     let mut order = Vec::new(alloc);
     for c in 0..classes.len() {
-        match u32::try_from(c) {
-            Ok(c) => see(seen.as_mut_slice(), &mut order, classes, c)?,
-            Err(_) => return Err(NoMemory),
-        }
+        see(seen.as_mut_slice(), &mut order, classes, c as u32)?;
         note_all(maps, &mut all, entries, classes, &mut order)?;
     }
     Ok(all)

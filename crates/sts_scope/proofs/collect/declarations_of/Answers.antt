@@ -1,4 +1,4 @@
-use Rattle.std.proofs.Common.{◌==◌, ◌+◌, length, sym, ap, subst, [], ◌∙◌, refl}
+use Rattle.std.proofs.Common.{◌≡◌, ◌==◌, ◌+◌, ◌++◌, length, sym, ap, subst, [], ◌∙◌, refl, arith}
 use Rattle.sts_syntax.specs.Programs.{program, top_levels}
 use Rattle.std.specs.List.{position_from}
 use Rattle.std.specs.Prelude.{List}
@@ -7,8 +7,41 @@ use Rattle.sts_scope.specs.declared.known.Known.{Known}
 use Rattle.sts_scope.specs.Values.{value_at, or_else}
 use Rattle.sts_scope.specs.Entries as entry
 use Rattle.sts_scope.specs.Adding.{Adds}
-use Rattle.sts_scope.proofs.Whole.{all_named, whole, IsWhole, first_is, library_within, classes_within}
+use Rattle.sts_scope.proofs.Whole.{all_named, both_names, second_fits, all_fit, whole, IsWhole, first_is, library_within, classes_within}
 use Rattle.sts_scope.proofs.collect.declarations_of.Goals as goal
+
+pub number_classes-requires : goal.number_classes-requires
+number_classes-requires c =
+    let lib = program c.args.library.now in
+    let both = both_names lib (program c.args.text.now) in
+    let is : length (entry.class_names (top_levels c.as_slice.result.now)) ≡ length (entry.class_names lib) = ap (λ is. length (entry.class_names (top_levels is))) c.as_slice.ensures in
+    omega (arith, both, is, c.requires.few)
+
+pub number_classes-requires-2 : goal.number_classes-requires-2
+number_classes-requires-2 c =
+    let lib = program c.args.library.now in
+    let txt = program c.args.text.now in
+    let both = both_names lib txt in
+    let first : c.in_ok-count.count ≡ 0 + length (entry.class_names lib) = c.in_ok-count.ensures.count ∙ ap (λ is. 0 + length (entry.class_names (top_levels is))) c.as_slice.ensures in
+    let is : length (entry.class_names (top_levels c.as_slice-2.result.now)) ≡ length (entry.class_names txt) = ap (λ is. length (entry.class_names (top_levels is))) c.as_slice-2.ensures in
+    omega (arith, both, first, is, c.requires.few)
+
+pub add_items-requires-2 : goal.add_items-requires-2
+add_items-requires-2 c =
+    let f = value_at c.number_classes-2.new.classes.values.items in
+    let lib = program c.args.library.now in
+    let txt = program c.args.text.now in
+    let first = c.in_ok-add_items.ensures.classes_added ∙ ap (λ is. c.new-2.result ++ entry.heads_of f (top_levels is)) c.as_slice-3.ensures in
+    let is : length (entry.class_names (top_levels c.as_slice-4.result.now)) ≡ length (entry.class_names txt) = ap (λ is. length (entry.class_names (top_levels is))) c.as_slice-4.ensures in
+    let fits = second_fits f lib txt c.new-2.result c.add_items.new.known.classes _ c.requires.few c.new-2.ensures first in
+    omega (arith, is, fits)
+
+pub new-requires-4 : goal.new-requires-4
+new-requires-4 c =
+    let f = value_at c.number_classes-2.new.classes.values.items in
+    let first = c.in_ok-add_items.ensures.classes_added ∙ ap (λ is. c.new-2.result ++ entry.heads_of f (top_levels is)) c.as_slice-3.ensures in
+    let second = c.in_ok-add_items-2.ensures.classes_added ∙ ap (λ is. c.add_items.new.known.classes ++ entry.heads_of f (top_levels is)) c.as_slice-4.ensures in
+    record { few = all_fit f (program c.args.library.now) (program c.args.text.now) c.new-2.result c.add_items.new.known.classes c.add_items-2.new.known.classes _ c.requires.few c.new-2.ensures first second }
 
 pub returns : goal.returns
 returns c =

@@ -10,5 +10,5 @@ returns-clause-line c =
     let class = c.index-classes-c.result in
     let is : slice_get classes c.args.c ≡ Some class = slice_get_read classes (length classes) c.args.c class refl c.requires.there c.index-classes-c.is in
     line_longer c.args.entries.now classes c.args.maps.now c.make.new.self c.put_members.new.maps c.args.c c.in_ok-all.all class c.args.above _
-    is c.requires.above c.in_ok-all.ensures.stays c.in_ok-members.ensures.stays c.in_ok-len.ensures
+    is c.requires.above c.in_ok-all.ensures.stays c.in_ok-members.ensures.stays refl
     refl c.in_ok-all.ensures.within c.in_ok-all.ensures.made c.in_ok-members.ensures.within c.in_ok-members.ensures.made c.nearest_maker-maker.ensures
