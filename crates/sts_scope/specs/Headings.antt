@@ -9,21 +9,25 @@ use Rattle.sts_scope.specs.declared.entries.Owner.TheVariants as o
 use Rattle.sts_scope.specs.declared.entries.Entry.{Entry}
 use Rattle.sts_scope.specs.declared.entries.ClassHead.{ClassHead}
 use Rattle.sts_scope.specs.Faults.{Fault, ◌then◌, unless, own}
-use Rattle.sts_scope.specs.Entries.{Naming, classes_in, item_entries, member_entry}
+use Rattle.sts_scope.specs.Entries.{Naming, kind_of, classes_in, item_entries, member_entry}
 use Rattle.sts_scope.specs.Lookup.{is_second, inherited, inherits_field}
 
 -- an unknown type name, at that name
-abbrev pub type_fault : Naming → Annotation → Option Fault
-type_fault names (s.Named at x) = own (names x) UnknownName at
-type_fault names (s.ListOf a) = type_fault names a
-type_fault names s.Number = None
-type_fault names s.Boolean = None
-type_fault names s.Text = None
-type_fault names s.Nothing = None
+abbrev pub type_name_fault : Naming → Annotation → Option Fault
+type_name_fault names (s.Named at x) = own (names x) UnknownName at
+type_name_fault names (s.ListOf a) = type_name_fault names a
+type_name_fault names s.Number = None
+type_name_fault names s.Boolean = None
+type_name_fault names s.Text = None
+type_name_fault names s.Nothing = None
 
-abbrev pub written_fault : Naming → Option Annotation → Option Fault
-written_fault names None = None
-written_fault names (Some a) = type_fault names a
+-- A type that isn't known: its name is unknown, or it has too many `[]`, at the place of what has the type.
+abbrev pub type_fault : Naming → ℕ → Annotation → Option Fault
+type_fault names at a = type_name_fault names a then own (kind_of names a) UnknownName at
+
+abbrev pub written_fault : Naming → ℕ → Option Annotation → Option Fault
+written_fault names at None = None
+written_fault names at (Some a) = type_fault names at a
 
 -- a parameter of this name stands among these
 abbrev pub takes_name : List Parameter → ℕ → Bool
@@ -34,10 +38,10 @@ takes_name (p ∷ rest) x = p.name == x || takes_name rest x
 abbrev pub parameters_fault : Naming → List Parameter → ℕ → List Parameter → Option Fault
 parameters_fault names all i [] = None
 parameters_fault names all i (p ∷ rest) =
-    (own p.shape NeedsType p.at then unless (not (takes_name (take i all) p.name)) TwiceNamed p.at then written_fault names p.shape) then parameters_fault names all (i + 1) rest
+    (own p.shape NeedsType p.at then unless (not (takes_name (take i all) p.name)) TwiceNamed p.at then written_fault names p.at p.shape) then parameters_fault names all (i + 1) rest
 
 abbrev pub routine_fault : Naming → Routine → Option Fault
-routine_fault names (Does at params gives all arrow) = parameters_fault names params 0 params then written_fault names gives
+routine_fault names (Does at params gives all arrow) = parameters_fault names params 0 params then written_fault names at gives
 
 abbrev pub routine_at : Routine → ℕ
 routine_at (Does at params gives all arrow) = at
@@ -58,7 +62,7 @@ module _ (names : Naming) (entries : List Entry) (classes : List ClassHead) wher
   abbrev pub field_fault : ℕ → ℕ → Declaration → Option Fault
   field_fault c d (Declare at x shape first) =
       unless (not (is_second entries d (o.Class c) x)) TwiceNamed at then unless (not (is_some (inherited entries classes c x))) TwiceNamed at
-      then unless (is_typed shape first) NeedsType at then written_fault names shape
+      then unless (is_typed shape first) NeedsType at then written_fault names at shape
 
   abbrev pub method_fault : ℕ → ℕ → ℕ → Routine → Option Fault
   method_fault c d x r =

@@ -17,12 +17,12 @@ use crate::numbers::{class_at, globals_in};
 use std::alloc::Global;
 use std::collections::BTreeSet;
 use sts_base::{Code, Refused};
-use sts_scope::{ByNumber, Environment, Owner, unless};
+use sts_scope::{ByNumber, Environment, Owner, kind_of, unless};
 use sts_syntax::{Binding, Body, Item, Member, Param, Shape};
 
 /// The name of a type is known.
-fn check_type(classes: &ByNumber, shape: &Shape) -> Result<(), Refused>
-    ensures { Finds result (heading.type_fault (value_at classes.now.values.items) (annotation shape.now)) }
+fn check_type_name(classes: &ByNumber, shape: &Shape) -> Result<(), Refused>
+    ensures { Finds result (heading.type_name_fault (value_at classes.now.values.items) (annotation shape.now)) }
 {
     let mut inner = shape;
     loop {
@@ -39,13 +39,21 @@ fn check_type(classes: &ByNumber, shape: &Shape) -> Result<(), Refused>
     }
 }
 
-/// The name of a type that is written is known.
-pub fn check_written(classes: &ByNumber, shape: &Option<Shape>) -> Result<(), Refused>
-    ensures { Finds result (heading.written_fault (value_at classes.now.values.items) (optional_annotation shape.now)) }
+/// A type is known: its name is, and it hasn't too many `[]`. What has it stands at this place.
+fn check_type(classes: &ByNumber, at: u32, shape: &Shape) -> Result<(), Refused>
+    ensures { Finds result (heading.type_fault (value_at classes.now.values.items) at (annotation shape.now)) }
+{
+    check_type_name(classes, shape)?;
+    unless(kind_of(classes, shape).is_some(), Code::UnknownName, at)
+}
+
+/// The type that is written at what stands at this place is known.
+pub fn check_written(classes: &ByNumber, at: u32, shape: &Option<Shape>) -> Result<(), Refused>
+    ensures { Finds result (heading.written_fault (value_at classes.now.values.items) at (optional_annotation shape.now)) }
 {
     match shape {
         None => Ok(()),
-        Some(shape) => check_type(classes, shape),
+        Some(shape) => check_type(classes, at, shape),
     }
 }
 
@@ -63,11 +71,11 @@ fn note(seen: &mut BTreeSet<u32>, x: u32) -> Result<bool, Refused>
 
 /// A parameter, whose name stands before it already or doesn't.
 fn check_parameter(classes: &ByNumber, twice: bool, p: &Param) -> Result<(), Refused>
-    ensures { Finds result (own (optional_annotation p.now.shape) code.NeedsType p.now.at then unless (not twice) code.TwiceNamed p.now.at then heading.written_fault (value_at classes.now.values.items) (optional_annotation p.now.shape)) }
+    ensures { Finds result (own (optional_annotation p.now.shape) code.NeedsType p.now.at then unless (not twice) code.TwiceNamed p.now.at then heading.written_fault (value_at classes.now.values.items) p.now.at (optional_annotation p.now.shape)) }
 {
     unless(p.shape.is_some(), Code::NeedsType, p.at)?;
     unless(!twice, Code::TwiceNamed, p.at)?;
-    check_written(classes, &p.shape)
+    check_written(classes, p.at, &p.shape)
 }
 
 /// The parameters of a function.
@@ -88,7 +96,7 @@ fn check_routine(alloc: Global, classes: &ByNumber, body: &Body) -> Result<(), R
     ensures { Finds result (heading.routine_fault (value_at classes.now.values.items) (routine body.now)) }
 {
     check_parameters(alloc, classes, body.params.as_slice())?;
-    check_written(classes, &body.gives)
+    check_written(classes, body.at, &body.gives)
 }
 
 /// A field.
@@ -113,7 +121,7 @@ fn check_field(
         Code::NeedsType,
         b.at,
     )?;
-    check_written(classes, &b.shape)
+    check_written(classes, b.at, &b.shape)
 }
 
 /// A method.

@@ -56,7 +56,7 @@ fits k None t = false
 
 abbrev pub parameter_types_fault : Naming → List Parameter → Option Fault
 parameter_types_fault names [] = None
-parameter_types_fault names (q ∷ rest) = written_fault names q.shape then parameter_types_fault names rest
+parameter_types_fault names (q ∷ rest) = written_fault names q.at q.shape then parameter_types_fault names rest
 
 -- a test of a loop may be left out
 abbrev pub tests : Bool → Bool → Bool
@@ -174,7 +174,7 @@ module _ (tables : Tables) (names : Naming) (k : Known) where
 
     pub handler_fault : Place → Routine → Option Fault
     handler_fault p (Does at params gives all arrow) =
-        parameter_types_fault names params then written_fault names gives then statements_fault (handler_place p params gives all) all
+        parameter_types_fault names params then written_fault names at gives then statements_fault (handler_place p params gives all) all
 
     -- of an initialiser; `null` or `[]` alone fails where it is declared
     pub initial_fault : Place → Option Annotation → OptionalTree → Option Fault
@@ -191,7 +191,7 @@ module _ (tables : Tables) (names : Naming) (k : Known) where
 
     -- of a declared name in a block
     pub declaration_fault : Place → Declaration → Option Fault
-    declaration_fault p (Declare at x shape first) = written_fault names shape then initial_fault p shape first then own_local p x at then own_bound p shape first at
+    declaration_fault p (Declare at x shape first) = written_fault names at shape then initial_fault p shape first then own_local p x at then own_bound p shape first at
 
     pub declarations_fault : Place → Bool → Declarations → Option Fault
     declarations_fault p fixed ended = None

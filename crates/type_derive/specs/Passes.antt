@@ -57,7 +57,7 @@ module _ (tables : Tables) (names : Naming) (k : Known) where
   -- a field or a global is declared outside all functions
   abbrev pub field_fault : This → Declaration → Option Fault
   field_fault self (Declare at x shape first) =
-      written_fault names shape then initial_fault tables names k (outside self false None) shape first then own_bound tables names k (outside self false None) shape first at
+      written_fault names at shape then initial_fault tables names k (outside self false None) shape first then own_bound tables names k (outside self false None) shape first at
 
   abbrev pub globals_fault : Declarations → Option Fault
   globals_fault ended = None
