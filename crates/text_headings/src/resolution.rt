@@ -1,8 +1,9 @@
 // Names, bases and headings of a text.
-ghost use Rattle.std.specs.Prelude.{◌≡◌, ◌≤◌, length, IfOk, IfErr};
+ghost use Rattle.std.specs.Prelude.{◌≡◌, ◌++◌, ◌<◌, ◌≤◌, ◌^◌, length, IfOk, IfErr};
 ghost use Rattle.sts_scope.specs.Values.{value_at};
 ghost use Rattle.sts_syntax.specs.Programs.{program};
 ghost use Rattle.sts_scope.specs.Faults.{Finds};
+ghost use Rattle.sts_scope.specs.Entries.{class_names};
 ghost use Rattle.sts_scope.specs.Known.{IsDeclared};
 ghost use Rattle.sts_scope.specs.Scopes as scope;
 ghost use Rattle.text_headings.specs.Lists.{is_one, AreScopes};
@@ -28,6 +29,7 @@ pub struct Scopes {
 
 /// What a library and a text declare; want of memory is a refusal.
 fn declared_of(alloc: Global, library: &Unit, text: &Unit) -> Result<Declared, Refused>
+    requires few { length (class_names (program library.now ++ program text.now)) < 2 ^ 32 }
     ensures known { IfOk result (λ r. IsDeclared (program library.now) (program text.now) r) }
     ensures err { IfErr result (λ e. e ≡ Refused.NoMemory) }
 {
@@ -69,6 +71,7 @@ pub fn headings(
     text: &Unit,
     tables: &Tables,
 ) -> Result<Declared, Refused>
+    requires few { length (class_names (program library.now ++ program text.now)) < 2 ^ 32 }
     ensures found { Finds result (scope.heading_refusal tables.now.names (program library.now) (program text.now)) }
     ensures known { IfOk result (λ r. IsDeclared (program library.now) (program text.now) r) }
 {
@@ -137,6 +140,7 @@ pub fn resolve(
     text: &Unit,
     tables: &Tables,
 ) -> Result<Scopes, Refused>
+    requires few { length (class_names (program library.now ++ program text.now)) < 2 ^ 32 }
     ensures found { Finds result (scope.heading_refusal tables.now.names (program library.now) (program text.now)) }
     ensures names { IfOk result (λ s. AreScopes (scope.all_entries (program library.now) (program text.now)) s) }
 {
