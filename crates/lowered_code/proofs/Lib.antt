@@ -3,6 +3,7 @@ mod Entries
 mod Typed
 pub mod Laws
 mod Sums
+mod FewOps
 mod FormedOps
 mod Formed
 mod Outgoing

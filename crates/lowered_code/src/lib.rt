@@ -10,7 +10,7 @@ mod lives;
 mod needs;
 mod texts;
 
-pub use costs::code_costs_at_most_its_weight;
+pub use costs::{code_costs_at_most_its_weight, code_has_few_ops};
 pub use forms::code_is_well_formed;
 pub use lives::only_parameters_are_live_at_entry;
 pub use needs::well_typed_programs_are_fine;

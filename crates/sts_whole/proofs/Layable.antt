@@ -1,5 +1,5 @@
 -- What building asks of its parts.
-use Rattle.std.proofs.Common.{◌≡◌, ℕ, suc, ◌+◌, ◌*◌, ◌<◌, ◌≤◌, Bool, List, [], ◌∷◌, ◌++◌, length, map, take, subst, sym, ⊎_elim, arith}
+use Rattle.std.proofs.Common.{◌≡◌, ℕ, suc, ◌+◌, ◌*◌, ◌<◌, ◌≤◌, Bool, List, [], ◌∷◌, ◌++◌, length, map, take, subst, sym, ap, ⊎_elim, arith}
 use Rattle.std.proofs.lemmas.List.Elements.{All-head, All-tail}
 use Rattle.std.specs.Prelude.{All}
 use Rattle.std.specs.List.{AllByRecursion}
@@ -17,7 +17,7 @@ use Rattle.flat_ir.specs.declared.ops.Function.{Function}
 use Rattle.flat_ir.specs.declared.ops.FlatCode.{FlatCode}
 use Rattle.flat_ir.specs.WellFormed.{IsWellFormedFunction, IsFunctionAmong, IsWellFormed}
 use Rattle.flat_ir.specs.Liveness.{OnlyParametersAreLive}
-use Rattle.sts_lower.specs.Lowered.{lowered_routine, repeating_function, lowered_routines, repeating_functions, repeated_in_program, lowered}
+use Rattle.sts_lower.specs.Lowered.{routine_ops, lowered_routine, repeating_ops, repeating_function, lowered_routines, repeating_functions, repeated_in_program, lowered}
 use Rattle.lowered_code.specs.Costs.{cost}
 use Rattle.lowered_code.specs.Texts.{Has, NamesOnly}
 use Rattle.register_assign.specs.declared.places.Placed.{Placed}
@@ -49,7 +49,9 @@ ready_all functions classes (f ∷ fs) (p ∷ ps) e among sound =
     (record { formed = subst IsWellFormedFunction h among.0.alone; sound = sound.0 }, ready_all functions classes fs ps t among.1 sound.1)
 
 -- code that keeps its weight can be laid, where the weight is within the limit of a function
-module _ (routines : (P : TypedProgram) (f : ℕ) (r : TypedRoutine) (p : Placed) → IsReady p → p.function ≡ lowered_routine P f r
+module _ (few : (P : TypedProgram) (f : ℕ) (r : TypedRoutine) → length (routine_ops P f r) ≤ 3 * weight r)
+    (few_repeats : (f : ℕ) → length (repeating_ops f) ≤ 3 * repeating_weight)
+    (routines : (P : TypedProgram) (f : ℕ) (r : TypedRoutine) (p : Placed) → IsReady p → p.function ≡ lowered_routine P f r
     → length (laid (function_pieces p)).bytes + bytes_of_text * cost texts_named p.function.ops ≤ bytes_of_weight * weight r)
     (repeats : (f : ℕ) (p : Placed) → IsReady p → p.function ≡ repeating_function f → length (laid (function_pieces p)).bytes + bytes_of_text * cost
     texts_named p.function.ops ≤ bytes_of_weight * repeating_weight) where
@@ -60,7 +62,10 @@ module _ (routines : (P : TypedProgram) (f : ℕ) (r : TypedRoutine) (p : Placed
   repeats_layable (f ∷ fs) (p ∷ ps) ready e =
       let h : p.function ≡ repeating_function f = cc in
       let t : functions_of ps ≡ repeating_functions fs = cc in
-      (record { ready = ready.0; short = (let b = repeats f p ready.0 h in omega (arith, b)) }, repeats_layable fs ps ready.1 t)
+      let n : length p.function.ops ≡ length (repeating_ops f) = ap (λ (g : Function). length g.ops) h in (
+        record { ready = ready.0; few = omega (arith, n, few_repeats f); short = (let b = repeats f p ready.0 h in omega (arith, b)) },
+        repeats_layable fs ps ready.1 t,
+      )
 
   routines_layable : (P : TypedProgram) (f : ℕ) (rs : List TypedRoutine) (fs : List ℕ) (placed : List Placed) → AllByRecursion (IsWithinLimits P) rs
       → AllByRecursion IsReady placed
@@ -69,8 +74,9 @@ module _ (routines : (P : TypedProgram) (f : ℕ) (r : TypedRoutine) (p : Placed
   routines_layable P f (r ∷ rs) fs [] within ready e = tt
   routines_layable P f (r ∷ rs) fs (p ∷ ps) within ready e =
       let h : p.function ≡ lowered_routine P f r = cc in
-      let t : functions_of ps ≡ lowered_routines P (suc f) rs ++ repeating_functions fs = cc in (
-        record { ready = ready.0; short = (let b = routines P f r p ready.0 h in omega (arith, b, within.0.weight)) },
+      let t : functions_of ps ≡ lowered_routines P (suc f) rs ++ repeating_functions fs = cc in
+      let n : length p.function.ops ≡ length (routine_ops P f r) = ap (λ (g : Function). length g.ops) h in (
+        record { ready = ready.0; few = omega (arith, n, few P f r, within.0.weight); short = (let b = routines P f r p ready.0 h in omega (arith, b, within.0.weight)) },
         routines_layable P (suc f) rs fs ps
             within.1 ready.1 t,
       )
@@ -82,7 +88,11 @@ module _ (routines : (P : TypedProgram) (f : ℕ) (r : TypedRoutine) (p : Placed
       routines_layable P 0 P.functions (repeated_in_program P) placed (by_recursion (IsWithinLimits P) P.functions limits.functions)
       (ready_all (length (lowered P).functions) (length (lowered P).classes) (lowered P).functions placed e formed.functions sound) e
 
-  -- what is compiled of such a program fits into flash
+-- what is compiled of such a program fits into flash
+module _ (routines : (P : TypedProgram) (f : ℕ) (r : TypedRoutine) (p : Placed) → IsReady p → p.function ≡ lowered_routine P f r
+    → length (laid (function_pieces p)).bytes + bytes_of_text * cost texts_named p.function.ops ≤ bytes_of_weight * weight r)
+    (repeats : (f : ℕ) (p : Placed) → IsReady p → p.function ≡ repeating_function f → length (laid (function_pieces p)).bytes + bytes_of_text * cost
+    texts_named p.function.ops ≤ bytes_of_weight * repeating_weight) where
   pub fits : ((C : FlatCode) (bodies : List (List Piece)) (texts : List ByteList) (weights : List ℕ) (used : ℕ → Bool) → IsLimited C bodies texts weights used
       → length (image (map laid bodies) C texts) ≤ flash_end)
       → (P : TypedProgram) (texts : List ByteList) (placed : List Placed) → IsProgramWithinLimits P texts → routines_weight (take library_size P.functions) ≤

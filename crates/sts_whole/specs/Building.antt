@@ -17,7 +17,8 @@ pub record IsPlaceable (f : Function) : Type 0 where
 abbrev pub HasSoundPlaces : Placed → Type 0
 HasSoundPlaces p = ArePlacesSound p.function p.places
 
--- A placed function whose code has no more bytes than can be laid.
+-- A placed function whose ops have labels, and whose code has no more bytes than can be laid.
 pub record IsLayable (p : Placed) : Type 0 where
   pub ready : IsReady p
+  pub few : length p.function.ops ≤ 1431655764
   pub short : length (laid (function_pieces p)).bytes ≤ 65536

@@ -17,7 +17,9 @@ ghost use Rattle.sts_whole.specs.Compiled.{functions_of, bodies_of, IsCompiled};
 use emitted_bytes::laid_code_keeps_its_weight;
 use flat_ir::Function;
 use image_link::{LinkRefused, emitted_code_can_be_linked, link, programs_within_the_limits_fit};
-use lowered_code::{code_is_well_formed, names_only_its_texts, only_parameters_are_live_at_entry};
+use lowered_code::{
+    code_has_few_ops, code_is_well_formed, names_only_its_texts, only_parameters_are_live_at_entry,
+};
 use register_assign::{Placed, assign};
 use std::alloc::Global;
 use sts_base::{NoMemory, Seq, Tables};
@@ -79,6 +81,7 @@ pub fn compile(alloc: Global, typed: &Typed, tables: &Tables) -> Result<Vec<u8>,
     code_is_well_formed();
     only_parameters_are_live_at_entry();
     names_only_its_texts();
+    code_has_few_ops();
     laid_code_keeps_its_weight();
     emitted_code_can_be_linked();
     programs_within_the_limits_fit();

@@ -1,5 +1,5 @@
 //! The pieces of a function.
-ghost use Rattle.std.specs.Prelude.{◌≡◌, ◌++◌, OnOk, IfOk};
+ghost use Rattle.std.specs.Prelude.{◌≡◌, ◌++◌, ◌≤◌, length, OnOk, IfOk};
 ghost use Rattle.flat_ir.specs.WellFormed.{IsWellFormedFunction};
 ghost use Rattle.register_assign.specs.Sound.{ArePlacesSound};
 ghost use Rattle.thumb_layout.specs.Soundness.{IsSound};
@@ -19,9 +19,6 @@ use register_assign::{Placed, unread_results};
 use std::alloc::Global;
 use sts_base::{NoMemory, Seq};
 use thumb_layout::Piece;
-
-/// So many ops have labels of 32 bits.
-const MOST_OPS: usize = 1_431_655_764;
 
 /// Op k, which calls, asks, makes a value of a function, or goes elsewhere.
 fn put_going(out: &mut Seq<Piece>, placed: &Placed, at: At, op: &Op) -> Result<(), NoMemory>
@@ -77,18 +74,15 @@ fn put_op(out: &mut Seq<Piece>, placed: &Placed, at: At, op: &Op) -> Result<(), 
 
 /// The pieces of a function whose temporaries have places: its entry, and its ops in their order, each behind its label. They can be laid.
 ///
-/// `NoMemory` is for want of memory. It also comes where there are more than 1,431,655,764 ops, which have no labels of 32 bits and whose
-/// pieces would take more than 34 gigabytes.
+/// A function of up to 1,431,655,764 ops has labels of 32 bits. Want of memory is the only refusal.
 pub fn emit(alloc: Global, placed: &Placed) -> Result<Seq<Piece>, NoMemory>
     requires formed { IsWellFormedFunction placed.now.function }
     requires sound { ArePlacesSound placed.now.function placed.now.places }
+    requires few { length placed.now.function.ops ≤ 1431655764 }
     ensures pieces { IfOk result (λ pieces. pieces ≡ function_pieces placed.now) }
     ensures sound { IfOk result (λ pieces. IsSound pieces) }
 {
     let ops = placed.function.ops.as_slice();
-    if ops.len() > MOST_OPS {
-        return Err(NoMemory);
-    }
     let unread = unread_results(alloc, &placed.function)?;
     let mut out = Seq::new(alloc);
     enter(&mut out, placed)?;

@@ -58,9 +58,15 @@ fn placed(alloc: Global, asked: &str) -> io::Result<Placed> {
     })
 }
 
-/// The code of a function; none where it isn't well formed or its places aren't sound.
+/// So many ops have labels of 32 bits.
+const MOST_OPS: usize = 1_431_655_764;
+
+/// The code of a function; none where it isn't well formed, its places aren't sound, or it has more ops than labels.
 fn code_of(alloc: Global, placed: &Placed) -> Result<Option<Laid>, NoMemory> {
     if !check_places(alloc, placed)? || !placed.function.is_well_formed() {
+        return Ok(None);
+    }
+    if placed.function.ops.len() > MOST_OPS {
         return Ok(None);
     }
     let pieces = emit(alloc, placed)?;
@@ -112,9 +118,12 @@ fn copies(alloc: Global, n: u32) -> Result<Placed, NoMemory> {
     })
 }
 
-/// How many pieces a function is emitted to.
+/// How many pieces a function is emitted to; 0 where it isn't well formed, its places aren't sound, or it has more ops than labels.
 fn pieces_of(alloc: Global, placed: &Placed) -> Result<usize, NoMemory> {
     if !check_places(alloc, placed)? || !placed.function.is_well_formed() {
+        return Ok(0);
+    }
+    if placed.function.ops.len() > MOST_OPS {
         return Ok(0);
     }
     Ok(emit(alloc, placed)?.len())

@@ -31,7 +31,7 @@ lay_all-requires c =
     let formed = c.code_is_well_formed.ensures.formed P texts c.requires.well_typed c.requires.limits in
     let functions = c.in_ok-placed.ensures.functions ∙ c.as_slice.ensures ∙ ap (λ (k : FlatCode). k.functions) c.in_ok-code.ensures in
     subst (λ (placed : List Placed). AllByRecursion IsLayable placed) (sym c.deref.ensures.value)
-    (layable c.laid_code_keeps_its_weight.ensures.routines c.laid_code_keeps_its_weight.ensures.repeating P texts c.in_ok-placed.placed.items c.requires.limits
+    (layable c.code_has_few_ops.ensures.routines c.code_has_few_ops.ensures.repeating c.laid_code_keeps_its_weight.ensures.routines c.laid_code_keeps_its_weight.ensures.repeating P texts c.in_ok-placed.placed.items c.requires.limits
     formed functions c.in_ok-placed.ensures.sound)
 
 pub link-requires : goal.link-requires
