@@ -1,8 +1,6 @@
-//! Lists: one that goes on behind lists that are lent, and one behind which another is put.
+//! Lists behind which another one can be put.
 #![tactic(auto)]
 
 mod gathered;
-mod layers;
 
 pub use gathered::Gathered;
-pub use layers::Layers;

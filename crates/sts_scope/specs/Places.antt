@@ -1,5 +1,5 @@
 -- What a name stands for where it is used.
-use Rattle.std.specs.Prelude.{ℕ, suc, Bool, false, not, ◌&&◌, ◌==◌, nat_lt, nat_le, Option, Some, None, List, [], ◌∷◌, ◌++◌, length, if◌then◌else◌}
+use Rattle.std.specs.Prelude.{ℕ, suc, Bool, true, false, not, ◌&&◌, ◌==◌, nat_le, is_some, Option, Some, None, List, [], ◌∷◌, ◌++◌, length, if◌then◌else◌}
 use Rattle.sts_scope.specs.declared.kinds.Kind.{Kind}
 use Rattle.sts_scope.specs.declared.entries.Owner.TheVariants as o
 use Rattle.sts_scope.specs.declared.entries.Sort.{Sort}
@@ -13,11 +13,11 @@ use Rattle.sts_scope.specs.declared.known.Found.TheVariants as found
 use Rattle.sts_scope.specs.Globals.{is_dollar}
 use Rattle.sts_scope.specs.Lookup.{entry_number, sort_of}
 
--- Where something stands: the parameters and locals in scope, outermost first, of which those from `floor` on are of this function and those from
--- `block` on of this block; what `this` is; what a `return` gives; and whether it is the library.
+-- Where something stands: the parameters and locals of the functions around, of which nothing but their names is known; those of this function that
+-- are in scope, outermost first, of which those from `block` on are of this block; what `this` is; what a `return` gives; and whether it is the library.
 pub record Place : Type 0 where
+  pub around : List Local
   pub locals : List Local
-  pub floor : ℕ
   pub block : ℕ
   pub this : This
   pub gives : Option Kind
@@ -30,10 +30,6 @@ last_from n (l ∷ ls) x = elim (last_from (suc n) ls x) [ Some m ↦ Some m | N
 
 abbrev pub last_named : List Local → ℕ → Option ℕ
 last_named locals x = last_from 0 locals x
-
--- a local of this function, or one of a function around it
-abbrev pub local_or_captured : ℕ → ℕ → Found
-local_or_captured floor i = if nat_lt i floor then found.Captured else found.Local i
 
 abbrev pub entry_found : ℕ → Sort → Found
 entry_found d (sort.Global fixed) = found.Global d
@@ -54,10 +50,15 @@ whole_found k library (Some d) = if library && nat_le k.library d then found.Unk
 abbrev pub global_named : Known → Bool → ℕ → Found
 global_named k library x = whole_found k library (entry_number k.entries o.Whole x)
 
--- The innermost local, else the declaration of the whole text. A name that begins with `$` stands for something in the library alone.
+-- a local of a function around, else the declaration of the whole text
+abbrev pub found_around : Known → Place → ℕ → Bool → Found
+found_around k p x true = found.Captured
+found_around k p x false = global_named k p.library x
+
+-- The innermost local of this function, else what is around it. A name that begins with `$` stands for something in the library alone.
 abbrev pub found_among : Known → Place → ℕ → Option ℕ → Found
-found_among k p x (Some i) = local_or_captured p.floor i
-found_among k p x None = global_named k p.library x
+found_among k p x (Some i) = found.Local i
+found_among k p x None = found_around k p x (is_some (last_named p.around x))
 
 abbrev pub is_hidden : List (List ℕ) → Place → ℕ → Bool
 is_hidden spellings p x = not p.library && is_dollar spellings x
@@ -92,8 +93,8 @@ hidden this.Nowhere = this.Nowhere
 
 -- in a handler that begins here, whose result is this
 abbrev pub in_handler : Place → Option Kind → Place
-in_handler p gives = record { locals = p.locals; floor = length p.locals; block = length p.locals; this = hidden p.this; gives = gives; library = p.library }
+in_handler p gives = record { around = p.around ++ p.locals; locals = []; block = 0; this = hidden p.this; gives = gives; library = p.library }
 
 -- outside all functions, where a class's objects may be meant by `this`
 abbrev pub outside : This → Bool → Option Kind → Place
-outside this library gives = record { locals = []; floor = 0; block = 0; this = this; gives = gives; library = library }
+outside this library gives = record { around = []; locals = []; block = 0; this = this; gives = gives; library = library }

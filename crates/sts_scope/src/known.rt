@@ -40,7 +40,7 @@ pub enum This {
 /// What a name stands for.
 #[derive(Clone, Copy)]
 pub enum Found {
-    /// a parameter or local, by its place among those in scope
+    /// a parameter or local of this function, by its place among those of it that are in scope
     Local(usize),
     /// a parameter or local of a function around this one
     Captured,

@@ -1,5 +1,5 @@
 // Where the bodies of loops begin.
-ghost use Rattle.std.specs.Prelude.{◌≡◌, ◌+◌, length, IfOk, IfErr, OnOk};
+ghost use Rattle.std.specs.Prelude.{◌≡◌, length, IfOk, IfErr, OnOk};
 ghost use Rattle.sts_scope.specs.Places as name;
 ghost use Rattle.type_derive.specs.Scopes.{place};
 ghost use Rattle.type_check.specs.Bounds as bounds;
@@ -16,8 +16,8 @@ pub fn enter_loop(
     fixed: bool,
 ) -> Result<Mark, Refused>
     ensures place { OnOk result (place scope.new ≡ name.with (name.inner (place scope.old)) x (bounds.items_of kind) fixed) }
-    ensures locals { IfOk result (λ m. (place scope.old).floor + m.locals ≡ length (place scope.old).locals) }
-    ensures block { IfOk result (λ m. (place scope.old).floor + m.block ≡ (place scope.old).block) }
+    ensures locals { IfOk result (λ m. m.locals ≡ length (place scope.old).locals) }
+    ensures block { IfOk result (λ m. m.block ≡ (place scope.old).block) }
     ensures err { IfErr result (λ e. e ≡ Refused.NoMemory) }
 {
     let mark = enter(scope);

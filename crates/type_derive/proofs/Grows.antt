@@ -1,12 +1,13 @@
 -- Where more types are known, no less is derived: names, rules and expressions.
 use Rattle.std.proofs.Common.{◌≡◌, ℕ, zero, suc, ◌==◌, ◌&&◌, refl, sym, ap, ◌∙◌, subst, Bool, true, false, Option, Some, None, List, [], ◌∷◌, length}
-use Rattle.std.specs.Prelude.{ℤ, if◌then◌else◌, not}
+use Rattle.std.specs.Prelude.{ℤ, if◌then◌else◌, is_some, not}
 use Rattle.sts_base.specs.declared.tables.Tables.{Tables}
 use Rattle.sts_syntax.specs.BoardTable as board
 use Rattle.sts_syntax.specs.BoardTable.{BoardParameter, row_of, constant_named, call_named}
 use Rattle.sts_syntax.specs.Types.{ValueType}
 use Rattle.sts_syntax.specs.Trees.{Tree, Num, Text, Truth, Null, This, Name, Unary, Binary, Both, Either, Choice, Set, Bump, Member, Item, Call, SuperCall, Make, Items, Handler, Trees, none, more}
 use Rattle.sts_scope.specs.declared.kinds.Kind.{Kind}
+use Rattle.sts_scope.specs.declared.entries.Owner.TheVariants as owner
 use Rattle.sts_scope.specs.declared.entries.Entry.{Entry}
 use Rattle.sts_scope.specs.declared.entries.ClassHead.{ClassHead}
 use Rattle.sts_scope.specs.declared.known.Known.{Known}
@@ -18,9 +19,9 @@ use Rattle.sts_scope.specs.declared.known.Part.TheVariants as part
 use Rattle.sts_scope.specs.declared.known.This.{This as Self}
 use Rattle.sts_scope.specs.declared.known.This.TheVariants as this
 use Rattle.sts_scope.specs.Kinds.{number, empty}
-use Rattle.sts_scope.specs.Places.{Place, is_hidden, found_among, last_from, last_named}
+use Rattle.sts_scope.specs.Places.{Place, is_hidden, found_among, found_around, whole_found, last_from, last_named}
 use Rattle.sts_scope.specs.Rules.{this_kind, name_kind, name_fixed, local_kind, local_fixed, kind_at, takes_at, maker_takes_of, part_of, part_kind, part_settable, call_kind, all_go, goes, operate, prefix, joined, choose, assign, counted, element, items_type, sort_fixed}
-use Rattle.sts_scope.specs.Lookup.{sort_of}
+use Rattle.sts_scope.specs.Lookup.{entry_number, sort_of}
 use Rattle.type_derive.specs.declared.roles.Role.{Role}
 use Rattle.type_derive.specs.declared.roles.Role.TheVariants.{Free, Given}
 use Rattle.type_derive.specs.Typing.{◌>>=◌, Callee, callee, finds, space_of, space, constant_of, own_call, board_callee, named_callee, part_callee, super_method, made, given_to, called, type_of, types_of, callee_of, settable, names_function, is_routine, are_given, is_drawing, board_kind, spelling, is_given}
@@ -97,11 +98,30 @@ same_length (l ∷ ls) [] h = absurd h
 abbrev bare : List Entry → List ClassHead → ℕ → Known
 bare es cs n = record { entries = es; classes = cs; kinds = []; library = n }
 
-abbrev stand : Bool → ℕ → Place
-stand library floor = record { locals = []; floor = floor; block = 0; this = this.Nowhere; gives = None; library = library }
+abbrev stand : Bool → Place
+stand library = record { around = []; locals = []; block = 0; this = this.Nowhere; gives = None; library = library }
 
-abbrev found_by : Tables → ℕ → List Entry → ℕ → Bool → ℕ → Option ℕ → Found
-found_by tables x es n library floor o = if is_hidden tables.names (stand library floor) x then found.Unknown else found_among (bare es [] n) (stand library floor) x o
+abbrev found_in : Known → Bool → ℕ → Option ℕ → Option ℕ → Found
+found_in k library x outer (Some i) = found.Local i
+found_in k library x outer None = found_around k (stand library) x (is_some outer)
+
+abbrev found_by : Tables → ℕ → List Entry → ℕ → Bool → Option ℕ → Option ℕ → Found
+found_by tables x es n library outer o = if is_hidden tables.names (stand library) x then found.Unknown else found_in (bare es [] n) library x outer o
+
+whole_by : (k : Known) (library : Bool) (d : Option ℕ) → whole_found k library d ≡ whole_found (bare k.entries [] k.library) library d
+whole_by k library None = refl
+whole_by k library (Some d) = refl
+
+around_by : (k : Known) (p : Place) (x : ℕ) (around : Bool) → found_around k p x around ≡ found_around (bare k.entries [] k.library) (stand p.library) x around
+around_by k p x true = refl
+around_by k p x false = whole_by k p.library (entry_number k.entries owner.Whole x)
+
+among_by : (k : Known) (p : Place) (x : ℕ) (i : Option ℕ) → found_among k p x i ≡ found_in (bare k.entries [] k.library) p.library x (last_named p.around x) i
+among_by k p x (Some i) = refl
+among_by k p x None = around_by k p x (is_some (last_named p.around x))
+
+finds_by : (tables : Tables) (k : Known) (p : Place) (x : ℕ) → finds tables k p x ≡ found_by tables x k.entries k.library p.library (last_named p.around x) (last_named p.locals x)
+finds_by tables k p x = ap (λ f. if is_hidden tables.names p x then found.Unknown else f) (among_by k p x (last_named p.locals x))
 
 two : (a b c d : Option Kind) (f g : Kind → Kind → Option Kind) → Less a b → Less c d → ((s u : Kind) → Less (f s u) (g s u)) →
     Less (a >>= λ s. c >>= λ u. f s u) (b >>= λ s. d >>= λ u. g s u)
@@ -208,11 +228,13 @@ module _ (tables : Tables) where
     module _ (p q : Place) (h : PlaceGrows p q) where
       same_found : (x : ℕ) → finds tables l q x ≡ finds tables k p x
       same_found x =
-          ap (λ es. found_by tables x es l.library q.library q.floor (last_named q.locals x)) g.entries
-          ∙ ap (λ n. found_by tables x k.entries n q.library q.floor (last_named q.locals x)) g.library
-          ∙ ap (λ b. found_by tables x k.entries k.library b q.floor (last_named q.locals x)) h.library
-          ∙ ap (λ n. found_by tables x k.entries k.library p.library n (last_named q.locals x)) h.floor
-          ∙ ap (found_by tables x k.entries k.library p.library p.floor) (same_last 0 p.locals q.locals x h.locals)
+          finds_by tables l q x
+          ∙ ap (λ es. found_by tables x es l.library q.library (last_named q.around x) (last_named q.locals x)) g.entries
+          ∙ ap (λ n. found_by tables x k.entries n q.library (last_named q.around x) (last_named q.locals x)) g.library
+          ∙ ap (λ b. found_by tables x k.entries k.library b (last_named q.around x) (last_named q.locals x)) h.library
+          ∙ ap (λ o. found_by tables x k.entries k.library p.library o (last_named q.locals x)) (same_last 0 p.around q.around x h.around)
+          ∙ ap (found_by tables x k.entries k.library p.library (last_named p.around x)) (same_last 0 p.locals q.locals x h.locals)
+          ∙ sym (finds_by tables k p x)
 
       name_grows : (f : Found) → Less (name_kind k p f) (name_kind l q f)
       name_grows (found.Local i) = kind_grows p.locals q.locals i h.locals

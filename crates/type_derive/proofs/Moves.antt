@@ -19,13 +19,13 @@ taken [] ys = refl
 taken (x ∷ xs) ys = ap (λ zs. x ∷ zs) (taken xs ys)
 
 -- behind a block all is as before it
-pub restored : (p q : Place) (n block : ℕ) → Extends (inner p) q → p.floor + n ≡ length p.locals → p.floor + block ≡ p.block → left q n block ≡ p
+pub restored : (p q : Place) (n block : ℕ) → Extends (inner p) q → n ≡ length p.locals → block ≡ p.block → left q n block ≡ p
 restored p q n block (more, is) hn hb =
-    ap (λ r. left r n block) is ∙ ap (λ m. record p { locals = take m (p.locals ++ more); block = p.floor + block }) hn
+    ap (λ r. left r n block) is ∙ ap (λ m. record p { locals = take m (p.locals ++ more); block = block }) hn
     ∙ ap (λ b. record p { locals = take (length p.locals) (p.locals ++ more); block = b }) hb ∙ ap (λ ls. record p { locals = ls }) (taken p.locals more)
 
 -- a block began at p, came to r, and ended
-pub closed : (p q r s : Place) (n block : ℕ) → q ≡ inner p → Extends q r → s ≡ left r n block → p.floor + n ≡ length p.locals → p.floor + block ≡ p.block → s ≡ p
+pub closed : (p q r s : Place) (n block : ℕ) → q ≡ inner p → Extends q r → s ≡ left r n block → n ≡ length p.locals → block ≡ p.block → s ≡ p
 closed p q r s n block e (more, h) hs hn hb = hs ∙ restored p r n block (more, h ∙ ap {A = Place} (λ z. record z { locals = z.locals ++ more }) e) hn hb
 
 pub stays : (p : Place) → Extends p p

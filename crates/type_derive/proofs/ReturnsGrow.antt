@@ -29,19 +29,19 @@ locals_refl [] = tt
 locals_refl (l ∷ ls) = (refl, refl, less_refl l.kind, locals_refl ls)
 
 place_refl : (p : Place) → PlaceGrows p p
-place_refl p = record { locals = locals_refl p.locals; floor = refl; block = refl; this = refl; library = refl }
+place_refl p = record { around = locals_refl p.around; locals = locals_refl p.locals; block = refl; this = refl; library = refl }
 
 with_grows : (p q : Place) (x : ℕ) (o u : Option Kind) (fixed : Bool) → PlaceGrows p q → Less o u → PlaceGrows (with p x o fixed) (with q x u fixed)
 with_grows p q x o u fixed h i = record {
   locals = append_grows p.locals q.locals (local x o fixed) (local x u fixed) h.locals refl refl i;
-  floor = h.floor;
+  around = h.around;
   block = h.block;
   this = h.this;
   library = h.library;
 }
 
 inner_grows : (p q : Place) → PlaceGrows p q → PlaceGrows (inner p) (inner q)
-inner_grows p q h = record { locals = h.locals; floor = h.floor; block = same_length p.locals q.locals h.locals; this = h.this; library = h.library }
+inner_grows p q h = record { around = h.around; locals = h.locals; block = same_length p.locals q.locals h.locals; this = h.this; library = h.library }
 
 or_grows : (a b c d : Option (Option Kind)) → ReturnGrows a b → ReturnGrows c d → ReturnGrows (or_else a c) (or_else b d)
 or_grows None None c d h i = i

@@ -31,7 +31,7 @@ use Rattle.type_derive.specs.Nodes.{kind_role, handler_place}
 use Rattle.type_derive.specs.Making.{Made, Making, pure, ◌>=>◌, a_local}
 use Rattle.sts_scope.specs.Numbers.{Numbering, global_number, field_names, slot_names, place_among, routine_number}
 
--- where something stands, and where the values of the names in scope are
+-- where something stands, and where the values of the function's locals in scope are
 pub record Site : Type 0 where
   pub place : Place
   pub spots : List Spot
@@ -89,7 +89,7 @@ module _ (tables : Tables) (names : Naming) (k : Known) (numbers : Numbering) wh
   spot_of s _ = Global 0
 
   abbrev pub in_handler_site : Site → List Parameter → Option Annotation → Statements → Site
-  in_handler_site s params gives all = record { place = handler_place tables names k s.place params gives all; spots = s.spots }
+  in_handler_site s params gives all = record { place = handler_place tables names k s.place params gives all; spots = [] }
 
   abbrev pub kind_or_nothing : Option Kind → Kind
   kind_or_nothing o = unwrap_or o nothing

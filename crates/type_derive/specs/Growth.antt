@@ -23,8 +23,8 @@ pub record KnownGrows (k l : Known) : Type 0 where
   pub kinds : (d : ℕ) → Less (kind_at k d) (kind_at l d)
 
 pub record PlaceGrows (p q : Place) : Type 0 where
+  pub around : LocalsGrow p.around q.around
   pub locals : LocalsGrow p.locals q.locals
-  pub floor : q.floor ≡ p.floor
   pub block : q.block ≡ p.block
   pub this : q.this ≡ p.this
   pub library : q.library ≡ p.library

@@ -1,5 +1,5 @@
 -- How places change while statements are gone through.
-use Rattle.std.specs.Prelude.{◌≡◌, ℕ, ◌+◌, List, ◌++◌, take}
+use Rattle.std.specs.Prelude.{◌≡◌, ℕ, List, ◌++◌, take}
 use Rattle.sts_scope.specs.declared.known.Local.{Local}
 use Rattle.sts_scope.specs.Places.{Place}
 
@@ -7,6 +7,6 @@ use Rattle.sts_scope.specs.Places.{Place}
 abbrev pub Extends : Place → Place → Type 0
 Extends p q = (more : List Local) × (q ≡ record p { locals = p.locals ++ more })
 
--- a block ends: so many locals of the function were in scope where it began, and the block around it begins at that one of them
+-- a block ends: so many locals were in scope where it began, and the block around it begins at that one of them
 abbrev pub left : Place → ℕ → ℕ → Place
-left p n block = record p { locals = take (p.floor + n) p.locals; block = p.floor + block }
+left p n block = record p { locals = take n p.locals; block = block }

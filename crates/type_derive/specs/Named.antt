@@ -1,36 +1,41 @@
 -- How locals are found by their names.
-use Rattle.std.specs.Prelude.{◌≡◌, ℕ, ◌+◌, ◌||◌, Bool, false, Option, is_some, List, [], ◌∷◌, ◌++◌, length}
-use Rattle.std.specs.Borrow.{Bor}
+use Rattle.std.specs.Prelude.{◌≡◌, ℕ, ◌||◌, Bool, false, Option, is_some, List, [], ◌∷◌, ◌++◌}
 use Rattle.std.specs.BTreeMap.{BTreeMap, get}
 use Rattle.std.specs.Ordering.{nat_cmp}
 use Rattle.sts_scope.specs.declared.known.Local.{Local}
-use Rattle.sts_scope.specs.Places.{last_from, last_named}
+use Rattle.sts_scope.specs.Places.{last_named}
+use Rattle.type_derive.specs.declared.around.Outer.{Outer}
 
--- The parameters and locals in scope, outermost first, of which those from `floor` on are of this function and those from `block` on of this block.
+-- The parameters and locals of the functions around, and those of this function in scope, outermost first, of which those from `block` on are of this block.
 pub record InScope : Type 0 where
-  pub all : List Local
-  pub floor : ℕ
+  pub around : List Local
+  pub own : List Local
   pub block : ℕ
 
 abbrev pub in_scope : List Local → List Local → ℕ → InScope
-in_scope outer own block = record { all = outer ++ own; floor = length outer; block = length outer + block }
+in_scope around own block = record { around = around; own = own; block = block }
 
--- a name has a local in one of these tables
-abbrev pub is_around : List (Bor (BTreeMap ℕ ℕ)) → ℕ → Bool
+-- the locals of functions around, one function's behind the other's
+abbrev pub around_of : List Outer → List Local
+around_of [] = []
+around_of (f ∷ rest) = f.locals.now ++ around_of rest
+
+-- a name has a local in one of their tables
+abbrev pub is_around : List Outer → ℕ → Bool
 is_around [] x = false
-is_around (last ∷ rest) x = is_some (get nat_cmp last.now x) || is_around rest x
+is_around (f ∷ rest) x = is_some (get nat_cmp f.last.now x) || is_around rest x
 
--- for each local, the last one of its name before it, where the first of them all has the number n and some stand before them
-abbrev pub earlier : ℕ → List Local → List Local → List (Option ℕ)
-earlier n before [] = []
-earlier n before (l ∷ ls) = last_from n before l.name ∷ earlier n (before ++ l ∷ []) ls
+-- for each local, the last one of its name before it, where some stand before them
+abbrev pub earlier : List Local → List Local → List (Option ℕ)
+earlier before [] = []
+earlier before (l ∷ ls) = last_named before l.name ∷ earlier (before ++ l ∷ []) ls
 
--- Tables of the last local of each name of a function, and of the one before each: as its locals, and those around them, have it.
-pub record OwnAreNamed (last : BTreeMap ℕ ℕ) (before : List (Option ℕ)) (outer own : List Local) : Type 0 where
-  pub last_is : (x : ℕ) → get nat_cmp last x ≡ last_from (length outer) own x
-  pub before_are : before ≡ earlier (length outer) [] own
+-- Tables of the last local of each name, and of the one before each: as the locals have it.
+pub record OwnAreNamed (last : BTreeMap ℕ ℕ) (before : List (Option ℕ)) (own : List Local) : Type 0 where
+  pub last_is : (x : ℕ) → get nat_cmp last x ≡ last_named own x
+  pub before_are : before ≡ earlier [] own
 
 -- And a table of each function around, of the names that have a local there.
-pub record AreNamed (around : List (Bor (BTreeMap ℕ ℕ))) (last : BTreeMap ℕ ℕ) (before : List (Option ℕ)) (outer own : List Local) : Type 0 where
-  pub around_are : (x : ℕ) → is_around around x ≡ is_some (last_named outer x)
-  pub own_are : OwnAreNamed last before outer own
+pub record AreNamed (around : List Outer) (last : BTreeMap ℕ ℕ) (before : List (Option ℕ)) (own : List Local) : Type 0 where
+  pub around_are : (x : ℕ) → is_around around x ≡ is_some (last_named (around_of around) x)
+  pub own_are : OwnAreNamed last before own

@@ -3,4 +3,4 @@ use Rattle.sts_scope.specs.Places.{Place}
 use Rattle.type_derive.specs.declared.scopes.Scope.{Scope}
 
 abbrev pub place : Scope → Place
-place s = record { locals = s.locals.all; floor = s.locals.floor; block = s.locals.block; this = s.this; gives = s.gives; library = s.library }
+place s = record { around = s.locals.around; locals = s.locals.own; block = s.locals.block; this = s.this; gives = s.gives; library = s.library }

@@ -29,7 +29,7 @@ fn hidden(this: This) -> This
 
 /// Adds parameters.
 fn add_parameters(classes: &ByNumber, locals: &mut Locals, params: &[Param]) -> Result<(), NoMemory>
-    ensures { OnOk result (locals.new ≡ record locals.old { all = locals.old.all ++ parameter_locals (value_at classes.now.values.items) (parameters params.now) }) }
+    ensures { OnOk result (locals.new ≡ record locals.old { own = locals.old.own ++ parameter_locals (value_at classes.now.values.items) (parameters params.now) }) }
 {
     for i in 0..params.len() {
         let kind = written_kind(classes, &params[i].shape)?;

@@ -1,18 +1,16 @@
 // Parameters and locals in scope, which are found by their names.
-ghost use Rattle.std.specs.Prelude.{◌≡◌, ℕ, ◌+◌, ◌-◌, ◌==◌, ◌||◌, is_some, Some, None, IsSome, [], ◌∷◌, ◌++◌, length, take, slice_get, IfOk, OnOk, if◌then◌else◌};
-ghost use Rattle.std.specs.Option.{option_map};
+ghost use Rattle.std.specs.Prelude.{◌≡◌, ℕ, ◌-◌, ◌==◌, is_some, Some, None, IsSome, [], ◌∷◌, ◌++◌, length, take, slice_get, IfOk, OnOk, if◌then◌else◌};
 ghost use Rattle.std.specs.BTreeMap.{get};
 ghost use Rattle.std.specs.Ordering.{nat_cmp};
-ghost use Rattle.std.specs.Option.{option_to_list};
 ghost use Rattle.sts_scope.specs.Places as name;
-ghost use Rattle.type_derive.specs.Named.{is_around, in_scope, OwnAreNamed};
+ghost use Rattle.type_derive.specs.Named.{in_scope, OwnAreNamed};
 
-use lent_lists::Layers;
+use crate::around::{Outer, is_around, lent};
 use std::alloc::Global;
 use std::collections::BTreeMap;
 use std::marker::Model;
 use sts_base::NoMemory;
-use sts_scope::{Found, Local};
+use sts_scope::Local;
 
 /// Where a block began: how many locals of the function were in scope, and where the block around it begins.
 #[derive(Clone, Copy)]
@@ -23,15 +21,16 @@ pub struct Mark {
     pub block: usize,
 }
 
-/// The parameters and locals in scope, outermost first. Those of the functions around are lent, so that none is copied. A name is found in logarithmic
-/// time for each function around.
+/// The parameters and locals of the function that are in scope, outermost first, and those of the functions around, which are lent, so that none is
+/// copied. A name is found in logarithmic time for each function around.
 #[derive(Drop)]
 pub struct Locals<'a> {
-    list: Layers<'a, Local>,
+    /// the functions around, outermost first
+    around: Vec<Outer<'a>>,
+    /// those of this function
+    own: Vec<Local>,
     /// those of this function from here on are of this block
     block: usize,
-    /// the last local of each name, for each function around
-    around: Vec<&'a BTreeMap<u32, usize>>,
     /// the last local of each name of this function
     last: BTreeMap<u32, usize>,
     /// for each local of this function, the last one of its name before it
@@ -39,46 +38,13 @@ pub struct Locals<'a> {
 }
 
 impl<'a> Model for Locals<'a> {
-    ghost use Rattle.type_derive.specs.Named.{AreNamed, InScope, in_scope};
+    ghost use Rattle.type_derive.specs.Named.{AreNamed, InScope, around_of, in_scope};
 
     ghost Value = { InScope };
 
-    ghost view = { λ l. in_scope l.list.0 l.list.1 l.block };
+    ghost view = { λ l. in_scope (around_of l.around.items) l.own.items l.block };
 
-    ghost invariant = { λ l. AreNamed l.around.items l.last l.before.items l.list.0 l.list.1 };
-}
-
-/// Whether a name has a local in one of these tables.
-fn is_around(around: &[&BTreeMap<u32, usize>], x: u32) -> bool
-    ensures { result ≡ is_around around.now x }
-{
-    for k in 0..around.len() {
-        let last: &BTreeMap<u32, usize> = around[k];
-        if last.contains_key(&x) {
-            return true;
-        }
-    }
-    false
-}
-
-/// The same tables once more, and one behind them.
-fn lent<'a>(
-    alloc: Global,
-    around: &[&'a BTreeMap<u32, usize>],
-    last: &'a BTreeMap<u32, usize>,
-) -> Result<Vec<&'a BTreeMap<u32, usize>>, NoMemory>
-    ensures { IfOk result (λ all. (x : ℕ) → is_around all.items x ≡ (is_around around.now x || is_some (get nat_cmp last.now x))) }
-{
-    let mut all = Vec::new(alloc);
-    for k in 0..around.len() {
-        if all.push(around[k]).is_err() {
-            return Err(NoMemory);
-        }
-    }
-    match all.push(last) {
-        Ok(()) => Ok(all),
-        Err(_) => Err(NoMemory),
-    }
+    ghost invariant = { λ l. AreNamed l.around.items l.last l.before.items l.own.items };
 }
 
 /// The last local of a name.
@@ -109,13 +75,12 @@ fn forget(last: &mut BTreeMap<u32, usize>, x: u32, before: Option<usize>)
 }
 
 /// Takes away the last local of a function, if it has one.
-fn pop(list: &mut Layers<Local>, last: &mut BTreeMap<u32, usize>, before: &mut Vec<Option<usize>>)
-    requires { OwnAreNamed last.old before.old.items list.old.0 list.old.1 }
-    ensures named { OwnAreNamed last.new before.new.items list.new.0 list.new.1 }
-    ensures around { list.new.0 ≡ list.old.0 }
-    ensures own { list.new.1 ≡ take (length list.old.1 - 1) list.old.1 }
+fn pop(own: &mut Vec<Local>, last: &mut BTreeMap<u32, usize>, before: &mut Vec<Option<usize>>)
+    requires { OwnAreNamed last.old before.old.items own.old.items }
+    ensures named { OwnAreNamed last.new before.new.items own.new.items }
+    ensures rest { own.new.items ≡ take (length own.old.items - 1) own.old.items }
 {
-    if let Some(local) = list.pop() {
+    if let Some(local) = own.pop() {
         if let Some(earlier) = before.pop() {
             forget(last, local.name, earlier);
         }
@@ -124,18 +89,17 @@ fn pop(list: &mut Layers<Local>, last: &mut BTreeMap<u32, usize>, before: &mut V
 
 /// Takes away the locals of a function from the n-th on.
 fn truncate(
-    list: &mut Layers<Local>,
+    own: &mut Vec<Local>,
     last: &mut BTreeMap<u32, usize>,
     before: &mut Vec<Option<usize>>,
     n: usize,
 )
-    requires { OwnAreNamed last.old before.old.items list.old.0 list.old.1 }
-    ensures named { OwnAreNamed last.new before.new.items list.new.0 list.new.1 }
-    ensures around { list.new.0 ≡ list.old.0 }
-    ensures own { list.new.1 ≡ take n list.old.1 }
+    requires { OwnAreNamed last.old before.old.items own.old.items }
+    ensures named { OwnAreNamed last.new before.new.items own.new.items }
+    ensures rest { own.new.items ≡ take n own.old.items }
 {
-    while n < list.own_len() {
-        pop(list, last, before);
+    while n < own.len() {
+        pop(own, last, before);
     }
 }
 
@@ -145,55 +109,60 @@ impl<'a> Locals<'a> {
         ensures { result ≡ in_scope [] [] 0 }
     {
         Locals {
-            list: Layers::new(alloc),
-            block: 0,
             around: Vec::new(alloc),
+            own: Vec::new(alloc),
+            block: 0,
             last: BTreeMap::new(alloc),
             before: Vec::new(alloc),
         }
     }
 
-    /// The local at a place, counted from the outermost. None exactly past the end.
+    /// The function's local at a place, counted from its first one. None exactly past the end.
     pub fn get(&self, i: usize) -> Option<Local>
-        ensures { result ≡ slice_get self.now.all i }
+        ensures { result ≡ slice_get self.now.own i }
     {
-        self.list.get(i)
+        match self.own.get(i) {
+            None => None,
+            Some(local) => Some(*local),
+        }
     }
 
-    /// The innermost local of a name: one of this function, or one of a function around it.
-    pub fn found(&self, x: u32) -> Option<Found>
-        ensures { result ≡ option_map (name.local_or_captured self.now.floor) (name.last_named self.now.all x) }
+    /// The place of the function's innermost local of a name.
+    pub fn last_named(&self, x: u32) -> Option<usize>
+        ensures { result ≡ name.last_named self.now.own x }
     {
-        match last_of(&self.last, x) {
-            Some(i) => Some(Found::Local(i)),
-            None => {
-                if is_around(self.around.as_slice(), x) {
-                    Some(Found::Captured)
-                } else {
-                    None
-                }
-            }
-        }
+        last_of(&self.last, x)
+    }
+
+    /// Whether a function around has a local of a name.
+    pub fn is_around(&self, x: u32) -> bool
+        ensures { result ≡ is_some (name.last_named self.now.around x) }
+    {
+        is_around(self.around.as_slice(), x)
     }
 
     /// Whether a local of a name stands in the block.
     pub fn is_twice(&self, x: u32) -> bool
-        ensures { result ≡ name.is_from self.now.block (name.last_named self.now.all x) }
+        ensures { result ≡ name.is_from self.now.block (name.last_named self.now.own x) }
     {
         match last_of(&self.last, x) {
             None => false,
-            Some(i) => self.block <= i - self.list.floor(),
+            Some(i) => self.block <= i,
         }
     }
 
     /// The locals that a function in this one begins with: those in scope here are around it.
     pub fn inside(&'a self, alloc: Global) -> Result<Locals<'a>, NoMemory>
-        ensures { IfOk result (λ l. l ≡ in_scope self.now.all [] 0) }
+        ensures { IfOk result (λ l. l ≡ in_scope (self.now.around ++ self.now.own) [] 0) }
     {
+        let here = Outer {
+            locals: self.own.as_slice(),
+            last: &self.last,
+        };
         Ok(Locals {
-            list: self.list.inside(alloc)?,
+            around: lent(alloc, self.around.as_slice(), here)?,
+            own: Vec::new(alloc),
             block: 0,
-            around: lent(alloc, self.around.as_slice(), &self.last)?,
             last: BTreeMap::new(alloc),
             before: Vec::new(alloc),
         })
@@ -201,19 +170,19 @@ impl<'a> Locals<'a> {
 
     /// Adds a local.
     pub fn push(&mut self, local: Local) -> Result<(), NoMemory>
-        ensures { OnOk result (self.new ≡ record self.old { all = self.old.all ++ local ∷ [] }) }
+        ensures { OnOk result (self.new ≡ record self.old { own = self.old.own ++ local ∷ [] }) }
     {
         let before = last_of(&self.last, local.name);
-        let i = self.list.len();
+        let i = self.own.len();
         if self.before.push(before).is_err() {
             return Err(NoMemory);
         }
-        if self.list.push(local).is_err() {
+        if self.own.push(local).is_err() {
             self.before.pop();
             return Err(NoMemory);
         }
         if self.last.insert(local.name, i).is_err() {
-            self.list.pop();
+            self.own.pop();
             self.before.pop();
             return Err(NoMemory);
         }
@@ -222,32 +191,27 @@ impl<'a> Locals<'a> {
 
     /// What stands around here, where no block begins.
     pub fn mark(&self) -> Mark
-        ensures locals { self.now.floor + result.locals ≡ length self.now.all }
-        ensures block { self.now.floor + result.block ≡ self.now.block }
+        ensures locals { result.locals ≡ length self.now.own }
+        ensures block { result.block ≡ self.now.block }
     {
         Mark {
-            locals: self.list.own_len(),
+            locals: self.own.len(),
             block: self.block,
         }
     }
 
     /// A block begins.
     pub fn enter(&mut self)
-        ensures { self.new ≡ record self.old { block = length self.old.all } }
+        ensures { self.new ≡ record self.old { block = length self.old.own } }
     {
-        self.block = self.list.own_len();
+        self.block = self.own.len();
     }
 
     /// It ends: all is as it was at the mark.
     pub fn leave(&mut self, mark: Mark)
-        ensures { self.new ≡ record self.old { all = take (self.old.floor + mark.locals) self.old.all; block = self.old.floor + mark.block } }
+        ensures { self.new ≡ record self.old { own = take mark.locals self.old.own; block = mark.block } }
     {
-        truncate(
-            &mut self.list,
-            &mut self.last,
-            &mut self.before,
-            mark.locals,
-        );
+        truncate(&mut self.own, &mut self.last, &mut self.before, mark.locals);
         self.block = mark.block;
     }
 }

@@ -1,5 +1,5 @@
 // What declarations make known, and the first value that a function returns.
-ghost use Rattle.std.specs.Prelude.{◌≡◌, ◌+◌, ◌++◌, ◌∷◌, [], length, OnOk, IfOk};
+ghost use Rattle.std.specs.Prelude.{◌≡◌, ◌++◌, ◌∷◌, [], length, OnOk, IfOk};
 ghost use Rattle.sts_syntax.specs.Views.{tree, declarations, statement, statements, optional_annotation, optional_expression, optional_written};
 ghost use Rattle.sts_syntax.specs.Trees as t;
 ghost use Rattle.sts_scope.specs.Places as name;
@@ -145,8 +145,8 @@ pub fn after(
 /// A block begins.
 pub fn enter(scope: &mut Scope) -> Mark
     ensures place { place scope.new ≡ name.inner (place scope.old) }
-    ensures locals { (place scope.old).floor + result.locals ≡ length (place scope.old).locals }
-    ensures block { (place scope.old).floor + result.block ≡ (place scope.old).block }
+    ensures locals { result.locals ≡ length (place scope.old).locals }
+    ensures block { result.block ≡ (place scope.old).block }
 {
     let mark = scope.locals.mark();
     scope.locals.enter();

@@ -14,7 +14,7 @@ use sts_scope::{
 /// Where something stands.
 #[derive(Drop)]
 pub struct Scope<'a> {
-    /// the parameters and locals in scope
+    /// the parameters and locals in scope, and those of the functions around
     pub locals: Locals<'a>,
     /// what `this` is
     pub this: This,
@@ -55,14 +55,19 @@ fn global_named(known: &Environment, library: bool, x: u32) -> Found
     }
 }
 
-/// The innermost local of a name, else the declaration of the whole text.
-#[tactic(auto, using(crate::proofs::Named::found_here, crate::proofs::Named::found_nowhere))]
+/// The function's innermost local of a name, else one of a function around, else the declaration of the whole text.
 fn found_among(known: &Environment, scope: &Scope, x: u32) -> Found
     ensures { result ≡ name.found_among known.now (place scope.now) x (name.last_named (place scope.now).locals x) }
 {
-    match scope.locals.found(x) {
-        Some(found) => found,
-        None => global_named(known, scope.library, x),
+    match scope.locals.last_named(x) {
+        Some(i) => Found::Local(i),
+        None => {
+            if scope.locals.is_around(x) {
+                Found::Captured
+            } else {
+                global_named(known, scope.library, x)
+            }
+        }
     }
 }
 

@@ -196,7 +196,7 @@ module _ (tables : Tables) (names : Naming) (k : Known) (numbers : Numbering) (P
         let hw : wf ≡ None = first wf (jf then of_) hA in
         let hj : jf ≡ None = first jf of_ (last wf (jf then of_) hA) in
         let ho : of_ ≡ None = last jf of_ (last wf (jf then of_) hA) in
-        let stand0 : Stand tables names k numbers P made S [] s0 = record { even = refl; here = λ i u f h. cc; proper = λ i u h. cc; this = λ c' q. let z : c ≡ c' = cc in subst (λ (y : ℕ). HasThis P S (t.Object y)) z this_so } in
+        let stand0 : Stand tables names k numbers P made S [] s0 = record { even = refl; here = λ i u h. cc; proper = λ i u h. cc; this = λ c' q. let z : c ≡ c' = cc in subst (λ (y : ℕ). HasThis P S (t.Object y)) z this_so } in
         let (u, q, pu) = bound_known tables names k numbers P (st tables names k numbers P made) S [] s0 shape first' i stand0 hw ho in
         let en : Entry = declared_as i (o.Class c) x sort.Field [] in
         let at_d : slice_get k.entries d ≡ Some en = suffix_head k.entries d en (member_entries names c rest ++ walk.es) walk.entries in

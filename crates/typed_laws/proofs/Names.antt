@@ -1,6 +1,6 @@
 -- What names and members stand for, and that expressions have types that values have.
 use Rattle.std.proofs.Common.{◌≡◌, ℕ, refl, sym, subst, Bool, true, false, ◌&&◌, ◌||◌, ◌==◌, Option, Some, None, List, [], ◌∷◌}
-use Rattle.std.specs.Prelude.{ℤ, nat_lt, nat_le, if◌then◌else◌, codes}
+use Rattle.std.specs.Prelude.{ℤ, is_some, nat_le, if◌then◌else◌, codes}
 use Rattle.sts_base.specs.declared.tables.Tables.{Tables}
 use Rattle.sts_syntax.specs.Types as t
 use Rattle.sts_syntax.specs.Types.{ValueType}
@@ -20,7 +20,7 @@ use Rattle.sts_scope.specs.declared.known.This.{This as Self}
 use Rattle.sts_scope.specs.declared.known.This.TheVariants as this
 use Rattle.sts_scope.specs.Kinds.{number, boolean, nothing, null, object, array, item, same, is_array, class_of, takes_null}
 use Rattle.sts_scope.specs.Lookup.{entry_number, sort_of, member_number}
-use Rattle.sts_scope.specs.Places.{Place, is_hidden, last_named, found_among, whole_found, sort_found, entry_found}
+use Rattle.sts_scope.specs.Places.{Place, is_hidden, last_named, found_among, found_around, whole_found, sort_found, entry_found}
 use Rattle.sts_scope.specs.Rules.{local_kind, name_kind, this_kind, kind_at, takes_at, is_spelled, array_part, member_part, object_part, class_part, part_of, part_kind, call_kind, all_go, maker_takes_of, operate, prefix, joined, common, choose, assign, counted, element, items_type, comparable, below, goes, all_go_to, is_arithmetic, is_order, is_equality}
 use Rattle.type_derive.specs.declared.roles.Role.TheVariants.{Free, Given}
 use Rattle.type_derive.specs.Typing.{◌>>=◌, Callee, callee, board_kind, finds, constant_of, board_callee, named_callee, part_callee, callee_of, super_method, made, called, type_of, types_of, are_given, settable}
@@ -48,9 +48,9 @@ fixed_some {A} P true a r p h = let q : a ≡ r = some_is a r h in subst P q p
 fixed_some {A} P false a r p h = cc
 
 module _ (k : Known) where
-  -- a local is one of this function, and a global, a function and a class are declared so
+  -- a global, a function and a class are declared so
   abbrev pub Real : Place → Found → Type 0
-  Real p (found.Local i) = nat_lt i p.floor ≡ false
+  Real p (found.Local i) = Unit {0}
   Real p found.Captured = Unit {0}
   Real p (found.Global d) = (fixed : Bool) × (sort_of k.entries d ≡ Some (sort.Global fixed))
   Real p (found.Function d) = sort_of k.entries d ≡ Some sort.Function
@@ -77,9 +77,13 @@ module _ (k : Known) where
     whole_real library None = tt
     whole_real library (Some d) = if_real (library && nat_le k.library d) found.Unknown (sort_found d (sort_of k.entries d)) (λ e. tt) (λ e. sort_real d (sort_of k.entries d) refl)
 
+    around_real : (x : ℕ) (around : Bool) → Real p (found_around k p x around)
+    around_real x true = tt
+    around_real x false = whole_real p.library (entry_number k.entries o.Whole x)
+
     among_real : (x : ℕ) (i : Option ℕ) → Real p (found_among k p x i)
-    among_real x (Some i) = if_real (nat_lt i p.floor) found.Captured (found.Local i) (λ e. tt) (λ e. e)
-    among_real x None = whole_real p.library (entry_number k.entries o.Whole x)
+    among_real x (Some i) = tt
+    among_real x None = around_real x (is_some (last_named p.around x))
 
   pub real : (tables : Tables) (p : Place) (x : ℕ) → Real p (finds tables k p x)
   real tables p x = if_real p (is_hidden tables.names p x) found.Unknown (found_among k p x (last_named p.locals x)) (λ e. tt) (λ e. among_real p x (last_named p.locals x))

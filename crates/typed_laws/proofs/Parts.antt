@@ -94,7 +94,7 @@ module _ (tables : Tables) (names : Naming) (k : Known) (numbers : Numbering) (P
   site0 = record { place = outside this.Nowhere false None; spots = [] }
 
   stand0 : (S : Setting) → Stand tables names k numbers P made S [] site0
-  stand0 S = record { even = refl; here = λ i u f h. cc; proper = λ i u h. cc; this = λ c q. cc }
+  stand0 S = record { even = refl; here = λ i u h. cc; proper = λ i u h. cc; this = λ c q. cc }
 
   answers0 : (S : Setting) (b : Bool) → Answered tables names k numbers P (st tables names k numbers P made) S None b
   answers0 S b = ((λ q. cc), (λ q v h. cc))

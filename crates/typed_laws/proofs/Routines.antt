@@ -96,7 +96,7 @@ module _ (tables : Tables) (names : Naming) (k : Known) (numbers : Numbering) (P
   pub site_stand : (S : Setting) (self : Self) (result : Option Kind) (library : Bool) (before : List ValueType) (params : List Parameter) → S.routine.params ≡ before ++ value_types (parameter_kinds names params)
       → ((c : ℕ) → self ≡ this.Object c → HasThis P S (t.Object c)) → Stand S [] (site tables names k numbers self result library (length before) params)
   site_stand S self result library before params q this_so =
-      record { even = params_even (length before) params; here = λ i u f h. params_have S before params q i u h; proper = λ i u h. params_proper params i u h; this = this_so }
+      record { even = params_even (length before) params; here = λ i u h. params_have S before params q i u h; proper = λ i u h. params_proper params i u h; this = this_so }
 
   -- which functions are constructors
   module _ (marks : List (Option ℕ)) (marked : AllMarked marks 0 numbers.makers) where

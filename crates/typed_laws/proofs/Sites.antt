@@ -1,6 +1,6 @@
 -- Where the values of names in scope are.
 use Rattle.std.proofs.Common.{◌≡◌, ℕ, zero, suc, ◌+◌, ◌<◌, refl, sym, ap, ◌∙◌, subst, Bool, true, false, ◌&&◌, ◌||◌, Option, Some, None, List, [], ◌∷◌, ◌++◌, length, get_or, inl, inr, arith, length-append}
-use Rattle.std.specs.Prelude.{nat_lt, ◌⊎◌, if◌then◌else◌}
+use Rattle.std.specs.Prelude.{◌⊎◌, if◌then◌else◌}
 use Rattle.std.proofs.lemmas.List.{get_or_append_left}
 use Rattle.std.proofs.Math.Seq.{get_or-append_seam}
 use Rattle.sts_base.specs.declared.tables.Tables.{Tables}
@@ -116,7 +116,7 @@ module _ (tables : Tables) (names : Naming) (k : Known) (numbers : Numbering) (P
   -- What is known at a place: each name of this function in scope is a parameter or a local of its type.
   pub record At (S : Setting) (known : List ℕ) (s : Site) : Type 0 where
     pub even : length s.spots ≡ length s.place.locals
-    pub here : (i : ℕ) (u : Kind) → nat_lt i s.place.floor ≡ false → local_kind s.place.locals i ≡ Some u → Has P S known (get_or s.spots i (Global 0)) (value_type u)
+    pub here : (i : ℕ) (u : Kind) → local_kind s.place.locals i ≡ Some u → Has P S known (get_or s.spots i (Global 0)) (value_type u)
     pub proper : (i : ℕ) (u : Kind) → local_kind s.place.locals i ≡ Some u → IsProper u
     pub this : (c : ℕ) → s.place.this ≡ this.Object c → HasThis P S (t.Object c)
 
@@ -135,10 +135,10 @@ module _ (tables : Tables) (names : Naming) (k : Known) (numbers : Numbering) (P
       let l : Scoped = local x kind fixed in
       record {
         even = length-append s.spots (Local m ∷ []) ∙ ap (λ (i : ℕ). i + 1) a.even ∙ sym (length-append s.place.locals (l ∷ []));
-        here = λ i u f h. elim (kind_split s.place.locals l i u h) [
+        here = λ i u h. elim (kind_split s.place.locals l i u h) [
           | inl p ↦ (let near : i < length s.spots = omega (arith, p.0, a.even) in
               let q : get_or (s.spots ++ Local m ∷ []) i (Global 0) ≡ get_or s.spots i (Global 0) = get_or_append_left s.spots (Local m ∷ []) (Global 0) i near in
-              subst (λ (y : Spot). Has P S (m ∷ known) y (value_type u)) (sym q) (has_more S known m (get_or s.spots i (Global 0)) (value_type u) (a.here i u f p.1)))
+              subst (λ (y : Spot). Has P S (m ∷ known) y (value_type u)) (sym q) (has_more S known m (get_or s.spots i (Global 0)) (value_type u) (a.here i u p.1)))
           | inr p ↦ (let r : i ≡ length s.spots = p.0 ∙ sym a.even in
               let q : get_or (s.spots ++ Local m ∷ []) i (Global 0) ≡ Local m = ap (λ (j : ℕ). get_or (s.spots ++ Local m ∷ []) j (Global 0)) r ∙ get_or-append_seam s.spots (Local m) [] (Global 0) in
               subst (λ (y : Spot). Has P S (m ∷ known) y (value_type u)) (sym q) (inl refl, (new u p.1).0))
@@ -148,7 +148,7 @@ module _ (tables : Tables) (names : Naming) (k : Known) (numbers : Numbering) (P
       }
 
   pub name_good : (S : Setting) (known : List ℕ) (s : Site) (f : Found) (u : Kind) → At S known s → Real k s.place f → name_kind k s.place f ≡ Some u → Has P S known (spot_of tables names k numbers s f) (value_type u)
-  name_good S known s (found.Local i) u a r h = a.here i u r h
+  name_good S known s (found.Local i) u a r h = a.here i u h
   name_good S known s (found.Global d) u a r h = st.globals d r.0 u r.1 h
   name_good S known s found.Captured u a r h = cc
   name_good S known s (found.Function d) u a r h = cc

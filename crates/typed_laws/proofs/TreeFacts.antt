@@ -1,6 +1,6 @@
 -- Types, faults and tests that the laws of trees speak of.
-use Rattle.std.proofs.Common.{◌≡◌, ℕ, zero, suc, ◌<◌, refl, sym, ap, ◌∙◌, Bool, true, false, ◌&&◌, Option, Some, None, List, [], ◌∷◌, length, arith, lt-ltb}
-use Rattle.std.specs.Prelude.{nat_lt, if◌then◌else◌, unwrap_or}
+use Rattle.std.proofs.Common.{◌≡◌, ℕ, refl, ap, Bool, true, false, ◌&&◌, Option, Some, None, List, [], ◌∷◌}
+use Rattle.std.specs.Prelude.{if◌then◌else◌, unwrap_or}
 use Rattle.sts_base.specs.declared.refused.Code.TheVariants.{BadHandler}
 use Rattle.sts_syntax.specs.Types as t
 use Rattle.sts_scope.specs.declared.kinds.Kind.{Kind}
@@ -9,8 +9,7 @@ use Rattle.sts_scope.specs.declared.known.This.TheVariants as this
 use Rattle.sts_scope.specs.Kinds.{number, boolean, nothing, null, empty, same, is_array, takes_null, value_type}
 use Rattle.sts_scope.specs.Faults.{Fault, ◌then◌, unless}
 use Rattle.sts_scope.specs.Places.{hidden}
-use Rattle.sts_scope.specs.declared.known.Local.{Local as Scoped}
-use Rattle.sts_scope.specs.Rules.{none_taken, is_nothing, is_boolean, local_kind}
+use Rattle.sts_scope.specs.Rules.{none_taken, is_nothing, is_boolean}
 use Rattle.type_derive.specs.Nodes.{kind_role, is_called}
 use Rattle.typed_laws.specs.Stands.{is_proper_base, IsProper}
 use Rattle.typed_laws.proofs.OneNode.{same_is, same_types}
@@ -79,15 +78,6 @@ none_is (u ∷ us) h = cc
 pub test_is : (o : Option Kind) → is_boolean o ≡ true → (u : Kind) × (o ≡ Some u) × (value_type u ≡ t.Boolean)
 test_is None h = cc
 test_is (Some u) h = (u, refl, same_types u boolean h)
-
-pub not_below : (i j : ℕ) → i < j → nat_lt i j ≡ false → ⊥
-not_below i j h f = let q : true ≡ false = sym (lt-ltb i j h) ∙ f in cc
-
--- in a handler nothing of its function is known but its own locals
-pub kind_within : (ls : List Scoped) (i : ℕ) (u : Kind) → local_kind ls i ≡ Some u → i < length ls
-kind_within [] i u h = cc
-kind_within (l ∷ ls) zero u h = omega arith
-kind_within (l ∷ ls) (suc i) u h = omega (arith, kind_within ls i u h)
 
 pub hidden_is : (self : Self) (i : ℕ) → hidden self ≡ this.Object i → ⊥
 hidden_is (this.Object j) i h = cc

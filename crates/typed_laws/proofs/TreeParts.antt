@@ -1,5 +1,5 @@
 -- Parts of trees without a failure are well typed.
-use Rattle.std.proofs.Common.{◌≡◌, ℕ, ℤ, suc, ◌+◌, ◌<◌, refl, sym, ap, ◌∙◌, subst, Bool, true, false, ◌&&◌, ◌||◌, Option, Some, None, List, [], ◌∷◌, ◌++◌, length, inl, inr, arith, append-nil, append_assoc}
+use Rattle.std.proofs.Common.{◌≡◌, ℕ, ℤ, suc, ◌+◌, refl, sym, ap, ◌∙◌, subst, Bool, true, false, ◌&&◌, ◌||◌, Option, Some, None, List, [], ◌∷◌, ◌++◌, inl, inr, arith, append_assoc}
 use Rattle.std.specs.Prelude.{not, pos, if◌then◌else◌, unwrap_or}
 use Rattle.sts_base.specs.declared.tables.Tables.{Tables}
 use Rattle.sts_base.specs.declared.refused.Code.TheVariants.{BadHandler, NeedsType}
@@ -31,8 +31,7 @@ use Rattle.sts_scope.specs.Kinds.{number, boolean, nothing, null, empty, object,
 use Rattle.sts_scope.specs.Faults.{Fault, ◌then◌, unless, own}
 use Rattle.sts_scope.specs.Entries.{Naming}
 use Rattle.sts_scope.specs.Places.{Place}
-use Rattle.sts_scope.specs.declared.known.Local.{Local as Scoped}
-use Rattle.sts_scope.specs.Rules.{name_kind, kind_at, takes_at, maker_takes_of, part_of, part_kind, part_settable, operate, assign, comparable, below, is_equality, is_arithmetic, is_order, items_type, all_go, all_go_to, goes, call_kind, serves, none_taken, is_nothing, local_kind}
+use Rattle.sts_scope.specs.Rules.{name_kind, kind_at, takes_at, maker_takes_of, part_of, part_kind, part_settable, operate, assign, comparable, below, is_equality, is_arithmetic, is_order, items_type, all_go, all_go_to, goes, call_kind, serves, none_taken, is_nothing}
 use Rattle.type_derive.specs.declared.roles.Role.{Role}
 use Rattle.type_derive.specs.declared.roles.Role.TheVariants.{Free, Given, Called, Served}
 use Rattle.type_derive.specs.Typing.{◌>>=◌, Callee, callee, names_function, board_kind, space, space_of, finds, constant_of, board_callee, named_callee, part_callee, callee_of, super_method, made, called, given_to, type_of, types_of, are_given, is_drawing, drawn, spelling, text_at}
@@ -52,7 +51,7 @@ use Rattle.typed_laws.proofs.Makings.{Good as Built}
 use Rattle.typed_laws.proofs.Names.{bind_some, some_is, Real, HasPart, has_part, proper}
 use Rattle.typed_laws.proofs.Sites.{seen, seen_proper, Suits, improper, IsEmptyOr, suits_given, given_goes, empty_is_not_below, nothing_below_empty, IsGood, At}
 use Rattle.typed_laws.proofs.Boards.{are_plain, draw_nothing, serve_nothing, fit_action, gives_plain, takes_plain, action_fits, constant_int32, drawing_int32}
-use Rattle.typed_laws.proofs.TreeFacts.{kind_is, not_called, and_first, empty_same, empty_takes_null, empty_null, empty_number, nothing_is, none_is, not_below, kind_within, hidden_is}
+use Rattle.typed_laws.proofs.TreeFacts.{kind_is, not_called, and_first, empty_same, empty_takes_null, empty_null, empty_number, nothing_is, none_is, hidden_is}
 
 module _ (tables : Tables) (names : Naming) (k : Known) (numbers : Numbering) (P : TypedProgram) (st : Stands tables k numbers P) where
   abbrev Good : Setting → List ℕ → ValueType → TypedTree → Type 0
@@ -694,13 +693,13 @@ module _ (tables : Tables) (names : Naming) (k : Known) (numbers : Numbering) (P
   fits_is None (Some v) h = cc
   fits_is None None h = cc
 
-  pub handler_stand : (S S' : Setting) (known : List ℕ) (s : Site) (gives : Option Annotation) (all : Statements) → Stand S known s → Stand S' [] (in_handler_site tables names k numbers s [] gives all)
-  handler_stand S S' known s gives all at =
-      let same : s.place.locals ++ [] ≡ s.place.locals = append-nil s.place.locals in
+  -- in a handler no local is in scope where it begins
+  pub handler_stand : (S : Setting) (s : Site) (gives : Option Annotation) (all : Statements) → Stand S [] (in_handler_site tables names k numbers s [] gives all)
+  handler_stand S s gives all =
       record {
-        even = at.even ∙ ap (λ (ls : List Scoped). length ls) (sym same);
-        here = λ i u f h. let near : i < length s.place.locals = kind_within s.place.locals i u (subst (λ (ls : List Scoped). local_kind ls i ≡ Some u) same h) in absurd (not_below i (length s.place.locals) near f);
-        proper = λ i u h. at.proper i u (subst (λ (ls : List Scoped). local_kind ls i ≡ Some u) same h);
+        even = refl;
+        here = λ i u h. cc;
+        proper = λ i u h. cc;
         this = λ i h. absurd (hidden_is s.place.this i h);
       }
 

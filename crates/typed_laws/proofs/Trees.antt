@@ -491,7 +491,7 @@ module _ (tables : Tables) (names : Naming) (k : Known) (numbers : Numbering) (P
         let r : TypedRoutine = record { params = []; locals = made.locals; gives = t.Nothing; all = made.it } in
         let build : (S' : Setting) → S'.routine ≡ r → S'.main ≡ false
         → w.AreSound P S' made.it false [] × (w'.all_declared made.it ≡ [] ++ w'.numbers 0 (length made.locals)) × Inners P made.routines × (length made.routines ≡ statements_handlers all) =
-        λ S' same o. statements S' [] site' false site'.place.gives all 0 (suc n) (handler_stand tables names k numbers P st S S' known s gives all at) f refl h2 (answers S' (ap (λ (x : TypedRoutine). x.gives) same) o) placed.1 (kept_all P S' made.locals (ap (λ (x : TypedRoutine). x.locals) same)) in
+        λ S' same o. statements S' [] site' false site'.place.gives all 0 (suc n) (handler_stand tables names k numbers P st S' s gives all) f refl h2 (answers S' (ap (λ (x : TypedRoutine). x.gives) same) o) placed.1 (kept_all P S' made.locals (ap (λ (x : TypedRoutine). x.locals) same)) in
         let S0 : Setting = record { routine = r; this = false; maker = false; main = false } in
         let (sound, locals_so, inners, count) = build S0 refl refl in
         let inner_so : IsInner P r = record { nothing = refl; body = λ S' same o. subst (λ (x : TypedRoutine). w.AreSound P S' made.it false []) same (build S' same o).0; locals = locals_so } in

@@ -75,11 +75,11 @@ pub grown_behind : (t : Tables) (f : Naming) (k : Known) (n : Numbering) (m : �
 grown_behind t f k n m p a = grown_place p (after t f k p.place a) (new_spots m a) (after_extends t f k p.place a)
 
 -- a block ended, and all is as it was around it
-pub site_closed : (p q r : Site) (n block spots : ℕ) → Grown p q → r.place ≡ left q.place n block → r.spots ≡ take spots q.spots → p.place.floor + n ≡ length p.place.locals → p.place.floor + block ≡ p.place.block → spots ≡ length p.spots → r ≡ p
+pub site_closed : (p q r : Site) (n block spots : ℕ) → Grown p q → r.place ≡ left q.place n block → r.spots ≡ take spots q.spots → n ≡ length p.place.locals → block ≡ p.place.block → spots ≡ length p.spots → r ≡ p
 site_closed p q r n block spots g hp hs en eb es =
     let P : r.place ≡ p.place =
     hp ∙ ap {B = Place} (λ (s : Place). left s n block) g.place_is
-    ∙ ap {B = Place} (λ (m : ℕ). record p.place { locals = take m (p.place.locals ++ g.locals); block = p.place.floor + block }) en
+    ∙ ap {B = Place} (λ (m : ℕ). record p.place { locals = take m (p.place.locals ++ g.locals); block = block }) en
     ∙ ap {B = Place} (λ (b : ℕ). record p.place { locals = take (length p.place.locals) (p.place.locals ++ g.locals); block = b }) eb
     ∙ ap {B = Place} (λ (ls : List Local). record p.place { locals = ls }) (taken p.place.locals g.locals) in
     let S : r.spots ≡ p.spots = hs ∙ ap (λ (xs : List Spot). take spots xs) g.spots_are ∙ ap (λ (m : ℕ). take m (p.spots ++ g.spots)) es ∙ taken p.spots g.spots in

@@ -1,5 +1,5 @@
 // Blocks: what is declared in one is known to its end.
-ghost use Rattle.std.specs.Prelude.{◌≡◌, ◌+◌, ◌++◌, ◌∷◌, [], length, take, IfOk, OnOk};
+ghost use Rattle.std.specs.Prelude.{◌≡◌, ◌++◌, ◌∷◌, [], length, take, IfOk, OnOk};
 ghost use Rattle.sts_scope.specs.Places as name;
 ghost use Rattle.sts_syntax.specs.declared.typed.Spot.TheVariants.{Local};
 ghost use Rattle.type_derive.specs.Built.{in_block};
@@ -10,6 +10,7 @@ ghost use Rattle.typed_trees.specs.Sites as s;
 ghost use Rattle.typed_trees.specs.Steps as steps;
 
 use crate::build_places::{Plan, Site};
+use crate::spots::Spots;
 use sts_base::{NoMemory, Refused};
 use sts_scope::Kind;
 use sts_syntax::{Body, Spot};
@@ -25,8 +26,8 @@ pub struct Around {
 
 /// What stands around here, where no block begins.
 pub fn mark(site: &Site) -> Around
-    ensures locals { (place site.now.scope).floor + result.scope.locals ≡ length (place site.now.scope).locals }
-    ensures block { (place site.now.scope).floor + result.scope.block ≡ (place site.now.scope).block }
+    ensures locals { result.scope.locals ≡ length (place site.now.scope).locals }
+    ensures block { result.scope.block ≡ (place site.now.scope).block }
     ensures spots { result.spots ≡ length site.now.spots }
 {
     Around {
@@ -38,8 +39,8 @@ pub fn mark(site: &Site) -> Around
 /// A block begins.
 pub fn begin(site: &mut Site) -> Around
     ensures site { s.site site.new ≡ in_block (s.site site.old) }
-    ensures locals { (place site.old.scope).floor + result.scope.locals ≡ length (place site.old.scope).locals }
-    ensures block { (place site.old.scope).floor + result.scope.block ≡ (place site.old.scope).block }
+    ensures locals { result.scope.locals ≡ length (place site.old.scope).locals }
+    ensures block { result.scope.block ≡ (place site.old.scope).block }
     ensures spots { result.spots ≡ length site.old.spots }
 {
     let spots = site.spots.len();
@@ -90,6 +91,8 @@ pub fn handler_site<'a>(plan: &Plan, site: &'a Site<'a>, body: &Body) -> Result<
         Err(_) => unreachable!(),
     };
     let scope = handler_scope(&context, &site.scope, params, gives)?;
-    let spots = site.spots.inside(plan.alloc)?;
-    Ok(Site { scope, spots })
+    Ok(Site {
+        scope,
+        spots: Spots::new(plan.alloc),
+    })
 }

@@ -22,7 +22,7 @@ use type_derive::routine_scope;
 use typed_numbers::one_more;
 
 /// Where their values are, from a parameter on.
-fn parameter_spots<'a>(plan: &Plan, first: u32, params: &[Param]) -> Result<Spots<'a>, NoMemory>
+fn parameter_spots(plan: &Plan, first: u32, params: &[Param]) -> Result<Spots, NoMemory>
     ensures { IfOk result (λ all. all ≡ parameter_spots first (parameters params.now)) }
 {
     let mut all = Spots::new(plan.alloc);

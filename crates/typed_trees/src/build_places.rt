@@ -24,12 +24,12 @@ pub struct Plan<'a> {
     pub names: &'a Names,
 }
 
-/// Where something stands, and where the values of the names in scope are.
+/// Where something stands, and where the values of the function's locals are.
 #[derive(Drop)]
 pub struct Site<'a> {
     pub scope: Scope<'a>,
-    /// where the value of each local in scope is
-    pub spots: Spots<'a>,
+    /// where the value of each local of the function in scope is
+    pub spots: Spots,
 }
 
 /// What is built of a function, and the functions that stand in it.

@@ -1,34 +1,33 @@
-// Where the values of the locals in scope are.
-ghost use Rattle.std.specs.Prelude.{◌≡◌, ◌∷◌, ◌++◌, [], length, take, slice_get, IfOk, OnOk};
+// Where the values of a function's locals are.
+ghost use Rattle.std.specs.Prelude.{◌≡◌, ◌∷◌, ◌++◌, [], length, take, slice_get, OnOk};
 
-use lent_lists::Layers;
 use std::alloc::Global;
 use std::marker::Model;
 use sts_base::NoMemory;
 use sts_syntax::Spot;
 
-/// Where the value of each local in scope is. Those of the functions around are lent, so that none is copied. Contracts see the list of all.
+/// Where the value of each local of the function is that is in scope. Contracts see the list of all.
 #[derive(Drop)]
-pub struct Spots<'a> {
-    list: Layers<'a, Spot>,
+pub struct Spots {
+    list: Vec<Spot>,
 }
 
-impl<'a> Model for Spots<'a> {
-    ghost use Rattle.std.specs.Prelude.{List, ◌++◌};
+impl Model for Spots {
+    ghost use Rattle.std.specs.Prelude.{List};
     ghost use Rattle.sts_syntax.specs.declared.typed.Spot.{Spot};
 
     ghost Value = { List Spot };
 
-    ghost view = { λ s. s.list.0 ++ s.list.1 };
+    ghost view = { λ s. s.list.items };
 }
 
-impl<'a> Spots<'a> {
+impl Spots {
     /// No locals.
-    pub fn new(alloc: Global) -> Spots<'a>
+    pub fn new(alloc: Global) -> Spots
         ensures { result ≡ [] }
     {
         Spots {
-            list: Layers::new(alloc),
+            list: Vec::new(alloc),
         }
     }
 
@@ -39,18 +38,24 @@ impl<'a> Spots<'a> {
         self.list.len()
     }
 
-    /// Where the value of a local is, by its place among those in scope. None exactly past the end.
+    /// Where the value of a local is, by its place among the function's own. None exactly past the end.
     pub fn get(&self, i: usize) -> Option<Spot>
         ensures { result ≡ slice_get self.now i }
     {
-        self.list.get(i)
+        match self.list.get(i) {
+            None => None,
+            Some(spot) => Some(*spot),
+        }
     }
 
     /// Adds a local's.
     pub fn push(&mut self, spot: Spot) -> Result<(), NoMemory>
         ensures { OnOk result (self.new ≡ self.old ++ spot ∷ []) }
     {
-        self.list.push(spot)
+        match self.list.push(spot) {
+            Ok(()) => Ok(()),
+            Err(_) => Err(NoMemory),
+        }
     }
 
     /// Takes away those from the n-th on.
@@ -58,14 +63,5 @@ impl<'a> Spots<'a> {
         ensures { self.new ≡ take n self.old }
     {
         self.list.truncate(n);
-    }
-
-    /// Those that a function in this one begins with.
-    pub fn inside(&'a self, alloc: Global) -> Result<Spots<'a>, NoMemory>
-        ensures { IfOk result (λ all. all ≡ self.now) }
-    {
-        Ok(Spots {
-            list: self.list.inside(alloc)?,
-        })
     }
 }

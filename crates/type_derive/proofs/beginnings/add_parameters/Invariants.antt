@@ -6,5 +6,5 @@ use Rattle.type_derive.proofs.beginnings.add_parameters.Given as goal
 
 abbrev pub invariant-loop-i : goal.invariant-loop-i
 invariant-loop-i l =
-    record l.locals { all = l.locals.all ++ parameter_locals (value_at l.classes.values.items) (parameters (drop l.i l.params)) }
-    ≡ record l.fn.locals { all = l.fn.locals.all ++ parameter_locals (value_at l.classes.values.items) (parameters l.params) }
+    record l.locals { own = l.locals.own ++ parameter_locals (value_at l.classes.values.items) (parameters (drop l.i l.params)) }
+    ≡ record l.fn.locals { own = l.fn.locals.own ++ parameter_locals (value_at l.classes.values.items) (parameters l.params) }

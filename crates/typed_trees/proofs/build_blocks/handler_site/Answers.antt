@@ -1,4 +1,4 @@
-use Rattle.std.proofs.Common.{List, sym, ap, ◌∙◌, Option}
+use Rattle.std.proofs.Common.{List, [], sym, ap, ◌∙◌, Option}
 use Rattle.sts_syntax.specs.declared.trees.Body.{out-Body}
 use Rattle.sts_syntax.specs.declared.trees.Param.{Param}
 use Rattle.sts_syntax.specs.declared.trees.Stmt.{Stmt}
@@ -26,5 +26,5 @@ returns c =
     ∙ ap (λ (xs : List Stmt). node.handler_result t n k p ps gs (statements xs)) c.as_slice-all.ensures in
     let within = c.in_ok-scope.ensures ∙ ap (λ (xs : List Param). node.handler_within t n k p (parameters xs) c.in-Ok.gives) c.as_slice-params.ensures
     ∙ ap (λ (g : Option Kind). node.handler_within t n k p ps g) result in
-    site_is (place c.in_ok-scope.scope) (node.handler_place t n k p ps gs (statements body.stmts)) c.in_ok-spots.spots c.args.site.now.spots within c.in_ok-spots.ensures
+    site_is (place c.in_ok-scope.scope) (node.handler_place t n k p ps gs (statements body.stmts)) c.new.result [] within c.new.ensures
     ∙ sym (ap (step.handler_site w (s.site c.args.site.now)) (routine_parts c.args.body.now))

@@ -1,2 +1,0 @@
-pub mod Layered
-pub mod Laws
