@@ -59,6 +59,20 @@ class_names_are_entries f c (x ∷ xs) =
     let rest = class_names_are_entries f (c + length (item_class x)) xs in
     omega (arith, n, m, one, rest)
 
+one_name : (x : TopLevel) → length (item_class x) ≤ 1
+one_name (Class at name base base_at members) = omega arith
+one_name (Function name r) = omega arith
+one_name (Main a) = omega arith
+
+-- and each is a part of the text
+pub class_names_are_items : (items : List Item) → length (class_names (top_levels items)) ≤ length items
+class_names_are_items [] = omega arith
+class_names_are_items (x ∷ xs) =
+    let n = length-append (item_class (top_level x)) (class_names (top_levels xs)) in
+    let one = one_name (top_level x) in
+    let rest = class_names_are_items xs in
+    omega (arith, n, one, rest)
+
 -- where all are fewer than a limit, those before the next one and it are
 pub heads_fit : (f : Naming) (items : List Item) (i : ℕ) (x : Item) (now old : List ClassHead) (limit : ℕ) → i < length items → x ≡ get_or items i x →
     now ++ heads_of f (top_levels (drop i items)) ≡ old ++ heads_of f (top_levels items) → length old + length (class_names (top_levels items)) < limit →
