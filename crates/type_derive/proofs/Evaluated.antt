@@ -15,7 +15,7 @@ use Rattle.sts_scope.specs.declared.kinds.Kind.{Kind}
 use Rattle.sts_scope.specs.declared.entries.ClassHead.{ClassHead}
 use Rattle.sts_scope.specs.declared.known.Known.{Known}
 use Rattle.sts_scope.specs.declared.known.Part.{Part}
-use Rattle.sts_scope.specs.Kinds.{array, number}
+use Rattle.sts_scope.specs.Kinds.{array_of, number}
 use Rattle.sts_scope.specs.Places.{Place}
 use Rattle.sts_scope.specs.Rules.{goes, all_go, all_go_to, call_kind, items_type, part_of, part_kind, part_settable}
 use Rattle.type_derive.specs.declared.boards.BoardTakes as rust_row
@@ -170,7 +170,7 @@ nothing_left : (classes : List ClassHead) (s : Kind) → typed_go_to classes s (
 unfolding all_go_to
 nothing_left classes s = refl
 
-list_is : (classes : List ClassHead) (s : Kind) (us : Option (List Kind)) → (if typed_go_to classes s us then Some (array s) else None) ≡ (us >>= λ vs. items_type classes s vs)
+list_is : (classes : List ClassHead) (s : Kind) (us : Option (List Kind)) → (if typed_go_to classes s us then array_of s else None) ≡ (us >>= λ vs. items_type classes s vs)
 unfolding items_type
 list_is classes s None = refl
 list_is classes s (Some us) = refl
@@ -186,11 +186,11 @@ list_none t k p r at xs x s h is hs e =
 pub list_ends : (t : Tables) (k : Known) (p : Place) (r : Role) (at i : ℕ) (xs : List Expr) (x : Expr) (o v : Option Kind) (s : Kind) (fits : Bool) → 1 ≤ length xs → x ≡ get_or xs 0 x →
     o ≡ type_of t k p Free (tree x) → o ≡ Some s → length xs ≤ i →
     (fits && typed_go_to k.classes s (types_of t k p (trees (drop i xs)))) ≡ typed_go_to k.classes s (types_of t k p (trees (drop 1 xs))) →
-    v ≡ (if fits then Some (array s) else None) → v ≡ type_of t k p r (Items at (trees xs))
+    v ≡ (if fits then array_of s else None) → v ≡ type_of t k p r (Items at (trees xs))
 list_ends t k p r at i xs x o v s fits h is ho e ge kept hv =
     let rest = types_of t k p (trees (drop 1 xs)) in
     let end : typed_go_to k.classes s (types_of t k p (trees (drop i xs))) ≡ true = ap (λ ys. typed_go_to k.classes s (types_of t k p (trees ys))) (drop_end xs i ge) ∙ nothing_left k.classes s in
-    hv ∙ ap (λ b. if b then Some (array s) else None) (and_true fits ∙ ap (λ b. fits && b) (sym end) ∙ kept) ∙ list_is k.classes s rest
+    hv ∙ ap (λ b. if b then array_of s else None) (and_true fits ∙ ap (λ b. fits && b) (sym end) ∙ kept) ∙ list_is k.classes s rest
     ∙ ap (λ q. q >>= λ u. rest >>= λ vs. items_type k.classes u vs) (sym e ∙ ho) ∙ ap (λ ys. type_of t k p r (Items at ys)) (sym (trees_first xs x h is))
 
 -- Arguments of a call of the board.

@@ -32,7 +32,7 @@ fn add_parameters(classes: &ByNumber, locals: &mut Locals, params: &[Param]) -> 
     ensures { OnOk result (locals.new ≡ record locals.old { own = locals.old.own ++ parameter_locals (value_at classes.now.values.items) (parameters params.now) }) }
 {
     for i in 0..params.len() {
-        let kind = written_kind(classes, &params[i].shape)?;
+        let kind = written_kind(classes, &params[i].shape);
         locals.push(Local {
             name: params[i].name,
             kind,

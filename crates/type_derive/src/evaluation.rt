@@ -87,10 +87,10 @@ fn given_where(known: &Environment, called: Called, fits: bool) -> Option<Kind>
 }
 
 /// The type of a list literal whose items go to the first one's type, or don't.
-fn listed_where(t: Kind, fits: bool) -> Result<Option<Kind>, NoMemory>
-    ensures { IfOk result (λ u. u ≡ if fits then Some (kind.array t) else None) }
+fn listed_where(t: Kind, fits: bool) -> Option<Kind>
+    ensures { result ≡ if fits then kind.array_of t else None }
 {
-    if fits { listed(Some(t)) } else { Ok(None) }
+    if fits { listed(Some(t)) } else { None }
 }
 
 /// A type that is given where all fits.
@@ -278,7 +278,7 @@ fn list_type(
                     let goes = goes_some(known, u, s);
                     fits = both_hold(fits, goes);
                 }
-                listed_where(s, fits)
+                Ok(listed_where(s, fits))
             }
         },
     }

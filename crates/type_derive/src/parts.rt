@@ -4,9 +4,8 @@ ghost use Rattle.sts_scope.specs.Kinds as kind;
 ghost use Rattle.sts_scope.specs.Rules as rule;
 ghost use Rattle.type_derive.specs.Typing.{◌>>=◌ as bind};
 
-use sts_base::NoMemory;
 use sts_scope::{
-    Environment, Kind, array, assign, choose, counted, element, joined, operate, prefix,
+    Environment, Kind, array_of, assign, choose, counted, element, joined, operate, prefix,
 };
 
 pub fn prefixed(op: u8, s: Option<Kind>) -> Option<Kind>
@@ -116,15 +115,12 @@ pub fn indexed(s: Option<Kind>, t: Option<Kind>) -> Option<Kind>
     }
 }
 
-/// The type of a list literal whose items go to the first one's type, if memory could hold one value of it.
-pub fn listed(t: Option<Kind>) -> Result<Option<Kind>, NoMemory>
-    ensures { IfOk result (λ u. u ≡ bind t (λ t. Some (kind.array t))) }
+/// The type of a list literal whose items go to the first one's type.
+pub fn listed(t: Option<Kind>) -> Option<Kind>
+    ensures { result ≡ bind t (λ t. kind.array_of t) }
 {
     match t {
-        None => Ok(None),
-        Some(t) => match array(t) {
-            Ok(u) => Ok(Some(u)),
-            Err(_) => Err(NoMemory),
-        },
+        None => None,
+        Some(t) => array_of(t),
     }
 }

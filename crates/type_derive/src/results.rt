@@ -48,7 +48,7 @@ pub fn handler_result(
     ensures err { IfErr result (λ e. e ≡ Refused.NoMemory) }
 {
     match gives {
-        Some(shape) => or_no_memory(kind_of(context.classes, shape)),
+        Some(shape) => Ok(kind_of(context.classes, shape)),
         None => {
             let first = or_no_memory(first_returned(context, scope, params, all))?;
             match first {

@@ -41,7 +41,7 @@ pub fn bound(
     ensures { IfOk result (λ kind. kind ≡ given.bound tables.now (value_at classes.now.values.items) known.now (place scope.now) (optional_annotation shape.now) (optional_expression first.now)) }
 {
     match shape {
-        Some(shape) => kind_of(classes, shape),
+        Some(shape) => Ok(kind_of(classes, shape)),
         None => match first {
             None => Ok(None),
             Some(e) => {

@@ -3,7 +3,7 @@ use Rattle.std.specs.Prelude.{Some, None, IfOk, if◌then◌else◌}
 use Rattle.std.specs.Option.{option_map}
 use Rattle.sts_syntax.specs.Trees.{SuperCall, Items}
 use Rattle.sts_syntax.specs.Views.{tree, trees, node_tree}
-use Rattle.sts_scope.specs.Kinds.{array}
+use Rattle.sts_scope.specs.Kinds.{array_of}
 use Rattle.sts_scope.specs.Places.{name_found}
 use Rattle.sts_scope.specs.Rules.{prefix, operate, joined, choose, assign, element, part_of, takes_at, kind_at}
 use Rattle.type_derive.specs.declared.roles.Role.TheVariants.{Free, Given}
@@ -77,9 +77,9 @@ pub list_type-returns-after-loop-i : goal.list_type-returns-after-loop-i
 list_type-returns-after-loop-i t c =
     let ge : length c.args.all.now ≤ c.loop-i.i = omega arith in
     let is = list_ends c.args.tables.now c.args.known.now (place c.args.scope.now) c.args.role c.args.at c.loop-i.i c.args.all.now c.first-item.result c.in_ok-type_of-in-len1-up.field-0
-    (if c.loop-i.fits then Some (array c.in-Some.s) else None) c.in-Some.s c.loop-i.fits
+    (if c.loop-i.fits then array_of c.in-Some.s else None) c.in-Some.s c.loop-i.fits
     c.in-len1-up.len_at_least c.first-item.is c.in_ok-type_of-in-len1-up.ensures c.in-Some.is ge c.loop-i.invariant refl in
-    subst (λ o. IfOk c.listed_where.result (λ u. u ≡ o)) is c.listed_where.ensures
+    c.listed_where.ensures ∙ is
 
 pub target_type-returns-in_ok-note_part-in-Member : goal.target_type-returns-in_ok-note_part-in-Member
 target_type-returns-in_ok-note_part-in-Member t c =
