@@ -1,5 +1,5 @@
 // How the type of each declaration follows, in text order.
-ghost use Rattle.std.specs.Prelude.{◌≡◌, ◌+◌, ◌++◌, ◌∷◌, [], length, OnOk, IfOk};
+ghost use Rattle.std.specs.Prelude.{◌≡◌, ◌+◌, ◌<◌, ◌^◌, ◌++◌, ◌∷◌, [], length, OnOk, IfOk};
 ghost use Rattle.sts_syntax.specs.Programs.{top_level, top_levels, class_member, class_members, program};
 ghost use Rattle.sts_syntax.specs.Views.{statement, declaration, declarations, routine};
 ghost use Rattle.sts_scope.specs.declared.known.This.TheVariants as this;
@@ -36,29 +36,23 @@ fn add<'a>(origins: &mut Vec<Origin<'a>>, origin: Origin<'a>) -> Result<(), NoMe
 
 /// That of a declared name.
 #[tactic(auto, using(sts_syntax::proofs::Laws::declaration_parts))]
-fn declared<'a>(classes: &ByNumber, this: This, b: &'a Binding) -> Result<Origin<'a>, NoMemory>
-    ensures { IfOk result (λ o. source o ≡ derived.declared_source (value_at classes.now.values.items) this (declaration b.now)) }
+fn declared<'a>(classes: &ByNumber, this: This, b: &'a Binding) -> Origin<'a>
+    ensures { source result ≡ derived.declared_source (value_at classes.now.values.items) this (declaration b.now) }
 {
     match &b.shape {
-        None => Ok(Origin::Initial(this, &b.first)),
-        Some(shape) => {
-            let kind = kind_of(classes, shape)?;
-            Ok(Origin::Stated(kind))
-        }
+        None => Origin::Initial(this, &b.first),
+        Some(shape) => Origin::Stated(kind_of(classes, shape)),
     }
 }
 
 /// That of a function or method.
 #[tactic(auto, using(sts_syntax::proofs::Laws::routine_parts))]
-fn result_of<'a>(classes: &ByNumber, this: This, body: &'a Body) -> Result<Origin<'a>, NoMemory>
-    ensures { IfOk result (λ o. source o ≡ derived.routine_source (value_at classes.now.values.items) this (routine body.now)) }
+fn result_of<'a>(classes: &ByNumber, this: This, body: &'a Body) -> Origin<'a>
+    ensures { source result ≡ derived.routine_source (value_at classes.now.values.items) this (routine body.now) }
 {
     match &body.gives {
-        None => Ok(Origin::Returns(this, body.params.as_slice(), body.stmts.as_slice())),
-        Some(shape) => {
-            let kind = kind_of(classes, shape)?;
-            Ok(Origin::Stated(kind))
-        }
+        None => Origin::Returns(this, body.params.as_slice(), body.stmts.as_slice()),
+        Some(shape) => Origin::Stated(kind_of(classes, shape)),
     }
 }
 
@@ -72,7 +66,7 @@ fn add_globals<'a>(
     ensures { OnOk result (sources origins.new.items ≡ sources origins.old.items ++ derived.global_sources (value_at classes.now.values.items) (declarations each.now)) }
 {
     for i in 0..each.len() {
-        let origin = declared(classes, This::Nowhere, &each[i])?;
+        let origin = declared(classes, This::Nowhere, &each[i]);
         add(origins, origin)?;
     }
     Ok(())
@@ -119,11 +113,11 @@ fn add_member<'a>(
 {
     match member {
         Member::Field(b) => {
-            let origin = declared(classes, This::Object(class), b)?;
+            let origin = declared(classes, This::Object(class), b);
             add(origins, origin)
         }
         Member::Method { name: _, body } => {
-            let origin = result_of(classes, This::Object(class), body)?;
+            let origin = result_of(classes, This::Object(class), body);
             add(origins, origin)
         }
         Member::Constructor(_) => Ok(()),
@@ -153,6 +147,7 @@ fn add_item<'a>(
     count: u32,
     item: &'a Item,
 ) -> Result<u32, NoMemory>
+    requires { count + length (item_class (top_level item.now)) < 2 ^ 32 }
     ensures sources { OnOk result (sources origins.new.items ≡ sources origins.old.items ++ derived.item_sources (value_at classes.now.values.items) count (top_level item.now)) }
     ensures count { IfOk result (λ n. n ≡ count + length (item_class (top_level item.now))) }
 {
@@ -166,13 +161,10 @@ fn add_item<'a>(
         } => {
             add(origins, Origin::Stated(None))?;
             add_members(origins, classes, count, members.as_slice())?;
-            match count.checked_add(1) {
-                Some(n) => Ok(n),
-                None => Err(NoMemory),
-            }
+            Ok(count + 1)
         }
         Item::Function { name: _, body } => {
-            let origin = result_of(classes, This::Nowhere, body)?;
+            let origin = result_of(classes, This::Nowhere, body);
             add(origins, origin)?;
             Ok(count)
         }
@@ -190,6 +182,7 @@ fn add_items<'a>(
     first: u32,
     items: &'a [Item],
 ) -> Result<u32, NoMemory>
+    requires { first + length (class_names (top_levels items.now)) < 2 ^ 32 }
     ensures sources { OnOk result (sources origins.new.items ≡ sources origins.old.items ++ derived.sources_from (value_at classes.now.values.items) first (top_levels items.now)) }
     ensures count { IfOk result (λ n. n ≡ first + length (class_names (top_levels items.now))) }
 {
@@ -207,6 +200,7 @@ pub fn origins_of<'a>(
     library: &'a Unit,
     text: &'a Unit,
 ) -> Result<Vec<Origin<'a>>, NoMemory>
+    requires { length (class_names (program library.now ++ program text.now)) < 2 ^ 32 }
     ensures { IfOk result (λ origins. sources origins.items ≡ derived.sources_from (value_at classes.now.values.items) 0 (program library.now ++ program text.now)) }
 {
     let mut origins = Vec::new(alloc);

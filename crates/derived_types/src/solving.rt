@@ -47,7 +47,7 @@ fn within<'a>(
     let mut scope = outside(alloc, this, library);
     for i in 0..params.len() {
         let param = &params[i];
-        let kind = written_kind(classes, &param.shape)?;
+        let kind = written_kind(classes, &param.shape);
         declare(&mut scope, param.name, kind, false)?;
     }
     Ok(scope)
@@ -347,6 +347,8 @@ pub fn solve(
     requires { IsDeclared (program library.now) (program text.now) declared.old }
     ensures { OnOk result (IsSolved tables.now (program library.now) (program text.now) declared.new) }
 {
+    // (32 bits count the classes of what is declared, and so those of both programs)
+    let _classes = declared.known.classes();
     let origins = origins_of(alloc, &declared.classes, library, text)?;
     derive_all(
         alloc,

@@ -7,8 +7,8 @@ use Rattle.derived_types.specs.Origins.{sources}
 use Rattle.derived_types.proofs.Gathered.{added}
 use Rattle.derived_types.proofs.origins.add_item.Goals as goal
 
-pub returns-in-Some-clause-sources : goal.returns-in-Some-clause-sources
-returns-in-Some-clause-sources c =
+pub returns-in_ok-add_members-in-Class-clause-sources : goal.returns-in_ok-add_members-in-Class-clause-sources
+returns-in_ok-add_members-in-Class-clause-sources c =
     let f = value_at c.args.classes.now.values.items in
     let n = c.args.count in
     let old = c.args.origins.now.items in

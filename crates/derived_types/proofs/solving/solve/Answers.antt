@@ -1,13 +1,22 @@
-use Rattle.std.proofs.Common.{◌≡◌, ◌++◌, length, refl, ap, ◌∙◌, subst}
+use Rattle.std.proofs.Common.{◌≡◌, ◌++◌, length, refl, ap, ◌∙◌, subst, arith}
 use Rattle.std.proofs.Math.Path.{fun_ext}
 use Rattle.sts_syntax.specs.Programs.{program}
+use Rattle.sts_scope.specs.Entries.{class_names}
 use Rattle.sts_scope.specs.Scopes.{all_names}
+use Rattle.sts_scope.proofs.Laws.{head_count}
 use Rattle.sts_scope.specs.Values.{value_at}
 use Rattle.type_derive.specs.Accepted.{all_sources}
 use Rattle.type_derive.specs.Derived.{rule, sources_from, IsLeast}
 use Rattle.derived_types.specs.Origins.{sources}
 use Rattle.derived_types.proofs.Ruled.{known_is}
 use Rattle.derived_types.proofs.solving.solve.Goals as goal
+
+pub origins_of-requires : goal.origins_of-requires
+origins_of-requires c =
+    let lib = program c.args.library.now in
+    let txt = program c.args.text.now in
+    let is : length c.classes-classes.result.now ≡ length (class_names (lib ++ txt)) = ap length (c.classes-classes.ensures.all ∙ c.requires.classes) ∙ head_count (all_names lib txt) (lib ++ txt) in
+    omega (arith, is, c.classes-classes.ensures.few)
 
 pub returns : goal.returns
 returns c =

@@ -16,9 +16,9 @@ loop-i-preserved c =
     let p = place c.outside-scope.result in
     let d = c.in_ok-declare.ensures in
     record {
-      locals = locals_step f c.args.params.now c.loop-i.i c.index-params-i.result (place c.loop-i.scope).locals (place c.declare.new.scope).locals c.in_ok-kind.kind _
-          lt c.index-params-i.is c.in_ok-kind.ensures (ap (λ (q : Place). q.locals) d) c.loop-i.invariant.locals;
-      same = d ∙ ap {A = Place} (λ q. record q { locals = (with q c.index-params-i.result.name c.in_ok-kind.kind false).locals }) c.loop-i.invariant.same
+      locals = locals_step f c.args.params.now c.loop-i.i c.index-params-i.result (place c.loop-i.scope).locals (place c.declare.new.scope).locals c.written_kind-kind.result _
+          lt c.index-params-i.is c.written_kind-kind.ensures (ap (λ (q : Place). q.locals) d) c.loop-i.invariant.locals;
+      same = d ∙ ap {A = Place} (λ q. record q { locals = (with q c.index-params-i.result.name c.written_kind-kind.result false).locals }) c.loop-i.invariant.same
           ∙ ap (λ ls. record p { locals = ls }) (sym (ap (λ (q : Place). q.locals) d));
     }
 
