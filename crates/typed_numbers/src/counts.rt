@@ -4,23 +4,22 @@ ghost use Rattle.std.specs.List.{list_all};
 ghost use Rattle.sts_scope.specs.Scopes as scope;
 ghost use Rattle.typed_numbers.specs.Counts as count;
 
-use crate::handler_counts::one_more;
-use crate::member_names::{is_global, names_of};
+use crate::member_names::{Members, all_names, is_global};
 use std::alloc::Global;
 use sts_base::{NoMemory, Seq};
 use sts_scope::{Entry, Environment};
 
 /// How many globals are declared.
-fn global_count(entries: &[Entry]) -> Result<u32, NoMemory>
-    ensures { IfOk result (λ n. n ≡ length (scope.names_of scope.is_global entries.now)) }
+fn global_count(entries: &[Entry]) -> usize
+    ensures { result ≡ length (scope.names_of scope.is_global entries.now) }
 {
     let mut count = 0;
     for entry in entries {
         if is_global(entry.sort) {
-            count = one_more(count)?;
+            count += 1;
         }
     }
-    Ok(count)
+    count
 }
 
 /// Whether none of some lists of names is longer than a class's may be.
@@ -42,9 +41,10 @@ pub fn counts_fit(alloc: Global, known: &Environment) -> Result<bool, NoMemory>
     if known.classes().len() > 64 {
         return Ok(false);
     }
-    if global_count(known.entries().as_slice())? > 256 {
+    if global_count(known.entries().as_slice()) > 256 {
         return Ok(false);
     }
-    let names = names_of(alloc, known)?;
-    Ok(are_short(names.fields.as_slice()) && are_short(names.slots.as_slice()))
+    let fields = all_names(alloc, Members::Fields, known)?;
+    let slots = all_names(alloc, Members::Methods, known)?;
+    Ok(are_short(fields.as_slice()) && are_short(slots.as_slice()))
 }

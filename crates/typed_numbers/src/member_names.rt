@@ -1,12 +1,12 @@
 // The names of a class's fields and slots, in the order of their numbers, and the numbers of globals.
-ghost use Rattle.std.specs.Prelude.{◌≡◌, ℕ, ◌++◌, ◌∷◌, [], ◌<◌, Some, length, filter, not, take, IfOk};
+ghost use Rattle.std.specs.Prelude.{◌≡◌, ℕ, ◌++◌, ◌∷◌, [], ◌^◌, ◌<◌, ◌≤◌, Some, true, length, filter, not, take, IfOk};
 ghost use Rattle.sts_scope.specs.Scopes as scope;
 ghost use Rattle.sts_scope.specs.declared.entries.Owner.TheVariants.{Class};
 ghost use Rattle.sts_scope.specs.Lookup as look;
 ghost use Rattle.sts_scope.specs.Numbers as number;
 ghost use Rattle.typed_numbers.specs.Building.{picks, chain_from, names_upto, globals_from};
+ghost use Rattle.typed_numbers.specs.Counts.{counts_fit};
 
-use crate::handler_counts::one_more;
 use std::alloc::Global;
 use sts_base::{NoMemory, Seq};
 use sts_scope::{Entry, Environment, Owner, Sort};
@@ -136,15 +136,17 @@ pub fn class_names(
 }
 
 /// The names of each class's fields or methods.
-fn all_names(alloc: Global, which: Members, known: &Environment) -> Result<Seq<Seq<u32>>, NoMemory>
+pub fn all_names(
+    alloc: Global,
+    which: Members,
+    known: &Environment,
+) -> Result<Seq<Seq<u32>>, NoMemory>
+    requires few { length known.now.classes ≤ 2 ^ 32 }
     ensures { IfOk result (λ all. all ≡ names_upto (picks which) known.now (length known.now.classes)) }
 {
     let mut all = Seq::new(alloc);
     for class in 0..known.classes().len() {
-        let Ok(class) = u32::try_from(class) else {
-            return Err(NoMemory);
-        };
-        all.push(class_names(alloc, which, known, class)?)?;
+        all.push(class_names(alloc, which, known, class as u32)?)?;
     }
     Ok(all)
 }
@@ -160,6 +162,7 @@ pub fn is_global(sort: Sort) -> bool
 
 /// How many globals are declared before each declaration, and before the end.
 fn globals_before(alloc: Global, entries: &[Entry]) -> Result<Seq<u32>, NoMemory>
+    requires few { length (scope.names_of scope.is_global entries.now) < 2 ^ 32 }
     ensures { IfOk result (λ all. all ≡ globals_from 0 entries.now) }
 {
     let mut all = Seq::new(alloc);
@@ -167,7 +170,7 @@ fn globals_before(alloc: Global, entries: &[Entry]) -> Result<Seq<u32>, NoMemory
     for entry in entries {
         all.push(count)?;
         if is_global(entry.sort) {
-            count = one_more(count)?;
+            count += 1;
         }
     }
     all.push(count)?;
@@ -183,8 +186,10 @@ pub struct Names {
     pub globals: Seq<u32>,
 }
 
-/// The names of members, and the numbers of globals, of a whole program.
+/// The names of members, and the numbers of globals, of a whole program whose declarations are within the limits.
+#[tactic(auto, using(crate::proofs::Few::few_classes, crate::proofs::Few::few_globals))]
 pub fn names_of(alloc: Global, known: &Environment) -> Result<Names, NoMemory>
+    requires counts { counts_fit known.now ≡ true }
     ensures fields { IfOk result (λ names. names.fields ≡ names_upto look.is_field known.now (length known.now.classes)) }
     ensures slots { IfOk result (λ names. names.slots ≡ names_upto number.is_method known.now (length known.now.classes)) }
     ensures globals { IfOk result (λ names. names.globals ≡ globals_from 0 known.now.entries) }
@@ -196,14 +201,15 @@ pub fn names_of(alloc: Global, known: &Environment) -> Result<Names, NoMemory>
     })
 }
 
-/// The number of a name among some, of which 32 bits count no more than there is memory for; 0 where it isn't there.
-pub fn place_among(names: &[u32], name: u32) -> Result<u32, NoMemory>
-    ensures { IfOk result (λ n. n ≡ number.place_among names.now name) }
+/// The number of a name among some, which 32 bits number; 0 where it isn't there.
+pub fn place_among(names: &[u32], name: u32) -> u32
+    requires few { length names.now ≤ 2 ^ 32 }
+    ensures { result ≡ number.place_among names.now name }
 {
     for (i, other) in names.iter().enumerate() {
         if *other == name {
-            return u32::try_from(i).or(Err(NoMemory));
+            return i as u32;
         }
     }
-    Ok(0)
+    0
 }

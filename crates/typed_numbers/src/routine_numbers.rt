@@ -6,7 +6,7 @@ ghost use Rattle.sts_scope.specs.Handlers as h;
 ghost use Rattle.sts_scope.specs.Numbers as number;
 ghost use Rattle.typed_numbers.specs.Building.{numbering_of};
 
-use crate::handler_counts::{declared_handlers, one_more, routine_handlers, statement_handlers};
+use crate::handler_counts::{declared_handlers, routine_handlers, statement_handlers};
 use std::alloc::Global;
 use sts_base::{NoMemory, Seq};
 use sts_syntax::{Binding, Form, Item, Member, Stmt, Unit};
@@ -21,13 +21,14 @@ pub struct Numbers {
 }
 
 /// Behind a member, whose functions begin with a number.
-pub fn behind_member(member: &Member, from: u32) -> Result<u32, NoMemory>
-    ensures { IfOk result (λ n. n ≡ from + h.member_routines (class_member member.now)) }
+pub fn behind_member(member: &Member, from: u32) -> u32
+    requires few { from + h.member_routines (class_member member.now) < 2 ^ 32 }
+    ensures { result ≡ from + h.member_routines (class_member member.now) }
 {
     match member {
         Member::Field(a) => declared_handlers(a, from),
-        Member::Method { body, .. } => routine_handlers(body, one_more(from)?),
-        Member::Constructor(body) => routine_handlers(body, one_more(from)?),
+        Member::Method { body, .. } => routine_handlers(body, from + 1),
+        Member::Constructor(body) => routine_handlers(body, from + 1),
     }
 }
 
@@ -44,21 +45,23 @@ pub fn unwritten(members: &[Member]) -> u32
 }
 
 /// The number of a class's constructor, whose members' functions begin with a number: the first written one's, else the class's own place.
-fn maker_from(members: &[Member], first: u32, from: u32) -> Result<u32, NoMemory>
-    ensures { IfOk result (λ n. n ≡ number.maker_from first from (class_members members.now)) }
+fn maker_from(members: &[Member], first: u32, from: u32) -> u32
+    requires few { from + h.members_routines (class_members members.now) < 2 ^ 32 }
+    ensures { result ≡ number.maker_from first from (class_members members.now) }
 {
     let mut at = from;
     for member in members {
         if let Member::Constructor(_) = member {
-            return Ok(at);
+            return at;
         }
-        at = behind_member(member, at)?;
+        at = behind_member(member, at);
     }
-    Ok(first)
+    first
 }
 
 /// Adds the numbers of a class's declarations but its own, and gives the one behind its functions.
 fn add_members(routines: &mut Seq<u32>, members: &[Member], from: u32) -> Result<u32, NoMemory>
+    requires few { from + h.members_routines (class_members members.now) < 2 ^ 32 }
     ensures numbers { OnOk result (routines.new ≡ routines.old ++ number.member_numbers from (class_members members.now)) }
     ensures behind { IfOk result (λ n. n ≡ from + h.members_routines (class_members members.now)) }
 {
@@ -69,7 +72,7 @@ fn add_members(routines: &mut Seq<u32>, members: &[Member], from: u32) -> Result
             Member::Method { .. } => routines.push(at)?,
             Member::Constructor(_) => {}
         }
-        at = behind_member(member, at)?;
+        at = behind_member(member, at);
     }
     Ok(at)
 }
@@ -97,20 +100,19 @@ fn add_main(routines: &mut Seq<u32>, s: &Stmt) -> Result<(), NoMemory>
 impl Numbers {
     /// Adds the numbers of a class, whose functions begin with a number, and gives the one behind them.
     fn add_class(&mut self, members: &[Member], from: u32) -> Result<u32, NoMemory>
+        requires few { from + (h.unwritten (class_members members.now) + h.members_routines (class_members members.now)) < 2 ^ 32 }
         ensures routines { OnOk result (self.new.routines ≡ self.old.routines ++ 0 ∷ number.member_numbers (from + h.unwritten (class_members members.now)) (class_members members.now)) }
         ensures makers { OnOk result (self.new.makers ≡ self.old.makers ++ number.maker_from from from (class_members members.now) ∷ []) }
         ensures behind { IfOk result (λ n. n ≡ from + (h.unwritten (class_members members.now) + h.members_routines (class_members members.now))) }
     {
-        self.makers.push(maker_from(members, from, from)?)?;
+        self.makers.push(maker_from(members, from, from))?;
         self.routines.push(0)?;
-        let Some(first) = from.checked_add(unwritten(members)) else {
-            return Err(NoMemory);
-        };
-        add_members(&mut self.routines, members, first)
+        add_members(&mut self.routines, members, from + unwritten(members))
     }
 
     /// Adds the numbers of a part of a text, whose functions begin with a number, and gives the one behind them.
     fn add_item(&mut self, item: &Item, from: u32) -> Result<u32, NoMemory>
+        requires few { from + h.item_routines (top_level item.now) < 2 ^ 32 }
         ensures routines { OnOk result (self.new.routines ≡ self.old.routines ++ number.item_numbers from (top_level item.now)) }
         ensures makers { OnOk result (self.new.makers ≡ self.old.makers ++ number.item_makers from (top_level item.now)) }
         ensures behind { IfOk result (λ n. n ≡ from + h.item_routines (top_level item.now)) }
@@ -119,17 +121,18 @@ impl Numbers {
             Item::Class { members, .. } => self.add_class(members.as_slice(), from),
             Item::Function { body, .. } => {
                 self.routines.push(from)?;
-                routine_handlers(body, one_more(from)?)
+                Ok(routine_handlers(body, from + 1))
             }
             Item::Stmt(s) => {
                 add_main(&mut self.routines, s)?;
-                statement_handlers(s, from)
+                Ok(statement_handlers(s, from))
             }
         }
     }
 
     /// Adds the numbers of a text, whose functions begin with a number, and gives the one behind them.
     fn add_items(&mut self, items: &[Item], from: u32) -> Result<u32, NoMemory>
+        requires few { from + h.all_routines (top_levels items.now) < 2 ^ 32 }
         ensures routines { OnOk result (self.new.routines ≡ self.old.routines ++ number.numbers_from from (top_levels items.now)) }
         ensures makers { OnOk result (self.new.makers ≡ self.old.makers ++ number.makers_from from (top_levels items.now)) }
         ensures behind { IfOk result (λ n. n ≡ from + h.all_routines (top_levels items.now)) }
@@ -142,12 +145,12 @@ impl Numbers {
     }
 }
 
-/// The numbers of all functions of a library and a text behind it, which 32 bits count.
+/// The numbers of all functions of a library and a text behind it, where 32 bits count them.
 #[tactic(auto, using(crate::proofs::Numbered::numbers_append, crate::proofs::Numbered::makers_append))]
 pub fn numbering(alloc: Global, library: &Unit, text: &Unit) -> Result<Numbers, NoMemory>
+    requires few { h.all_routines (program library.now) + h.all_routines (program text.now) < 2 ^ 32 }
     ensures numbers { IfOk result (λ n. numbering_of n ≡ number.numbering (program library.now ++ program text.now)) }
     ensures library { IfOk result (λ n. n.library ≡ h.all_routines (program library.now)) }
-    ensures counted { IfOk result (λ n. h.all_routines (program library.now) + h.all_routines (program text.now) < 2 ^ 32) }
 {
     let mut numbers = Numbers {
         routines: Seq::new(alloc),

@@ -7,12 +7,12 @@ ghost use Rattle.sts_syntax.specs.TypedViews.{typed_statement, typed_statements}
 ghost use Rattle.typed_trees.specs.Sites as s;
 
 use crate::build_nodes::{noted_type, or_nothing};
+use crate::build_numbers::one_more;
 use crate::build_places::Builder;
 use crate::build_types::list_of_values;
 use sts_base::{NoMemory, Seq};
 use sts_scope::Kind;
 use sts_syntax::{Ty, TypedStmt};
-use typed_numbers::one_more;
 
 /// What is kept, beside what else was made, else neither. A generic function, in which no form of tree is written out.
 pub fn beside<A: Drop, B: Drop>(kept: A, other: Result<B, NoMemory>) -> Result<(A, B), NoMemory>

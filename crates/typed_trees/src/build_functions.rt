@@ -11,6 +11,7 @@ ghost use Rattle.typed_trees.specs.Sites.{IsPlan, naming};
 ghost use Rattle.typed_trees.specs.Functions as functions;
 
 use crate::build_nodes::noted_type;
+use crate::build_numbers::one_more;
 use crate::build_places::{Builder, Plan, Site};
 use crate::build_statements::build_statements;
 use crate::spots::Spots;
@@ -19,7 +20,6 @@ use sts_base::{NoMemory, Seq};
 use sts_scope::{Kind, This, written_kind};
 use sts_syntax::{Body, Param, Spot, Stmt, Ty, TypedBody, TypedStmt};
 use type_derive::routine_scope;
-use typed_numbers::one_more;
 
 /// Where their values are, from a parameter on.
 fn parameter_spots(plan: &Plan, first: u32, params: &[Param]) -> Result<Spots, NoMemory>

@@ -11,12 +11,12 @@ ghost use Rattle.typed_trees.specs.Steps.{IsBuilt};
 
 use crate::build_functions::{Function, add};
 use crate::build_nodes::noted;
+use crate::build_numbers::one_more;
 use crate::build_places::{Builder, Noted, Plan, Site};
 use crate::build_statements::build_body;
 use lent_lists::Gathered;
 use sts_base::{NoMemory, Seq};
 use sts_syntax::{Body, Ty, TypedBody, TypedNode};
-use typed_numbers::one_more;
 
 /// A handler's function, those that stand in it, and the number behind them.
 #[derive(Drop)]

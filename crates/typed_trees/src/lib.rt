@@ -25,7 +25,7 @@ pub use build_forms::beside;
 pub use build_functions::{Function, add, add_function, add_method, add_types, function_site};
 pub use build_locals::build_first;
 pub use build_nodes::{boxed, noted_type};
-pub use build_numbers::{maker_number, names_at, routine_number};
+pub use build_numbers::{maker_number, names_at, one_more, routine_number};
 pub use build_places::{Builder, Plan, Site};
 pub use build_spots::{field_number, global_number};
 pub use build_statements::build_statement;

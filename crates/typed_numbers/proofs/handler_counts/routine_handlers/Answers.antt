@@ -1,5 +1,4 @@
 use Rattle.std.proofs.Common.{List, ap, arith}
-use Rattle.std.proofs.lemmas.Result.{IfOk-weaker}
 use Rattle.sts_syntax.specs.declared.trees.Stmt.{Stmt}
 use Rattle.sts_syntax.specs.Views.{statements}
 use Rattle.sts_syntax.proofs.Laws.{routine_parts}
@@ -10,4 +9,4 @@ pub returns : goal.returns
 returns c =
     let b = ap h.routine_handlers (routine_parts c.args.body.now) in
     let a = ap (λ (xs : List Stmt). h.statements_handlers (statements xs)) c.as_slice.ensures in
-    IfOk-weaker c.statements_handlers.result _ _ (λ n k. omega (arith, b, a, k)) c.statements_handlers.ensures
+    omega (arith, b, a, c.requires.few, c.statements_handlers.ensures)
