@@ -8,7 +8,7 @@ use Rattle.sts_scope.specs.declared.entries.ClassHead.{ClassHead}
 use Rattle.sts_scope.specs.declared.known.Known.{Known}
 use Rattle.sts_scope.specs.Entries.{Naming}
 use Rattle.sts_scope.specs.Faults.{own}
-use Rattle.sts_scope.specs.Kinds.{array}
+use Rattle.sts_scope.specs.Kinds.{array_of}
 use Rattle.sts_scope.specs.Codes.{why_call}
 use Rattle.sts_scope.specs.Places.{Place}
 use Rattle.sts_scope.specs.Rules.{goes, all_go, all_go_to, call_kind, items_type}
@@ -60,7 +60,7 @@ unfolding call_kind
 call_if classes takes gives None = refl
 call_if classes takes gives (Some us) = refl
 
-items_if : (classes : List ClassHead) (t : Kind) (os : Option (List Kind)) → (os >>= λ us. items_type classes t us) ≡ (if typed_go_to classes t os then Some (array t) else None)
+items_if : (classes : List ClassHead) (t : Kind) (os : Option (List Kind)) → (os >>= λ us. items_type classes t us) ≡ (if typed_go_to classes t os then array_of t else None)
 unfolding items_type
 items_if classes t None = refl
 items_if classes t (Some us) = refl
@@ -87,4 +87,4 @@ module _ (t : Tables) (k : Known) (p : Place) where
 
   pub list_is : (o : Option Kind) (rest : Trees) → (o >>= λ u. types_of t k p rest >>= λ us. items_type k.classes u us) ≡ listed_kind k.classes o (kinds_given t k p [] rest)
   list_is None rest = refl
-  list_is (Some u) rest = items_if k.classes u (types_of t k p rest) ∙ ap (λ b. if b then Some (array u) else None) (fits_to u rest)
+  list_is (Some u) rest = items_if k.classes u (types_of t k p rest) ∙ ap (λ b. if b then array_of u else None) (fits_to u rest)

@@ -104,7 +104,7 @@ module _ (c : Context) where
 
   -- a declared name, by its parts
   pub declaration_step : (p : Place) (b : Binding) → declaration_fault c p (declaration b)
-      ≡ (written_fault (naming c) (optional_annotation (out-Binding b).shape)
+      ≡ (written_fault (naming c) (out-Binding b).at (optional_annotation (out-Binding b).shape)
       then initial_fault c p (optional_annotation (out-Binding b).shape) (optional_expression (out-Binding b).first)
       then node.own_local c.tables.now (naming c) c.known.now p (out-Binding b).name (out-Binding b).at
       then bounds.bound_fault (naming c) c.known.now (optional_annotation (out-Binding b).shape) (is_some (out-Binding b).first)
@@ -115,7 +115,7 @@ module _ (c : Context) where
       let local = node.own_local c.tables.now (naming c) c.known.now p (out-Binding b).name (out-Binding b).at in
       let k = initial_kind c.tables.now (naming c) c.known.now p shape first in
       ap (declaration_fault c p) (declaration_parts b)
-      ∙ ap (λ o. written_fault (naming c) shape then initial_fault c p shape first then local then o)
+      ∙ ap (λ o. written_fault (naming c) (out-Binding b).at shape then initial_fault c p shape first then local then o)
       (own_bound_is p shape first (out-Binding b).at ∙ ap (λ t. bounds.bound_fault (naming c) c.known.now shape t k (out-Binding b).at) (present_is (out-Binding b).first))
 
   -- behind it

@@ -50,7 +50,7 @@ unlike (s ∷ ss) (t ∷ ts) h = and_false (same s t) ∙ ap (λ b. same s t && 
 
 -- a field or a global, by the parts of its declaration
 pub field_is : (c : Context) (self : This) (b : Binding) → field_fault c.tables.now (naming c) c.known.now self (declaration b)
-    ≡ (written_fault (naming c) (optional_annotation (out-Binding b).shape)
+    ≡ (written_fault (naming c) (out-Binding b).at (optional_annotation (out-Binding b).shape)
     then initial_fault c (outside self false None) (optional_annotation (out-Binding b).shape) (optional_expression (out-Binding b).first)
     then bound_fault (naming c) c.known.now (optional_annotation (out-Binding b).shape) (is_some (out-Binding b).first)
     (initial_kind c.tables.now (naming c) c.known.now (outside self false None) (optional_annotation (out-Binding b).shape) (optional_expression (out-Binding b).first)) (out-Binding b).at)
@@ -60,7 +60,7 @@ field_is c self b =
     let first = optional_expression (out-Binding b).first in
     let k = initial_kind c.tables.now (naming c) c.known.now p shape first in
     ap (field_fault c.tables.now (naming c) c.known.now self) (declaration_parts b)
-    ∙ ap (λ o. written_fault (naming c) shape then initial_fault c p shape first then o)
+    ∙ ap (λ o. written_fault (naming c) (out-Binding b).at shape then initial_fault c p shape first then o)
     (own_bound_is c p shape first (out-Binding b).at ∙ ap (λ t. bound_fault (naming c) c.known.now shape t k (out-Binding b).at) (present_is (out-Binding b).first))
 
 pub overrides_step : (names : Naming) (k : Known) (c d : ℕ) (m : ClassMember) (rest : List ClassMember) →

@@ -14,7 +14,7 @@ use Rattle.sts_scope.specs.declared.known.This.{This as Self}
 use Rattle.sts_base.specs.declared.refused.Code.TheVariants.{Mismatch}
 use Rattle.sts_scope.specs.Faults.{Fault, fault_at, own}
 use Rattle.sts_scope.specs.Codes.{why_call}
-use Rattle.sts_scope.specs.Kinds.{array}
+use Rattle.sts_scope.specs.Kinds.{array_of}
 use Rattle.sts_scope.specs.Entries.{Naming}
 use Rattle.sts_scope.specs.Places.{Place}
 use Rattle.sts_scope.specs.Rules.{takes_at, kind_at, part_of, part_kind, is_boolean}
@@ -44,7 +44,7 @@ fit_one classes t (o ∷ os) = goes_some classes o t && fit_one classes t os
 -- the type of a list literal, by its first item's type and those of the others
 abbrev pub listed_kind : List ClassHead → Option Kind → List (Option Kind) → Option Kind
 listed_kind classes None os = None
-listed_kind classes (Some t) os = if fit_one classes t os then Some (array t) else None
+listed_kind classes (Some t) os = if fit_one classes t os then array_of t else None
 
 -- the type of a call with arguments of some types
 abbrev pub called_kind : List ClassHead → Option Callee → List (Option Kind) → Option Kind

@@ -1,5 +1,5 @@
 // What the types of arguments and items say of their calls and lists.
-ghost use Rattle.std.specs.Prelude.{◌≡◌, length, map, IfOk, Some};
+ghost use Rattle.std.specs.Prelude.{◌≡◌, map, Some};
 ghost use Rattle.sts_syntax.specs.BoardViews.{board_parameter};
 ghost use Rattle.sts_syntax.specs.Views.{tree, trees};
 ghost use Rattle.type_derive.specs.Nodes as node;
@@ -9,7 +9,6 @@ ghost use Rattle.type_derive.specs.Typing as typing;
 ghost use Rattle.type_derive.specs.Naming.{naming};
 ghost use Rattle.type_check.specs.Seen.{fit_all, fit_one, listed_kind, called_kind, kinds_given, lacks_here, fits_place};
 
-use sts_base::NoMemory;
 use sts_scope::{Base, Environment, Kind, flat};
 use sts_syntax::{BoardParameter, Expr};
 use type_derive::{
@@ -44,20 +43,16 @@ fn all_go_to(known: &Environment, t: Kind, ss: &[Option<Kind>]) -> bool
 }
 
 /// The type of a list literal, by its first item's type and those of the others.
-pub fn items_kind(
-    known: &Environment,
-    t: Option<Kind>,
-    ss: &[Option<Kind>],
-) -> Result<Option<Kind>, NoMemory>
-    ensures { IfOk result (λ u. u ≡ listed_kind known.now.classes t ss.now) }
+pub fn items_kind(known: &Environment, t: Option<Kind>, ss: &[Option<Kind>]) -> Option<Kind>
+    ensures { result ≡ listed_kind known.now.classes t ss.now }
 {
     match t {
-        None => Ok(None),
+        None => None,
         Some(s) => {
             if all_go_to(known, s, ss) {
                 listed(t)
             } else {
-                Ok(None)
+                None
             }
         }
     }

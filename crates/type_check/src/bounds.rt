@@ -13,8 +13,7 @@ ghost use Rattle.type_derive.specs.Naming.{naming};
 
 use sts_base::{Code, Refused};
 use sts_scope::{
-    Base, ByNumber, Environment, Kind, flat, goes, is_array, is_dollar, kind_of, or_no_memory,
-    same, unless,
+    Base, ByNumber, Environment, Kind, flat, goes, is_array, is_dollar, kind_of, same, unless,
 };
 use sts_syntax::{Param, Shape};
 use text_headings::check_written;
@@ -25,7 +24,7 @@ pub fn check_parameter_types(classes: &ByNumber, params: &[Param]) -> Result<(),
     ensures { Finds result (node.parameter_types_fault (value_at classes.now.values.items) (parameters params.now)) }
 {
     for i in 0..params.len() {
-        check_written(classes, &params[i].shape)?;
+        check_written(classes, params[i].at, &params[i].shape)?;
     }
     Ok(())
 }
@@ -127,7 +126,7 @@ pub fn bound(
     match shape {
         None => derived(first, at),
         Some(shape) => {
-            let kind = or_no_memory(kind_of(context.classes, shape))?;
+            let kind = kind_of(context.classes, shape);
             if there {
                 unless(fits(context.known, first, kind), Code::Mismatch, at)?;
             }

@@ -432,7 +432,7 @@ fn handler(context: &Context, scope: &Scope, body: &Body) -> Result<bool, Refuse
     ensures serves { IfOk result (λ b. b ≡ node.serves_itself context.now.tables.now (naming context.now) context.now.known.now (place scope.now) (routine body.now)) }
 {
     check_parameter_types(context.classes, body.params.as_slice())?;
-    check_written(context.classes, &body.gives)?;
+    check_written(context.classes, body.at, &body.gives)?;
     let gives = handler_result(
         context,
         scope,
@@ -688,7 +688,7 @@ fn declaration_fault(
     ensures found { Finds result (c.declaration_fault context.now (place scope.old) (declaration b.now)) }
     ensures place { OnOk result (place scope.new ≡ c.declared context.now (place scope.old) fixed (declaration b.now)) }
 {
-    check_written(context.classes, &b.shape)?;
+    check_written(context.classes, b.at, &b.shape)?;
     let first = initial(context, scope, &b.shape, &b.first)?;
     check_local(context, scope, b.name, b.at)?;
     let kind = bound(context, &b.shape, b.first.is_some(), first, b.at)?;

@@ -22,7 +22,7 @@ use crate::arguments::{are_given, call_type, items_kind, lacks_handler};
 use crate::codes::{why_call, why_make, why_name, why_part, why_super, why_this};
 use crate::seen::{Seen, own, plain};
 use sts_base::{Code, Refused};
-use sts_scope::{Found, Kind, Part, or_no_memory, unless};
+use sts_scope::{Found, Kind, Part, unless};
 use sts_syntax::{BoardCall, Expr, Node};
 use type_derive::{
     Called, Context, Role, Scope, board_kind, constant, gives_of, kind_at, made, name_fixed,
@@ -304,6 +304,5 @@ pub fn items_seen(
     ensures found { Finds result (failure.own (listed_kind context.now.known.now.classes t kinds.now) code.Mismatch at) }
     ensures seen { IfOk result (λ s. s ≡ plain (listed_kind context.now.known.now.classes t kinds.now)) }
 {
-    let kind = or_no_memory(items_kind(context.known, t, kinds))?;
-    own(kind, Code::Mismatch, at)
+    own(items_kind(context.known, t, kinds), Code::Mismatch, at)
 }

@@ -28,7 +28,7 @@ use type_derive::{Context, Scope, head_of, kind_at, outer_scope, routine_scope};
 fn check_field(context: &Context, this: This, b: &Binding) -> Result<(), Refused>
     ensures { Finds result (pass.field_fault context.now.tables.now (naming context.now) context.now.known.now this (declaration b.now)) }
 {
-    check_written(context.classes, &b.shape)?;
+    check_written(context.classes, b.at, &b.shape)?;
     let scope = outer_scope(context.alloc, this);
     let first = initial(context, &scope, &b.shape, &b.first)?;
     let at = b.at;
