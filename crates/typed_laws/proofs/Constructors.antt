@@ -189,7 +189,7 @@ module _ (tables : Tables) (names : Naming) (k : Known) (numbers : Numbering) (P
         let s0 : Site = record { place = p; spots = [] } in
         let A = field_fault tables names k (this.Object c) a in
         let B = members_nodes tables names k c (suc d) rest in
-        let wf = written_fault names shape in
+        let wf = written_fault names i shape in
         let jf = initial_fault tables names k p shape first' in
         let of_ = own_bound tables names k p shape first' i in
         let hA : A ≡ None = first A B walk.faultless in

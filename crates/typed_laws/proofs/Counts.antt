@@ -353,7 +353,7 @@ module _ (tables : Tables) (names : Naming) (k : Known) (numbers : Numbering) wh
     handler_counts s ps (Handler i (Does j params gives all arrow)) h q =
         let site' : Site = in_handler_site tables names k numbers s params gives all in
         let h0 : handler_fault tables names k s.place (Does j params gives all arrow) ≡ None = first (handler_fault tables names k s.place (Does j params gives all arrow)) (unless (serves_itself tables names k s.place (Does j params gives all arrow)) BadHandler i) h in
-        let (h1, h2, h3) = parts2 _ (written_fault names gives) (statements_fault tables names k site'.place all) h0 in
+        let (h1, h2, h3) = parts2 _ (written_fault names j gives) (statements_fault tables names k site'.place all) h0 in
         λ m n. ap suc (statements_counts site' all h3 0 (suc n))
     handler_counts s ps (Num i n) h q = cc
     handler_counts s ps (Text i n) h q = cc
@@ -395,7 +395,7 @@ module _ (tables : Tables) (names : Naming) (k : Known) (numbers : Numbering) wh
         let a : Declaration = Declare i x shape first' in
         let here : Option Fault = declaration_fault tables names k s.place a in
         let later : Option Fault = declarations_fault tables names k (after tables names k s.place (Let 0 fixed (next a ended))) fixed rest in
-        let (hw, hi, hl, hb) = parts3 (written_fault names shape) (initial_fault tables names k s.place shape first') (own_local tables names k s.place x i) (own_bound tables names k s.place shape first' i) (first here later h) in
+        let (hw, hi, hl, hb) = parts3 (written_fault names i shape) (initial_fault tables names k s.place shape first') (own_local tables names k s.place x i) (own_bound tables names k s.place shape first' i) (first here later h) in
         let s1 : Site = behind_statement tables names k numbers m s (Let 0 fixed (next a ended)) in
         counts_two (optional_handlers first') (declarations_handlers rest) (made_local tables names k numbers s a) (made_locals tables names k numbers s1 fixed rest) (λ d ds. d ∷ ds)
         (counts_as (optional_handlers first' + 0) (optional_handlers first') (made_local tables names k numbers s a)

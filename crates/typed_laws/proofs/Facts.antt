@@ -5,7 +5,6 @@ use Rattle.sts_base.specs.declared.tables.Tables.{Tables}
 use Rattle.sts_base.specs.declared.refused.Code.TheVariants.{Mismatch, TwiceNamed, ClassCycle, NeedsType, UnknownName}
 use Rattle.sts_syntax.specs.Annotations as s
 use Rattle.sts_syntax.specs.Annotations.{Annotation}
-use Rattle.std.specs.Option.{option_map}
 use Rattle.sts_syntax.specs.Trees.{Parameter, absent, present, Statement, Block, Let, IfOnly, IfElse, While, DoWhile, For, ForOf, Return, Break, Continue, Plain, Empty, Statements, done, also, OptionalStatement, omitted, written, Declaration, Declare, Declarations, ended, next, Routine, Does}
 use Rattle.sts_syntax.specs.Programs.{ClassMember, Field, Method, Constructor, TopLevel, Class, Function, Main, Program}
 use Rattle.sts_scope.specs.declared.kinds.Kind.{Kind}
@@ -17,10 +16,10 @@ use Rattle.sts_scope.specs.declared.entries.Entry.{Entry}
 use Rattle.sts_scope.specs.declared.entries.ClassHead.{ClassHead}
 use Rattle.sts_scope.specs.declared.known.Known.{Known}
 use Rattle.sts_scope.specs.declared.known.This.TheVariants as this
-use Rattle.sts_scope.specs.Kinds.{number, boolean, text, nothing, object, array}
-use Rattle.sts_scope.specs.Faults.{Fault, ◌then◌, unless}
+use Rattle.sts_scope.specs.Kinds.{text, nothing}
+use Rattle.sts_scope.specs.Faults.{Fault, ◌then◌, unless, own}
 use Rattle.sts_scope.specs.Entries.{Naming, kind_of, written_kind, parameter_kinds, class_names, class_number, classes_in, member_entries, item_entries, main_entries, global_entries, entries_from, heads_of, class_head, maker_takes, base_number}
-use Rattle.sts_scope.specs.Headings.{type_fault, written_fault, routine_fault, parameters_fault, is_typed, member_fault, members_fault, item_fault, headings_fault}
+use Rattle.sts_scope.specs.Headings.{type_name_fault, type_fault, written_fault, routine_fault, parameters_fault, is_typed, member_fault, members_fault, item_fault, headings_fault}
 use Rattle.sts_scope.specs.Bases.{above, is_endless, chain_fault, chains_fault}
 use Rattle.sts_scope.specs.Lookup.{is_second, inherited, inherits_field, base_of}
 use Rattle.sts_scope.specs.Places.{Place, inner}
@@ -43,7 +42,7 @@ use Rattle.typed_laws.proofs.Suffixes.{Suffix, suffix_step, suffix_one, suffix_a
 use Rattle.typed_laws.proofs.Items.{item_sourced}
 use Rattle.typed_laws.proofs.Searching.{get_within, position_is, not_some}
 use Rattle.typed_laws.proofs.Members.{SaneAs, some_or_none}
-use Rattle.typed_laws.proofs.Routines.{written_proper}
+use Rattle.typed_laws.proofs.TreeFacts.{written_proper}
 
 -- Lists of declarations of which each one has a property.
 module _ (Q : Sort → Owner → ℕ → ℕ → Type 0) where
@@ -100,13 +99,8 @@ module _ (Q : Sort → Owner → ℕ → ℕ → Type 0) where
 
 module _ (names : Naming) (k : Known) where
   -- types that are written are known
-  type_known : (a : Annotation) → type_fault names a ≡ None → (u : Kind) × (kind_of names a ≡ Some u)
-  type_known s.Number h = (number, refl)
-  type_known s.Boolean h = (boolean, refl)
-  type_known s.Text h = (text, refl)
-  type_known s.Nothing h = (nothing, refl)
-  type_known (s.Named i x) h = let r = own_has (names x) UnknownName i h in (object r.it, ap (λ (o : Option ℕ). option_map object o) r.is)
-  type_known (s.ListOf a) h = let (u, q) = type_known a h in (array u, ap (λ (o : Option Kind). option_map array o) q)
+  type_known : (i : ℕ) (a : Annotation) → type_fault names i a ≡ None → (u : Kind) × (kind_of names a ≡ Some u)
+  type_known i a h = let r = own_has (kind_of names a) UnknownName i (last (type_name_fault names a) (own (kind_of names a) UnknownName i) h) in (r.it, r.is)
 
   -- headings
   abbrev SaneHere : ℕ → ℕ → TopLevel → Type 0
@@ -120,7 +114,7 @@ module _ (names : Naming) (k : Known) where
       let B = members_fault names k.entries k.classes c (d + 1) (built || false) rest in
       let u1 = unless (not (is_second k.entries d (o.Class c) x)) TwiceNamed i in
       let u2 = unless (not (is_some (inherited k.entries k.classes c x))) TwiceNamed i in
-      let u3 : Option Fault = unless (is_typed shape first') NeedsType i then written_fault names shape in
+      let u3 : Option Fault = unless (is_typed shape first') NeedsType i then written_fault names i shape in
       let hA : A ≡ None = first A B h in
       let h1 : u1 ≡ None = first u1 (u2 then u3) hA in
       let h2 : u2 ≡ None = first u2 u3 (last u1 (u2 then u3) hA) in
@@ -324,8 +318,8 @@ module _ (names : Naming) (k : Known) where
 
     module _ (sources : List Source) (solved : (d : ℕ) (source : Source) → slice_get sources d ≡ Some source → k.library ≤ d → kind_at k d ≡ follows names tables k false source) where
       result_known : (c d i : ℕ) (params : List Parameter) (gives : Option Annotation) (all : Statements) (arrow : Bool) → slice_get sources d ≡ Some (routine_source names (this.Object c) (Does i params gives all arrow)) → k.library ≤ d
-          → written_fault names gives ≡ None → body_fault tables names k (this.Object c) (kind_at k d) (Does i params gives all arrow) ≡ None → (u : Kind) × (kind_at k d ≡ Some u)
-      result_known c d i params (Some a) all arrow s near h1 h2 = let (u, q) = type_known a h1 in (u, solved d (routine_source names (this.Object c) (Does i params (Some a) all arrow)) s near ∙ q)
+          → written_fault names i gives ≡ None → body_fault tables names k (this.Object c) (kind_at k d) (Does i params gives all arrow) ≡ None → (u : Kind) × (kind_at k d ≡ Some u)
+      result_known c d i params (Some a) all arrow s near h1 h2 = let (u, q) = type_known i a h1 in (u, solved d (routine_source names (this.Object c) (Does i params (Some a) all arrow)) s near ∙ q)
       result_known c d i params None all arrow s near h1 h2 =
           let q = solved d (routine_source names (this.Object c) (Does i params None all arrow)) s near in
           some_or_none ((u : Kind) × (kind_at k d ≡ Some u)) (kind_at k d) (λ u r. (u, r))
@@ -349,7 +343,7 @@ module _ (names : Naming) (k : Known) where
           let u1 = unless (not (is_second k.entries d' (o.Class c) x)) TwiceNamed i in
           let u2 = unless (not (inherits_field k.entries k.classes c x)) TwiceNamed i in
           let pf = parameters_fault names params 0 params in
-          let wf = written_fault names gives in
+          let wf = written_fault names i gives in
           let hr = last u2 (pf then wf) (last u1 (u2 then pf then wf) (first A B h1)) in
           let src : Source = routine_source names (this.Object c) r in (
             result_known c d i params gives all arrow (suffix_head sources d src (member_sources names c rest ++ ss) s) near (last pf wf hr) (first C (members_nodes tables names k c (suc d) rest) h2),

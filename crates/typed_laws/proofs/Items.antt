@@ -106,7 +106,7 @@ module _ (tables : Tables) (names : Naming) (k : Known) (numbers : Numbering) wh
   pub field_counts : (c n : ℕ) (a : Declaration) → field_fault tables names k (this.Object c) a ≡ None → length (initial_made tables names k numbers c n a).routines ≡ declared_handlers a
   field_counts c n (Declare i x shape first') h =
       let p = outside (this.Object c) false None in
-      let w = written_fault names shape in
+      let w = written_fault names i shape in
       let j = initial_fault tables names k p shape first' in
       let o = own_bound tables names k p shape first' i in
       let r = last w (j then o) h in
@@ -227,7 +227,7 @@ module _ (tables : Tables) (names : Naming) (k : Known) (numbers : Numbering) wh
   globals_counts d ended h = λ m n. refl
   globals_counts d (next (Declare i x shape first') rest) h =
       let p = outside this.Nowhere false None in
-      let w = written_fault names shape in
+      let w = written_fault names i shape in
       let j = initial_fault tables names k p shape first' in
       let o = own_bound tables names k p shape first' i in
       let A = field_fault tables names k this.Nowhere (Declare i x shape first') in

@@ -1,6 +1,6 @@
 -- What names and members stand for, and that expressions have types that values have.
 use Rattle.std.proofs.Common.{◌≡◌, ℕ, refl, sym, subst, Bool, true, false, ◌&&◌, ◌||◌, ◌==◌, Option, Some, None, List, [], ◌∷◌}
-use Rattle.std.specs.Prelude.{ℤ, is_some, nat_le, if◌then◌else◌, codes}
+use Rattle.std.specs.Prelude.{ℤ, is_some, nat_le, nat_lt, if◌then◌else◌, codes}
 use Rattle.sts_base.specs.declared.tables.Tables.{Tables}
 use Rattle.sts_syntax.specs.Types as t
 use Rattle.sts_syntax.specs.Types.{ValueType}
@@ -18,14 +18,14 @@ use Rattle.sts_scope.specs.declared.known.Part.{Part}
 use Rattle.sts_scope.specs.declared.known.Part.TheVariants as part
 use Rattle.sts_scope.specs.declared.known.This.{This as Self}
 use Rattle.sts_scope.specs.declared.known.This.TheVariants as this
-use Rattle.sts_scope.specs.Kinds.{number, boolean, nothing, null, object, array, item, same, is_array, class_of, takes_null}
+use Rattle.sts_scope.specs.Kinds.{number, boolean, nothing, null, object, array, array_of, most_brackets, item, same, is_array, class_of, takes_null}
 use Rattle.sts_scope.specs.Lookup.{entry_number, sort_of, member_number}
 use Rattle.sts_scope.specs.Places.{Place, is_hidden, last_named, found_among, found_around, whole_found, sort_found, entry_found}
 use Rattle.sts_scope.specs.Rules.{local_kind, name_kind, this_kind, kind_at, takes_at, is_spelled, array_part, member_part, object_part, class_part, part_of, part_kind, call_kind, all_go, maker_takes_of, operate, prefix, joined, common, choose, assign, counted, element, items_type, comparable, below, goes, all_go_to, is_arithmetic, is_order, is_equality}
 use Rattle.type_derive.specs.declared.roles.Role.TheVariants.{Free, Given}
 use Rattle.type_derive.specs.Typing.{◌>>=◌, Callee, callee, board_kind, finds, constant_of, board_callee, named_callee, part_callee, callee_of, super_method, made, called, type_of, types_of, are_given, settable}
 use Rattle.typed_laws.specs.Stands.{IsProper}
-use Rattle.typed_laws.proofs.OneNode.{if_some}
+use Rattle.typed_laws.proofs.OneNode.{if_gives, if_some}
 
 pub record Is {A : Type 0} (o : Option A) : Type 0 where
   pub it : A
@@ -210,7 +210,9 @@ module _ (tables : Tables) (k : Known) (kinds_proper : (d : ℕ) (u : Kind) → 
 
   items_proper : (u w : Kind) (us : List Kind) → IsProper u → items_type k.classes u us ≡ Some w → IsProper w
   unfolding items_type
-  items_proper u w us p h = let (e, f) = if_some (all_go_to k.classes u us) (array u) w h in subst IsProper f p
+  items_proper u w us p h =
+      let (e, f) = if_gives (all_go_to k.classes u us) (array_of u) w h in
+      subst IsProper (if_some (nat_lt u.depth most_brackets) (array u) w f).1 p
 
   call_proper : (takes : List Kind) (gives : Option Kind) (us : List Kind) (w : Kind) → ((v : Kind) → gives ≡ Some v → IsProper v) → call_kind k.classes takes gives us ≡ Some w → IsProper w
   unfolding call_kind

@@ -40,6 +40,10 @@ pub if_some : {A : Type 0} (x : Bool) (a : A) (r : A) → (if x then Some a else
 if_some true a r h = (refl, cc)
 if_some false a r h = cc
 
+pub if_gives : {A : Type 0} (x : Bool) (a : Option A) (r : A) → (if x then a else None) ≡ Some r → (x ≡ true) × (a ≡ Some r)
+if_gives true a r h = (refl, h)
+if_gives false a r h = cc
+
 -- types that are the same are one
 pub same_is : (s u : Kind) → same s u ≡ true → s ≡ u
 unfolding same

@@ -113,7 +113,7 @@ module _ (tables : Tables) (names : Naming) (k : Known) (numbers : Numbering) (P
       → Gives P (λ l. w.MayDeclare P S (Global (global_number k d)) (value_type (unwrap_or (kind_at k d) nothing)) × w.IsInitial P S [] l (value_type (unwrap_or (kind_at k d) nothing))) (optional_handlers first') (made_first tables names k numbers site0 shape first')
   global_good S fixed d i x shape first' main_so formed h src en near =
       let p : Place = outside this.Nowhere false None in
-      let wf = written_fault names shape in
+      let wf = written_fault names i shape in
       let jf = initial_fault tables names k p shape first' in
       let ob = own_bound tables names k p shape first' i in
       let hw : wf ≡ None = first wf (jf then ob) h in

@@ -23,7 +23,7 @@ use Rattle.type_derive.proofs.Laws.{rule_grows, least_has}
 use Rattle.typed_laws.specs.Stands.{IsProper}
 use Rattle.typed_laws.proofs.Names.{some_is, either_some, proper, AreProper}
 use Rattle.typed_laws.proofs.Sites.{kind_split}
-use Rattle.typed_laws.proofs.Routines.{kind_proper, written_proper}
+use Rattle.typed_laws.proofs.TreeFacts.{kind_proper, written_proper}
 
 -- types of initialisers and returned values
 module _ (tables : Tables) (names : Naming) (k : Known) (kinds_proper : (d : ℕ) (u : Kind) → kind_at k d ≡ Some u → IsProper u) where

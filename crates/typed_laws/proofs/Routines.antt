@@ -1,10 +1,8 @@
 -- Functions, methods and constructors are well typed.
 use Rattle.std.proofs.Common.{◌≡◌, ℕ, zero, suc, ◌+◌, ◌<◌, ◌≤◌, ◌==◌, ◌||◌, refl, sym, ap, ◌∙◌, subst, Bool, true, false, Option, Some, None, List, [], ◌∷◌, ◌++◌, length, get_or, arith, inl, inr, eqb-true, eq-eqb, append_assoc, length-append}
 use Rattle.std.specs.Prelude.{slice_get, unwrap_or, ◌⊎◌, if◌then◌else◌}
-use Rattle.std.specs.Option.{option_map}
 use Rattle.sts_base.specs.declared.tables.Tables.{Tables}
 use Rattle.sts_syntax.specs.Annotations as s
-use Rattle.sts_syntax.specs.Annotations.{Annotation}
 use Rattle.sts_syntax.specs.declared.typed.Spot.TheVariants.{Global}
 use Rattle.sts_syntax.specs.Types as t
 use Rattle.sts_syntax.specs.Types.{ValueType}
@@ -19,8 +17,8 @@ use Rattle.sts_scope.specs.declared.entries.ClassHead.{ClassHead}
 use Rattle.sts_scope.specs.declared.known.Known.{Known}
 use Rattle.sts_scope.specs.declared.known.This.{This as Self}
 use Rattle.sts_scope.specs.declared.known.This.TheVariants as this
-use Rattle.sts_scope.specs.Kinds.{number, boolean, text, nothing, object, array, value_type, value_types}
-use Rattle.sts_scope.specs.Entries.{Naming, kind_of, written_kind, parameter_kinds}
+use Rattle.sts_scope.specs.Kinds.{number, nothing, value_type, value_types}
+use Rattle.sts_scope.specs.Entries.{Naming, written_kind, parameter_kinds}
 use Rattle.sts_scope.specs.Lookup.{base_of}
 use Rattle.sts_scope.specs.Rules.{local_kind}
 use Rattle.typed_laws.proofs.Returning.{give_value}
@@ -33,31 +31,13 @@ use Rattle.type_derive.specs.Built.{Site, made_statements}
 use Rattle.type_derive.specs.Programs.{site, parameter_spots, class_entries}
 use Rattle.typed_laws.specs.Stands.{IsProper, Stands}
 use Rattle.typed_laws.proofs.OneNode.{test_false}
-use Rattle.typed_laws.proofs.Names.{some_is}
+use Rattle.typed_laws.proofs.TreeFacts.{written_proper}
 use Rattle.typed_laws.proofs.Makings.{Placed, IsInner, Inners, kept_all}
 use Rattle.typed_laws.proofs.Suffixes.{Suffix, suffix_one, suffix_head}
 use Rattle.typed_laws.proofs.Sites.{At}
 use Rattle.typed_laws.proofs.Trees.{statements, Answered}
 use Rattle.typed_laws.proofs.Makers.{blank, AllMarked, marked_get}
 use Rattle.typed_laws.proofs.Classes.{Made, stands}
-
--- a written type is one that values have
-pub kind_proper : (names : Naming) (a : Annotation) (u : Kind) → kind_of names a ≡ Some u → IsProper u
-kind_proper names s.Number u h = subst IsProper (some_is number u h) refl
-kind_proper names s.Boolean u h = subst IsProper (some_is boolean u h) refl
-kind_proper names s.Text u h = subst IsProper (some_is text u h) refl
-kind_proper names s.Nothing u h = subst IsProper (some_is nothing u h) refl
-kind_proper names (s.Named i x) u h =
-    let go : (o : Option ℕ) → option_map object o ≡ Some u → IsProper u = λ o. elim o as (λ y. option_map object y ≡ Some u → IsProper u) [ None ↦ (λ q. cc) | Some c ↦ (λ q. subst IsProper (some_is (object c) u q) refl) ] in
-    go (names x) h
-kind_proper names (s.ListOf a) u h =
-    let go : (o : Option Kind) → kind_of names a ≡ o → option_map array o ≡ Some u → IsProper u =
-    λ o. elim o as (λ y. kind_of names a ≡ y → option_map array y ≡ Some u → IsProper u) [ None ↦ (λ r q. cc) | Some v ↦ (λ r q. let p : IsProper v = kind_proper names a v r in subst IsProper (some_is (array v) u q) p) ] in
-    go (kind_of names a) refl h
-
-pub written_proper : (names : Naming) (a : Option Annotation) (u : Kind) → written_kind names a ≡ Some u → IsProper u
-written_proper names None u h = cc
-written_proper names (Some a) u h = kind_proper names a u h
 
 entry_at : {A : Type 0} (us vs : List A) (v : A) → entry (us ++ v ∷ vs) (length us) ≡ Some v
 entry_at {A} [] vs v = refl

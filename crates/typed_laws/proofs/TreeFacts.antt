@@ -1,18 +1,23 @@
 -- Types, faults and tests that the laws of trees speak of.
-use Rattle.std.proofs.Common.{◌≡◌, ℕ, refl, ap, Bool, true, false, ◌&&◌, Option, Some, None, List, [], ◌∷◌}
-use Rattle.std.specs.Prelude.{if◌then◌else◌, unwrap_or}
+use Rattle.std.proofs.Common.{◌≡◌, ℕ, refl, subst, ap, Bool, true, false, ◌&&◌, Option, Some, None, List, [], ◌∷◌}
+use Rattle.std.specs.Prelude.{nat_lt, if◌then◌else◌, unwrap_or}
+use Rattle.std.specs.Option.{option_map, option_and_then}
 use Rattle.sts_base.specs.declared.refused.Code.TheVariants.{BadHandler}
 use Rattle.sts_syntax.specs.Types as t
+use Rattle.sts_syntax.specs.Annotations as s
+use Rattle.sts_syntax.specs.Annotations.{Annotation}
+use Rattle.sts_scope.specs.Entries.{Naming, kind_of, written_kind}
 use Rattle.sts_scope.specs.declared.kinds.Kind.{Kind}
 use Rattle.sts_scope.specs.declared.known.This.{This as Self}
 use Rattle.sts_scope.specs.declared.known.This.TheVariants as this
-use Rattle.sts_scope.specs.Kinds.{number, boolean, nothing, null, empty, same, is_array, takes_null, value_type}
+use Rattle.sts_scope.specs.Kinds.{number, boolean, text, nothing, object, array, array_of, most_brackets, null, empty, same, is_array, takes_null, value_type}
 use Rattle.sts_scope.specs.Faults.{Fault, ◌then◌, unless}
 use Rattle.sts_scope.specs.Places.{hidden}
 use Rattle.sts_scope.specs.Rules.{none_taken, is_nothing, is_boolean}
 use Rattle.type_derive.specs.Nodes.{kind_role, is_called}
 use Rattle.typed_laws.specs.Stands.{is_proper_base, IsProper}
-use Rattle.typed_laws.proofs.OneNode.{same_is, same_types}
+use Rattle.typed_laws.proofs.OneNode.{if_some, same_is, same_types}
+use Rattle.typed_laws.proofs.Names.{some_is}
 use Rattle.typed_laws.proofs.Typed.{last, first}
 use Rattle.typed_laws.proofs.Sites.{improper}
 
@@ -94,3 +99,24 @@ unless_waived false o q h = h
 
 pub parts4 : (A B C D E : Option Fault) → (A then B then C then D then E) ≡ None → (A ≡ None) × (B ≡ None) × (C ≡ None) × (D ≡ None) × (E ≡ None)
 parts4 A B C D E h = let r = last A (B then C then D then E) h in let (x, y, z, o) = parts3 B C D E r in (first A (B then C then D then E) h, x, y, z, o)
+
+-- a written type is one that values have
+pub kind_proper : (names : Naming) (a : Annotation) (u : Kind) → kind_of names a ≡ Some u → IsProper u
+kind_proper names s.Number u h = subst IsProper (some_is number u h) refl
+kind_proper names s.Boolean u h = subst IsProper (some_is boolean u h) refl
+kind_proper names s.Text u h = subst IsProper (some_is text u h) refl
+kind_proper names s.Nothing u h = subst IsProper (some_is nothing u h) refl
+kind_proper names (s.Named i x) u h =
+    let go : (o : Option ℕ) → option_map object o ≡ Some u → IsProper u = λ o. elim o as (λ y. option_map object y ≡ Some u → IsProper u) [ None ↦ (λ q. cc) | Some c ↦ (λ q. subst IsProper (some_is (object c) u q) refl) ] in
+    go (names x) h
+kind_proper names (s.ListOf a) u h =
+    let go : (o : Option Kind) → kind_of names a ≡ o → option_and_then array_of o ≡ Some u → IsProper u =
+    λ o. elim o as (λ y. kind_of names a ≡ y → option_and_then array_of y ≡ Some u → IsProper u) [
+      | None ↦ (λ r q. cc)
+      | Some v ↦ (λ r q. let p : IsProper v = kind_proper names a v r in subst IsProper (if_some (nat_lt v.depth most_brackets) (array v) u q).1 p)
+    ] in
+    go (kind_of names a) refl h
+
+pub written_proper : (names : Naming) (a : Option Annotation) (u : Kind) → written_kind names a ≡ Some u → IsProper u
+written_proper names None u h = cc
+written_proper names (Some a) u h = kind_proper names a u h

@@ -1,6 +1,6 @@
 -- Parts of trees without a failure are well typed.
 use Rattle.std.proofs.Common.{◌≡◌, ℕ, ℤ, suc, ◌+◌, refl, sym, ap, ◌∙◌, subst, Bool, true, false, ◌&&◌, ◌||◌, Option, Some, None, List, [], ◌∷◌, ◌++◌, inl, inr, arith, append_assoc}
-use Rattle.std.specs.Prelude.{not, pos, if◌then◌else◌, unwrap_or}
+use Rattle.std.specs.Prelude.{nat_lt, not, pos, if◌then◌else◌, unwrap_or}
 use Rattle.sts_base.specs.declared.tables.Tables.{Tables}
 use Rattle.sts_base.specs.declared.refused.Code.TheVariants.{BadHandler, NeedsType}
 use Rattle.sts_syntax.specs.Annotations.{Annotation}
@@ -27,7 +27,7 @@ use Rattle.sts_scope.specs.declared.known.Part.{Part}
 use Rattle.sts_scope.specs.declared.known.Part.TheVariants as part
 use Rattle.sts_scope.specs.declared.known.This.{This as Self}
 use Rattle.sts_scope.specs.declared.known.This.TheVariants as this
-use Rattle.sts_scope.specs.Kinds.{number, boolean, nothing, null, empty, object, array, item, same, is_array, class_of, takes_null, value_type, value_types}
+use Rattle.sts_scope.specs.Kinds.{number, boolean, nothing, null, empty, object, array, array_of, most_brackets, item, same, is_array, class_of, takes_null, value_type, value_types}
 use Rattle.sts_scope.specs.Faults.{Fault, ◌then◌, unless, own}
 use Rattle.sts_scope.specs.Entries.{Naming}
 use Rattle.sts_scope.specs.Places.{Place}
@@ -44,7 +44,7 @@ use Rattle.type_derive.specs.Built.{Site, amiss, spots_from, in_handler_site, fi
 use Rattle.type_derive.specs.Formed.{IsFormed, AreFormed}
 use Rattle.typed_laws.specs.Stands.{IsProper, EachProper, Stands}
 use Rattle.type_derive.specs.Libraries.{taken}
-use Rattle.typed_laws.proofs.OneNode.{both_true, either_true, if_some, if_cases, same_types, works, array_type, class_type}
+use Rattle.typed_laws.proofs.OneNode.{both_true, either_true, if_gives, if_some, if_cases, same_types, works, array_type, class_type}
 use Rattle.typed_laws.proofs.Typed.{typed, first, last, unless_true}
 use Rattle.typed_laws.proofs.Makings.{Gives, gives_pure, gives_bind, gives_as, good_free, good_as}
 use Rattle.typed_laws.proofs.Makings.{Good as Built}
@@ -426,7 +426,7 @@ module _ (tables : Tables) (names : Naming) (k : Known) (numbers : Numbering) (P
 
   pub items_parts : (v u : Kind) (us : List Kind) → items_type k.classes v us ≡ Some u → (all_go_to k.classes v us ≡ true) × (array v ≡ u)
   unfolding items_type
-  items_parts v u us h = if_some (all_go_to k.classes v us) (array v) u h
+  items_parts v u us h = let (e, f) = if_gives (all_go_to k.classes v us) (array_of v) u h in (e, (if_some (nat_lt v.depth most_brackets) (array v) u f).1)
 
   -- arguments of calls of the board: a drawing is a number
   abbrev pub Asked : Setting → List ℕ → List BoardParameter → TypedTrees → Type 0

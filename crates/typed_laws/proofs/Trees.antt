@@ -1,6 +1,5 @@
 -- Expressions and statements without a failure are well typed.
 use Rattle.std.proofs.Common.{◌≡◌, ℕ, suc, ◌+◌, refl, sym, ap, ◌∙◌, subst, Bool, true, false, ◌||◌, Option, Some, None, List, [], ◌∷◌, ◌++◌, length, inl, arith, append-nil}
-use Rattle.std.specs.Option.{option_map}
 use Rattle.std.specs.Prelude.{not, if◌then◌else◌, unwrap_or}
 use Rattle.sts_base.specs.declared.tables.Tables.{Tables}
 use Rattle.sts_base.specs.declared.refused.Code.TheVariants.{Mismatch, BadHandler, UnknownName, NeedsType}
@@ -25,11 +24,11 @@ use Rattle.sts_syntax.specs.Trees.{Tree, Num, Text, Truth, Null, This, Name, Una
 use Rattle.sts_scope.specs.declared.kinds.Kind.{Kind}
 use Rattle.sts_scope.specs.declared.known.Known.{Known}
 use Rattle.sts_scope.specs.declared.known.Found.{Found}
-use Rattle.sts_scope.specs.Kinds.{number, boolean, text, nothing, null, empty, object, array, item, same, is_array, value_type, value_types}
+use Rattle.sts_scope.specs.Kinds.{number, boolean, text, nothing, null, empty, item, same, is_array, value_type, value_types}
 use Rattle.sts_scope.specs.Faults.{Fault, ◌then◌, unless, own}
 use Rattle.sts_scope.specs.Entries.{Naming, kind_of}
 use Rattle.sts_scope.specs.Places.{Place, inner}
-use Rattle.sts_scope.specs.Headings.{type_fault, written_fault}
+use Rattle.sts_scope.specs.Headings.{type_name_fault, type_fault, written_fault}
 use Rattle.sts_scope.specs.Globals.{is_dollar}
 use Rattle.sts_scope.specs.Rules.{maker_takes_of, part_of, operate, prefix, joined, choose, assign, counted, element, items_type, all_go, all_go_to, goes, is_nothing, is_boolean}
 use Rattle.type_derive.specs.declared.roles.Role.{Role}
@@ -51,7 +50,7 @@ use Rattle.typed_laws.proofs.Makings.{Good as Built}
 use Rattle.typed_laws.proofs.Names.{bind_some, some_is, either_some, real, has_part, board_proper}
 use Rattle.typed_laws.proofs.Sites.{seen, Suits, Wanted, suits_given, given_goes, at_block, at_local, IsGood, At, name_good, this_good}
 use Rattle.typed_laws.proofs.Boards.{are_plain, plain_first, plain_rest}
-use Rattle.typed_laws.proofs.TreeFacts.{nothing_either, noted_is, kind_is, parts2, parts3, settable_is, test_is, alone_is, unless_waived, parts4}
+use Rattle.typed_laws.proofs.TreeFacts.{nothing_either, noted_is, kind_is, parts2, parts3, settable_is, test_is, alone_is, unless_waived, parts4, kind_proper}
 use Rattle.typed_laws.proofs.TreeParts.{free_proper, given_proper, seen_as, one, two, function_call, set_good, assign_suits, make_good, make_takes, takes_of_found, takes_of_part, takes_of_made, called_parts, go_parts, go_none, go_more, go_to_parts, items_parts, Asked, called_fault, call_fault, call_type, call_made, plain_serves, served_so, given_to_is, drawing_good, ArgumentsTyped, AskedTyped, member, member_target, super, board_call, member_call, list_is, fits_is, handler_stand, gives_after, Declared, declared_one, declare, first_place, first_gives, declared_more}
 
 module _ (tables : Tables) (names : Naming) (k : Known) (numbers : Numbering) (P : TypedProgram) (st : Stands tables k numbers P) where
@@ -71,13 +70,10 @@ module _ (tables : Tables) (names : Naming) (k : Known) (numbers : Numbering) (P
   bad s r a = fault tables names k s.place r a
 
   -- types that are written
-  type_known : (a : Annotation) → type_fault names a ≡ None → (u : Kind) × (kind_of names a ≡ Some u) × IsProper u
-  type_known s.Number h = (number, refl, refl)
-  type_known s.Boolean h = (boolean, refl, refl)
-  type_known s.Text h = (text, refl, refl)
-  type_known s.Nothing h = (nothing, refl, refl)
-  type_known (s.Named i x) h = let r = own_has (names x) UnknownName i h in (object r.it, ap (λ (o : Option ℕ). option_map object o) r.is, refl)
-  type_known (s.ListOf a) h = let (u, q, p) = type_known a h in (array u, ap (λ (o : Option Kind). option_map array o) q, p)
+  type_known : (i : ℕ) (a : Annotation) → type_fault names i a ≡ None → (u : Kind) × (kind_of names a ≡ Some u) × IsProper u
+  type_known i a h =
+      let r = own_has (kind_of names a) UnknownName i (last (type_name_fault names a) (own (kind_of names a) UnknownName i) h) in
+      (r.it, r.is, kind_proper names a r.it r.is)
 
   stand_same : (S : Setting) (known : List ℕ) (s : Site) → Stand S known s → Stand S known (record { place = s.place; spots = s.spots ++ [] })
   stand_same S known s at = subst (λ (xs : List Spot). Stand S known (record { place = s.place; spots = xs })) (sym (append-nil s.spots)) (record { even = at.even; here = at.here; proper = at.proper; this = at.this })
@@ -104,9 +100,9 @@ module _ (tables : Tables) (names : Naming) (k : Known) (numbers : Numbering) (P
   SoundFirst S known s m a x = w.IsSoundFirst P S x known × Stand S (w.known_after_first x known) (first_site tables names k numbers m s a)
 
   -- the type of a declared name
-  pub bound_known : (S : Setting) (known : List ℕ) (s : Site) (shape : Option Annotation) (first : OptionalTree) (i : ℕ) → Stand S known s → written_fault names shape ≡ None → own_bound tables names k s.place shape first i ≡ None
+  pub bound_known : (S : Setting) (known : List ℕ) (s : Site) (shape : Option Annotation) (first : OptionalTree) (i : ℕ) → Stand S known s → written_fault names i shape ≡ None → own_bound tables names k s.place shape first i ≡ None
       → (u : Kind) × (bound tables names k s.place shape first ≡ Some u) × IsProper u
-  bound_known S known s (Some a) first i at h h' = type_known a h
+  bound_known S known s (Some a) first i at h h' = type_known i a h
   bound_known S known s None absent i at h h' = let r = own_has (bound tables names k s.place None absent) NeedsType i h' in (r.it, r.is, (let z : None ≡ Some r.it = r.is in cc))
   bound_known S known s None (present a) i at h h' =
       let r = own_has (bound tables names k s.place None (present a)) NeedsType i h' in
@@ -474,11 +470,11 @@ module _ (tables : Tables) (names : Naming) (k : Known) (numbers : Numbering) (P
         (plain_serves tables names k numbers P st (finds tables k s.place x) s (real k tables s.place x) (served_so tables names k numbers P st s.place (finds tables k s.place x) i q h))
     handler S known s ps (Handler i (Does j [] gives all arrow)) at f h q =
         let site' : Site = in_handler_site tables names k numbers s [] gives all in
-        let bad_inside : Option Fault = written_fault names gives then statements_fault tables names k site'.place all in
+        let bad_inside : Option Fault = written_fault names j gives then statements_fault tables names k site'.place all in
         let serves : Bool = is_nothing site'.place.gives in
         let h1 : bad_inside ≡ None = first bad_inside (unless serves BadHandler i) h in
         let served : serves ≡ true = unless_true serves BadHandler i (last bad_inside (unless serves BadHandler i) h) in
-        let h2 : statements_fault tables names k site'.place all ≡ None = last (written_fault names gives) (statements_fault tables names k site'.place all) h1 in
+        let h2 : statements_fault tables names k site'.place all ≡ None = last (written_fault names j gives) (statements_fault tables names k site'.place all) h1 in
         let answer_is : (S' : Setting) → S'.routine.gives ≡ t.Nothing → S'.main ≡ false → w.answer S' ≡ Some t.Nothing = λ S' n o.
         ap (λ (x : Bool). let y : Option ValueType = if x then None else Some (if S'.maker then t.Nothing else S'.routine.gives) in y) o
         ∙ ap (λ (u : ValueType). Some (if S'.maker then t.Nothing else u)) n ∙ ap (λ (u : ValueType). Some u) (nothing_either S'.maker) in
@@ -518,7 +514,7 @@ module _ (tables : Tables) (names : Naming) (k : Known) (numbers : Numbering) (P
     handler S known s ps (Make i x args) at f h q = cc
 
     -- an initialiser
-    pub initial : (S : Setting) (known : List ℕ) (s : Site) (shape : Option Annotation) (first : OptionalTree) (i : ℕ) (u : Kind) → Stand S known s → MayBeFormed first → written_fault names shape ≡ None
+    pub initial : (S : Setting) (known : List ℕ) (s : Site) (shape : Option Annotation) (first : OptionalTree) (i : ℕ) (u : Kind) → Stand S known s → MayBeFormed first → written_fault names i shape ≡ None
         → initial_fault tables names k s.place shape first ≡ None → own_bound tables names k s.place shape first i ≡ None → bound tables names k s.place shape first ≡ Some u
         → Gives P (λ l. w.IsInitial P S known l (value_type u)) (optional_handlers first) (made_first tables names k numbers s shape first)
     initial S known s shape absent i u at f h h1 h2 q = gives_pure P (λ l. w.IsInitial P S known l (value_type u)) None tt
@@ -530,7 +526,7 @@ module _ (tables : Tables) (names : Naming) (k : Known) (numbers : Numbering) (P
         (gives_bind P (Good S known (value_type u)) R (handlers a) 0 (mk s None a) (λ x. pure (Some x)) (tree S known s None a u at f tt bad_a q1 tt) (λ x o. gives_pure P R (Some x) (o.0, inl o.1))) (λ l o. o) (omega arith)
     initial S known s (Some c') (present a) i u at f h h1 h2 q =
         let (l, v, r, r1, go) = fits_is tables names k numbers P st (ty s Given a) (kind_of names c') (unless_true (fits k (ty s Given a) (kind_of names c')) Mismatch i h2) in
-        let (v', r2, pv') = type_known c' h in
+        let (v', r2, pv') = type_known i c' h in
         let uv : u ≡ v = some_is u v (sym q ∙ r1) in
         let pv : IsProper v = subst IsProper (some_is v' v (sym r2 ∙ r1)) pv' in
         let pl = given_proper tables names k numbers P st S known s at a l r in
@@ -590,7 +586,7 @@ module _ (tables : Tables) (names : Naming) (k : Known) (numbers : Numbering) (P
         let a : Declaration = Declare i x shape one' in
         let later : Option Fault = declarations_fault tables names k (after tables names k p (Let 0 fixed (next a ended))) fixed rest in
         let here : Option Fault = declaration_fault tables names k p a in
-        let (hw, hi, hl, hb) = parts3 (written_fault names shape) (initial_fault tables names k p shape one') (own_local tables names k p x i) (own_bound tables names k p shape one' i) (first here later h) in
+        let (hw, hi, hl, hb) = parts3 (written_fault names i shape) (initial_fault tables names k p shape one') (own_local tables names k p x i) (own_bound tables names k p shape one' i) (first here later h) in
         let hr : later ≡ None = last here later h in
         let (u, q, pu) = bound_known S known s shape one' i at hw hb in
         let v : ValueType = value_type u in
