@@ -1,13 +1,16 @@
 -- Lists, item by item, and the names of a class's members, as a plan has them.
-use Rattle.std.proofs.Common.{◌≡◌, ℕ, zero, suc, ◌+◌, ◌<◌, List, [], ◌∷◌, ◌++◌, length, drop, get_or, refl, ap, sym, ◌∙◌, subst, append_assoc, Bool, arith}
+use Rattle.std.proofs.Common.{◌≡◌, ℕ, zero, suc, ◌+◌, ◌^◌, ◌<◌, ◌≤◌, List, [], ◌∷◌, ◌++◌, length, drop, get_or, refl, ap, sym, ◌∙◌, subst, append_assoc, Bool, arith}
 use Rattle.sts_syntax.specs.declared.types.Ty.{Ty}
 use Rattle.sts_syntax.specs.Types as value
 use Rattle.sts_syntax.specs.Types.{ValueType}
-use Rattle.std.proofs.Common.{Option, inl, inr, length-append}
+use Rattle.std.proofs.Common.{Option, true, inl, inr, length-append}
 use Rattle.sts_scope.specs.declared.entries.Sort.{Sort}
 use Rattle.sts_scope.specs.declared.known.Known.{Known}
-use Rattle.sts_scope.specs.Numbers.{names_from}
+use Rattle.sts_scope.specs.Lookup.{is_field}
+use Rattle.sts_scope.specs.Numbers.{is_method, names_from}
 use Rattle.typed_numbers.specs.Building.{names_upto}
+use Rattle.typed_numbers.specs.Counts.{counts_fit}
+use Rattle.typed_numbers.proofs.Laws.{few_fields, few_slots, few_behind}
 use Rattle.std.proofs.lemmas.Bool.{cases_eq}
 use Rattle.std.specs.Prelude.{Result, Ok, Err, OnOk}
 use Rattle.typed_trees.proofs.Values.{values_append}
@@ -59,3 +62,19 @@ names_there which k lists c e l = let h = upto_long which k (length k.classes) i
 
 pub names_are : (which : Option Sort → Bool) (k : Known) (lists : List (List ℕ)) (c : ℕ) → lists ≡ names_upto which k (length k.classes) → c < length k.classes → get_or lists c [] ≡ names_from which k (length k.classes) c
 names_are which k lists c e l = ap (λ (q : List (List ℕ)). get_or q c []) e ∙ upto_at which k (length k.classes) c l
+
+-- 32 bits number them where the declarations are within the limits, and those of a class that isn't there where 32 bits count the declarations
+pub fields_few : (k : Known) (lists : List (List ℕ)) (c : ℕ) → lists ≡ names_upto is_field k (length k.classes) → counts_fit k ≡ true → length (get_or lists c []) ≤ 2 ^ 32
+fields_few k lists c e h =
+    let a = ap (λ (q : List (List ℕ)). length (get_or q c [])) e in
+    let b = few_fields k c h in
+    omega (arith, a, b)
+
+pub slots_few : (k : Known) (lists : List (List ℕ)) (c : ℕ) → lists ≡ names_upto is_method k (length k.classes) → counts_fit k ≡ true → length (get_or lists c []) ≤ 2 ^ 32
+slots_few k lists c e h =
+    let a = ap (λ (q : List (List ℕ)). length (get_or q c [])) e in
+    let b = few_slots k c h in
+    omega (arith, a, b)
+
+pub behind_few : (which : Option Sort → Bool) (k : Known) (c : ℕ) → length k.classes ≤ c → length k.entries < 2 ^ 32 → length (names_from which k (length k.classes) c) ≤ 2 ^ 32
+behind_few which k c l h = (let a = few_behind which k (length k.classes) c l in omega (arith, a, h))

@@ -1,5 +1,5 @@
 -- The definitions of typed trees, over what the builder knows.
-use Rattle.std.specs.Prelude.{◌≡◌, ℕ, Bool, Option, List, length, unwrap_or}
+use Rattle.std.specs.Prelude.{◌≡◌, ℕ, ◌^◌, ◌<◌, Bool, true, Option, List, length, unwrap_or}
 use Rattle.sts_syntax.specs.Annotations.{Annotation}
 use Rattle.sts_syntax.specs.BoardTable.{BoardParameter}
 use Rattle.sts_syntax.specs.Trees.{Tree, Trees, OptionalTree, Statement, Statements, OptionalStatement, Declarations, Routine}
@@ -22,6 +22,7 @@ use Rattle.sts_scope.specs.Numbers.{is_method}
 use Rattle.type_derive.specs.Scopes.{place}
 use Rattle.type_derive.specs.Typing as typing
 use Rattle.typed_numbers.specs.Building.{numbering_of, names_upto, globals_from}
+use Rattle.typed_numbers.specs.Counts.{counts_fit}
 use Rattle.typed_trees.specs.declared.build_places.Plan.{Plan}
 use Rattle.typed_trees.specs.declared.build_places.Site.{Site}
 
@@ -32,11 +33,13 @@ made_of x locals routines = record { it = x; locals = locals; routines = routine
 abbrev pub naming : Plan → Naming
 naming p = value_at p.classes.now.values.items
 
--- The names of fields and slots, and the numbers of globals, are those of the declarations.
+-- The names of fields and slots, and the numbers of globals, are those of the declarations, which are within the limits that they alone tell, and which 32 bits count.
 pub record IsPlan (p : Plan) : Type 0 where
   pub fields : p.names.now.fields ≡ names_upto is_field p.known.now (length p.known.now.classes)
   pub slots : p.names.now.slots ≡ names_upto is_method p.known.now (length p.known.now.classes)
   pub globals : p.names.now.globals ≡ globals_from 0 p.known.now.entries
+  pub counts : counts_fit p.known.now ≡ true
+  pub few : length p.known.now.entries < 2 ^ 32
 
 abbrev pub site : Site → b.Site
 site s = record { place = place s.scope; spots = s.spots }

@@ -78,7 +78,7 @@ fn build_object(
                 all.push(x.tree)?;
                 Ok(all)
             }
-            _ => Err(NoMemory),
+            _ => Ok(all),
         }
     } else {
         Ok(all)

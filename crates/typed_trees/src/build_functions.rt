@@ -39,7 +39,7 @@ pub fn add_types(plan: &Plan, all: &mut Seq<Ty>, params: &[Param]) -> Result<(),
     ensures { OnOk result (value.value_types all.new ≡ value.value_types all.old ++ kind.value_types (parameter_kinds (naming plan.now) (parameters params.now))) }
 {
     for param in params {
-        let kind = written_kind(plan.classes, &param.shape)?;
+        let kind = written_kind(plan.classes, &param.shape);
         all.push(noted_type(kind))?;
     }
     Ok(())

@@ -79,7 +79,7 @@ fn build_initial(
     ensures built { IfOk result (λ r. IsBuilt builder.old builder.new (s.first_made plan.now (s.site site.now) (optional_annotation shape.now) (optional_expression first.now)) (optional_typed_tree r.first)) }
     ensures kind { IfOk result (λ r. r.kind ≡ derive.bound plan.now.tables.now (s.naming plan.now) plan.now.known.now (place site.now.scope) (optional_annotation shape.now) (optional_expression first.now)) }
 {
-    let written = written_kind(plan.classes, shape)?;
+    let written = written_kind(plan.classes, shape);
     match first {
         None => Ok(Initial {
             first: None,

@@ -15,30 +15,30 @@ use type_derive::part_of;
 use typed_numbers::{Members, class_names, place_among};
 
 /// The number of a class's field of a name. The names of a class that isn't there aren't kept: they are looked for anew.
-#[tactic(auto, using(crate::proofs::Listed::names_there, crate::proofs::Listed::names_are))]
+#[tactic(auto, using(crate::proofs::Listed::names_there, crate::proofs::Listed::names_are, crate::proofs::Listed::fields_few, crate::proofs::Listed::behind_few))]
 pub fn field_number(plan: &Plan, class: u32, name: u32) -> Result<u32, NoMemory>
     requires { IsPlan plan.now }
     ensures { IfOk result (λ n. n ≡ number.place_among (number.field_names plan.now.known.now class) name) }
 {
     if (class as usize) < plan.known.classes().len() {
-        place_among(names_at(&plan.names.fields, class), name)
+        Ok(place_among(names_at(&plan.names.fields, class), name))
     } else {
         let names = class_names(plan.alloc, Members::Fields, plan.known, class)?;
-        place_among(names.as_slice(), name)
+        Ok(place_among(names.as_slice(), name))
     }
 }
 
 /// The number of a class's slot of a name. The names of a class that isn't there aren't kept: they are looked for anew.
-#[tactic(auto, using(crate::proofs::Listed::names_there, crate::proofs::Listed::names_are))]
+#[tactic(auto, using(crate::proofs::Listed::names_there, crate::proofs::Listed::names_are, crate::proofs::Listed::slots_few, crate::proofs::Listed::behind_few))]
 pub fn slot_number(plan: &Plan, class: u32, name: u32) -> Result<u32, NoMemory>
     requires { IsPlan plan.now }
     ensures { IfOk result (λ n. n ≡ number.place_among (number.slot_names plan.now.known.now class) name) }
 {
     if (class as usize) < plan.known.classes().len() {
-        place_among(names_at(&plan.names.slots, class), name)
+        Ok(place_among(names_at(&plan.names.slots, class), name))
     } else {
         let names = class_names(plan.alloc, Members::Methods, plan.known, class)?;
-        place_among(names.as_slice(), name)
+        Ok(place_among(names.as_slice(), name))
     }
 }
 

@@ -29,7 +29,7 @@ use Rattle.typed_trees.specs.Sites.{IsPlan}
 use Rattle.typed_trees.specs.Steps.{IsBuilt}
 use Rattle.typed_trees.proofs.Blocks.{Grown, grown_not, grown_is, grown_further, grown_block, grown_behind, site_closed, site_is, site_of}
 use Rattle.typed_trees.proofs.GivenTrees.{arguments_begin, arguments_step, arguments_end}
-use Rattle.typed_trees.proofs.Passed.{head_built, none_built}
+use Rattle.typed_trees.proofs.Passed.{head_built, no_object, none_built}
 use Rattle.typed_numbers.proofs.Laws.{block_is, let_is, items_is, make_is, super_call_is, call_is}
 use Rattle.typed_trees.proofs.Forms.{if_only_is, if_else_is, while_is, do_while_is, for_is, for_first_is, for_of_is, return_is, plain_is, of_two, of_three, optional_is, turns_is, three_locals, from_ok, value_built, first_built}
 use Rattle.typed_trees.proofs.Pieces.{then, stays, last, via, drop_all}
@@ -47,8 +47,8 @@ build_locals::build_initial-returns-in_ok-noted-in-Some-clause-kind t c =
     let q = place c.args.site.now.scope in
     let first = tree c.in-Some.e in
     let shape = optional_annotation c.args.shape.now in
-    c.bound_kind-kind.ensures ∙ ap (λ w. steps.bound_kind shape w first c.in_ok-noted-in-Some.noted.kind) c.in_ok-written.ensures
-    ∙ ap (λ k. steps.bound_kind shape (written_kind (s.naming p) shape) first k) (c.in_ok-noted-in-Some.ensures.kind ∙ ap (λ w. s.tree_kind p (s.site c.args.site.now) w first) c.in_ok-written.ensures)
+    c.bound_kind-kind.ensures ∙ ap (λ w. steps.bound_kind shape w first c.in_ok-noted-in-Some.noted.kind) c.written_kind-written.ensures
+    ∙ ap (λ k. steps.bound_kind shape (written_kind (s.naming p) shape) first k) (c.in_ok-noted-in-Some.ensures.kind ∙ ap (λ w. s.tree_kind p (s.site c.args.site.now) w first) c.written_kind-written.ensures)
     ∙ bound_is p (s.site c.args.site.now) shape first
     ∙ sym (ap (λ o. derive.bound p.tables.now (s.naming p) p.known.now q shape (optional_expression o)) c.in-Some.is)
 
@@ -525,6 +525,16 @@ build_calls::build_object-returns-else-wanted t c =
     via b0 b0 (pure e.none) (call.object_made p st c.args.wanted (tree c.args.f.now)) e.none (typed_trees c.new-all.result) (ap (λ w. call.object_made p st w (tree c.args.f.now)) (sym c.if-wanted.false)) (sym (ap typed_trees c.new-all.ensures))
     (stays b0 e.none)
 
+pub build_calls::build_object-returns-in_default : goal.build_calls::build_object-returns-in_default
+build_calls::build_object-returns-in_default t c =
+    let p = c.args.plan.now in
+    let st = s.site c.args.site.now in
+    let b0 = c.args.builder.now in
+    let f = c.args.f.now in
+    via b0 b0 (pure e.none) (call.object_made p st c.args.wanted (tree f)) e.none (typed_trees c.new-all.result)
+    (sym (no_object p st f c.in_default.not-Member) ∙ ap (λ w. call.object_made p st w (tree f)) (sym c.if-wanted.true)) (sym (ap typed_trees c.new-all.ensures))
+    (stays b0 e.none)
+
 pub build_calls::build_object-returns-in_ok-push-in-Member : goal.build_calls::build_object-returns-in_ok-push-in-Member
 unfolding call.object_made
 build_calls::build_object-returns-in_ok-push-in-Member t c =
@@ -778,17 +788,11 @@ build_calls::build_passed-returns-in_err-object-in-Call t c = IfOk-from_err c.fr
 pub build_locals::build_value-returns-in_err-e-in-Some : goal.build_locals::build_value-returns-in_err-e-in-Some
 build_locals::build_value-returns-in_err-e-in-Some t c = IfOk-from_err c.from_residual.result _ c.from_residual.ensures.0
 
-pub build_locals::build_initial-returns-in_err-written-clause-built : goal.build_locals::build_initial-returns-in_err-written-clause-built
-build_locals::build_initial-returns-in_err-written-clause-built t c = IfOk-from_err c.from_residual.result _ c.from_residual.ensures.0
-
-pub build_locals::build_initial-returns-in_err-written-clause-kind : goal.build_locals::build_initial-returns-in_err-written-clause-kind
-build_locals::build_initial-returns-in_err-written-clause-kind t c = IfOk-from_err c.from_residual.result _ c.from_residual.ensures.0
-
 pub build_locals::build_initial-returns-in_err-noted-in-Some-clause-built : goal.build_locals::build_initial-returns-in_err-noted-in-Some-clause-built
-build_locals::build_initial-returns-in_err-noted-in-Some-clause-built t c = IfOk-from_err c.from_residual-in_err-noted-in-Some.result _ c.from_residual-in_err-noted-in-Some.ensures.0
+build_locals::build_initial-returns-in_err-noted-in-Some-clause-built t c = IfOk-from_err c.from_residual.result _ c.from_residual.ensures.0
 
 pub build_locals::build_initial-returns-in_err-noted-in-Some-clause-kind : goal.build_locals::build_initial-returns-in_err-noted-in-Some-clause-kind
-build_locals::build_initial-returns-in_err-noted-in-Some-clause-kind t c = IfOk-from_err c.from_residual-in_err-noted-in-Some.result _ c.from_residual-in_err-noted-in-Some.ensures.0
+build_locals::build_initial-returns-in_err-noted-in-Some-clause-kind t c = IfOk-from_err c.from_residual.result _ c.from_residual.ensures.0
 
 pub build_locals::build_local-returns-in_err-initial-clause-built : goal.build_locals::build_local-returns-in_err-initial-clause-built
 build_locals::build_local-returns-in_err-initial-clause-built t c = IfOk-from_err c.from_residual.result _ c.from_residual.ensures.0
@@ -1066,7 +1070,7 @@ pub build_locals::build_value-returns-in_ok-e-in-Some : goal.build_locals::build
 build_locals::build_value-returns-in_ok-e-in-Some t c = value_built c.args.plan.now (s.site c.args.site.now) c.args.given c.args.e.now c.in-Some.e c.args.builder.now c.build_tree.new.builder (typed_tree c.in_ok-e-in-Some.e.tree) c.in-Some.is c.in_ok-e-in-Some.ensures.built
 
 pub build_locals::build_initial-returns-in_ok-noted-in-Some-clause-built : goal.build_locals::build_initial-returns-in_ok-noted-in-Some-clause-built
-build_locals::build_initial-returns-in_ok-noted-in-Some-clause-built t c = first_built c.args.plan.now (s.site c.args.site.now) (optional_annotation c.args.shape.now) c.args.first.now c.in-Some.e c.in_ok-written.written c.args.builder.now c.build_tree.new.builder (typed_tree c.in_ok-noted-in-Some.noted.tree) c.in-Some.is c.in_ok-written.ensures c.in_ok-noted-in-Some.ensures.built
+build_locals::build_initial-returns-in_ok-noted-in-Some-clause-built t c = first_built c.args.plan.now (s.site c.args.site.now) (optional_annotation c.args.shape.now) c.args.first.now c.in-Some.e c.written_kind-written.result c.args.builder.now c.build_tree.new.builder (typed_tree c.in_ok-noted-in-Some.noted.tree) c.in-Some.is c.written_kind-written.ensures c.in_ok-noted-in-Some.ensures.built
 
 pub build_routines::build_handler-returns-in_err-inner-clause-built : goal.build_routines::build_handler-returns-in_err-inner-clause-built
 build_routines::build_handler-returns-in_err-inner-clause-built t c = IfOk-from_err c.from_residual.result _ c.from_residual.ensures.0
