@@ -56,6 +56,17 @@ members_numbered names c d d' xs i x lt is hd h =
     let e = declared_left names c d d' xs i x (d + length (member_entries names c (class_members (drop i xs)))) lt is hd refl in
     omega (arith, e, h)
 
+pub member_counted : (n : ℕ) (xs : List Member) (i : ℕ) (x : Member) → i < length xs → x ≡ get_or xs i x → n + members_routines (class_members (drop i xs)) < 2 ^ 32 → n + member_routines (class_member x) < 2 ^ 32
+member_counted n xs i x lt is h =
+    let e = ap (λ (q : List Member). members_routines (class_members q)) (drop_at xs i x lt is) in
+    omega (arith, e, h)
+
+pub members_counted : (n n' : ℕ) (xs : List Member) (i : ℕ) (x : Member) → i < length xs → x ≡ get_or xs i x → n' ≡ n + member_routines (class_member x)
+    → n + members_routines (class_members (drop i xs)) < 2 ^ 32 → n' + members_routines (class_members (drop (i + 1) xs)) < 2 ^ 32
+members_counted n n' xs i x lt is hn h =
+    let e = ap (λ (q : List Member). members_routines (class_members q)) (drop_at xs i x lt is) in
+    omega (arith, e, hn, h)
+
 pub functions_left : (n n' : ℕ) (xs : List Member) (i : ℕ) (x : Member) (whole : ℕ) → i < length xs → x ≡ get_or xs i x → n' ≡ n + member_routines (class_member x)
     → n + members_routines (class_members (drop i xs)) ≡ whole → n' + members_routines (class_members (drop (i + 1) xs)) ≡ whole
 functions_left n n' xs i x whole lt is hn inv =

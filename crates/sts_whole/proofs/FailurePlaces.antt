@@ -17,7 +17,7 @@ use Rattle.sts_scope.specs.declared.known.Part.{Part}
 use Rattle.sts_scope.specs.Faults.{Fault, ◌then◌, fault_at, unless, own}
 use Rattle.sts_scope.specs.Entries.{Naming, kind_of}
 use Rattle.sts_scope.specs.Globals.{is_dollar}
-use Rattle.sts_scope.specs.Headings.{type_fault, written_fault}
+use Rattle.sts_scope.specs.Headings.{type_name_fault, written_fault}
 use Rattle.sts_scope.specs.Places.{Place, inner, is_twice}
 use Rattle.sts_scope.specs.Rules.{this_kind, name_kind, part_of, part_kind, call_kind, kind_at, is_nothing, is_boolean, serves}
 use Rattle.sts_scope.specs.Codes.{why_name, why_this, why_part, why_call, why_make, why_super}
@@ -55,21 +55,22 @@ if_in true a b h g = h
 if_in false a b h g = g
 
 -- a type that is written
-pub type_in : {P : ℕ → Type 0} (names : Naming) (a : Annotation) → AnnotationAt P a → FailsAt P (type_fault names a)
-type_in names (Named at x) h = own_in (names x) UnknownName at h
-type_in names (ListOf a) h = type_in names a h
-type_in names Number h = none_in
-type_in names Boolean h = none_in
-type_in names annotations.Text h = none_in
-type_in names Nothing h = none_in
+type_name_in : {P : ℕ → Type 0} (names : Naming) (a : Annotation) → AnnotationAt P a → FailsAt P (type_name_fault names a)
+type_name_in names (Named at x) h = own_in (names x) UnknownName at h
+type_name_in names (ListOf a) h = type_name_in names a h
+type_name_in names Number h = none_in
+type_name_in names Boolean h = none_in
+type_name_in names annotations.Text h = none_in
+type_name_in names Nothing h = none_in
 
-pub written_in : {P : ℕ → Type 0} (names : Naming) (shape : Option Annotation) → WrittenAt P shape → FailsAt P (written_fault names shape)
-written_in names None h = none_in
-written_in names (Some a) h = type_in names a h
+pub written_in : {P : ℕ → Type 0} (names : Naming) (at : ℕ) (shape : Option Annotation) → P at → WrittenAt P shape → FailsAt P (written_fault names at shape)
+written_in names at None here h = none_in
+written_in names at (Some a) here h =
+    then_in (type_name_fault names a) (own (kind_of names a) UnknownName at) (type_name_in names a h) (own_in (kind_of names a) UnknownName at here)
 
 parameter_types_in : {P : ℕ → Type 0} (names : Naming) (params : List Parameter) → ParametersAt P params → FailsAt P (parameter_types_fault names params)
 parameter_types_in names [] h = none_in
-parameter_types_in names (q ∷ rest) h = then_in (written_fault names q.shape) (parameter_types_fault names rest) (written_in names q.shape h.1) (parameter_types_in names rest h.2)
+parameter_types_in names (q ∷ rest) h = then_in (written_fault names q.at q.shape) (parameter_types_fault names rest) (written_in names q.at q.shape h.0 h.1) (parameter_types_in names rest h.2)
 
 module _ (P : ℕ → Type 0) (tables : Tables) (names : Naming) (k : Known) where
   abbrev In : Option Fault → Type 0
@@ -213,9 +214,9 @@ module _ (P : ℕ → Type 0) (tables : Tables) (names : Naming) (k : Known) whe
 
     handler_in : (p : Place) (body : Routine) → RoutineAt P body → In (handler_fault tables names k p body)
     handler_in p (Does at params gives all arrow) h =
-        then_in (parameter_types_fault names params) (written_fault names gives then statements_fault tables names k (handler_place tables names k p params gives all) all)
+        then_in (parameter_types_fault names params) (written_fault names at gives then statements_fault tables names k (handler_place tables names k p params gives all) all)
         (parameter_types_in names params h.1)
-        (then_in (written_fault names gives) (statements_fault tables names k (handler_place tables names k p params gives all) all) (written_in names gives h.2)
+        (then_in (written_fault names at gives) (statements_fault tables names k (handler_place tables names k p params gives all) all) (written_in names at gives h.0 h.2)
         (statements_in (handler_place tables names k p params gives all) all h.3))
 
     pub initial_in : (p : Place) (shape : Option Annotation) (first : OptionalTree) → OptionAt P first → In (initial_fault tables names k p shape first)
@@ -228,7 +229,7 @@ module _ (P : ℕ → Type 0) (tables : Tables) (names : Naming) (k : Known) whe
 
     declaration_in : (p : Place) (a : Declaration) → DeclarationAt P a → In (declaration_fault tables names k p a)
     declaration_in p (Declare at x shape first) h =
-        then_in (written_fault names shape) (initial_fault tables names k p shape first then own_local tables names k p x at then own_bound tables names k p shape first at) (written_in names shape h.1)
+        then_in (written_fault names at shape) (initial_fault tables names k p shape first then own_local tables names k p x at then own_bound tables names k p shape first at) (written_in names at shape h.0 h.1)
         (then_in (initial_fault tables names k p shape first) (own_local tables names k p x at then own_bound tables names k p shape first at) (initial_in p shape first h.2)
         (then_in (own_local tables names k p x at) (own_bound tables names k p shape first at) (local_in p x at h.0) (bound_in p shape first at h.0)))
 

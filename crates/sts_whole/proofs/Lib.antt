@@ -28,5 +28,6 @@ pub mod Globally
 pub mod Initials
 pub mod Items
 pub mod Numbered
+pub mod Few
 pub mod Mains
 pub mod Makers

@@ -63,6 +63,12 @@ item_counted n xs i x lt is h =
     let e = ap (λ (q : List Item). all_routines (top_levels q)) (drop_at xs i x lt is) in
     omega (arith, e, h)
 
+pub item_classes : (c : ℕ) (xs : List Item) (i : ℕ) (x : Item) → i < length xs → x ≡ get_or xs i x → c + length (class_names (top_levels (drop i xs))) < 2 ^ 32 → c + classes_in (top_level x) < 2 ^ 32
+item_classes c xs i x lt is h =
+    let e = ap (λ (q : List Item). length (class_names (top_levels q))) (drop_at xs i x lt is) in
+    let a = length-append (item_class (top_level x)) (class_names (top_levels (drop (i + 1) xs))) in
+    omega (arith, e, a, h)
+
 pub items_declared : (l : Plan) (old new : Whole) (xs : List Item) (i : ℕ) (x : Item) → i < length xs → x ≡ get_or xs i x → Adds l old new (top_level x)
     → old.declaration + length (entries_from (naming l) old.class (top_levels (drop i xs))) < 2 ^ 64 → new.declaration + length (entries_from (naming l) new.class (top_levels (drop (i + 1) xs))) < 2 ^ 64
 items_declared l old new xs i x lt is a h =
@@ -77,7 +83,27 @@ items_counted l old new xs i x lt is a h =
     let e = ap (λ (q : List Item). all_routines (top_levels q)) (drop_at xs i x lt is) in
     omega (arith, e, h, a.function)
 
-entries_long : (f : Naming) (c : ℕ) (xs ys : Program) → length (entries_from f c (xs ++ ys)) ≡ length (entries_from f c xs) + length (entries_from f (c + length (class_names xs)) ys)
+pub items_classes : (l : Plan) (old new : Whole) (xs : List Item) (i : ℕ) (x : Item) → i < length xs → x ≡ get_or xs i x → Adds l old new (top_level x)
+    → old.class + length (class_names (top_levels (drop i xs))) < 2 ^ 32 → new.class + length (class_names (top_levels (drop (i + 1) xs))) < 2 ^ 32
+items_classes l old new xs i x lt is a h =
+    let e = ap (λ (q : List Item). length (class_names (top_levels q))) (drop_at xs i x lt is) in
+    let b = length-append (item_class (top_level x)) (class_names (top_levels (drop (i + 1) xs))) in
+    omega (arith, e, b, h, a.class)
+
+-- a part of the library has numbers where all that are left have numbers, and so have those behind it
+pub library_counted : (n n' : ℕ) (xs : List Item) (i : ℕ) (x : Item) → i < length xs → x ≡ get_or xs i x → n' ≡ w.library_function n (top_level x)
+    → n + all_routines (top_levels (drop i xs)) < 2 ^ 32 → n' + all_routines (top_levels (drop (i + 1) xs)) < 2 ^ 32
+library_counted n n' xs i x lt is hn h =
+    let e = ap (λ (q : List Item). all_routines (top_levels q)) (drop_at xs i x lt is) in
+    let a = at_most (top_level x) in
+    omega (arith, e, a, hn, h)
+  where
+    at_most : (t : TopLevel) → w.library_function n t ≤ n + item_routines t
+    at_most (Class at y base base_at members) = omega arith
+    at_most (Function y r) = omega arith
+    at_most (Main a) = omega arith
+
+pub entries_long : (f : Naming) (c : ℕ) (xs ys : Program) → length (entries_from f c (xs ++ ys)) ≡ length (entries_from f c xs) + length (entries_from f (c + length (class_names xs)) ys)
 entries_long f c [] ys =
     let z : c ≡ c + 0 = omega arith in
     ap (λ (q : ℕ). length (entries_from f q ys)) z ∙ sym (zero-add (length (entries_from f (c + 0) ys)))

@@ -144,24 +144,24 @@ module _ (P : ℕ → Type 0) where
   parameters_in : (names : Naming) (all : List Parameter) (i : ℕ) (params : List Parameter) → ParametersAt P params → In (parameters_fault names all i params)
   parameters_in names all i [] h = none_in
   parameters_in names all i (p ∷ rest) h =
-      then_in (own p.shape NeedsType p.at then unless (not (takes_name (take i all) p.name)) TwiceNamed p.at then written_fault names p.shape) (parameters_fault names all (i + 1) rest)
-      (then_in (own p.shape NeedsType p.at) (unless (not (takes_name (take i all) p.name)) TwiceNamed p.at then written_fault names p.shape) (own_in p.shape NeedsType p.at h.0)
-      (then_in (unless (not (takes_name (take i all) p.name)) TwiceNamed p.at) (written_fault names p.shape) (unless_in (not (takes_name (take i all) p.name)) TwiceNamed p.at h.0) (written_in names p.shape h.1)))
+      then_in (own p.shape NeedsType p.at then unless (not (takes_name (take i all) p.name)) TwiceNamed p.at then written_fault names p.at p.shape) (parameters_fault names all (i + 1) rest)
+      (then_in (own p.shape NeedsType p.at) (unless (not (takes_name (take i all) p.name)) TwiceNamed p.at then written_fault names p.at p.shape) (own_in p.shape NeedsType p.at h.0)
+      (then_in (unless (not (takes_name (take i all) p.name)) TwiceNamed p.at) (written_fault names p.at p.shape) (unless_in (not (takes_name (take i all) p.name)) TwiceNamed p.at h.0) (written_in names p.at p.shape h.0 h.1)))
       (parameters_in names all (i + 1) rest h.2)
 
   routine_in : (names : Naming) (r : Routine) → RoutineAt P r → In (routine_fault names r)
   routine_in names (Does at params gives all arrow) h =
-      then_in (parameters_fault names params 0 params) (written_fault names gives) (parameters_in names params 0 params h.1) (written_in names gives h.2)
+      then_in (parameters_fault names params 0 params) (written_fault names at gives) (parameters_in names params 0 params h.1) (written_in names at gives h.0 h.2)
 
   module _ (names : Naming) (entries : List Entry) (classes : List ClassHead) where
     field_in : (c d : ℕ) (a : Declaration) → DeclarationAt P a → In (field_fault names entries classes c d a)
     field_in c d (Declare at x shape first) h =
         then_in (unless (not (is_second entries d (o.Class c) x)) TwiceNamed at)
-        (unless (not (is_some (inherited entries classes c x))) TwiceNamed at then unless (is_typed shape first) NeedsType at then written_fault names shape)
+        (unless (not (is_some (inherited entries classes c x))) TwiceNamed at then unless (is_typed shape first) NeedsType at then written_fault names at shape)
         (unless_in (not (is_second entries d (o.Class c) x)) TwiceNamed at h.0)
-        (then_in (unless (not (is_some (inherited entries classes c x))) TwiceNamed at) (unless (is_typed shape first) NeedsType at then written_fault names shape)
+        (then_in (unless (not (is_some (inherited entries classes c x))) TwiceNamed at) (unless (is_typed shape first) NeedsType at then written_fault names at shape)
         (unless_in (not (is_some (inherited entries classes c x))) TwiceNamed at h.0)
-        (then_in (unless (is_typed shape first) NeedsType at) (written_fault names shape) (unless_in (is_typed shape first) NeedsType at h.0) (written_in names shape h.1)))
+        (then_in (unless (is_typed shape first) NeedsType at) (written_fault names at shape) (unless_in (is_typed shape first) NeedsType at h.0) (written_in names at shape h.0 h.1)))
 
     method_in : (c d x : ℕ) (r : Routine) → RoutineAt P r → In (method_fault names entries classes c d x r)
     method_in c d x r h =
@@ -236,7 +236,7 @@ module _ (P : ℕ → Type 0) where
     declared_in : (self : This) (a : Declaration) → DeclarationAt P a → In (passes.field_fault tables names k self a)
     declared_in self (Declare at x shape first) h =
         let p = outside self false None in
-        then_in (written_fault names shape) (initial_fault tables names k p shape first then own_bound tables names k p shape first at) (written_in names shape h.1)
+        then_in (written_fault names at shape) (initial_fault tables names k p shape first then own_bound tables names k p shape first at) (written_in names at shape h.0 h.1)
         (then_in (initial_fault tables names k p shape first) (own_bound tables names k p shape first at) (initial_in P tables names k p shape first h.2) (bound_in P tables names k p shape first at h.0))
 
     globals_in : (each : Declarations) → DeclarationsAt P each → In (globals_fault tables names k each)

@@ -8,4 +8,5 @@ pub mod Buildable
 pub mod Laws
 pub mod Checking
 pub mod Wholes
+pub mod Few
 pub mod Numbered

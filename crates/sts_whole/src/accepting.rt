@@ -1,8 +1,10 @@
 //! Texts and their typed programs.
-ghost use Rattle.std.specs.Prelude.{◌≡◌, ℕ, List, ◌<◌, length, IfOk, IfErr};
+ghost use Rattle.std.specs.Prelude.{◌≡◌, ℕ, List, ◌+◌, ◌<◌, ◌≤◌, length, IfOk, IfErr};
+ghost use Rattle.sts_lexer.specs.Bytes.{most_bytes};
 ghost use Rattle.sts_syntax.specs.Programs.{program};
 ghost use Rattle.sts_syntax.specs.TypedViews.{typed_program};
 ghost use Rattle.sts_whole.specs.Accepting.{Reads, Accepts, Refuses};
+ghost use Rattle.sts_whole.specs.Few.{HasFewParts};
 
 use crate::checking::check;
 use parse_unit::parse;
@@ -19,7 +21,9 @@ fn accept_tokens(
     tokens: &Seq<Token>,
     tables: &Tables,
 ) -> Result<Typed, Refused>
-    requires { 0 < length tokens.now }
+    requires there { 0 < length tokens.now }
+    requires few { length tokens.now ≤ most_bytes + 1 }
+    requires library { HasFewParts (program library.now) }
     ensures accepted { IfOk result (λ typed. (text : List ℕ) → Reads text tables.now (program library.now) tokens.now → Accepts text tables.now (typed_program typed)) }
     ensures refused { IfErr result (λ why. (text : List ℕ) → Reads text tables.now (program library.now) tokens.now → Refuses text why) }
 {

@@ -183,7 +183,7 @@ fn add_members(
     let mut next = parts.first;
     for member in parts.members {
         add_member(plan, routines, parts, next, member)?;
-        next = next_member(plan, parts.class, next, member)?;
+        next = next_member(plan, parts.class, next, member);
     }
     Ok(next)
 }

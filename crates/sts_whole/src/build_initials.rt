@@ -169,7 +169,7 @@ pub fn add_initials(
     let mut next = parts.first;
     for member in parts.members {
         add_member_initial(plan, all, parts.class, next, member)?;
-        next = next_member(plan, parts.class, next, member)?;
+        next = next_member(plan, parts.class, next, member);
     }
     Ok(())
 }

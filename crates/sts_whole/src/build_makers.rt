@@ -22,10 +22,10 @@ use sts_base::{NoMemory, Seq};
 use sts_scope::{Base, Kind, This, flat};
 use sts_syntax::{Body, Expr, Param, Spot, Stmt, Ty, TypedBody, TypedExpr, TypedNode, TypedStmt};
 use type_derive::head_of;
-use typed_numbers::{base_of, one_more};
+use typed_numbers::base_of;
 use typed_trees::{
     Builder, Function, Plan, Site, add, add_types, build_given, build_statement, function_site,
-    maker_number, type_of_values,
+    maker_number, one_more, type_of_values,
 };
 
 /// Parameters of some types that are passed on, from one on.

@@ -1,12 +1,12 @@
 // How far a walk through the parts of a program is.
-ghost use Rattle.std.specs.Prelude.{◌≡◌, ◌+◌, ◌^◌, ◌<◌, length, IfOk};
+ghost use Rattle.std.specs.Prelude.{◌≡◌, ◌+◌, ◌^◌, ◌<◌, length};
 ghost use Rattle.sts_syntax.specs.Programs.{class_member};
 ghost use Rattle.sts_syntax.specs.Views.{statement};
 ghost use Rattle.sts_scope.specs.Entries as entry;
 ghost use Rattle.sts_scope.specs.Handlers as h;
 ghost use Rattle.typed_trees.specs.Sites.{naming};
 
-use sts_base::{NoMemory, Seq};
+use sts_base::Seq;
 use sts_syntax::{Form, Item, Member, Stmt, TypedStmt};
 use typed_numbers::behind_member;
 use typed_trees::{Builder, Plan};
@@ -47,17 +47,16 @@ fn declarations_in(plan: &Plan, class: u32, member: &Member) -> usize
 }
 
 /// Behind a member of a class.
-pub fn next_member(plan: &Plan, class: u32, next: Next, member: &Member) -> Result<Next, NoMemory>
-    requires { next.declaration + length (entry.member_entry (naming plan.now) class (class_member member.now)) < 2 ^ 64 }
-    ensures declaration { IfOk result (λ n. n.declaration ≡ next.declaration + length (entry.member_entry (naming plan.now) class (class_member member.now))) }
-    ensures function { IfOk result (λ n. n.function ≡ next.function + h.member_routines (class_member member.now)) }
+pub fn next_member(plan: &Plan, class: u32, next: Next, member: &Member) -> Next
+    requires declarations { next.declaration + length (entry.member_entry (naming plan.now) class (class_member member.now)) < 2 ^ 64 }
+    requires functions { next.function + h.member_routines (class_member member.now) < 2 ^ 32 }
+    ensures declaration { result.declaration ≡ next.declaration + length (entry.member_entry (naming plan.now) class (class_member member.now)) }
+    ensures function { result.function ≡ next.function + h.member_routines (class_member member.now) }
 {
-    let function = behind_member(member, next.function)?;
-    let declaration = next.declaration + declarations_in(plan, class, member);
-    Ok(Next {
-        declaration,
-        function,
-    })
+    Next {
+        declaration: next.declaration + declarations_in(plan, class, member),
+        function: behind_member(member, next.function),
+    }
 }
 
 /// How many globals a statement of the main program declares.

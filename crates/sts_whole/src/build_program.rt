@@ -14,6 +14,7 @@ ghost use Rattle.type_derive.specs.Programs.{◌before◌};
 ghost use Rattle.typed_numbers.specs.Building.{numbering_of};
 ghost use Rattle.typed_numbers.specs.Counts.{counts_fit};
 ghost use Rattle.typed_trees.specs.Sites.{IsPlan, naming};
+ghost use Rattle.sts_whole.specs.Few.{AreFew};
 ghost use Rattle.sts_whole.specs.Wholes as w;
 ghost use Rattle.sts_whole.specs.Wholes.{Adds};
 
@@ -24,10 +25,10 @@ use crate::build_parts::{Next, Whole, globals_in};
 use lent_lists::Gathered;
 use std::alloc::Global;
 use sts_base::{NoMemory, Seq, Tables};
-use sts_scope::{Declared, Environment};
+use sts_scope::Declared;
 use sts_syntax::{Body, Item, Member, Stmt, Ty, Typed, TypedBody, Unit};
 use type_derive::kind_at;
-use typed_numbers::{names_of, numbering, one_more, routine_handlers, statement_handlers};
+use typed_numbers::{names_of, numbering, routine_handlers, statement_handlers};
 use typed_trees::{Builder, Plan, add_function};
 
 /// A part of the library: a function of it, and those that stand in it; other parts add none.
@@ -39,6 +40,7 @@ fn add_library_item(
 ) -> Result<Next, NoMemory>
     requires plan { IsPlan plan.now }
     requires numbered { next.declaration + 1 < 2 ^ 64 }
+    requires functions { next.function + h.item_routines (top_level item.now) < 2 ^ 32 }
     ensures routines { OnOk result (typed_routines routines.new ≡ typed_routines routines.old ++ w.library_item plan.now next.declaration next.function (top_level item.now)) }
     ensures declaration { IfOk result (λ n. n.declaration ≡ w.library_declaration next.declaration (top_level item.now)) }
     ensures function { IfOk result (λ n. n.function ≡ w.library_function next.function (top_level item.now)) }
@@ -48,11 +50,9 @@ fn add_library_item(
     };
     let gives = kind_at(plan.known, next.declaration);
     add_function(plan, routines, true, next.function, gives, body)?;
-    let function = routine_handlers(body, one_more(next.function)?)?;
-    let declaration = next.declaration + 1;
     Ok(Next {
-        declaration,
-        function,
+        declaration: next.declaration + 1,
+        function: routine_handlers(body, next.function + 1),
     })
 }
 
@@ -62,7 +62,8 @@ pub fn add_library(
     routines: &mut Gathered<TypedBody>,
     items: &[Item],
 ) -> Result<(), NoMemory>
-    requires { IsPlan plan.now }
+    requires plan { IsPlan plan.now }
+    requires functions { h.all_routines (top_levels items.now) < 2 ^ 32 }
     ensures { OnOk result (typed_routines routines.new ≡ typed_routines routines.old ++ w.library_made plan.now 0 0 (top_levels items.now)) }
 {
     let mut next = Next {
@@ -80,6 +81,7 @@ fn add_class_item(plan: &Plan, whole: &mut Whole, members: &[Member]) -> Result<
     requires plan { IsPlan plan.now }
     requires declarations { whole.old.declaration + suc (length (entry.member_entries (naming plan.now) whole.old.class (class_members members.now))) < 2 ^ 64 }
     requires functions { whole.old.builder.function + (h.unwritten (class_members members.now) + h.members_routines (class_members members.now)) < 2 ^ 32 }
+    requires classes { whole.old.class + 1 < 2 ^ 32 }
     ensures { OnOk result ((at x : ℕ) (base : Option ℕ) (base_at : ℕ) → Adds plan.now whole.old whole.new (Class at x base base_at (class_members members.now))) }
 {
     let next = Next {
@@ -88,7 +90,7 @@ fn add_class_item(plan: &Plan, whole: &mut Whole, members: &[Member]) -> Result<
     };
     let class = whole.class;
     let behind = add_class(plan, &mut whole.builder.routines, class, next, members)?;
-    whole.class = one_more(class)?;
+    whole.class = class + 1;
     whole.builder.function = behind.function;
     whole.declaration = behind.declaration;
     Ok(())
@@ -98,13 +100,14 @@ fn add_class_item(plan: &Plan, whole: &mut Whole, members: &[Member]) -> Result<
 fn add_function_item(plan: &Plan, whole: &mut Whole, body: &Body) -> Result<(), NoMemory>
     requires plan { IsPlan plan.now }
     requires numbered { whole.old.declaration + 1 < 2 ^ 64 }
+    requires functions { whole.old.builder.function + suc (h.routine_handlers (routine body.now)) < 2 ^ 32 }
     ensures { OnOk result ((x : ℕ) → Adds plan.now whole.old whole.new (Function x (routine body.now))) }
 {
     let n = whole.builder.function;
     let d = whole.declaration;
     let gives = kind_at(plan.known, d);
     add_function(plan, &mut whole.builder.routines, false, n, gives, body)?;
-    whole.builder.function = routine_handlers(body, one_more(n)?)?;
+    whole.builder.function = routine_handlers(body, n + 1);
     whole.declaration = d + 1;
     Ok(())
 }
@@ -113,13 +116,14 @@ fn add_function_item(plan: &Plan, whole: &mut Whole, body: &Body) -> Result<(), 
 fn add_main_item(plan: &Plan, whole: &mut Whole, a: &Stmt) -> Result<(), NoMemory>
     requires plan { IsPlan plan.now }
     requires numbered { whole.old.declaration + length (entry.main_entries (statement a.now)) < 2 ^ 64 }
+    requires functions { whole.old.builder.function + h.statement_handlers (statement a.now) < 2 ^ 32 }
     ensures { OnOk result (Adds plan.now whole.old whole.new (Main (statement a.now))) }
 {
     let n = whole.builder.function;
     let d = whole.declaration;
     let made = build_main(plan, &mut whole.builder, d, a)?;
     add_statement(&mut whole.stmts, made)?;
-    whole.builder.function = statement_handlers(a, n)?;
+    whole.builder.function = statement_handlers(a, n);
     whole.declaration = d + globals_in(a);
     Ok(())
 }
@@ -129,6 +133,7 @@ fn add_item(plan: &Plan, whole: &mut Whole, item: &Item) -> Result<(), NoMemory>
     requires plan { IsPlan plan.now }
     requires declarations { whole.old.declaration + length (entry.item_entries (naming plan.now) whole.old.class (top_level item.now)) < 2 ^ 64 }
     requires functions { whole.old.builder.function + h.item_routines (top_level item.now) < 2 ^ 32 }
+    requires classes { whole.old.class + entry.classes_in (top_level item.now) < 2 ^ 32 }
     ensures { OnOk result (Adds plan.now whole.old whole.new (top_level item.now)) }
 {
     match item {
@@ -158,6 +163,7 @@ fn add_items(plan: &Plan, whole: &mut Whole, items: &[Item]) -> Result<(), NoMem
     requires plan { IsPlan plan.now }
     requires declarations { whole.old.declaration + length (entry.entries_from (naming plan.now) whole.old.class (top_levels items.now)) < 2 ^ 64 }
     requires functions { whole.old.builder.function + h.all_routines (top_levels items.now) < 2 ^ 32 }
+    requires classes { whole.old.class + length (entry.class_names (top_levels items.now)) < 2 ^ 32 }
     ensures stmts { OnOk result (typed_statements whole.new.stmts ≡ (w.typed_list whole.old.stmts before (w.items_of plan.now whole.old (top_levels items.now)).it)) }
     ensures locals { OnOk result (value_types whole.new.builder.locals ≡ value_types whole.old.builder.locals ++ (w.items_of plan.now whole.old (top_levels items.now)).locals) }
     ensures routines { OnOk result (typed_routines whole.new.builder.routines ≡ typed_routines whole.old.builder.routines ++ (w.items_of plan.now whole.old (top_levels items.now)).routines) }
@@ -209,6 +215,7 @@ fn build_whole(
     requires count { plan.now.numbers.now.library ≡ h.all_routines (top_levels library.now) }
     requires declarations { plan.now.known.now.library + length (entry.entries_from (naming plan.now) first_class (top_levels text.now)) < 2 ^ 64 }
     requires functions { h.all_routines (top_levels library.now) + h.all_routines (top_levels text.now) < 2 ^ 32 }
+    requires classes { first_class + length (entry.class_names (top_levels text.now)) < 2 ^ 32 }
     ensures stmts { IfOk result (λ r. typed_statements r.stmts ≡ (w.text_made plan.now first_class (top_levels library.now) (top_levels text.now)).it) }
     ensures locals { IfOk result (λ r. value_types r.builder.locals ≡ (w.text_made plan.now first_class (top_levels library.now) (top_levels text.now)).locals) }
     ensures routines { IfOk result (λ r. typed_routines r.builder.routines ≡ w.library_made plan.now 0 0 (top_levels library.now) ++ (w.text_made plan.now first_class (top_levels library.now) (top_levels text.now)).routines) }
@@ -243,6 +250,7 @@ fn build_program(
     requires few { length plan.now.known.now.classes < 2 ^ 32 }
     requires declarations { plan.now.known.now.library + length (entry.entries_from (naming plan.now) first_class (top_levels text.now)) < 2 ^ 64 }
     requires functions { h.all_routines (top_levels library.now) + h.all_routines (top_levels text.now) < 2 ^ 32 }
+    requires classes { first_class + length (entry.class_names (top_levels text.now)) < 2 ^ 32 }
     ensures { IfOk result (λ t. typed_program t ≡ w.program_made plan.now first_class (top_levels library.now) (top_levels text.now)) }
 {
     let classes = class_entries(plan)?;
@@ -268,8 +276,7 @@ fn build_planned(
     requires plan { IsPlan plan.now }
     requires count { plan.now.numbers.now.library ≡ h.all_routines (top_levels library.now) }
     requires few { length plan.now.known.now.classes < 2 ^ 32 }
-    requires declarations { length plan.now.known.now.entries < 2 ^ 64 }
-    requires functions { h.all_routines (top_levels library.now) + h.all_routines (top_levels text.now) < 2 ^ 32 }
+    requires both { AreFew (top_levels library.now) (top_levels text.now) }
     requires names { (y : ℕ) → naming plan.now y ≡ all_names (top_levels library.now) (top_levels text.now) y }
     requires known { plan.now.known.now ≡ accepted.known (top_levels library.now) (top_levels text.now) plan.now.known.now.kinds }
     requires numbers { numbering_of plan.now.numbers.now ≡ number.numbering (top_levels library.now ++ top_levels text.now) }
@@ -280,15 +287,9 @@ fn build_planned(
     Ok(made)
 }
 
-/// The declarations that are known are in memory, so 64 bits count them.
-fn declarations_have_numbers(known: &Environment)
-    ensures { length known.now.entries < 2 ^ 64 }
-{
-    let _count = known.entries().len();
-}
-
-/// The typed program of a library and a text behind it, whose declarations are known with their types. Where an expression has a failure, what its
+/// The typed program of a library and a text behind it whose declarations are known with their types, and of which 32 bits count the declarations and functions. Where an expression has a failure, what its
 /// typed tree is doesn't matter.
+#[tactic(auto, using(crate::proofs::Few::known_few))]
 pub fn typed_of(
     alloc: Global,
     library: &Unit,
@@ -298,9 +299,9 @@ pub fn typed_of(
 ) -> Result<Typed, NoMemory>
     requires solved { IsSolved tables.now (program library.now) (program text.now) declared.now }
     requires counts { counts_fit declared.now.known ≡ true }
+    requires few { AreFew (program library.now) (program text.now) }
     ensures { IfOk result (λ t. typed_program t ≡ accepted.typed tables.now (program library.now) (program text.now) declared.now.known.kinds) }
 {
-    declarations_have_numbers(&declared.known);
     let numbers = numbering(alloc, library, text)?;
     let names = names_of(alloc, &declared.known)?;
     let plan = Plan {

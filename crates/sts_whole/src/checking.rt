@@ -8,6 +8,7 @@ ghost use Rattle.typed_numbers.specs.Counts.{counts_fit};
 ghost use Rattle.type_derive.specs.Limits.{limits_fault};
 ghost use Rattle.type_derive.specs.Accepted.{IsAccepted};
 ghost use Rattle.sts_whole.specs.Checking.{Refuses};
+ghost use Rattle.sts_whole.specs.Few.{AreFew};
 
 use crate::build_program::typed_of;
 use derived_types::solve;
@@ -36,12 +37,13 @@ fn check_counts(alloc: Global, known: &Environment) -> Result<(), Refused>
     unless(fits, Code::OverLimit, 0)
 }
 
-/// The typed program of a text behind a library, whose names and texts stand in the tables.
+/// The typed program of a text behind a library, whose names and texts stand in the tables, and of which 32 bits count the declarations and functions.
 ///
 /// Refused with the text's first failure: those of `resolve`; an overriding method with other parameters or another result (`Mismatch`); then in text
 /// order what names, types, calls and statements have (`UnknownName`, `Captures`, `Mismatch`, `NeedsType`, `BadHandler`); and `OverLimit` at 0 where a
 /// counted limit is passed. The library itself is never refused.
 pub fn check(alloc: Global, library: &Unit, text: &Unit, tables: &Tables) -> Result<Typed, Refused>
+    requires few { AreFew (program library.now) (program text.now) }
     ensures accepted { IfOk result (λ t. IsAccepted tables.now (program library.now) (program text.now) (typed_program t)) }
     ensures refused { IfErr result (λ why. Refuses why tables.now (program library.now) (program text.now)) }
 {

@@ -3,7 +3,21 @@ use Rattle.sts_syntax.specs.Programs.{program}
 use Rattle.sts_prelude.specs.Spelled.{IsLibrary}
 use Rattle.sts_grammar.specs.Texts.{no_entries}
 use Rattle.sts_whole.specs.Accepting.{Reads}
+use Rattle.text_sizes.proofs.Laws.{most_tokens}
+use Rattle.sts_whole.proofs.Few.{library_few}
 use Rattle.sts_whole.proofs.accepting.accept.Goals as goal
+
+pub accept_tokens-requires-clause-few : goal.accept_tokens-requires-clause-few
+accept_tokens-requires-clause-few c = most_tokens c.tokens.new.tables c.args.text.now c.in_ok-tokens.tokens c.in_ok-tokens.ensures.tokens
+
+pub accept_tokens-requires-clause-library : goal.accept_tokens-requires-clause-library
+accept_tokens-requires-clause-library c =
+    let p = program c.in-Ok.library in
+    let after = c.library.new.tables in
+    let library_is : IsLibrary no_entries after p =
+    subst (λ (names : List (List ℕ)). IsLibrary (record { names = names; texts = [] }) after p) c.new.ensures
+    (subst (λ (texts : List (List ℕ)). IsLibrary (record { names = c.new.result; texts = texts }) after p) c.new-2.ensures c.in-Ok.ensures.library) in
+    library_few after p library_is
 
 pub returns-in-Ok-accept_tokens-clause-accepted : goal.returns-in-Ok-accept_tokens-clause-accepted
 returns-in-Ok-accept_tokens-clause-accepted c =

@@ -1,7 +1,13 @@
 use Rattle.std.proofs.lemmas.Result.{IfOk-weaker, IfErr-weaker}
 use Rattle.sts_syntax.specs.Programs.{program}
 use Rattle.sts_whole.proofs.Accepted.{program_refused}
+use Rattle.sts_whole.proofs.Few.{both_few, spelled_few}
 use Rattle.sts_whole.proofs.accepting.accept_tokens.Goals as goal
+
+pub check-requires : goal.check-requires
+check-requires c =
+    let text = program c.in_ok-text.text in
+    record { few = both_few (program c.args.library.now) text c.requires.library (spelled_few c.args.tables.now c.args.tokens.now text c.requires.few c.in_ok-text.ensures.1) }
 
 pub returns-clause-accepted : goal.returns-clause-accepted
 returns-clause-accepted c =

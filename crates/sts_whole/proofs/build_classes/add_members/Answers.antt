@@ -3,20 +3,26 @@ use Rattle.sts_syntax.specs.Programs.{class_member, class_members}
 use Rattle.sts_syntax.specs.TypedViews.{typed_routines}
 use Rattle.typed_trees.specs.Sites.{naming}
 use Rattle.sts_whole.specs.Wholes as w
-use Rattle.sts_whole.proofs.ClassParts.{members_left, declared_left, functions_left, member_numbered, step_list}
+use Rattle.sts_whole.proofs.ClassParts.{members_left, declared_left, functions_left, member_counted, member_numbered, step_list}
 use Rattle.sts_whole.proofs.build_classes.add_members.Goals as goal
 
-pub next_member-requires : goal.next_member-requires
-next_member-requires c =
+pub next_member-next-requires-clause-functions : goal.next_member-next-requires-clause-functions
+next_member-next-requires-clause-functions c =
+    let xs = c.args.parts.now.members.now in let i = c.loop-member.member-index in
+    let lt : i < length xs = omega (arith, c.loop-member-test.true) in
+    member_counted c.loop-member.next.function xs i c.member-item.result lt c.member-item.is (omega (arith, c.loop-member.invariant.function, c.requires.numbered.functions))
+
+pub next_member-next-requires-clause-declarations : goal.next_member-next-requires-clause-declarations
+next_member-next-requires-clause-declarations c =
     let l = c.args.plan.now in let parts = c.args.parts.now in let xs = parts.members.now in let i = c.loop-member.member-index in
     let lt : i < length xs = omega (arith, c.loop-member-test.true) in
-    member_numbered (naming l) parts.class c.loop-member.next.declaration xs i c.member-item.result lt c.member-item.is (omega (arith, c.loop-member.invariant.declaration, c.requires.numbered))
+    member_numbered (naming l) parts.class c.loop-member.next.declaration xs i c.member-item.result lt c.member-item.is (omega (arith, c.loop-member.invariant.declaration, c.requires.numbered.declarations))
 
 pub loop-member-preserved : goal.loop-member-preserved
 loop-member-preserved c =
     let l = c.args.plan.now in let parts = c.args.parts.now in let k = parts.class in let inits = w.initials_of l parts in
     let xs = parts.members.now in let i = c.loop-member.member-index in let x = c.member-item.result in
-    let at = c.loop-member.next in let next = c.in_ok-next.next in let h = c.in_ok-next.ensures in let inv = c.loop-member.invariant in
+    let at = c.loop-member.next in let next = c.next_member-next.result in let h = c.next_member-next.ensures in let inv = c.loop-member.invariant in
     let lt : i < length xs = omega (arith, c.loop-member-test.true) in
     let left = members_left l k inits at.function at.declaration next.function next.declaration xs i x lt c.member-item.is h.function h.declaration in
     record {

@@ -1,4 +1,4 @@
-use Rattle.std.proofs.Common.{sym, append-nil, add-zero}
+use Rattle.std.proofs.Common.{refl, sym, append-nil, add-zero}
 use Rattle.sts_syntax.specs.Types.{value_types}
 use Rattle.sts_whole.specs.Wholes as w
 use Rattle.sts_whole.proofs.build_program.add_class_item.Goals as goal
@@ -13,6 +13,6 @@ returns c = λ at x base base_at.
       routines = h.routines;
       local = sym (add-zero old.builder.local);
       function = h.function;
-      class = c.in_ok-whole.ensures;
+      class = refl;
       declaration = h.declaration;
     }

@@ -11,15 +11,13 @@ use Rattle.sts_whole.proofs.build_program.add_function_item.Goals as goal
 pub returns : goal.returns
 returns c = λ x.
     let old = c.args.whole.now in
-    let n = c.in_ok-one_more.ensures in
-    let f = c.in_ok-whole.ensures in
     record {
       stmts = sym (append-nil (w.typed_list old.stmts));
       locals = sym (append-nil (value_types old.builder.locals));
       routines = c.in_ok-add_function.ensures
           ∙ ap (λ (k : Option Kind). typed_routines old.builder.routines ++ functions.function_made c.args.plan.now false old.builder.function k (routine c.args.body.now)) c.kind_at-gives.ensures;
       local = sym (add-zero old.builder.local);
-      function = omega (arith, n, f);
+      function = omega (arith, c.routine_handlers-whole.ensures);
       class = sym (add-zero old.class);
       declaration = refl;
     }

@@ -1,7 +1,7 @@
 use Rattle.std.proofs.Common.{◌+◌, ◌^◌, ◌<◌, List, length, sym, ap, ◌∙◌, subst}
 use Rattle.sts_syntax.specs.declared.units.Member.{Member}
 use Rattle.sts_syntax.specs.Programs.{TopLevel, Class, class_members, top_level}
-use Rattle.sts_scope.specs.Entries.{item_entries}
+use Rattle.sts_scope.specs.Entries.{classes_in, item_entries}
 use Rattle.sts_scope.specs.Handlers.{item_routines}
 use Rattle.typed_trees.specs.Sites.{naming}
 use Rattle.sts_whole.specs.Wholes.{Adds}
@@ -18,6 +18,17 @@ add_class_item-requires-clause-functions c =
     let k = c.in-Class in
     let e = ap top_level k.is ∙ sym (ap (λ (xs : List Member). Class k.at k.name k.base k.base_at (class_members xs)) c.as_slice.ensures) in
     subst (λ (i : TopLevel). c.args.whole.now.builder.function + item_routines i < 2 ^ 32) e c.requires.functions
+
+pub add_class_item-requires-clause-classes : goal.add_class_item-requires-clause-classes
+add_class_item-requires-clause-classes c = subst (λ (i : TopLevel). c.args.whole.now.class + classes_in i < 2 ^ 32) (ap top_level c.in-Class.is) c.requires.classes
+
+pub add_function_item-requires-clause-functions : goal.add_function_item-requires-clause-functions
+add_function_item-requires-clause-functions c =
+    subst (λ (i : TopLevel). c.args.whole.now.builder.function + item_routines i < 2 ^ 32) (ap top_level c.in-Function.is) c.requires.functions
+
+pub add_main_item-requires-clause-functions : goal.add_main_item-requires-clause-functions
+add_main_item-requires-clause-functions c =
+    subst (λ (i : TopLevel). c.args.whole.now.builder.function + item_routines i < 2 ^ 32) (ap top_level c.in-Stmt.is) c.requires.functions
 
 pub add_function_item-requires-clause-numbered : goal.add_function_item-requires-clause-numbered
 add_function_item-requires-clause-numbered c =

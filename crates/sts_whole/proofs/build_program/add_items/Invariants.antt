@@ -20,5 +20,6 @@ invariant-loop-item l =
       locals : value_types l.whole.builder.locals ++ left.locals ≡ value_types first.builder.locals ++ all.locals;
       routines : typed_routines l.whole.builder.routines ++ left.routines ≡ typed_routines first.builder.routines ++ all.routines;
       declarations : l.whole.declaration + length (entry.entries_from (naming l.plan) l.whole.class (top_levels (drop l.item-index l.items))) < 2 ^ 64;
+      classes : l.whole.class + length (entry.class_names (top_levels (drop l.item-index l.items))) < 2 ^ 32;
       functions : l.whole.builder.function + h.all_routines (top_levels (drop l.item-index l.items)) < 2 ^ 32;
     }

@@ -1,6 +1,7 @@
 use Rattle.std.proofs.Common.{◌∙◌, arith}
 use Rattle.std.proofs.Math.Path.{fun_ext}
 use Rattle.sts_syntax.specs.Programs.{top_levels}
+use Rattle.sts_whole.proofs.Few.{classes_append}
 use Rattle.sts_whole.proofs.Items.{whole_is}
 use Rattle.sts_whole.proofs.Numbered.{text_declared}
 use Rattle.sts_whole.proofs.build_program.build_planned.Goals as goal
@@ -9,7 +10,12 @@ pub build_program-requires-clause-declarations : goal.build_program-requires-cla
 build_program-requires-clause-declarations c =
     let l = c.args.plan.now in
     let e = text_declared l c.args.first_class (top_levels c.args.library.now) (top_levels c.args.text.now) l.known.now.kinds (fun_ext c.requires.names) c.requires.known c.requires.first in
-    omega (arith, e, c.requires.declarations)
+    omega (arith, e, c.requires.plan.few)
+
+pub build_program-requires-clause-classes : goal.build_program-requires-clause-classes
+build_program-requires-clause-classes c =
+    let a = classes_append (top_levels c.args.library.now) (top_levels c.args.text.now) in
+    omega (arith, a, c.requires.first, c.requires.both.classes)
 
 pub returns : goal.returns
 returns c =
