@@ -1,4 +1,7 @@
 // What a row is answered with.
+ghost use Rattle.std.specs.Prelude.{◌<◌, ◌^◌, length};
+ghost use Rattle.sts_syntax.specs.Programs.{program};
+ghost use Rattle.sts_scope.specs.Entries.{class_names};
 
 use crate::reading::{Read, no_library, read_text};
 use crate::shown::{write_declared, write_name, write_refusal};
@@ -9,7 +12,9 @@ use sts_scope::Declared;
 use text_headings::{Scopes, headings, resolve};
 
 /// What a text declares, with all types derived.
-fn solved(alloc: Global, text: &Read) -> Result<Declared, Refused> {
+fn solved(alloc: Global, text: &Read) -> Result<Declared, Refused>
+    requires { length (class_names (program text.now.unit)) < 2 ^ 32 }
+{
     let library = no_library(alloc);
     let mut declared = headings(alloc, &library, &text.unit, &text.tables)?;
     match solve(alloc, &library, &text.unit, &text.tables, &mut declared) {
@@ -19,7 +24,9 @@ fn solved(alloc: Global, text: &Read) -> Result<Declared, Refused> {
 }
 
 /// The types of all declarations, in text order.
-fn write_types(alloc: Global, line: &mut String, text: &Read) -> Result<(), AllocError> {
+fn write_types(alloc: Global, line: &mut String, text: &Read) -> Result<(), AllocError>
+    requires { length (class_names (program text.now.unit)) < 2 ^ 32 }
+{
     match solved(alloc, text) {
         Err(refused) => write_refusal(line, refused),
         Ok(declared) => {
@@ -33,7 +40,9 @@ fn write_types(alloc: Global, line: &mut String, text: &Read) -> Result<(), Allo
 }
 
 /// How many declarations have a type, and how many have none.
-fn write_counts(alloc: Global, line: &mut String, text: &Read) -> Result<(), AllocError> {
+fn write_counts(alloc: Global, line: &mut String, text: &Read) -> Result<(), AllocError>
+    requires { length (class_names (program text.now.unit)) < 2 ^ 32 }
+{
     match solved(alloc, text) {
         Err(refused) => write_refusal(line, refused),
         Ok(declared) => {
@@ -72,7 +81,9 @@ fn write_scopes(line: &mut String, tables: &Tables, scopes: &Scopes) -> Result<(
 }
 
 /// The names of a text.
-fn write_names(alloc: Global, line: &mut String, text: &Read) -> Result<(), AllocError> {
+fn write_names(alloc: Global, line: &mut String, text: &Read) -> Result<(), AllocError>
+    requires { length (class_names (program text.now.unit)) < 2 ^ 32 }
+{
     match resolve(alloc, &no_library(alloc), &text.unit, &text.tables) {
         Err(refused) => write_refusal(line, refused),
         Ok(scopes) => write_scopes(line, &text.tables, &scopes),
@@ -80,7 +91,9 @@ fn write_names(alloc: Global, line: &mut String, text: &Read) -> Result<(), Allo
 }
 
 /// How many names a text has.
-fn write_sizes(alloc: Global, line: &mut String, text: &Read) -> Result<(), AllocError> {
+fn write_sizes(alloc: Global, line: &mut String, text: &Read) -> Result<(), AllocError>
+    requires { length (class_names (program text.now.unit)) < 2 ^ 32 }
+{
     match resolve(alloc, &no_library(alloc), &text.unit, &text.tables) {
         Err(refused) => write_refusal(line, refused),
         Ok(scopes) => write!(

@@ -1,4 +1,7 @@
 // A text's tree and what it declares.
+ghost use Rattle.std.specs.Prelude.{◌≡◌, ◌<◌, ◌^◌, [], length, IfOk};
+ghost use Rattle.sts_syntax.specs.Programs.{program};
+ghost use Rattle.sts_scope.specs.Entries.{class_names};
 
 use parse_unit::parse;
 use std::alloc::Global;
@@ -13,8 +16,11 @@ pub struct Read {
     pub tables: Tables,
 }
 
-/// The tree of a text, or why it has none.
-pub fn read_text(alloc: Global, text: &str) -> Result<Read, Refused> {
+/// The tree of a text, whose classes 32 bits count, or why it has none.
+#[tactic(auto, using(sts_scope::proofs::Laws::class_names_are_items))]
+pub fn read_text(alloc: Global, text: &str) -> Result<Read, Refused>
+    ensures { IfOk result (λ text. length (class_names (program text.unit)) < 2 ^ 32) }
+{
     let mut tables = Tables {
         names: Seq::new(alloc),
         texts: Seq::new(alloc),
@@ -24,11 +30,16 @@ pub fn read_text(alloc: Global, text: &str) -> Result<Read, Refused> {
         return Err(Refused::NoMemory);
     }
     let unit = parse(alloc, &tokens, &tables)?;
+    if unit.items.len() > u32::MAX as usize {
+        return Err(Refused::NoMemory);
+    }
     Ok(Read { unit, tables })
 }
 
 /// The library without a part.
-pub fn no_library(alloc: Global) -> Unit {
+pub fn no_library(alloc: Global) -> Unit
+    ensures { program result ≡ [] }
+{
     Unit {
         items: Seq::new(alloc),
     }
