@@ -18,13 +18,12 @@ ghost use Rattle.sts_whole.specs.Wholes as w;
 use crate::build_initials::{Initial, build_field};
 use crate::build_makers::{add_constructor, add_unwritten};
 use crate::build_parts::{ClassParts, Next, next_member};
-use lent_lists::Gathered;
 use sts_base::{NoMemory, Seq};
 use sts_scope::Entry;
 use sts_syntax::{Binding, Member, Ty, TypedBody, TypedClass};
 use type_derive::kind_at;
 use typed_numbers::{base_of, is_global, unwritten};
-use typed_trees::{Plan, add_method, maker_number, names_at, noted_type, routine_number};
+use typed_trees::{Gathered, Plan, add_method, maker_number, names_at, noted_type, routine_number};
 
 /// The declaration of a class's member of a name, the nearest one.
 fn member(plan: &Plan, class: u32, name: u32) -> Option<usize>

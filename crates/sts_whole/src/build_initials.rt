@@ -13,13 +13,12 @@ ghost use Rattle.sts_whole.specs.Numbered.{AreNumbered};
 ghost use Rattle.sts_whole.specs.Wholes as w;
 
 use crate::build_parts::{ClassParts, Next, next_member};
-use lent_lists::Gathered;
 use sts_base::{NoMemory, Seq};
 use sts_scope::{Kind, This};
 use sts_syntax::{Binding, Member, Ty, TypedBody, TypedExpr, TypedNode, TypedStmt};
 use type_derive::{kind_at, outer_scope};
 use typed_trees::{
-    Builder, Plan, Site, Spots, beside, boxed, build_first, field_number, noted_type,
+    Builder, Gathered, Plan, Site, Spots, beside, boxed, build_first, field_number, noted_type,
 };
 
 /// A field's initialiser, and the functions that stand in it.

@@ -16,7 +16,6 @@ ghost use Rattle.sts_whole.specs.Wholes as w;
 
 use crate::build_initials::{add_initials, add_statement};
 use crate::build_parts::ClassParts;
-use lent_lists::Gathered;
 use std::alloc::Global;
 use sts_base::{NoMemory, Seq};
 use sts_scope::{Base, Kind, This, flat};
@@ -24,8 +23,8 @@ use sts_syntax::{Body, Expr, Param, Spot, Stmt, Ty, TypedBody, TypedExpr, TypedN
 use type_derive::head_of;
 use typed_numbers::base_of;
 use typed_trees::{
-    Builder, Function, Plan, Site, add, add_types, build_given, build_statement, function_site,
-    maker_number, one_more, type_of_values,
+    Builder, Function, Gathered, Plan, Site, add, add_types, build_given, build_statement,
+    function_site, maker_number, one_more, type_of_values,
 };
 
 /// Parameters of some types that are passed on, from one on.

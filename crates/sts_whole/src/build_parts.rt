@@ -1,13 +1,12 @@
 // How far a walk through the parts of a program is.
 ghost use Rattle.std.specs.Prelude.{◌≡◌, ◌+◌, ◌^◌, ◌<◌, length};
 ghost use Rattle.sts_syntax.specs.Programs.{class_member};
-ghost use Rattle.sts_syntax.specs.Views.{statement};
 ghost use Rattle.sts_scope.specs.Entries as entry;
 ghost use Rattle.sts_scope.specs.Handlers as h;
 ghost use Rattle.typed_trees.specs.Sites.{naming};
 
 use sts_base::Seq;
-use sts_syntax::{Form, Item, Member, Stmt, TypedStmt};
+use sts_syntax::{Member, TypedStmt};
 use typed_numbers::behind_member;
 use typed_trees::{Builder, Plan};
 
@@ -56,31 +55,5 @@ pub fn next_member(plan: &Plan, class: u32, next: Next, member: &Member) -> Next
     Next {
         declaration: next.declaration + declarations_in(plan, class, member),
         function: behind_member(member, next.function),
-    }
-}
-
-/// How many globals a statement of the main program declares.
-#[tactic(auto, using(sts_scope::proofs::Laws::let_count))]
-pub fn globals_in(s: &Stmt) -> usize
-    ensures { result ≡ length (entry.main_entries (statement s.now)) }
-{
-    match &s.form {
-        Form::Let { fixed: _, each } => each.len(),
-        Form::Block(_) => 0,
-        Form::If(_, _, _) => 0,
-        Form::While(_, _) => 0,
-        Form::DoWhile(_, _) => 0,
-        Form::For(_, _, _, _) => 0,
-        Form::ForOf {
-            fixed: _,
-            name: _,
-            list: _,
-            body: _,
-        } => 0,
-        Form::Return(_) => 0,
-        Form::Break => 0,
-        Form::Continue => 0,
-        Form::Plain(_) => 0,
-        Form::Empty => 0,
     }
 }

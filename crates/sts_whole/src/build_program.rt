@@ -21,15 +21,15 @@ ghost use Rattle.sts_whole.specs.Wholes.{Adds};
 use crate::build_classes::{add_class, class_entries, global_types};
 use crate::build_globals::build_main;
 use crate::build_initials::add_statement;
-use crate::build_parts::{Next, Whole, globals_in};
-use lent_lists::Gathered;
+use crate::build_parts::{Next, Whole};
 use std::alloc::Global;
 use sts_base::{NoMemory, Seq, Tables};
 use sts_scope::Declared;
 use sts_syntax::{Body, Item, Member, Stmt, Ty, Typed, TypedBody, Unit};
+use text_headings::globals_in;
 use type_derive::kind_at;
 use typed_numbers::{names_of, numbering, routine_handlers, statement_handlers};
-use typed_trees::{Builder, Plan, add_function};
+use typed_trees::{Builder, Gathered, Plan, add_function};
 
 /// A part of the library: a function of it, and those that stand in it; other parts add none.
 fn add_library_item(

@@ -6,7 +6,7 @@ use Rattle.std.specs.Prelude.{is_some, Bool, true, false, ◌&&◌}
 use Rattle.sts_syntax.specs.declared.trees.Body.{Body, out-Body}
 use Rattle.sts_syntax.specs.declared.trees.Binding.{Binding, out-Binding}
 use Rattle.sts_syntax.specs.declared.trees.Stmt.{Stmt}
-use Rattle.sts_syntax.specs.Trees.{Tree, Trees, Statement, Statements, also}
+use Rattle.sts_syntax.specs.Trees.{Trees, Statement, Statements, also}
 use Rattle.sts_syntax.specs.Trees as t
 use Rattle.sts_syntax.specs.Programs.{ClassMember, Field, Method, Constructor}
 use Rattle.sts_syntax.specs.Views.{routine, declaration, optional_annotation, optional_expression, statement, statements}

@@ -23,9 +23,9 @@ use Rattle.typed_trees.specs.declared.build_heads.Head.{Head}
 use Rattle.typed_trees.specs.declared.build_heads.Head.TheVariants as head
 use Rattle.typed_numbers.specs.Building.{numbering_of}
 use Rattle.typed_trees.specs.Sites as s
-use Rattle.typed_trees.specs.Sites.{tree_made, tree_kind, given_made, items_made, asked_made, made_of, joined, naming}
+use Rattle.typed_trees.specs.Sites.{tree_made, tree_kind, given_made, items_made, asked_made, made_of, naming}
 use Rattle.typed_trees.specs.Calls as call
-use Rattle.typed_trees.specs.Calls.{Places, Kinds, Alike, Asks, argument_made, arguments_made, asked_one, served, head_of, head_made, passed_made, object_made, behind_made, head_places, head_node, type_noted, has_list}
+use Rattle.typed_trees.specs.Calls.{Places, Kinds, Alike, Asks, arguments_made, asked_one, served, head_of, head_made, passed_made, object_made, behind_made, head_places, head_node, type_noted, has_list}
 use Rattle.typed_trees.proofs.GivenTrees.{next_at, later_at}
 use Rattle.typed_numbers.proofs.Laws.{items_is}
 use Rattle.typed_trees.proofs.Made.{alone}

@@ -6,7 +6,7 @@ use Rattle.sts_syntax.specs.declared.trees.Body.{Body}
 use Rattle.sts_syntax.specs.declared.trees.Expr.{Expr}
 use Rattle.sts_syntax.specs.declared.trees.Node.TheVariants as n
 use Rattle.sts_syntax.specs.Types as t
-use Rattle.sts_syntax.specs.Types.{ValueType, value_types}
+use Rattle.sts_syntax.specs.Types.{value_types}
 use Rattle.sts_syntax.specs.TypedTrees as e
 use Rattle.sts_syntax.specs.TypedTrees.{TypedTree, TypedRoutine}
 use Rattle.sts_syntax.specs.TypedViews.{typed_routines}

@@ -2,7 +2,6 @@
 use Rattle.std.proofs.Common.{◌≡◌, List, [], ◌∷◌, ◌++◌, refl, ap}
 use Rattle.sts_syntax.specs.declared.types.Ty.{Ty}
 use Rattle.sts_syntax.specs.Types as value
-use Rattle.sts_syntax.specs.Types.{ValueType}
 
 pub values_append : (xs ys : List Ty) → value.value_types (xs ++ ys) ≡ value.value_types xs ++ value.value_types ys
 values_append [] ys = refl

@@ -1,6 +1,6 @@
 // What is known where the parts of a program are built, and what is built.
+use crate::gathered::Gathered;
 use crate::spots::Spots;
-use lent_lists::Gathered;
 use std::alloc::Global;
 use sts_base::{Seq, Tables};
 use sts_scope::{ByNumber, Environment, Kind};

@@ -14,7 +14,7 @@ use crate::build_nodes::noted;
 use crate::build_numbers::one_more;
 use crate::build_places::{Builder, Noted, Plan, Site};
 use crate::build_statements::build_body;
-use lent_lists::Gathered;
+use crate::gathered::Gathered;
 use sts_base::{NoMemory, Seq};
 use sts_syntax::{Body, Ty, TypedBody, TypedNode};
 

@@ -19,6 +19,7 @@ mod build_statements;
 mod build_targets;
 mod build_trees;
 mod build_types;
+mod gathered;
 mod spots;
 
 pub use build_forms::beside;
@@ -31,4 +32,5 @@ pub use build_spots::{field_number, global_number};
 pub use build_statements::build_statement;
 pub use build_trees::build_given;
 pub use build_types::type_of_values;
+pub use gathered::Gathered;
 pub use spots::Spots;

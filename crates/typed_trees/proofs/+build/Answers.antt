@@ -6,7 +6,7 @@ use Rattle.sts_syntax.specs.declared.trees.Stmt.{Stmt}
 use Rattle.sts_syntax.specs.declared.typed.TypedExpr.{TypedExpr}
 use Rattle.sts_syntax.specs.declared.trees.Form.TheVariants as form
 use Rattle.sts_syntax.specs.Trees as u
-use Rattle.sts_syntax.specs.Trees.{Tree, Member}
+use Rattle.sts_syntax.specs.Trees.{Member}
 use Rattle.sts_syntax.specs.Types as v
 use Rattle.sts_syntax.specs.Types.{value_types}
 use Rattle.sts_syntax.specs.declared.typed.Spot.TheVariants.{Local}
@@ -25,7 +25,6 @@ use Rattle.typed_trees.specs.declared.build_operators.Operator.TheVariants as o
 use Rattle.typed_trees.specs.Calls as call
 use Rattle.typed_trees.specs.Sites as s
 use Rattle.typed_trees.specs.Steps as steps
-use Rattle.typed_trees.specs.Sites.{IsPlan}
 use Rattle.typed_trees.specs.Steps.{IsBuilt}
 use Rattle.typed_trees.proofs.Blocks.{Grown, grown_not, grown_is, grown_further, grown_block, grown_behind, site_closed, site_is, site_of}
 use Rattle.typed_trees.proofs.GivenTrees.{arguments_begin, arguments_step, arguments_end}

@@ -1,6 +1,0 @@
-//! Lists behind which another one can be put.
-#![tactic(auto)]
-
-mod gathered;
-
-pub use gathered::Gathered;
