@@ -14,7 +14,7 @@ use Rattle.run_tool.specs.Build.{WritesImage, BuildsText}
 use Rattle.run_tool.specs.Run.{RunsProgram, RunsText}
 use Rattle.run_tool.specs.Runs.{RunsBoard}
 use Rattle.run_tool.specs.RunHex.{RunsHex}
-use Rattle.run_tool.specs.Orders.{MayAnswer, IsStatusOf, Completes}
+use Rattle.run_tool.specs.Orders.{MayAnswer, IsStatusOf, CompletesCommand}
 use Rattle.run_tool.specs.Completeness.{HoldsScript, HoldsFiles, IsImageStatus, MayEndWith, IsComplete}
 use Rattle.run_tool.proofs.Headlines.{file-told, script-told, program-told, program-fits}
 use Rattle.run_tool.proofs.ProgramStatuses.{program-number, run-number as program-end}
@@ -63,5 +63,5 @@ module _ (one : OneAnswer) (told : List ℕ → Option (Option (List ℕ))) wher
   either asked order number e h (inl is) = inl (status order number is.0 h (subst (λ o. MayAnswer (unfailing told) o is.0) e is.1) is.2)
   either asked order number e h (inr is) = inr is
 
-pub complete : (one : OneAnswer) (files : ToldFiles) (sink : OfSink) (asked : Option Asked) (number : ℕ) → Completes files sink asked number → IsComplete files sink asked number
+pub complete : (one : OneAnswer) (files : ToldFiles) (sink : OfSink) (asked : Option Asked) (number : ℕ) → CompletesCommand files sink asked number → IsComplete files sink asked number
 complete one files sink asked number c = λ order e h quiet calm. either one files.told asked order number e h (c quiet calm)

@@ -16,7 +16,7 @@ use Rattle.run_tool.specs.declared.fetched.Fetched.TheVariants.{Text, Absent, Lo
 use Rattle.sts_base.specs.Faults.{Rose}
 use Rattle.sts_words.specs.Orders.{Asked, check_program, build_program, run_program, run_image, run_at, run_class, run_big}
 use Rattle.run_tool.specs.Fetches.{ToldFiles, unfailing, MayFetch}
-use Rattle.run_tool.specs.Answers.{Answer, says, status_of, status_number, OfSink, OfDevices, Ends, Concludes, ending_number}
+use Rattle.run_tool.specs.Answers.{Answer, says, status_of, status_number, OfSink, OfDevices, CommandEnds, Concludes, ending_number}
 use Rattle.run_tool.specs.Files.{AnswersFetched, AnswersFile}
 use Rattle.run_tool.specs.Scripts.{AnswersScript, OverScript, default_script}
 use Rattle.run_tool.specs.Runs.{run_status, RunsBoard}
@@ -26,7 +26,7 @@ use Rattle.run_tool.specs.Programs.{OverProgram}
 use Rattle.run_tool.specs.Check.{SaysAccepted, ChecksText}
 use Rattle.run_tool.specs.Build.{WritesImage, BuildsText}
 use Rattle.run_tool.specs.Run.{RunsProgram, RunsText}
-use Rattle.run_tool.specs.Orders.{MayAnswer, Completes, AsksForImage, AsksForProgram, IsOfProgram, NamesScript}
+use Rattle.run_tool.specs.Orders.{MayAnswer, CompletesCommand, AsksForImage, AsksForProgram, IsOfProgram, NamesScript}
 use Rattle.sts_whole.specs.Programs.{source_after}
 use Rattle.sts_whole.proofs.Laws.{faultless}
 use Rattle.run_tool.proofs.Readings.{IsOnward, quietly, file-onwards, file-more}
@@ -61,13 +61,13 @@ onwards files files' (Some (run_big size budget stats)) answer on h = program-on
 
 module _ {B : Type 0} (sink : OfSink) (devices : OfDevices B) (lead : List ℕ) where
   ends-complete : (files : ToldFiles) (asked : Option Asked) (ending : Ending) (number : ℕ)
-      → number ≡ ending_number ending → Ends sink devices lead (MayAnswer files asked) ending → (ending ≡ Cut → Rose sink.failed sink.fails) → Completes files sink asked number
+      → number ≡ ending_number ending → CommandEnds sink devices lead (MayAnswer files asked) ending → (ending ≡ Cut → Rose sink.failed sink.fails) → CompletesCommand files sink asked number
   ends-complete files asked (Gave given) number e s cut = λ quiet calm. inl (s.0, onwards files (unfailing files.told) asked s.0 (quietly files quiet) s.1, e ∙ ap status_number s.2)
   ends-complete files asked Cut number e s cut = λ quiet calm. absurd (calm (cut refl))
   ends-complete files asked NoMemory number e s cut = λ quiet calm. inr e
 
 pub completes : {B : Type 0} {sink : OfSink} {devices : OfDevices B} {lead : List ℕ} (files : ToldFiles) (asked : Option Asked) (ending : Ending) (number : ℕ) → number ≡ ending_number ending
-    → Concludes sink devices lead (MayAnswer files asked) ending → Completes files sink asked number
+    → Concludes sink devices lead (MayAnswer files asked) ending → CompletesCommand files sink asked number
 completes {B} {sink} {devices} {lead} files asked ending number e s = ends-complete sink devices lead files asked ending number e s.ends s.cut
 
 -- the answer that was given, where the status is known

@@ -26,10 +26,10 @@ use Rattle.run_tool.specs.declared.ending.Ending.TheVariants.{Gave, Cut, NoMemor
 use Rattle.run_tool.specs.declared.fetched.Fetched.{Fetched}
 use Rattle.run_tool.specs.declared.fetched.Fetched.TheVariants.{Text, Absent, Long, Failed}
 use Rattle.run_tool.specs.Fetches.{ToldFiles, MayFetch}
-use Rattle.run_tool.specs.Answers.{Answer, says, runs, status_of, output_of, OfSink, of_sink, OfDevices, of_devices, IsCut, Ends, Concludes, Led}
-use Rattle.run_tool.specs.inner.Giving.{Says, GivesOneOf}
+use Rattle.run_tool.specs.Answers.{Answer, says, runs, status_of, output_of, OfSink, of_sink, OfDevices, of_devices, IsAnswerCut, CommandEnds, Concludes, Led}
+use Rattle.run_tool.specs.inner.Giving.{SaysAnswer, GivesOneOf}
 use Rattle.run_tool.specs.declared.ending.Status.TheVariants.{Refused}
-use Rattle.run_tool.specs.Refusals.{Refuses, refused_line}
+use Rattle.run_tool.specs.Refusals.{AnswersRefusal, refused_line}
 use Rattle.run_tool.specs.Programs.{OverProgram}
 use Rattle.run_tool.specs.inner.Nothing.{none_to_programs, none_to_read}
 use Rattle.run_tool.specs.inner.Finishing.{ending_by}
@@ -46,7 +46,7 @@ use Rattle.board_ports.specs.Account.{Account}
 
 -- an ending where more answers may be given
 pub says-more : (may more : Answer → Type 0) (a b : Option (List ℕ)) (ending : Ending) → ((answer : Answer) → may answer → more answer)
-    → Says may a b ending → Says more a b ending
+    → SaysAnswer may a b ending → SaysAnswer more a b ending
 says-more may more a b (Gave status) f s = (s.0, f (says status s.0) s.1, s.2)
 says-more may more a b Cut f s = (s.0, s.1, f (says s.0 s.1) s.2, s.3)
 says-more may more a b NoMemory f s = s
@@ -58,7 +58,7 @@ gives-more {S} {taken} {faults} {old} {new} may more ending f s =
     record { ends = says-more may more (taken old) (taken new) ending f s.ends; later = s.later; cut = s.cut }
 
 -- the same behind puts that took nothing
-pub says-after : (may : Answer → Type 0) (a b c : Option (List ℕ)) (ending : Ending) → Took a b [] → Says may b c ending → Says may a c ending
+pub says-after : (may : Answer → Type 0) (a b c : Option (List ℕ)) (ending : Ending) → Took a b [] → SaysAnswer may b c ending → SaysAnswer may a c ending
 says-after may a b c (Gave status) t s = (s.0, s.1, took-then [] s.0 t s.2)
 says-after may a b c Cut t s = (s.0, s.1, s.2, part-then [] s.1 t s.3)
 says-after may a b c NoMemory t s = took-then [] [] t s
@@ -96,7 +96,7 @@ no-text-gives answers files name ending s =
 
 -- the same over devices
 module _ {B : Type 0} (sink : OfSink) (devices : OfDevices B) (lead : List ℕ) where
-  ends-more : (may more : Answer → Type 0) (ending : Ending) → ((answer : Answer) → may answer → more answer) → Ends sink devices lead may ending → Ends sink devices lead more ending
+  ends-more : (may more : Answer → Type 0) (ending : Ending) → ((answer : Answer) → may answer → more answer) → CommandEnds sink devices lead may ending → CommandEnds sink devices lead more ending
   ends-more may more (Gave status) f s = (s.0, f s.0 s.1, s.2, s.3, s.4)
   ends-more may more Cut f s = (s.0, f s.0 s.1, s.2)
   ends-more may more NoMemory f s = s
@@ -107,7 +107,7 @@ concludes-more {B} {sink} {devices} {lead} may more ending f s = record { ends =
 
 -- over a sink that took nothing before, in the first part of a call
 module _ {S B : Type 0} (devices : OfDevices B) (lead : List ℕ) (taken : S → Option (List ℕ)) (faults : S → ℕ) (old between new : S) where
-  cut-after : (answer : Answer) → Took (taken old) (taken between) [] → IsCut (of_sink taken faults between new) devices lead answer → IsCut (of_sink taken faults old new) devices lead answer
+  cut-after : (answer : Answer) → Took (taken old) (taken between) [] → IsAnswerCut (of_sink taken faults between new) devices lead answer → IsAnswerCut (of_sink taken faults old new) devices lead answer
   cut-after (says status output) t x = (part-then [] (lead ++ output) t x.0, x.1)
   cut-after (runs status moves behind) t (inl x) = inl (part-then [] lead t x.0, x.1)
   cut-after (runs status moves behind) t (inr x) = inr (record {
@@ -119,7 +119,7 @@ module _ {S B : Type 0} (devices : OfDevices B) (lead : List ℕ) (taken : S →
     devices = x.devices;
   })
 
-  ends-after : (may : Answer → Type 0) (ending : Ending) → Took (taken old) (taken between) [] → Ends (of_sink taken faults between new) devices lead may ending → Ends (of_sink taken faults old new) devices lead may ending
+  ends-after : (may : Answer → Type 0) (ending : Ending) → Took (taken old) (taken between) [] → CommandEnds (of_sink taken faults between new) devices lead may ending → CommandEnds (of_sink taken faults old new) devices lead may ending
   ends-after may (Gave status) t s = (s.0, s.1, s.2, took-then [] (lead ++ output_of s.0) t s.3, s.4)
   ends-after may Cut t s = (s.0, s.1, cut-after s.0 t s.2)
   ends-after may NoMemory t (inl x, p) = (inl (took-then [] [] t x), p)
@@ -134,7 +134,7 @@ concludes-after {S} {B} {devices} {lead} taken faults old between new may ending
 }
 
 module _ {B : Type 0} (account : B → Account) (places places' : List (Option B)) (same : places' ≡ places) where
-  ends-said : (may : Answer → Type 0) (sink : OfSink) (ending : Ending) → Says may sink.had sink.has ending → Ends sink (of_devices account places places') [] may ending
+  ends-said : (may : Answer → Type 0) (sink : OfSink) (ending : Ending) → SaysAnswer may sink.had sink.has ending → CommandEnds sink (of_devices account places places') [] may ending
   ends-said may sink (Gave status) s = (says status s.0, s.1, refl, s.2, same)
   ends-said may sink Cut s = (says s.0 s.1, s.2, (s.3, same))
   ends-said may sink NoMemory s = (inl s, same)
@@ -144,7 +144,7 @@ module _ {B : Type 0} (account : B → Account) (places places' : List (Option B
       → Concludes (of_sink taken faults old new) (of_devices account places places') [] may ending
   says-concludes {S} {taken} {faults} {old} {new} may ending s = record { ends = ends-said may (of_sink taken faults old new) ending s.ends; later = s.later; cut = s.cut }
 
-  ends-led : (lead : List ℕ) (may : Answer → Type 0) (sink : OfSink) (ending : Ending) → Says (Led lead may) sink.had sink.has ending → Ends sink (of_devices account places places') lead may ending
+  ends-led : (lead : List ℕ) (may : Answer → Type 0) (sink : OfSink) (ending : Ending) → SaysAnswer (Led lead may) sink.had sink.has ending → CommandEnds sink (of_devices account places places') lead may ending
   ends-led lead may sink (Gave given) s = (let l = s.1 in (says l.0 l.1, l.2, ap status_of l.3, subst (λ x. Took sink.had sink.has x) (ap output_of l.3) s.2, same))
   ends-led lead may sink Cut s = (let l = s.2 in (says l.0 l.1, l.2, (subst (λ x. TookPart sink.had sink.has x) (ap output_of l.3) s.3, same)))
   ends-led lead may sink NoMemory s = (inl s, same)
@@ -154,7 +154,7 @@ module _ {B : Type 0} (account : B → Account) (places places' : List (Option B
       → GivesOneOf taken faults old new (Led lead may) ending → Concludes (of_sink taken faults old new) (of_devices account places places') lead may ending
   led-concludes {S} {taken} {faults} {old} {new} lead may ending s = record { ends = ends-led lead may (of_sink taken faults old new) ending s.ends; later = s.later; cut = s.cut }
 
-  cut-in-lead : (lead : List ℕ) (answer : Answer) (sink : OfSink) → TookPart sink.had sink.has lead → IsCut sink (of_devices account places places') lead answer
+  cut-in-lead : (lead : List ℕ) (answer : Answer) (sink : OfSink) → TookPart sink.had sink.has lead → IsAnswerCut sink (of_devices account places places') lead answer
   cut-in-lead lead (says status output) sink t = (part-more lead output t, same)
   cut-in-lead lead (runs status moves behind) sink t = inl (t, same)
 
@@ -165,7 +165,7 @@ module _ {B : Type 0} (account : B → Account) (places places' : List (Option B
 
 -- a run behind the line that the command begins with
 module _ {S B : Type 0} (devices : OfDevices B) (taken : S → Option (List ℕ)) (faults : S → ℕ) (old between new : S) (lead : List ℕ) where
-  cut-behind : (answer : Answer) → Took (taken old) (taken between) lead → IsCut (of_sink taken faults between new) devices [] answer → IsCut (of_sink taken faults old new) devices lead answer
+  cut-behind : (answer : Answer) → Took (taken old) (taken between) lead → IsAnswerCut (of_sink taken faults between new) devices [] answer → IsAnswerCut (of_sink taken faults old new) devices lead answer
   cut-behind (says status output) t x = (part-then lead output t x.0, x.1)
   cut-behind (runs status moves behind) t (inl x) = inl (subst (λ l. TookPart (taken old) (taken new) l) (append-nil lead) (part-then lead [] t x.0), x.1)
   cut-behind (runs status moves behind) t (inr x) = inr (record {
@@ -182,7 +182,7 @@ module _ {S B : Type 0} (devices : OfDevices B) (taken : S → Option (List ℕ)
     devices = x.devices;
   })
 
-  ends-behind : (may : Answer → Type 0) (ending : Ending) → Took (taken old) (taken between) lead → Ends (of_sink taken faults between new) devices [] may ending → Ends (of_sink taken faults old new) devices lead may ending
+  ends-behind : (may : Answer → Type 0) (ending : Ending) → Took (taken old) (taken between) lead → CommandEnds (of_sink taken faults between new) devices [] may ending → CommandEnds (of_sink taken faults old new) devices lead may ending
   ends-behind may (Gave status) t s = (s.0, s.1, s.2, took-then lead (output_of s.0) t s.3, s.4)
   ends-behind may Cut t s = (s.0, s.1, cut-behind s.0 t s.2)
   ends-behind may NoMemory t (inl x, p) = (inr (subst (λ l. Took (taken old) (taken new) l) (append-nil lead) (took-then lead [] t x)), p)
@@ -259,16 +259,16 @@ puts-give status output (Err x) p = record { ends = (status, output, refl, p.par
 
 -- puts of the line of a refusal, behind the line that the command begins with
 pub refused-led : {S : Type 0} {taken : S → Option (List ℕ)} {faults : S → ℕ} {old new : S} (lead text : List ℕ) (code : Code) (at line column : ℕ) (put : Result (Unit {0}) PutFailed) → IsPlace text at line column
-    → Puts (taken old) (taken new) (faults old) (faults new) (lead ++ refused_line (number_of code) line column) put → GivesOneOf taken faults old new (Led lead (Refuses text code at)) (ending_by Refused put)
+    → Puts (taken old) (taken new) (faults old) (faults new) (lead ++ refused_line (number_of code) line column) put → GivesOneOf taken faults old new (Led lead (AnswersRefusal text code at)) (ending_by Refused put)
 refused-led lead text code at line column put here p =
-    gives-more (λ answer. answer ≡ says Refused (lead ++ refused_line (number_of code) line column)) (Led lead (Refuses text code at)) (ending_by Refused put)
+    gives-more (λ answer. answer ≡ says Refused (lead ++ refused_line (number_of code) line column)) (Led lead (AnswersRefusal text code at)) (ending_by Refused put)
     (λ answer e. (Refused, refused_line (number_of code) line column, (line, column, here, refl), e)) (puts-give Refused (lead ++ refused_line (number_of code) line column) put p)
 
 -- the same without such a line
 pub refused-given : {S : Type 0} {taken : S → Option (List ℕ)} {faults : S → ℕ} {old new : S} (text : List ℕ) (code : Code) (at line column : ℕ) (put : Result (Unit {0}) PutFailed) → IsPlace text at line column
-    → Puts (taken old) (taken new) (faults old) (faults new) (refused_line (number_of code) line column) put → GivesOneOf taken faults old new (Refuses text code at) (ending_by Refused put)
+    → Puts (taken old) (taken new) (faults old) (faults new) (refused_line (number_of code) line column) put → GivesOneOf taken faults old new (AnswersRefusal text code at) (ending_by Refused put)
 refused-given text code at line column put here p =
-    gives-more (λ answer. answer ≡ says Refused (refused_line (number_of code) line column)) (Refuses text code at) (ending_by Refused put)
+    gives-more (λ answer. answer ≡ says Refused (refused_line (number_of code) line column)) (AnswersRefusal text code at) (ending_by Refused put)
     (λ answer e. (line, column, here, e)) (puts-give Refused (refused_line (number_of code) line column) put p)
 
 -- where no program was accepted, the answer is one of each command

@@ -36,7 +36,7 @@ use Rattle.run_tool.specs.declared.ending.Ending.{Ending}
 use Rattle.run_tool.specs.declared.ending.Ending.TheVariants.{Gave, Cut, NoMemory}
 use Rattle.run_tool.specs.declared.fetched.Fetched.{Fetched}
 use Rattle.run_tool.specs.declared.fetched.Fetched.TheVariants.{Text, Absent, Long, Failed}
-use Rattle.run_tool.specs.Answers.{Answer, status_of, output_of, status_number, ending_number, OfSink, OfDevices, Leaves, Ends, Concludes}
+use Rattle.run_tool.specs.Answers.{Answer, status_of, output_of, status_number, ending_number, OfSink, OfDevices, Leaves, CommandEnds, Concludes}
 use Rattle.run_tool.specs.Fetches.{ToldFiles, MayFetch, limit}
 use Rattle.run_tool.specs.Files.{AnswersFetched, AnswersFile}
 use Rattle.run_tool.specs.Programs.{OverProgram}
@@ -215,7 +215,7 @@ module _ {B : Type 0} (sink : OfSink) (devices : OfDevices B) (t : AskedRun) (nu
   unmade n (inl took) same = ([], took.told had e, inl (n, inl refl, same))
   unmade n (inr took) same = (t.lead, took.told had e, inl (n, inr refl, same))
 
-  ended : (may : Answer → Type 0) (ending : Ending) → number ≡ ending_number ending → Ends sink devices t.lead may ending → (ending ≡ Cut → Rose sink.failed sink.fails) → ¬ Rose sink.failed sink.fails
+  ended : (may : Answer → Type 0) (ending : Ending) → number ≡ ending_number ending → CommandEnds sink devices t.lead may ending → (ending ≡ Cut → Rose sink.failed sink.fails) → ¬ Rose sink.failed sink.fails
       → ((answer : Answer) → may answer → RunsAsked t answer) → Left
   ended may (Gave status) n s cut calm runs = given s.0 status n s.2 s.3 s.4 (runs s.0 s.1)
   ended may Cut n s cut calm runs = absurd (calm (cut refl))
@@ -226,4 +226,4 @@ pub headline : {B : Type 0} {sink : OfSink} {devices : OfDevices B} (files : Tol
     → Concludes sink devices (lead_of asked) (MayAnswer files asked) ending → Headline files sink devices asked number
 headline {B} {sink} {devices} files asked number one ending n s = λ t ask quiet calm had e. (
     let answer = asked-answer one files quiet asked t ask in
-    ended sink devices t number had e (MayAnswer files asked) ending n (subst (λ lead. Ends sink devices lead (MayAnswer files asked) ending) (sym answer.0) s.ends) s.cut calm answer.1)
+    ended sink devices t number had e (MayAnswer files asked) ending n (subst (λ lead. CommandEnds sink devices lead (MayAnswer files asked) ending) (sym answer.0) s.ends) s.cut calm answer.1)

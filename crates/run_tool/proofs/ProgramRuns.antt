@@ -30,7 +30,7 @@ use Rattle.run_tool.specs.declared.ending.Ending.{Ending}
 use Rattle.run_tool.specs.declared.ending.Ending.TheVariants.{Gave, Cut}
 use Rattle.run_tool.specs.Answers.{Answer, runs, Concludes, of_devices, of_sink}
 use Rattle.run_tool.specs.Runs.{run_status}
-use Rattle.run_tool.specs.inner.Finishing.{ending_of, counted_behind, ending_by, Finishes}
+use Rattle.run_tool.specs.inner.Finishing.{ending_of, counted_behind, ending_by, FinishesRun}
 use Rattle.run_tool.specs.Run.{RunsProgram}
 use Rattle.run_tool.specs.Statistics.{asked_behind, instructions_line}
 use Rattle.board_ports.specs.Account.{Account}
@@ -154,7 +154,7 @@ module _ (P : TypedProgram) (texts : List ByteList) (image : List ℕ) (is_image
 
     gave : (end : Option RunEnd) (s : Stats) (hex : List ℕ) (ending : Ending) → (with_image ≡ true → hex ≡ hextext image)
         → RunsTo account image script budget (outside_of taken faults old places) (outside_of taken faults between places') end s → faults old ≤ faults between
-        → Finishes (taken between) (taken new) (faults between) (faults new) (Gave (run_status end)) (counted_behind stats with_image s hex) ending → Concluded ending
+        → FinishesRun (taken between) (taken new) (faults between) (faults new) (Gave (run_status end)) (counted_behind stats with_image s hex) ending → Concluded ending
     gave end s hex ending text r later f =
         let b : Board = (world_after image script r.free r.executed).board in
         subst Concluded (sym f.2)
@@ -163,7 +163,7 @@ module _ (P : TypedProgram) (texts : List ByteList) (image : List ℕ) (is_image
 
     -- the sink stopped the run
     cut-run : (behind : List ℕ) (ending : Ending) → IsRunCut account (world_after image script) budget (outside_of taken faults old places) (outside_of taken faults between places') × Rose (faults old) (faults between) → faults old ≤ faults between
-        → Finishes (taken between) (taken new) (faults between) (faults new) Cut behind ending → Concluded ending
+        → FinishesRun (taken between) (taken new) (faults between) (faults new) Cut behind ending → Concluded ending
     cut-run behind ending r later f =
         let c = r.0 in
         let b : Board = (world_after image script c.free c.executed).board in
@@ -192,7 +192,7 @@ module _ (P : TypedProgram) (texts : List ByteList) (image : List ℕ) (is_image
     -- what a call that ran the image answered, with what is asked for behind it
     pub finished : (end : End) (s : Stats) (hex : List ℕ) (ending : Ending) → (with_image ≡ true → hex ≡ hextext image)
         → RunsImage account image script budget (outside_of taken faults old places) (outside_of taken faults between places') end s → faults old ≤ faults between
-        → Finishes (taken between) (taken new) (faults between) (faults new) (ending_of end) (counted_behind stats with_image s hex) ending → Concluded ending
+        → FinishesRun (taken between) (taken new) (faults between) (faults new) (ending_of end) (counted_behind stats with_image s hex) ending → Concluded ending
     finished Quiet s hex ending text r later f = gave (Some Quietly) s hex ending text r later f
     finished Script s hex ending text r later f = gave (Some By_script) s hex ending text r later f
     finished (Panic code) s hex ending text r later f = gave (Some (Panicked code)) s hex ending text r later f

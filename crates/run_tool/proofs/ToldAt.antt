@@ -29,7 +29,7 @@ use Rattle.run_tool.specs.declared.fetched.Fetched.TheVariants.{Text, Absent, Lo
 use Rattle.run_tool.specs.declared.ending.Ending.{Ending}
 use Rattle.run_tool.specs.declared.ending.Ending.TheVariants.{Gave, Cut, NoMemory}
 use Rattle.run_tool.specs.Fetches.{ToldFiles, unfailing, limit, MayFetch}
-use Rattle.run_tool.specs.Answers.{Answer, status_of, status_number, output_of, OfSink, OfDevices, Leaves, Ends, Concludes, ending_number}
+use Rattle.run_tool.specs.Answers.{Answer, status_of, status_number, output_of, OfSink, OfDevices, Leaves, CommandEnds, Concludes, ending_number}
 use Rattle.run_tool.specs.Files.{AnswersFetched, AnswersFile}
 use Rattle.run_tool.specs.Runs.{run_status}
 use Rattle.run_tool.specs.Scripts.{AnswersScript, RefusesScript}
@@ -139,7 +139,7 @@ module _ (one : OneAnswer) (told : List ℕ → Option (Option (List ℕ))) (nam
         }
 
     by-ending : (rose : Type 0) (ending : Ending) (number : ℕ) → number ≡ ending_number ending
-        → Ends sink devices [] (MayAnswer (record { told = told; rose = rose }) (Some (run_at name script_name arrivals_name budget))) ending
+        → CommandEnds sink devices [] (MayAnswer (record { told = told; rose = rose }) (Some (run_at name script_name arrivals_name budget))) ending
         → (ending ≡ Cut → Rose sink.failed sink.fails) → ¬ rose → ¬ Rose sink.failed sink.fails
         → ((number ≡ 30) × Took sink.had sink.has [] × (devices.behind ≡ devices.before)) ⊎ WritesAt sink devices P tables.texts read come budget number
     by-ending rose (Gave given) number e s cut quiet calm =
@@ -153,4 +153,4 @@ pub headline-at : (one : OneAnswer) {B : Type 0} {sink : OfSink} {devices : OfDe
     → Concludes sink devices (lead_of asked) (MayAnswer files asked) ending → HeadlineAt files sink devices asked number
 headline-at one {B} {sink} {devices} files asked ending number e s = λ name script_name arrivals_name budget tables P read come is n quiet calm.
     by-ending one files.told name script_name arrivals_name budget tables P read come n sink devices files.rose ending number e
-    (subst (λ o. Ends sink devices (lead_of o) (MayAnswer files o) ending) is s.ends) s.cut quiet calm
+    (subst (λ o. CommandEnds sink devices (lead_of o) (MayAnswer files o) ending) is s.ends) s.cut quiet calm

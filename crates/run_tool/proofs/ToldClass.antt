@@ -19,7 +19,7 @@ use Rattle.sts_whole.specs.Laws.{OneAnswer}
 use Rattle.sts_words.specs.Orders.{Asked, run_class}
 use Rattle.run_tool.specs.declared.ending.Ending.{Ending}
 use Rattle.run_tool.specs.declared.ending.Ending.TheVariants.{Gave, Cut, NoMemory}
-use Rattle.run_tool.specs.Answers.{Answer, status_of, status_number, output_of, OfSink, OfDevices, Leaves, Ends, Concludes, ending_number}
+use Rattle.run_tool.specs.Answers.{Answer, status_of, status_number, output_of, OfSink, OfDevices, Leaves, CommandEnds, Concludes, ending_number}
 use Rattle.run_tool.specs.Fetches.{ToldFiles, unfailing}
 use Rattle.run_tool.specs.ClassFiles.{RefusesClass}
 use Rattle.run_tool.specs.ClassBoards.{BoardSource, OverBoardProgram, Unfit, no_script, other_end, IsUnfit, AnswersBoardScript, OverBoardScript, OverBoard, OverBoards}
@@ -104,7 +104,7 @@ module _ (one : OneAnswer) (told : List ℕ → Option (Option (List ℕ))) (nam
       inr (r.text, subst (λ a. Took sink.had sink.has (output_of a)) r.is took, inr (record { has = r.has; status = e ∙ ap (λ a. status_number (status_of a)) r.is })),
     )
 
-    by-ending : (rose : Type 0) (ending : Ending) (number : ℕ) → number ≡ ending_number ending → Ends sink devices [] (MayAnswer (record { told = told; rose = rose }) (Some (run_class name budget))) ending
+    by-ending : (rose : Type 0) (ending : Ending) (number : ℕ) → number ≡ ending_number ending → CommandEnds sink devices [] (MayAnswer (record { told = told; rose = rose }) (Some (run_class name budget))) ending
         → (ending ≡ Cut → Rose sink.failed sink.fails) → ¬ rose → ¬ Rose sink.failed sink.fails → Comes number
     by-ending rose (Gave given) number e s cut quiet calm =
         writes s.0 number (class-due s.0 (onwards (record { told = told; rose = rose }) (unfailing told) (Some (run_class name budget)) s.0 (λ file. refl, quiet) s.1)) s.3 s.4 (e ∙ ap status_number s.2)
@@ -116,4 +116,4 @@ module _ (one : OneAnswer) (told : List ℕ → Option (Option (List ℕ))) (nam
 pub headline-class : (one : OneAnswer) {B : Type 0} {sink : OfSink} {devices : OfDevices B} (files : ToldFiles) (asked : Option Asked) (ending : Ending) (number : ℕ) → number ≡ ending_number ending
     → Concludes sink devices (lead_of asked) (MayAnswer files asked) ending → HeadlineClass files sink devices asked number
 headline-class one {B} {sink} {devices} files asked ending number e s = λ name budget file boards is n quiet calm.
-    by-ending one files.told name budget file boards n sink devices files.rose ending number e (subst (λ o. Ends sink devices (lead_of o) (MayAnswer files o) ending) is s.ends) s.cut quiet calm
+    by-ending one files.told name budget file boards n sink devices files.rose ending number e (subst (λ o. CommandEnds sink devices (lead_of o) (MayAnswer files o) ending) is s.ends) s.cut quiet calm

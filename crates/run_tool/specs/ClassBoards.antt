@@ -14,7 +14,7 @@ use Rattle.run_tool.specs.Answers.{Answer, says, Led}
 use Rattle.run_tool.specs.Fetches.{ToldFiles}
 use Rattle.run_tool.specs.Files.{AnswersFile, AnswersRead, Reading}
 use Rattle.run_tool.specs.Programs.{programs}
-use Rattle.run_tool.specs.Refusals.{Refuses}
+use Rattle.run_tool.specs.Refusals.{AnswersRefusal}
 use Rattle.run_tool.specs.Scripts.{RefusesScript, script_refused_line}
 use Rattle.run_tool.specs.ClassFiles.{refuses_class}
 
@@ -30,7 +30,7 @@ board_lead b = count_text b ++ codes " "
 
 -- the answers to the text of board b's program: those to the program as which it is accepted, or its first failure behind the board's number
 abbrev pub OverBoardProgram : (b : ℕ) → (Tables → TypedProgram → Answer → Type 0) → List ℕ → Answer → Type 0
-OverBoardProgram b answers = AnswersRead programs (λ text cause. Led (board_lead b) (Refuses text cause.0 cause.1)) (λ read. answers read.0 read.1)
+OverBoardProgram b answers = AnswersRead programs (λ text cause. Led (board_lead b) (AnswersRefusal text cause.0 cause.1)) (λ read. answers read.0 read.1)
 
 -- why the text of a script doesn't serve a class: it stands for none, by this code; or for this one, which has another end than the class
 pub data Unfit : Type 0 where

@@ -35,8 +35,8 @@ abbrev pub IsStatusOf : (Answer → Type 0) → ℕ → Type 0
 IsStatusOf may number = (answer : Answer) × may answer × (number ≡ status_number (status_of answer))
 
 -- Where no count of faults rises the status is that of an answer that is due where nothing fails, but for want of memory.
-abbrev pub Completes : ToldFiles → OfSink → Option Asked → ℕ → Type 0
-Completes files sink asked number = ¬ files.rose → ¬ Rose sink.failed sink.fails → IsStatusOf (MayAnswer (unfailing files.told) asked) number ⊎ (number ≡ 30)
+abbrev pub CompletesCommand : ToldFiles → OfSink → Option Asked → ℕ → Type 0
+CompletesCommand files sink asked number = ¬ files.rose → ¬ Rose sink.failed sink.fails → IsStatusOf (MayAnswer (unfailing files.told) asked) number ⊎ (number ≡ 30)
 
 -- the words ask to check, build or run a program, or the one of `big`, or those of a class
 abbrev pub IsOfProgram : Asked → Type 0

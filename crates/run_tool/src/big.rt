@@ -12,12 +12,12 @@ ghost use Rattle.run_tool.specs.inner.Giving.{GivesOneOf};
 ghost use Rattle.run_tool.specs.Big as spec;
 ghost use Rattle.run_tool.specs.Programs.{OverProgram};
 ghost use Rattle.run_tool.specs.inner.Nothing.{none_to_programs};
-ghost use Rattle.run_tool.specs.Refusals.{Refuses};
+ghost use Rattle.run_tool.specs.Refusals.{AnswersRefusal};
 ghost use Rattle.run_tool.specs.Run.{RunsProgram};
 ghost use Rattle.run_tool.specs.Scripts.{default_script};
 
 use crate::ending::{Ending, Status};
-use crate::run::{Manner, run_program};
+use crate::run::{RunOptions, run_program};
 use crate::said::then_put_refused;
 use crate::script::default_script;
 use board_ports::Device;
@@ -58,7 +58,7 @@ fn put_call(out: &mut Vec<u8>, number: u32) -> Result<(), AllocError>
 
 /// Adds the functions of the numbers from 1 to `size`.
 fn put_functions(out: &mut Vec<u8>, size: u32) -> Result<(), AllocError>
-    ensures { OnOk result (out.new.items ≡ out.old.items ++ spec.lines_upto spec.function_line size) }
+    ensures { OnOk result (out.new.items ≡ out.old.items ++ spec.lines_of_numbers spec.function_line size) }
 {
     for before in 0..size {
         put_function(out, before + 1)?;
@@ -68,7 +68,7 @@ fn put_functions(out: &mut Vec<u8>, size: u32) -> Result<(), AllocError>
 
 /// Adds a call of each of these functions.
 fn put_calls(out: &mut Vec<u8>, size: u32) -> Result<(), AllocError>
-    ensures { OnOk result (out.new.items ≡ out.old.items ++ spec.lines_upto spec.call_line size) }
+    ensures { OnOk result (out.new.items ≡ out.old.items ++ spec.lines_of_numbers spec.call_line size) }
 {
     for before in 0..size {
         put_call(out, before + 1)?;
@@ -117,7 +117,7 @@ fn put_big_line<K: Sink>(out: &mut K, size: u32) -> Result<(), PutFailed>
 fn refuse_big<K: Sink>(out: &mut K, size: u32, text: &[u8], code: Code, at: u32) -> Ending
     requires within { at ≤ length text.now }
     requires fits { at < 4294967295 }
-    ensures { GivesOneOf K.taken K.faults out.old out.new (Led (spec.big_line size) (Refuses text.now code at)) result }
+    ensures { GivesOneOf K.taken K.faults out.old out.new (Led (spec.big_line size) (AnswersRefusal text.now code at)) result }
 {
     let (line, column) = place(text, at);
     let put = put_big_line(out, size);
@@ -144,17 +144,17 @@ fn run_big<K: Sink, D: Device>(
     alloc: Global,
     size: u32,
     image: Vec<u8>,
-    manner: Manner,
+    options: RunOptions,
     out: &mut K,
     places: &mut Vec<Option<D>>,
 ) -> Ending
     requires size { vec_len image ≤ flash_end }
-    requires budget { IsBudget manner.budget }
+    requires budget { IsBudget options.budget }
     ensures { (P : TypedProgram) (texts : List ByteList) → ImageImplements P texts image.items
-        → Concludes (of_sink K.taken K.faults out.old out.new) (of_devices D.account places.old.items places.new.items) (spec.big_line size) (RunsProgram P texts default_script manner.budget manner.stats manner.image) result }
+        → Concludes (of_sink K.taken K.faults out.old out.new) (of_devices D.account places.old.items places.new.items) (spec.big_line size) (RunsProgram P texts default_script options.budget options.stats options.image) result }
 {
     match put_big_line(out, size) {
-        Ok(()) => run_program(alloc, image, default_script(alloc), manner, out, places),
+        Ok(()) => run_program(alloc, image, default_script(alloc), options, out, places),
         Err(PutFailed) => Ending::Cut,
     }
 }
@@ -164,16 +164,16 @@ fn big_of<K: Sink, D: Device>(
     alloc: Global,
     size: u32,
     text: &[u8],
-    manner: Manner,
+    options: RunOptions,
     out: &mut K,
     places: &mut Vec<Option<D>>,
 ) -> Ending
-    requires budget { IsBudget manner.budget }
+    requires budget { IsBudget options.budget }
     ensures { Concludes (of_sink K.taken K.faults out.old out.new) (of_devices D.account places.old.items places.new.items) (spec.big_line size)
-        (OverProgram (λ P texts. RunsProgram P texts default_script manner.budget manner.stats manner.image) text.now) result }
+        (OverProgram (λ P texts. RunsProgram P texts default_script options.budget options.stats options.image) text.now) result }
 {
     match build(alloc, text) {
-        Ok(image) => run_big(alloc, size, image, manner, out, places),
+        Ok(image) => run_big(alloc, size, image, options, out, places),
         Err(why) => say_big_refused(out, size, text, why),
     }
 }
@@ -182,18 +182,18 @@ fn big_of<K: Sink, D: Device>(
 pub fn big<K: Sink, D: Device>(
     alloc: Global,
     size: u32,
-    manner: Manner,
+    options: RunOptions,
     out: &mut K,
     places: &mut Vec<Option<D>>,
 ) -> Ending
     requires least { 1 ≤ size }
     requires most { size ≤ 200 }
-    requires budget { IsBudget manner.budget }
+    requires budget { IsBudget options.budget }
     ensures { Concludes (of_sink K.taken K.faults out.old out.new) (of_devices D.account places.old.items places.new.items) (spec.big_line size)
-        (OverProgram (λ P texts. RunsProgram P texts default_script manner.budget manner.stats manner.image) (spec.big_text size)) result }
+        (OverProgram (λ P texts. RunsProgram P texts default_script options.budget options.stats options.image) (spec.big_text size)) result }
 {
     match big_text(alloc, size) {
-        Ok(text) => big_of(alloc, size, &text, manner, out, places),
+        Ok(text) => big_of(alloc, size, &text, options, out, places),
         Err(NoMemory) => Ending::NoMemory,
     }
 }

@@ -15,7 +15,7 @@ ghost use Rattle.run_tool.specs.Answers.{Led, says};
 ghost use Rattle.run_tool.specs.inner.Giving.{GivesOneOf};
 ghost use Rattle.run_tool.specs.Files.{AnswersFile};
 ghost use Rattle.run_tool.specs.inner.Nothing.{none_to_read, none_to_boards};
-ghost use Rattle.run_tool.specs.Refusals.{Refuses};
+ghost use Rattle.run_tool.specs.Refusals.{AnswersRefusal};
 ghost use Rattle.run_tool.specs.Scripts.{script_refused_line};
 ghost use Rattle.run_tool.specs.ClassFiles.{refuses_class};
 ghost use Rattle.run_tool.specs.ClassBoards.{OverBoardProgram, OverBoardScript, OverBoard, OverBoards, AnswersBoardScript, board_lead, board_scripts};
@@ -64,7 +64,7 @@ fn put_number<K: Sink>(out: &mut K, number: u32) -> Result<(), PutFailed>
 fn refuse_program<K: Sink>(out: &mut K, number: u32, text: &[u8], code: Code, at: u32) -> Ending
     requires within { at ≤ length text.now }
     requires fits { at < 4294967295 }
-    ensures { GivesOneOf K.taken K.faults out.old out.new (Led (board_lead number) (Refuses text.now code at)) result }
+    ensures { GivesOneOf K.taken K.faults out.old out.new (Led (board_lead number) (AnswersRefusal text.now code at)) result }
 {
     let (line, column) = place(text, at);
     let led = put_number(out, number);

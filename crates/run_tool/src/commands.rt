@@ -4,7 +4,7 @@ ghost use Rattle.sts_base.specs.Faults.{Rose};
 ghost use Rattle.run_tool.specs.declared.ending.Ending.{Ending};
 ghost use Rattle.sts_words.specs.Words.{order_of};
 ghost use Rattle.run_tool.specs.Answers.{Concludes, ending_number, of_devices, of_sink};
-ghost use Rattle.run_tool.specs.Orders.{Completes, AsksForImage, AsksForProgram, NamesScript, lead_of, MayAnswer};
+ghost use Rattle.run_tool.specs.Orders.{CompletesCommand, AsksForImage, AsksForProgram, NamesScript, lead_of, MayAnswer};
 ghost use Rattle.run_tool.specs.inner.Handed.{FoundNoMemory};
 ghost use Rattle.run_tool.specs.Headline.{Headline};
 ghost use Rattle.run_tool.specs.Completeness.{IsComplete};
@@ -19,7 +19,7 @@ use crate::build::build;
 use crate::check::check;
 use crate::class::class;
 use crate::ending::{Ending, Status};
-use crate::run::{Manner, run};
+use crate::run::{RunOptions, run};
 use crate::run_at::{Outside, run_at};
 use crate::run_hex::run_hex;
 use crate::said::say;
@@ -57,12 +57,12 @@ fn perform_order<F: Folder, K: Sink, D: Device>(
             stats,
             image,
         } => {
-            let manner = Manner {
+            let options = RunOptions {
                 budget,
                 stats,
                 image,
             };
-            run(alloc, program, script, manner, folder, out, places)
+            run(alloc, program, script, options, folder, out, places)
         }
         Order::RunHex {
             image,
@@ -88,12 +88,12 @@ fn perform_order<F: Folder, K: Sink, D: Device>(
             budget,
             stats,
         } => {
-            let manner = Manner {
+            let options = RunOptions {
                 budget,
                 stats,
                 image: false,
             };
-            big(alloc, size, manner, out, places)
+            big(alloc, size, options, out, places)
         }
     }
 }
@@ -176,7 +176,7 @@ pub fn sts_main<F: Folder, K: Sink>(
     ensures ends { (ending : Ending) × (result ≡ ending_number ending)
         × Concludes (of_sink K.taken K.faults out.old out.new) (of_devices ⟦<Box<dyn Device> as Device>⟧.account plugs.old.items plugs.new.items)
         (lead_of (order_of (map string_bytes words.now))) (MayAnswer (told_by F.holds F.faults folder.old folder.new) (order_of (map string_bytes words.now))) ending }
-    ensures completes { Completes (told_by F.holds F.faults folder.old folder.new) (of_sink K.taken K.faults out.old out.new) (order_of (map string_bytes words.now)) result }
+    ensures completes { CompletesCommand (told_by F.holds F.faults folder.old folder.new) (of_sink K.taken K.faults out.old out.new) (order_of (map string_bytes words.now)) result }
     ensures complete { IsComplete (told_by F.holds F.faults folder.old folder.new) (of_sink K.taken K.faults out.old out.new) (order_of (map string_bytes words.now)) result }
     ensures headline_at { HeadlineAt (told_by F.holds F.faults folder.old folder.new) (of_sink K.taken K.faults out.old out.new)
         (of_devices ⟦<Box<dyn Device> as Device>⟧.account plugs.old.items plugs.new.items) (order_of (map string_bytes words.now)) result }

@@ -16,7 +16,7 @@ ghost use Rattle.sts_words.specs.Views.{spoken};
 ghost use Rattle.run_tool.specs.Answers.{Concludes, of_devices, of_sink};
 ghost use Rattle.run_tool.specs.inner.Handed.{FoundNoMemory};
 ghost use Rattle.run_tool.specs.Scripts.{OverScript};
-ghost use Rattle.run_tool.specs.inner.Finishing.{ending_of, Finishes, counted_behind};
+ghost use Rattle.run_tool.specs.inner.Finishing.{ending_of, FinishesRun, counted_behind};
 ghost use Rattle.run_tool.specs.Run.{RunsProgram, RunsText};
 ghost use Rattle.run_tool.specs.Statistics.{instructions_line};
 ghost use Rattle.run_tool.specs.Wanted.{HasAsked, Onwards, OrLacks, WantsScript, wants_none, WantsFile};
@@ -42,7 +42,7 @@ use tool_io::{PutFailed, Sink, then_put};
 
 /// What a run is to be done with beside its program and its script.
 #[derive(Clone, Copy, Drop)]
-pub struct Manner {
+pub struct RunOptions {
     /// the most instructions
     pub budget: u32,
     /// whether the line of statistics is asked for
@@ -100,15 +100,15 @@ fn then_put_image<K: Sink>(
 /// Puts what stands behind a transcript: nothing, or the line of statistics, and behind it nothing, or the instructions executed and a HEX text.
 fn put_asked<K: Sink>(
     out: &mut K,
-    manner: Manner,
+    options: RunOptions,
     stats: &Stats,
     hex: &[u8],
 ) -> Result<(), PutFailed>
-    ensures { PutsTo K.taken K.faults out.old out.new (counted_behind manner.stats manner.image stats.now hex.now) result }
+    ensures { PutsTo K.taken K.faults out.old out.new (counted_behind options.stats options.image stats.now hex.now) result }
 {
-    if manner.stats {
+    if options.stats {
         let put = put_stats(out, stats);
-        if manner.image {
+        if options.image {
             then_put_image(put, out, stats.instructions, hex)
         } else {
             put
@@ -119,11 +119,11 @@ fn put_asked<K: Sink>(
 }
 
 /// How a call ends whose run ended so; what is asked for is put behind a run that the sink didn't stop.
-fn finish<K: Sink>(out: &mut K, end: End, manner: Manner, stats: &Stats, hex: &[u8]) -> Ending
-    ensures { Finishes (K.taken out.old) (K.taken out.new) (K.faults out.old) (K.faults out.new) (ending_of end) (counted_behind manner.stats manner.image stats.now hex.now) result }
+fn finish<K: Sink>(out: &mut K, end: End, options: RunOptions, stats: &Stats, hex: &[u8]) -> Ending
+    ensures { FinishesRun (K.taken out.old) (K.taken out.new) (K.faults out.old) (K.faults out.new) (ending_of end) (counted_behind options.stats options.image stats.now hex.now) result }
 {
     match ending_of(end) {
-        Ending::Gave(status) => match put_asked(out, manner, stats, hex) {
+        Ending::Gave(status) => match put_asked(out, options, stats, hex) {
             Ok(()) => Ending::Gave(status),
             Err(PutFailed) => Ending::Cut,
         },
@@ -138,29 +138,29 @@ fn run_with<K: Sink, D: Device>(
     image: Vec<u8>,
     hex: &[u8],
     script: Script,
-    manner: Manner,
+    options: RunOptions,
     out: &mut K,
     places: &mut Vec<Option<D>>,
 ) -> Ending
     requires size { vec_len image ≤ flash_end }
-    requires text { manner.image ≡ true → hex.now ≡ hextext image.items }
+    requires text { options.image ≡ true → hex.now ≡ hextext image.items }
     requires script { IsSound script }
-    requires budget { IsBudget manner.budget }
+    requires budget { IsBudget options.budget }
     ensures { (P : TypedProgram) (texts : List ByteList) → ImageImplements P texts image.items
-        → Concludes (of_sink K.taken K.faults out.old out.new) (of_devices D.account places.old.items places.new.items) [] (RunsProgram P texts script manner.budget manner.stats manner.image) result }
+        → Concludes (of_sink K.taken K.faults out.old out.new) (of_devices D.account places.old.items places.new.items) [] (RunsProgram P texts script options.budget options.stats options.image) result }
 {
-    match run_image(alloc, image, script, places, manner.budget, out) {
-        Ok((end, stats)) => finish(out, end, manner, &stats, hex),
+    match run_image(alloc, image, script, places, options.budget, out) {
+        Ok((end, stats)) => finish(out, end, options, &stats, hex),
         Err(NoMemory) => Ending::NoMemory,
     }
 }
 
 /// The HEX text of an image, if it is asked for.
-fn hex_of(alloc: Global, image: &[u8], manner: Manner) -> Result<Vec<u8>, NoMemory>
+fn hex_of(alloc: Global, image: &[u8], options: RunOptions) -> Result<Vec<u8>, NoMemory>
     requires { length image.now ≤ flash_end }
-    ensures { IfOk result (λ hex. manner.image ≡ true → hex.items ≡ hextext image.now) }
+    ensures { IfOk result (λ hex. options.image ≡ true → hex.items ≡ hextext image.now) }
 {
-    if manner.image {
+    if options.image {
         write_hex(alloc, image)
     } else {
         Ok(Vec::new(alloc))
@@ -172,18 +172,18 @@ pub fn run_program<K: Sink, D: Device>(
     alloc: Global,
     image: Vec<u8>,
     script: Script,
-    manner: Manner,
+    options: RunOptions,
     out: &mut K,
     places: &mut Vec<Option<D>>,
 ) -> Ending
     requires size { vec_len image ≤ flash_end }
     requires script { IsSound script }
-    requires budget { IsBudget manner.budget }
+    requires budget { IsBudget options.budget }
     ensures { (P : TypedProgram) (texts : List ByteList) → ImageImplements P texts image.items
-        → Concludes (of_sink K.taken K.faults out.old out.new) (of_devices D.account places.old.items places.new.items) [] (RunsProgram P texts script manner.budget manner.stats manner.image) result }
+        → Concludes (of_sink K.taken K.faults out.old out.new) (of_devices D.account places.old.items places.new.items) [] (RunsProgram P texts script options.budget options.stats options.image) result }
 {
-    match hex_of(alloc, &image, manner) {
-        Ok(hex) => run_with(alloc, image, &hex, script, manner, out, places),
+    match hex_of(alloc, &image, options) {
+        Ok(hex) => run_with(alloc, image, &hex, script, options, out, places),
         Err(NoMemory) => Ending::NoMemory,
     }
 }
@@ -193,23 +193,23 @@ fn run_named<F: Folder, K: Sink, D: Device>(
     alloc: Global,
     image: Vec<u8>,
     script: Option<&str>,
-    manner: Manner,
+    options: RunOptions,
     folder: &mut F,
     out: &mut K,
     places: &mut Vec<Option<D>>,
 ) -> Ending
     requires size { vec_len image ≤ flash_end }
-    requires budget { IsBudget manner.budget }
+    requires budget { IsBudget options.budget }
     ensures answer { (P : TypedProgram) (texts : List ByteList) → ImageImplements P texts image.items
         → Concludes (of_sink K.taken K.faults out.old out.new) (of_devices D.account places.old.items places.new.items) []
         (OverScript (told_by F.holds F.faults folder.old folder.new) (option_map spoken script.entry)
-        (λ read. RunsProgram P texts read manner.budget manner.stats manner.image)) result }
+        (λ read. RunsProgram P texts read options.budget options.stats options.image)) result }
     ensures asked { HasAsked F.asked folder.old folder.new
         (WantsScript (told_by F.holds F.faults folder.old folder.new) (FoundNoMemory result) (option_map spoken script.entry) wants_none) }
     ensures folder_later { F.faults folder.old ≤ F.faults folder.new }
 {
     match script_of(alloc, script, folder, out) {
-        Ok(script) => run_program(alloc, image, script, manner, out, places),
+        Ok(script) => run_program(alloc, image, script, options, out, places),
         Err(ending) => ending,
     }
 }
@@ -219,20 +219,20 @@ fn run_text<F: Folder, K: Sink, D: Device>(
     alloc: Global,
     text: &[u8],
     script: Option<&str>,
-    manner: Manner,
+    options: RunOptions,
     folder: &mut F,
     out: &mut K,
     places: &mut Vec<Option<D>>,
 ) -> Ending
-    requires budget { IsBudget manner.budget }
+    requires budget { IsBudget options.budget }
     ensures answer { Concludes (of_sink K.taken K.faults out.old out.new) (of_devices D.account places.old.items places.new.items) []
-        (RunsText (told_by F.holds F.faults folder.old folder.new) (option_map spoken script.entry) manner.budget manner.stats manner.image text.now) result }
+        (RunsText (told_by F.holds F.faults folder.old folder.new) (option_map spoken script.entry) options.budget options.stats options.image text.now) result }
     ensures asked { HasAsked F.asked folder.old folder.new
         (OrLacks (FoundNoMemory result) (Onwards programs (λ read. WantsScript (told_by F.holds F.faults folder.old folder.new) (FoundNoMemory result) (option_map spoken script.entry) wants_none) text.now)) }
     ensures folder_later { F.faults folder.old ≤ F.faults folder.new }
 {
     match image_of(alloc, text, out) {
-        Ok(image) => run_named(alloc, image, script, manner, folder, out, places),
+        Ok(image) => run_named(alloc, image, script, options, folder, out, places),
         Err(ending) => ending,
     }
 }
@@ -242,21 +242,21 @@ pub fn run<F: Folder, K: Sink, D: Device>(
     alloc: Global,
     name: &str,
     script: Option<&str>,
-    manner: Manner,
+    options: RunOptions,
     folder: &mut F,
     out: &mut K,
     places: &mut Vec<Option<D>>,
 ) -> Ending
-    requires budget { IsBudget manner.budget }
+    requires budget { IsBudget options.budget }
     ensures answer { Concludes (of_sink K.taken K.faults out.old out.new) (of_devices D.account places.old.items places.new.items) []
         (AnswersFile (told_by F.holds F.faults folder.old folder.new) name.now
-        (RunsText (told_by F.holds F.faults folder.old folder.new) (option_map spoken script.entry) manner.budget manner.stats manner.image)) result }
+        (RunsText (told_by F.holds F.faults folder.old folder.new) (option_map spoken script.entry) options.budget options.stats options.image)) result }
     ensures asked { HasAsked F.asked folder.old folder.new
         (WantsFile (told_by F.holds F.faults folder.old folder.new) (FoundNoMemory result) name.now (Onwards programs (λ read. WantsScript (told_by F.holds F.faults folder.old folder.new) (FoundNoMemory result) (option_map spoken script.entry) wants_none))) }
     ensures folder_later { F.faults folder.old ≤ F.faults folder.new }
 {
     match text_of(alloc, name, folder, out) {
-        Ok(text) => run_text(alloc, &text, script, manner, folder, out, places),
+        Ok(text) => run_text(alloc, &text, script, options, folder, out, places),
         Err(ending) => ending,
     }
 }

@@ -6,7 +6,7 @@ ghost use Rattle.sts_whole.specs.Accepting as accepting;
 ghost use Rattle.tool_io.specs.Putting.{Puts};
 ghost use Rattle.run_tool.specs.Answers.{says};
 ghost use Rattle.run_tool.specs.inner.Giving.{GivesOneOf};
-ghost use Rattle.run_tool.specs.Refusals.{Refuses, refused_line};
+ghost use Rattle.run_tool.specs.Refusals.{AnswersRefusal, refused_line};
 ghost use Rattle.run_tool.specs.Programs.{OverProgram};
 ghost use Rattle.run_tool.specs.inner.Nothing.{none_to_programs};
 
@@ -50,7 +50,7 @@ pub fn then_put_refused<K: Sink>(
 pub fn say_refused<K: Sink>(out: &mut K, text: &[u8], code: Code, at: u32) -> Ending
     requires within { at ≤ length text.now }
     requires fits { at < 4294967295 }
-    ensures { GivesOneOf K.taken K.faults out.old out.new (Refuses text.now code at) result }
+    ensures { GivesOneOf K.taken K.faults out.old out.new (AnswersRefusal text.now code at) result }
 {
     let (line, column) = place(text, at);
     match then_put_refused(Ok(()), out, code, line, column) {

@@ -41,7 +41,7 @@ ending_by status (Ok x) = Gave status
 ending_by status (Err x) = Cut
 
 -- Where a run's ending was to be this, the text behind it was put, and the call ended so.
-abbrev pub Finishes : Option (List ℕ) → Option (List ℕ) → ℕ → ℕ → Ending → List ℕ → Ending → Type 0
-Finishes taken taken' fs fs' (Gave status) behind ending = (put : Result (Unit {0}) PutFailed) × Puts taken taken' fs fs' behind put × (ending ≡ ending_by status put)
-Finishes taken taken' fs fs' Cut behind ending = (taken' ≡ taken) × (fs' ≡ fs) × (ending ≡ Cut)
-Finishes taken taken' fs fs' NoMemory behind ending = (taken' ≡ taken) × (fs' ≡ fs) × (ending ≡ NoMemory)
+abbrev pub FinishesRun : Option (List ℕ) → Option (List ℕ) → ℕ → ℕ → Ending → List ℕ → Ending → Type 0
+FinishesRun taken taken' fs fs' (Gave status) behind ending = (put : Result (Unit {0}) PutFailed) × Puts taken taken' fs fs' behind put × (ending ≡ ending_by status put)
+FinishesRun taken taken' fs fs' Cut behind ending = (taken' ≡ taken) × (fs' ≡ fs) × (ending ≡ Cut)
+FinishesRun taken taken' fs fs' NoMemory behind ending = (taken' ≡ taken) × (fs' ≡ fs) × (ending ≡ NoMemory)

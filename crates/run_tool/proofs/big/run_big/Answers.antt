@@ -10,7 +10,7 @@ use Rattle.run_tool.proofs.big.run_big.Goals as goal
 
 pub returns-in-Ok : goal.returns-in-Ok
 returns-in-Ok g c = λ P texts implements.
-    let m = c.args.manner in
+    let m = c.args.options in
     concludes-behind g.K.Sink.taken g.K.Sink.faults c.args.out.now c.put_big_line.new.out c.run_program.new.out (big_line c.args.size) (RunsProgram P texts default_script m.budget m.stats m.image) c.run_program.result
     c.in-Ok.ensures.took c.in-Ok.ensures.later
     (subst (λ s. Concludes (of_sink g.K.Sink.taken g.K.Sink.faults c.put_big_line.new.out c.run_program.new.out) (of_devices g.D.Device.account c.args.places.now.items c.run_program.new.places.items) []
@@ -18,7 +18,7 @@ returns-in-Ok g c = λ P texts implements.
 
 pub returns-in-Err : goal.returns-in-Err
 returns-in-Err g c = λ P texts implements.
-    let m = c.args.manner in
+    let m = c.args.options in
     let fits : length c.args.image.items ≤ flash_bytes = search rules in
     let bytes : All (λ b. b < 256) c.args.image.items = search rules in
     let due = some-run P texts c.args.image.items (record { fits = fits; bytes = bytes }) implements default_script m.budget m.stats m.image in

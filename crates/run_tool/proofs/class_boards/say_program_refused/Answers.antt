@@ -1,7 +1,7 @@
 use Rattle.std.proofs.Common.{subst, inr}
 use Rattle.sts_whole.specs.Accepting as accepting
 use Rattle.run_tool.specs.Answers.{Led}
-use Rattle.run_tool.specs.Refusals.{Refuses}
+use Rattle.run_tool.specs.Refusals.{AnswersRefusal}
 use Rattle.run_tool.specs.ClassBoards.{board_lead, OverBoardProgram}
 use Rattle.run_tool.specs.inner.Nothing.{none_to_boards}
 use Rattle.run_tool.proofs.Endings.{gives-more}
@@ -18,5 +18,5 @@ refuse_program-requires-clause-fits g c =
 pub returns-in-Program : goal.returns-in-Program
 returns-in-Program g c =
     let why = subst (λ x. accepting.Refuses c.args.text.now x) c.in-Program.is c.requires in
-    gives-more (Led (board_lead c.args.number) (Refuses c.args.text.now c.in-Program.code c.in-Program.at)) (OverBoardProgram c.args.number none_to_boards c.args.text.now) c.refuse_program.result
+    gives-more (Led (board_lead c.args.number) (AnswersRefusal c.args.text.now c.in-Program.code c.in-Program.at)) (OverBoardProgram c.args.number none_to_boards c.args.text.now) c.refuse_program.result
     (λ answer h. inr ((c.in-Program.code, c.in-Program.at), why, h)) c.refuse_program.ensures

@@ -19,7 +19,7 @@ pub returns-in-Ok-clause-answer : goal.returns-in-Ok-clause-answer
 returns-in-Ok-clause-answer g c = λ P texts implements.
     let files = told_by g.F.Folder.holds g.F.Folder.faults c.args.folder.now c.script_of.new.folder in
     let name = option_map spoken c.args.script in
-    let m = c.args.manner in
+    let m = c.args.options in
     let may = OverScript files name (λ read. RunsProgram P texts read m.budget m.stats m.image) in
     concludes-after g.K.Sink.taken g.K.Sink.faults c.args.out.now c.script_of.new.out c.run_program.new.out may c.run_program.result
     (subst (λ x. Took x (g.K.Sink.taken c.script_of.new.out) []) c.in-Ok.ensures.unwritten (took-nothing (g.K.Sink.taken c.script_of.new.out))) c.in-Ok.ensures.later
@@ -30,7 +30,7 @@ pub returns-in-Err-clause-answer : goal.returns-in-Err-clause-answer
 returns-in-Err-clause-answer g c = λ P texts implements.
     let files = told_by g.F.Folder.holds g.F.Folder.faults c.args.folder.now c.script_of.new.folder in
     let name = option_map spoken c.args.script in
-    let m = c.args.manner in
+    let m = c.args.options in
     let may = OverScript files name (λ read. RunsProgram P texts read m.budget m.stats m.image) in
     says-concludes g.D.Device.account c.args.places.now.items c.args.places.now.items refl may c.in-Err.ending
     (gives-more (OverScript files name none_to_read) may c.in-Err.ending (λ answer h. no-script files name (λ read. RunsProgram P texts read m.budget m.stats m.image) answer h) c.in-Err.ensures.none)

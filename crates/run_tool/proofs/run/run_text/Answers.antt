@@ -20,7 +20,7 @@ pub returns-in-Ok-clause-answer : goal.returns-in-Ok-clause-answer
 returns-in-Ok-clause-answer g c =
     let files = told_by g.F.Folder.holds g.F.Folder.faults c.args.folder.now c.run_named.new.folder in
     let name = option_map spoken c.args.script in
-    let m = c.args.manner in
+    let m = c.args.options in
     let answers = λ (P : TypedProgram) (texts : List ByteList). OverScript files name (λ read. RunsProgram P texts read m.budget m.stats m.image) in
     let b = c.in-Ok.ensures.built in
     let may = RunsText files name m.budget m.stats m.image c.args.text.now in
@@ -33,7 +33,7 @@ pub returns-in-Err-clause-answer : goal.returns-in-Err-clause-answer
 returns-in-Err-clause-answer g c =
     let files = told_by g.F.Folder.holds g.F.Folder.faults c.args.folder.now c.args.folder.now in
     let name = option_map spoken c.args.script in
-    let m = c.args.manner in
+    let m = c.args.options in
     let answers = λ (P : TypedProgram) (texts : List ByteList). OverScript files name (λ read. RunsProgram P texts read m.budget m.stats m.image) in
     says-concludes g.D.Device.account c.args.places.now.items c.args.places.now.items refl (RunsText files name m.budget m.stats m.image c.args.text.now) c.in-Err.ending
     (no-program-gives answers c.args.text.now c.in-Err.ending c.in-Err.ensures.none)

@@ -5,7 +5,7 @@ use Rattle.run_tool.proofs.run.run_with.Goals as goal
 
 pub returns-in-Ok : goal.returns-in-Ok
 returns-in-Ok g c = λ P texts implements.
-    let m = c.args.manner in
+    let m = c.args.options in
     let fits : length c.args.image.items ≤ flash_bytes = search rules in
     let bytes : All (λ b. b < 256) c.args.image.items = search rules in
     finished P texts c.args.image.items (record { fits = fits; bytes = bytes }) implements c.args.script m.budget m.stats m.image g.K.Sink.taken g.K.Sink.faults c.args.out.now c.run_image.new.out c.finish.new.out g.D.Device.account

@@ -2,7 +2,7 @@ use Rattle.std.proofs.Common.{subst, []}
 use Rattle.tool_io.proofs.Laws.{puts-none}
 use Rattle.run_tool.specs.declared.ending.Status.TheVariants.{Refused}
 use Rattle.run_tool.specs.inner.Giving.{GivesOneOf}
-use Rattle.run_tool.specs.Refusals.{Refuses}
+use Rattle.run_tool.specs.Refusals.{AnswersRefusal}
 use Rattle.run_tool.specs.inner.Finishing.{ending_by}
 use Rattle.run_tool.proofs.Endings.{refused-given}
 use Rattle.run_tool.proofs.said.say_refused.Goals as goal
@@ -11,7 +11,7 @@ pub returns-in-Ok : goal.returns-in-Ok
 returns-in-Ok g c =
     let taken = g.K.Sink.taken c.args.out.now in
     let faults = g.K.Sink.faults c.args.out.now in
-    subst (λ r. GivesOneOf g.K.Sink.taken g.K.Sink.faults c.args.out.now c.then_put_refused.new.out (Refuses c.args.text.now c.args.code c.args.at) (ending_by Refused r)) c.in-Ok.is
+    subst (λ r. GivesOneOf g.K.Sink.taken g.K.Sink.faults c.args.out.now c.then_put_refused.new.out (AnswersRefusal c.args.text.now c.args.code c.args.at) (ending_by Refused r)) c.in-Ok.is
     (refused-given c.args.text.now c.args.code c.args.at c.place-line.result.0 c.place-line.result.1 c.then_put_refused.result c.place-line.ensures
     (c.then_put_refused.ensures taken faults [] (puts-none taken faults)))
 
@@ -19,6 +19,6 @@ pub returns-in-Err : goal.returns-in-Err
 returns-in-Err g c =
     let taken = g.K.Sink.taken c.args.out.now in
     let faults = g.K.Sink.faults c.args.out.now in
-    subst (λ r. GivesOneOf g.K.Sink.taken g.K.Sink.faults c.args.out.now c.then_put_refused.new.out (Refuses c.args.text.now c.args.code c.args.at) (ending_by Refused r)) c.in-Err.is
+    subst (λ r. GivesOneOf g.K.Sink.taken g.K.Sink.faults c.args.out.now c.then_put_refused.new.out (AnswersRefusal c.args.text.now c.args.code c.args.at) (ending_by Refused r)) c.in-Err.is
     (refused-given c.args.text.now c.args.code c.args.at c.place-line.result.0 c.place-line.result.1 c.then_put_refused.result c.place-line.ensures
     (c.then_put_refused.ensures taken faults [] (puts-none taken faults)))
