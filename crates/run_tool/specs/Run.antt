@@ -8,7 +8,7 @@ use Rattle.event_script.specs.declared.script.Script.{Script}
 use Rattle.hex_image.specs.Laws.{IsImage}
 use Rattle.board_outside.specs.Moves.{Move, HasMet}
 use Rattle.sts_implements.specs.Images.{ImageImplements}
-use Rattle.sts_whole.specs.Programs.{source_after, Reaches}
+use Rattle.sts_whole.specs.Programs.{source_after, ImageReaches}
 use Rattle.run_tool.specs.Answers.{Answer, runs}
 use Rattle.run_tool.specs.Runs.{run_status}
 use Rattle.run_tool.specs.Statistics.{asked_behind}
@@ -25,7 +25,7 @@ pub record RunsProgram (P : TypedProgram) (texts : List ByteList) (script : Scri
   pub free : List ℕ
   pub executed : ℕ
   pub steps : ℕ
-  pub reaches : Reaches P texts image script budget free executed steps
+  pub reaches : ImageReaches P texts image script budget free executed steps
   pub moves : List Move
   pub met : HasMet moves (source_after P texts script steps).board
   pub is : (let b : Board = (source_after P texts script steps).board in answer ≡ runs (run_status b.end) moves (closing_line b.clock b.end ++ asked_behind stats with_image b executed image))

@@ -9,9 +9,9 @@ use Rattle.sts_grammar.specs.Deep.{NoneDeep}
 use Rattle.sts_grammar.specs.Texts.{source}
 use Rattle.sts_grammar.specs.Units.{IsProgram}
 use Rattle.sts_whole.specs.Checking as checking
-use Rattle.sts_whole.specs.Accepting.{Reads, Refuses}
+use Rattle.sts_whole.specs.Accepting.{ReadsText, Refuses}
 
-pub program_refused : (why : Refused) (text : List ℕ) (tables : Tables) (library : Program) (tokens : List Token) (p : Program) → Reads text tables library tokens → NoneDeep tokens
+pub program_refused : (why : Refused) (text : List ℕ) (tables : Tables) (library : Program) (tokens : List Token) (p : Program) → ReadsText text tables library tokens → NoneDeep tokens
     → IsProgram (source tokens tables) p → checking.Refuses why tables library p → Refuses text why
 program_refused (why.Program code at) text tables library tokens p read shallow spelled refused =
     inr (inr (record { tables = tables; library = library; tokens = tokens; read = read; shallow = shallow; program = p; spelled = spelled; refused = refused }))

@@ -20,7 +20,7 @@ use Rattle.sts_whole.specs.declared.build_parts.Whole.{Whole}
 use Rattle.typed_trees.specs.declared.build_places.Plan.{Plan}
 use Rattle.typed_trees.specs.Sites.{naming}
 use Rattle.sts_whole.specs.Wholes as w
-use Rattle.sts_whole.specs.Wholes.{Adds}
+use Rattle.sts_whole.specs.Wholes.{AddsPart}
 use Rattle.typed_trees.proofs.Laws.{drop_all}
 
 -- a part, before what is made of the rest
@@ -55,7 +55,7 @@ before_append [] ys zs = refl
 before_append (x ∷ xs) ys zs = ap (λ (q : TypedStatements). e.also x q) (before_append xs ys zs)
 
 -- what is left is the next part, and what is left behind it
-pub items_left : (l : Plan) (old new : Whole) (xs : List Item) (i : ℕ) (x : Item) → i < length xs → x ≡ get_or xs i x → Adds l old new (top_level x)
+pub items_left : (l : Plan) (old new : Whole) (xs : List Item) (i : ℕ) (x : Item) → i < length xs → x ≡ get_or xs i x → AddsPart l old new (top_level x)
     → w.items_of l old (top_levels (drop i xs)) ≡ joined (w.item_of l old (top_level x)) (w.items_of l new (top_levels (drop (i + 1) xs)))
 items_left l old new xs i x lt is a =
     let t = top_level x in

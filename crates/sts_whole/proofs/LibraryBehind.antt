@@ -13,7 +13,7 @@ use Rattle.sts_syntax.specs.Programs.{Program}
 use Rattle.sts_prelude.specs.Library as l
 use Rattle.sts_prelude.specs.declared.text.TheConstants.{LIBRARY}
 use Rattle.typed_laws.specs.LibraryLaws.{first, LibraryLeavesFirst}
-use Rattle.sts_whole.specs.Accepting.{Reads}
+use Rattle.sts_whole.specs.Accepting.{ReadsText}
 
 -- a table of distinct strings begins with distinct ones
 begins_distinct : (old new : List (List ℕ)) → Extends old new → IsDistinct new → IsDistinct old
@@ -30,7 +30,7 @@ pub record Behind (text : List ℕ) (tables : Tables) (library : Program) (token
   pub first_texts : IsDistinct first.texts
   pub read : IsRead first text tables tokens
 
-pub behind : LibraryLeavesFirst → (text : List ℕ) (tables : Tables) (library : Program) (tokens : List Token) → Reads text tables library tokens → Behind text tables library tokens
+pub behind : LibraryLeavesFirst → (text : List ℕ) (tables : Tables) (library : Program) (tokens : List Token) → ReadsText text tables library tokens → Behind text tables library tokens
 behind leaves text tables library tokens r =
     let names : IsDistinct r.first.names = begins_distinct r.first.names tables.names r.names r.names_distinct in
     let texts : IsDistinct r.first.texts = begins_distinct r.first.texts tables.texts r.texts r.texts_distinct in
@@ -64,7 +64,7 @@ pub record AreOne (tables tables' : Tables) (library library' : Program) (tokens
   pub tokens_same : tokens ≡ tokens'
 
 pub one_reading : LibraryLeavesFirst → (text : List ℕ) (tables tables' : Tables) (library library' : Program) (tokens tokens' : List Token)
-    → Reads text tables library tokens → Reads text tables' library' tokens' → AreOne tables tables' library library' tokens tokens'
+    → ReadsText text tables library tokens → ReadsText text tables' library' tokens' → AreOne tables tables' library library' tokens tokens'
 one_reading leaves text tables tables' library library' tokens tokens' r s =
     let a = behind leaves text tables library tokens r in
     let b = behind leaves text tables' library' tokens' s in

@@ -23,7 +23,7 @@ use Rattle.typed_trees.specs.declared.build_places.Plan.{Plan}
 use Rattle.typed_trees.specs.Sites.{naming}
 use Rattle.sts_whole.specs.declared.build_parts.Whole.{Whole}
 use Rattle.sts_whole.specs.Wholes as w
-use Rattle.sts_whole.specs.Wholes.{Adds}
+use Rattle.sts_whole.specs.Wholes.{AddsPart}
 use Rattle.sts_whole.proofs.AtMost.{library_at_most, text_at_most}
 
 -- a part of the library is one declaration at most
@@ -69,7 +69,7 @@ item_classes c xs i x lt is h =
     let a = length-append (item_class (top_level x)) (class_names (top_levels (drop (i + 1) xs))) in
     omega (arith, e, a, h)
 
-pub items_declared : (l : Plan) (old new : Whole) (xs : List Item) (i : ℕ) (x : Item) → i < length xs → x ≡ get_or xs i x → Adds l old new (top_level x)
+pub items_declared : (l : Plan) (old new : Whole) (xs : List Item) (i : ℕ) (x : Item) → i < length xs → x ≡ get_or xs i x → AddsPart l old new (top_level x)
     → old.declaration + length (entries_from (naming l) old.class (top_levels (drop i xs))) < 2 ^ 64 → new.declaration + length (entries_from (naming l) new.class (top_levels (drop (i + 1) xs))) < 2 ^ 64
 items_declared l old new xs i x lt is a h =
     let rest = top_levels (drop (i + 1) xs) in
@@ -77,13 +77,13 @@ items_declared l old new xs i x lt is a h =
     let k = ap (λ (q : ℕ). length (entries_from (naming l) q rest)) a.class in
     omega (arith, e, k, h, a.declaration)
 
-pub items_counted : (l : Plan) (old new : Whole) (xs : List Item) (i : ℕ) (x : Item) → i < length xs → x ≡ get_or xs i x → Adds l old new (top_level x)
+pub items_counted : (l : Plan) (old new : Whole) (xs : List Item) (i : ℕ) (x : Item) → i < length xs → x ≡ get_or xs i x → AddsPart l old new (top_level x)
     → old.builder.function + all_routines (top_levels (drop i xs)) < 2 ^ 32 → new.builder.function + all_routines (top_levels (drop (i + 1) xs)) < 2 ^ 32
 items_counted l old new xs i x lt is a h =
     let e = ap (λ (q : List Item). all_routines (top_levels q)) (drop_at xs i x lt is) in
     omega (arith, e, h, a.function)
 
-pub items_classes : (l : Plan) (old new : Whole) (xs : List Item) (i : ℕ) (x : Item) → i < length xs → x ≡ get_or xs i x → Adds l old new (top_level x)
+pub items_classes : (l : Plan) (old new : Whole) (xs : List Item) (i : ℕ) (x : Item) → i < length xs → x ≡ get_or xs i x → AddsPart l old new (top_level x)
     → old.class + length (class_names (top_levels (drop i xs))) < 2 ^ 32 → new.class + length (class_names (top_levels (drop (i + 1) xs))) < 2 ^ 32
 items_classes l old new xs i x lt is a h =
     let e = ap (λ (q : List Item). length (class_names (top_levels q))) (drop_at xs i x lt is) in

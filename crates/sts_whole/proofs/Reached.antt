@@ -17,7 +17,7 @@ use Rattle.sts_implements.proofs.Laws.{looks_like, plainly, plain_faultless}
 use Rattle.event_script.specs.World.{world_entries}
 use Rattle.event_script.specs.declared.script.Script.{Script}
 use Rattle.board_run.specs.Ran.{world_after, IsExecuted}
-use Rattle.sts_whole.specs.Programs.{source_after, Reaches, Met}
+use Rattle.sts_whole.specs.Programs.{source_after, ImageReaches, Met}
 
 -- the least number of instructions after which a run is over, or the budget
 next_executed : (at : ℕ → World Fiber Shared) (b n : ℕ) → IsExecuted at b n → (is : Bool) → over (at n).board ≡ is → (m : ℕ) × IsExecuted at (suc b) m
@@ -61,7 +61,7 @@ module _ (P : TypedProgram) (texts : List ByteList) (image : List ℕ) (implemen
           inl (omega arith)
       goes (inr end) = absurd (let c : false ≡ true = sym is ∙ end in cc)
 
-  pub reaches : (budget executed : ℕ) → IsExecuted (world_after image script free) budget executed → (steps : ℕ) × Reaches P texts image script budget free executed steps
+  pub reaches : (budget executed : ℕ) → IsExecuted (world_after image script free) budget executed → (steps : ℕ) × ImageReaches P texts image script budget free executed steps
   reaches budget executed e = (
     (kept executed).steps,
     record {

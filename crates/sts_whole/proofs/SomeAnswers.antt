@@ -17,7 +17,7 @@ use Rattle.sts_grammar.specs.ReadUnits.{read_program}
 use Rattle.sts_grammar.specs.Texts.{source, BeginsToken}
 use Rattle.sts_grammar.specs.Units.{IsProgram}
 use Rattle.type_derive.specs.Accepted.{AreDerived, refusal, typed, DerivedTypesExist}
-use Rattle.sts_whole.specs.Accepting.{Reads, Accepts, IsRefusedFor}
+use Rattle.sts_whole.specs.Accepting.{ReadsText, Accepts, IsRefusedFor}
 use Rattle.sts_lexer.specs.Laws.{SomeReading}
 use Rattle.typed_laws.specs.LibraryLaws.{first, LibraryIsRead}
 use Rattle.sts_whole.specs.Laws.{OneAnswer, SomeAnswer, TextHasOneAnswer}
@@ -54,7 +54,7 @@ first_begins : (front : List Token) (finish : Token) → (place : ℕ) × Begins
 first_begins [] finish = (finish.span.from, record { at = 0; token = finish; is = refl; begins = refl })
 first_begins (token ∷ front) finish = (token.span.from, record { at = 0; token = token; is = refl; begins = refl })
 
-module _ (reading : ProgramIsRead) (types : DerivedTypesExist) (text : List ℕ) (tables : Tables) (library : Program) (tokens : List Token) (read : Reads text tables library tokens) where
+module _ (reading : ProgramIsRead) (types : DerivedTypesExist) (text : List ℕ) (tables : Tables) (library : Program) (tokens : List Token) (read : ReadsText text tables library tokens) where
   abbrev Answer : Type 0
   Answer = ((P : TypedProgram) × Accepts text tables P) ⊎ ((why : Code) × (at : ℕ) × IsRefusedFor text why at)
 
@@ -108,7 +108,7 @@ has_one library reading answer one = record { some = each; one = one }
           | inl found ↦
               (let tables = found.0 in
               let read = found.2 in
-              let behind : Reads text tables library.program found.1 = record {
+              let behind : ReadsText text tables library.program found.1 = record {
                 first = first;
                 library_is = library.read;
                 tokenization = read.tokens;

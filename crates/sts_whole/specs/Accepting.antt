@@ -21,7 +21,7 @@ use Rattle.type_derive.specs.Accepted.{IsAccepted, IsRefused}
 
 -- The tree of the library of the board's interface, and the tokens of a text behind it: the tables have the library's names and texts first, and then those that the text
 -- adds, each numbered in the order in which it first appears.
-pub record Reads (text : List ℕ) (tables : Tables) (library : Program) (tokens : List Token) : Type 0 where
+pub record ReadsText (text : List ℕ) (tables : Tables) (library : Program) (tokens : List Token) : Type 0 where
   pub first : Tables
   pub library_is : IsLibrary no_entries first library
   pub tokenization : IsTokenization tables text tokens
@@ -35,18 +35,18 @@ pub record Reads (text : List ℕ) (tables : Tables) (library : Program) (tokens
 pub record Accepts (text : List ℕ) (tables : Tables) (P : TypedProgram) : Type 0 where
   pub library : Program
   pub tokens : List Token
-  pub read : Reads text tables library tokens
+  pub read : ReadsText text tables library tokens
   pub shallow : NoneDeep tokens
   pub program : Program
   pub spelled : IsProgram (source tokens tables) program
   pub accepted : IsAccepted tables library program P
 
 -- The tokens of a text spell no program, for this reason at this place.
-pub record RefusesTokens (text : List ℕ) (code : Code) (at : ℕ) : Type 0 where
+pub record SpellsNoProgram (text : List ℕ) (code : Code) (at : ℕ) : Type 0 where
   pub tables : Tables
   pub library : Program
   pub tokens : List Token
-  pub read : Reads text tables library tokens
+  pub read : ReadsText text tables library tokens
   pub refused : grammar.Refuses (source tokens tables) code at
 
 -- The program that they spell has this first failure of names, types and limits.
@@ -54,7 +54,7 @@ pub record RefusesProgram (text : List ℕ) (code : Code) (at : ℕ) : Type 0 wh
   pub tables : Tables
   pub library : Program
   pub tokens : List Token
-  pub read : Reads text tables library tokens
+  pub read : ReadsText text tables library tokens
   pub shallow : NoneDeep tokens
   pub program : Program
   pub spelled : IsProgram (source tokens tables) program
@@ -62,7 +62,7 @@ pub record RefusesProgram (text : List ℕ) (code : Code) (at : ℕ) : Type 0 wh
 
 -- A text is refused for the first of these: it has no tokens; they spell no program; or that has a failure.
 abbrev pub IsRefusedFor : List ℕ → Code → ℕ → Type 0
-IsRefusedFor text code at = IsRefusal text code at ⊎ (RefusesTokens text code at ⊎ RefusesProgram text code at)
+IsRefusedFor text code at = IsRefusal text code at ⊎ (SpellsNoProgram text code at ⊎ RefusesProgram text code at)
 
 -- why a text is refused; want of memory has no cause
 abbrev pub Refuses : List ℕ → Refused → Type 0

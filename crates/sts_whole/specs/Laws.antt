@@ -8,7 +8,7 @@ use Rattle.sts_syntax.specs.BoardTable.{library_size}
 use Rattle.sts_syntax.specs.Programs.{Program}
 use Rattle.sts_syntax.specs.TypedTrees.{TypedProgram}
 use Rattle.sts_syntax.specs.Weights.{routines_weight}
-use Rattle.sts_whole.specs.Accepting.{Reads, Accepts, IsRefusedFor}
+use Rattle.sts_whole.specs.Accepting.{ReadsText, Accepts, IsRefusedFor}
 use Rattle.sts_whole.specs.Buildable.{IsBuildable}
 
 -- The typed program of an accepted text can be built, and its library weighs no more than 600.
@@ -25,7 +25,7 @@ pub record OneAnswer : Type 0 where
 
 -- A text that has tokens, behind the library, is accepted or refused.
 abbrev pub SomeAnswer : Type 0
-SomeAnswer = (text : List ℕ) (tables : Tables) (library : Program) (tokens : List Token) → Reads text tables library tokens
+SomeAnswer = (text : List ℕ) (tables : Tables) (library : Program) (tokens : List Token) → ReadsText text tables library tokens
     → ((P : TypedProgram) × Accepts text tables P) ⊎ ((code : Code) × (at : ℕ) × IsRefusedFor text code at)
 
 -- A text has one answer: it is accepted or refused, and never both; as one program, or for one reason.

@@ -196,7 +196,7 @@ abbrev pub items_of : Plan → Whole → Program → Made TypedStatements
 items_of l b all = items_made l b.class b.declaration b.builder.local b.builder.function all
 
 -- one part more was built
-pub record Adds (l : Plan) (old new : Whole) (i : TopLevel) : Type 0 where
+pub record AddsPart (l : Plan) (old new : Whole) (i : TopLevel) : Type 0 where
   pub stmts : typed_list new.stmts ≡ typed_list old.stmts ++ (item_of l old i).it
   pub locals : value_types new.builder.locals ≡ value_types old.builder.locals ++ (item_of l old i).locals
   pub routines : typed_routines new.builder.routines ≡ typed_routines old.builder.routines ++ (item_of l old i).routines

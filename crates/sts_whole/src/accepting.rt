@@ -3,7 +3,7 @@ ghost use Rattle.std.specs.Prelude.{◌≡◌, ℕ, List, ◌+◌, ◌<◌, ◌�
 ghost use Rattle.sts_lexer.specs.Bytes.{most_bytes};
 ghost use Rattle.sts_syntax.specs.Programs.{program};
 ghost use Rattle.sts_syntax.specs.TypedViews.{typed_program};
-ghost use Rattle.sts_whole.specs.Accepting.{Reads, Accepts, Refuses};
+ghost use Rattle.sts_whole.specs.Accepting.{ReadsText, Accepts, Refuses};
 ghost use Rattle.sts_whole.specs.Few.{HasFewParts};
 
 use crate::checking::check;
@@ -24,8 +24,8 @@ fn accept_tokens(
     requires there { 0 < length tokens.now }
     requires few { length tokens.now ≤ most_bytes + 1 }
     requires library { HasFewParts (program library.now) }
-    ensures accepted { IfOk result (λ typed. (text : List ℕ) → Reads text tables.now (program library.now) tokens.now → Accepts text tables.now (typed_program typed)) }
-    ensures refused { IfErr result (λ why. (text : List ℕ) → Reads text tables.now (program library.now) tokens.now → Refuses text why) }
+    ensures accepted { IfOk result (λ typed. (text : List ℕ) → ReadsText text tables.now (program library.now) tokens.now → Accepts text tables.now (typed_program typed)) }
+    ensures refused { IfErr result (λ why. (text : List ℕ) → ReadsText text tables.now (program library.now) tokens.now → Refuses text why) }
 {
     let text = parse(alloc, tokens, tables)?;
     check(alloc, library, &text, tables)

@@ -16,7 +16,7 @@ ghost use Rattle.typed_numbers.specs.Counts.{counts_fit};
 ghost use Rattle.typed_trees.specs.Sites.{IsPlan, naming};
 ghost use Rattle.sts_whole.specs.Few.{AreFew};
 ghost use Rattle.sts_whole.specs.Wholes as w;
-ghost use Rattle.sts_whole.specs.Wholes.{Adds};
+ghost use Rattle.sts_whole.specs.Wholes.{AddsPart};
 
 use crate::build_classes::{add_class, class_entries, global_types};
 use crate::build_globals::build_main;
@@ -82,7 +82,7 @@ fn add_class_item(plan: &Plan, whole: &mut Whole, members: &[Member]) -> Result<
     requires declarations { whole.old.declaration + suc (length (entry.member_entries (naming plan.now) whole.old.class (class_members members.now))) < 2 ^ 64 }
     requires functions { whole.old.builder.function + (h.unwritten (class_members members.now) + h.members_routines (class_members members.now)) < 2 ^ 32 }
     requires classes { whole.old.class + 1 < 2 ^ 32 }
-    ensures { OnOk result ((at x : ℕ) (base : Option ℕ) (base_at : ℕ) → Adds plan.now whole.old whole.new (Class at x base base_at (class_members members.now))) }
+    ensures { OnOk result ((at x : ℕ) (base : Option ℕ) (base_at : ℕ) → AddsPart plan.now whole.old whole.new (Class at x base base_at (class_members members.now))) }
 {
     let next = Next {
         declaration: whole.declaration,
@@ -101,7 +101,7 @@ fn add_function_item(plan: &Plan, whole: &mut Whole, body: &Body) -> Result<(), 
     requires plan { IsPlan plan.now }
     requires numbered { whole.old.declaration + 1 < 2 ^ 64 }
     requires functions { whole.old.builder.function + suc (h.routine_handlers (routine body.now)) < 2 ^ 32 }
-    ensures { OnOk result ((x : ℕ) → Adds plan.now whole.old whole.new (Function x (routine body.now))) }
+    ensures { OnOk result ((x : ℕ) → AddsPart plan.now whole.old whole.new (Function x (routine body.now))) }
 {
     let n = whole.builder.function;
     let d = whole.declaration;
@@ -117,7 +117,7 @@ fn add_main_item(plan: &Plan, whole: &mut Whole, a: &Stmt) -> Result<(), NoMemor
     requires plan { IsPlan plan.now }
     requires numbered { whole.old.declaration + length (entry.main_entries (statement a.now)) < 2 ^ 64 }
     requires functions { whole.old.builder.function + h.statement_handlers (statement a.now) < 2 ^ 32 }
-    ensures { OnOk result (Adds plan.now whole.old whole.new (Main (statement a.now))) }
+    ensures { OnOk result (AddsPart plan.now whole.old whole.new (Main (statement a.now))) }
 {
     let n = whole.builder.function;
     let d = whole.declaration;
@@ -134,7 +134,7 @@ fn add_item(plan: &Plan, whole: &mut Whole, item: &Item) -> Result<(), NoMemory>
     requires declarations { whole.old.declaration + length (entry.item_entries (naming plan.now) whole.old.class (top_level item.now)) < 2 ^ 64 }
     requires functions { whole.old.builder.function + h.item_routines (top_level item.now) < 2 ^ 32 }
     requires classes { whole.old.class + entry.classes_in (top_level item.now) < 2 ^ 32 }
-    ensures { OnOk result (Adds plan.now whole.old whole.new (top_level item.now)) }
+    ensures { OnOk result (AddsPart plan.now whole.old whole.new (top_level item.now)) }
 {
     match item {
         Item::Class {

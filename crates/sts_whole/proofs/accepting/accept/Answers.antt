@@ -2,7 +2,7 @@ use Rattle.std.proofs.Common.{ℕ, List, [], subst}
 use Rattle.sts_syntax.specs.Programs.{program}
 use Rattle.sts_prelude.specs.Spelled.{IsLibrary}
 use Rattle.sts_grammar.specs.Texts.{no_entries}
-use Rattle.sts_whole.specs.Accepting.{Reads}
+use Rattle.sts_whole.specs.Accepting.{ReadsText}
 use Rattle.text_sizes.proofs.Laws.{most_tokens}
 use Rattle.sts_whole.proofs.Few.{library_few}
 use Rattle.sts_whole.proofs.accepting.accept.Goals as goal
@@ -45,7 +45,7 @@ returns-in-Err-accept_tokens-clause-refused c =
     let library_is : IsLibrary no_entries after p =
     subst (λ (names : List (List ℕ)). IsLibrary (record { names = names; texts = [] }) after p) c.new.ensures
     (subst (λ (texts : List (List ℕ)). IsLibrary (record { names = c.new.result; texts = texts }) after p) c.new-2.ensures c.in-Ok.ensures.library) in
-    let reads : Reads c.args.text.now c.tokens.new.tables p c.in_ok-tokens.tokens =
+    let reads : ReadsText c.args.text.now c.tokens.new.tables p c.in_ok-tokens.tokens =
     record {
       first = after;
       library_is = library_is;

@@ -4,7 +4,7 @@ use Rattle.sts_syntax.specs.Programs.{TopLevel, Class, class_members, top_level}
 use Rattle.sts_scope.specs.Entries.{classes_in, item_entries}
 use Rattle.sts_scope.specs.Handlers.{item_routines}
 use Rattle.typed_trees.specs.Sites.{naming}
-use Rattle.sts_whole.specs.Wholes.{Adds}
+use Rattle.sts_whole.specs.Wholes.{AddsPart}
 use Rattle.sts_whole.proofs.build_program.add_item.Goals as goal
 
 pub add_class_item-requires-clause-declarations : goal.add_class_item-requires-clause-declarations
@@ -42,9 +42,9 @@ pub returns-in_ok-add_class_item-in-Class : goal.returns-in_ok-add_class_item-in
 returns-in_ok-add_class_item-in-Class c =
     let k = c.in-Class in
     let e = ap (λ (xs : List Member). Class k.at k.name k.base k.base_at (class_members xs)) c.as_slice.ensures ∙ sym (ap top_level k.is) in
-    subst (λ (i : TopLevel). Adds c.args.plan.now c.args.whole.now c.add_class_item.new.whole i) e (c.in_ok-add_class_item-in-Class.ensures k.at k.name k.base k.base_at)
+    subst (λ (i : TopLevel). AddsPart c.args.plan.now c.args.whole.now c.add_class_item.new.whole i) e (c.in_ok-add_class_item-in-Class.ensures k.at k.name k.base k.base_at)
 
 pub returns-in_ok-add_function_item-in-Function : goal.returns-in_ok-add_function_item-in-Function
 returns-in_ok-add_function_item-in-Function c =
     let k = c.in-Function in
-    subst (λ (i : TopLevel). Adds c.args.plan.now c.args.whole.now c.add_function_item.new.whole i) (sym (ap top_level k.is)) (c.in_ok-add_function_item-in-Function.ensures k.name)
+    subst (λ (i : TopLevel). AddsPart c.args.plan.now c.args.whole.now c.add_function_item.new.whole i) (sym (ap top_level k.is)) (c.in_ok-add_function_item-in-Function.ensures k.name)
