@@ -1,20 +1,21 @@
 -- Each declaration takes a token.
-use Rattle.std.proofs.Common.{◌≡◌, ℕ, suc, ◌+◌, ◌<◌, ◌≤◌, List, [], ◌∷◌, ◌++◌, length, arith, length-append}
-use Rattle.std.specs.Prelude.{Bool, true, false, None}
+use Rattle.std.proofs.Common.{ℕ, ◌+◌, ◌<◌, ◌≤◌, List, [], ◌∷◌, length, arith, length-append}
+use Rattle.std.specs.Prelude.{Bool, true, false}
 use Rattle.sts_syntax.specs.Trees.{Statement, Block, Let, IfOnly, IfElse, While, DoWhile, For, ForOf, Return, Break, Continue, Plain, Empty, Declarations, ended, next, Declare, Does}
 use Rattle.sts_syntax.specs.Programs.{ClassMember, Field, Method, Constructor, TopLevel, Class, Function, Main, Program}
 use Rattle.sts_grammar.specs.Source.{Source}
 use Rattle.sts_grammar.specs.Spells.{IsStatement, AreDeclared}
-use Rattle.sts_grammar.specs.Units.{IsMember, AreMembers, IsPart, AreParts, IsProgram}
+use Rattle.sts_grammar.specs.Units.{AreMembers, IsPart, AreParts, IsProgram}
 use Rattle.sts_scope.specs.Entries.{Naming, global_entries, main_entries, member_entry, member_entries, item_entries, classes_in, entries_from}
+use Rattle.text_sizes.specs.Numbered.{member_numbered}
 use Rattle.text_sizes.proofs.Headings.{ends_after}
 use Rattle.text_sizes.proofs.Functions.{statement_over, declaration_over, member_over, base_after, part_over}
 
 globals_over : (s : Source) (fixed flag : Bool) (each : Declarations) (i j : ℕ) → AreDeclared s fixed each i j → i + length (global_entries flag each) ≤ j
 globals_over s fixed flag ended i j h = absurd h
-globals_over s fixed flag (next a ended) i j h = (let x = declaration_over s fixed a i j h in omega (arith, x))
-globals_over s fixed flag (next a (next b rest)) i j h =
-    let x = declaration_over s fixed a i h.0 h.1 in
+globals_over s fixed flag (next (Declare at name shape first) ended) i j h = (let x = declaration_over s fixed (Declare at name shape first) i j h in omega (arith, x))
+globals_over s fixed flag (next (Declare at name shape first) (next b rest)) i j h =
+    let x = declaration_over s fixed (Declare at name shape first) i h.0 h.1 in
     let y = globals_over s fixed flag (next b rest) (h.0 + 1) j h.3 in
     omega (arith, x, y)
 
@@ -36,17 +37,17 @@ main_over s (Continue at) i j h = (let x = statement_over s false false (Continu
 main_over s (Plain at a) i j h = (let x = statement_over s false false (Plain at a) i j h in omega (arith, x))
 main_over s (Empty at) i j h = (let x = statement_over s false false (Empty at) i j h in omega (arith, x))
 
-one_member : (names : Naming) (c : ℕ) (member : ClassMember) → length (member_entry names c member) ≤ 1
-one_member names c (Field a) = omega arith
-one_member names c (Method x r) = omega arith
-one_member names c (Constructor r) = omega arith
+member_declares : (names : Naming) (c : ℕ) (member : ClassMember) → length (member_entry names c member) ≤ member_numbered member
+member_declares names c (Field (Declare at name shape first)) = omega arith
+member_declares names c (Method x r) = omega arith
+member_declares names c (Constructor r) = omega arith
 
 members_over : (s : Source) (names : Naming) (c : ℕ) (members : List ClassMember) (i j : ℕ) → AreMembers s members i j → i + length (member_entries names c members) < j
 members_over s names c [] i j h = omega (arith, h.1.order, h.3)
 members_over s names c (member ∷ rest) i j h =
     let a = member_over s member h.0 h.1 h.3 in
     let b = members_over s names c rest h.1 j h.4 in
-    let one = one_member names c member in
+    let one = member_declares names c member in
     let both = length-append (member_entry names c member) (member_entries names c rest) in
     omega (arith, h.2.order, a, b, one, both)
 

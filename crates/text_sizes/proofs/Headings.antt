@@ -1,11 +1,11 @@
 -- What stands in headings takes tokens.
-use Rattle.std.proofs.Common.{◌≡◌, ℕ, zero, suc, ◌+◌, ◌<◌, ◌≤◌, List, [], ◌∷◌, arith, inl, inr}
+use Rattle.std.proofs.Common.{ℕ, zero, suc, ◌+◌, ◌<◌, ◌≤◌, List, [], ◌∷◌, length, arith, inl, inr}
 use Rattle.std.specs.Prelude.{Bool, true, false, Option, Some, None}
 use Rattle.sts_syntax.specs.Annotations.{Annotation, Number, Boolean, Text, Nothing, Named, ListOf}
 use Rattle.sts_syntax.specs.Trees.{Parameter, Tree}
 use Rattle.sts_grammar.specs.Source.{Source}
 use Rattle.sts_grammar.specs.Ends.{Ends}
-use Rattle.sts_grammar.specs.Headings.{IsType, IsResult, HasType, HasResult, IsParameter, MoreParameters, AreParameters}
+use Rattle.sts_grammar.specs.Headings.{IsType, IsResult, HasType, HasResult, MoreParameters, AreParameters}
 use Rattle.sts_grammar.specs.Operands.{Stands, IsWrapped, IsOperand, HasArrow, IsRoutine}
 
 type_after : (s : Source) (annotation : Annotation) (i j : ℕ) → IsType s annotation i j → i ≤ j
@@ -32,18 +32,18 @@ has_result_after : (s : Source) (gives : Option Annotation) (i j : ℕ) → HasR
 has_result_after s None i j h = omega (arith, h)
 has_result_after s (Some annotation) i j h = (let a = result_after s annotation (i + 1) j h.1 in omega (arith, a))
 
-more_parameters_after : (s : Source) (all : List Parameter) (i j : ℕ) → MoreParameters s all i j → i ≤ j
-more_parameters_after s [] i j h = omega (arith, h.1)
-more_parameters_after s (p ∷ rest) i j h =
+more_parameters_over : (s : Source) (all : List Parameter) (i j : ℕ) → MoreParameters s all i j → i + length all ≤ j
+more_parameters_over s [] i j h = omega (arith, h.1)
+more_parameters_over s (p ∷ rest) i j h =
     let a = has_type_after s p.shape (i + 1 + 1) h.0 h.2.2 in
-    let b = more_parameters_after s rest h.0 j h.3 in
+    let b = more_parameters_over s rest h.0 j h.3 in
     omega (arith, a, b)
 
-parameters_after : (s : Source) (all : List Parameter) (i j : ℕ) → AreParameters s all i j → i ≤ j
-parameters_after s [] i j h = omega (arith, h.1)
-parameters_after s (p ∷ rest) i j h =
+parameters_over : (s : Source) (all : List Parameter) (i j : ℕ) → AreParameters s all i j → i + length all ≤ j
+parameters_over s [] i j h = omega (arith, h.1)
+parameters_over s (p ∷ rest) i j h =
     let a = has_type_after s p.shape (i + 1) h.0 h.1.2 in
-    let b = more_parameters_after s rest h.0 j h.2 in
+    let b = more_parameters_over s rest h.0 j h.2 in
     omega (arith, a, b)
 
 arrow_after : (s : Source) (arrow : Bool) (i j : ℕ) → HasArrow s arrow i j → i ≤ j
@@ -62,11 +62,11 @@ wrapped_over s n (suc p) P over i j h = (let a = wrapped_over s n p P over (i + 
 pub operand_over : (s : Source) (n l : ℕ) (e : Tree) (P : Stands) → ((i j : ℕ) → P i j → i + n < j) → (i j : ℕ) → IsOperand s l e P i j → i + n < j
 operand_over s n l e P over i j h = wrapped_over s n h.0 P over i j h.1
 
--- a routine has two tokens before what stands in its block
+-- a routine has two tokens and its parameters before what stands in its block
 pub routine_over : (s : Source) (n : ℕ) (params : List Parameter) (gives : Option Annotation) (arrow : Bool) (P : Stands) → ((i j : ℕ) → P i j → i + n < j)
-    → (i j : ℕ) → IsRoutine s params gives arrow P i j → i + suc n < j
+    → (i j : ℕ) → IsRoutine s params gives arrow P i j → i + suc (length params + n) < j
 routine_over s n params gives arrow P over i j h =
-    let a = parameters_after s params (i + 1) h.0 h.4 in
+    let a = parameters_over s params (i + 1) h.0 h.4 in
     let b = has_result_after s gives h.0 h.1 h.5 in
     let c = arrow_after s arrow h.1 h.2 h.6 in
     let d = over (h.2 + 1) j h.8 in

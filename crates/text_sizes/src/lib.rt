@@ -1,4 +1,4 @@
-//! How many tokens a text has, and how many functions and declarations they spell.
+//! How many tokens a text has, and how many functions, parameters, locals and declarations they spell.
 #![tactic(auto)]
 
 mod theorems;

@@ -9,6 +9,7 @@ ghost use Rattle.sts_grammar.specs.Source.{Source};
 ghost use Rattle.sts_grammar.specs.Units.{IsProgram};
 ghost use Rattle.sts_scope.specs.Entries.{Naming, entries_from};
 ghost use Rattle.sts_scope.specs.Handlers.{all_routines};
+ghost use Rattle.text_sizes.specs.Numbered.{all_numbered};
 
 /// A text has at most one token for each of its bytes, and the last one.
 pub fn texts_have_few_tokens()
@@ -17,8 +18,9 @@ pub fn texts_have_few_tokens()
 {}
 
 /// A program has fewer functions, constructors that aren't written and handlers included, than the tokens that spell it, and fewer declarations of globals, functions,
-/// classes, fields and methods.
+/// classes, fields and methods. Its functions, with their parameters and locals, take fewer numbers as well.
 pub fn programs_have_few_parts()
     ensures functions { (s : Source) (p : Program) → IsProgram s p → all_routines p < length s.tokens }
+    ensures numbered { (s : Source) (p : Program) → IsProgram s p → all_numbered p < length s.tokens }
     ensures declarations { (s : Source) (p : Program) → IsProgram s p → (names : Naming) (first : ℕ) → length (entries_from names first p) < length s.tokens }
 {}
