@@ -1,5 +1,6 @@
 -- Blocks leave sites as they found them.
-use Rattle.std.proofs.Common.{◌≡◌, ℕ, ◌+◌, List, [], ◌∷◌, ◌++◌, length, take, refl, sym, ap, ◌∙◌, append_assoc, append-nil}
+use Rattle.std.proofs.Common.{◌≡◌, ℕ, List, [], ◌∷◌, ◌++◌, length, take, refl, sym, ap, ◌∙◌, append_assoc, append-nil}
+use Rattle.std.specs.Prelude.{Result, Ok, Err, OnOk}
 use Rattle.sts_base.specs.declared.tables.Tables.{Tables}
 use Rattle.sts_syntax.specs.declared.typed.Spot.{Spot}
 use Rattle.sts_syntax.specs.Trees.{Statement}
@@ -12,6 +13,10 @@ use Rattle.type_derive.specs.Moves.{Extends, left}
 use Rattle.sts_scope.specs.Numbers.{Numbering}
 use Rattle.type_derive.specs.Returns.{after}
 use Rattle.type_derive.proofs.Laws.{after_extends}
+use Rattle.typed_numbers.specs.Building.{numbering_of}
+use Rattle.typed_trees.specs.declared.build_places.Plan.{Plan}
+use Rattle.typed_trees.specs.Grown.{Grown}
+use Rattle.typed_trees.specs.Sites.{naming, behind}
 
 taken : {A : Type 0} (xs ys : List A) → take (length xs) (xs ++ ys) ≡ xs
 taken [] ys = refl
@@ -22,14 +27,6 @@ site_of p xs = record { place = p; spots = xs }
 
 pub site_is : (p q : Place) (xs ys : List Spot) → p ≡ q → xs ≡ ys → site_of p xs ≡ site_of q ys
 site_is p q xs ys e f = ap (λ (r : Place). site_of r xs) e ∙ ap (λ (zs : List Spot). site_of q zs) f
-
--- the same site with more names in scope, maybe in a block that begins elsewhere
-pub record Grown (p q : Site) : Type 0 where
-  pub locals : List Local
-  pub spots : List Spot
-  pub block : ℕ
-  pub place_is : q.place ≡ record p.place { locals = p.place.locals ++ locals; block = block }
-  pub spots_are : q.spots ≡ p.spots ++ spots
 
 pub grown_not : (p : Site) → Grown p p
 grown_not p = record {
@@ -73,6 +70,11 @@ grown_place p q xs (more, e) = record { locals = more; spots = xs; block = p.pla
 
 pub grown_behind : (t : Tables) (f : Naming) (k : Known) (n : Numbering) (m : ℕ) (p : Site) (a : Statement) → Grown p (behind_statement t f k n m p a)
 grown_behind t f k n m p a = grown_place p (after t f k p.place a) (new_spots m a) (after_extends t f k p.place a)
+
+-- the same where it was done
+pub grown_on_ok : {A E : Type 0} (l : Plan) (m : ℕ) (p q : Site) (a : Statement) (r : Result A E) → OnOk r (q ≡ behind l m p a) → OnOk r (Grown p q)
+grown_on_ok l m p q a (Ok x) h = grown_is p (behind l m p a) q (grown_behind l.tables.now (naming l) l.known.now (numbering_of l.numbers.now) m p a) h
+grown_on_ok l m p q a (Err x) h = tt
 
 -- a block ended, and all is as it was around it
 pub site_closed : (p q r : Site) (n block spots : ℕ) → Grown p q → r.place ≡ left q.place n block → r.spots ≡ take spots q.spots → n ≡ length p.place.locals → block ≡ p.place.block → spots ≡ length p.spots → r ≡ p

@@ -1,5 +1,5 @@
 -- Statements by their forms, and what is built of two or three pieces.
-use Rattle.std.proofs.Common.{◌≡◌, ℕ, refl, ap, Option, Some, None, List, [], ◌∷◌, ◌++◌, ◌+◌, length, sym, ◌∙◌, append_assoc, arith, subst}
+use Rattle.std.proofs.Common.{◌≡◌, ℕ, refl, ap, Option, Some, None, List, [], ◌∷◌, ◌++◌, ◌+◌, ◌^◌, ◌<◌, length, sym, ◌∙◌, append_assoc, arith, subst}
 use Rattle.std.specs.Prelude.{Bool, Result, Ok, IfOk}
 use Rattle.std.specs.declared.alloc.Global.{Global}
 use Rattle.std.specs.declared.boxed.Box.{Box}
@@ -19,6 +19,7 @@ use Rattle.sts_syntax.specs.Trees.{OptionalTree, absent, present}
 use Rattle.type_derive.specs.Built.{Site}
 use Rattle.typed_trees.specs.Sites as s
 use Rattle.typed_trees.specs.declared.build_places.Plan.{Plan}
+use Rattle.typed_trees.specs.Fits.{numbers_taken}
 use Rattle.typed_trees.specs.Steps.{IsBuilt, turns_made, turns_of}
 use Rattle.typed_trees.specs.declared.build_places.Builder.{Builder}
 use Rattle.typed_trees.proofs.Pieces.{then, last}
@@ -61,24 +62,31 @@ of_three b c d e f g i h x y z one two three = then b c e f (λ k. g >=> λ l. i
 
 -- three locals, the first of which has a name
 pub three_locals : {B : Type 0} (c d e : Builder) (u v w : ValueType) (rest : ℕ → Making B) (y : B)
-    → value_types d.locals ≡ value_types c.locals ++ u ∷ v ∷ w ∷ [] → typed_routines d.routines ≡ typed_routines c.routines → d.local ≡ c.local + 3 → d.function ≡ c.function → IsBuilt d e (rest c.local) y
+    → value_types d.locals ≡ value_types c.locals ++ u ∷ v ∷ w ∷ [] → typed_routines d.routines ≡ typed_routines c.routines → (c.local + 3 < 2 ^ 32 → d.local ≡ c.local + 3) → d.function ≡ c.function → IsBuilt d e (rest c.local) y
     → IsBuilt c e (a_local u (λ i. i) >=> λ i. a_local v (λ j. j) >=> λ j. a_local w (λ k. k) >=> λ k. rest i) y
-three_locals {B} c d e u v w rest y hl hr hm hf (ey, (ly, (ry, (my, ny)))) =
+three_locals {B} c d e u v w rest y hl hr hm hf built fits =
     let m = c.local + 1 + 1 + 1 in
     let n = c.function + 0 + 0 + 0 in
-    let mm : d.local ≡ m = omega (arith, hm) in
-    let nn : d.function ≡ n = omega (arith, hf) in
     let R : Made B = rest c.local m n in
+    let few : c.local + length (u ∷ v ∷ w ∷ R.locals) < 2 ^ 32 = fits.0 in
+    let taken : c.function + numbers_taken R.routines < 2 ^ 32 = fits.1 in
+    let three : d.local ≡ c.local + 3 = hm (omega (arith, few)) in
+    let mm : d.local ≡ m = omega (arith, three) in
+    let nn : d.function ≡ n = omega (arith, hf) in
     let E : rest c.local d.local d.function ≡ R = ap (λ (i : ℕ). rest c.local i d.function) mm ∙ ap (λ (j : ℕ). rest c.local m j) nn in
     let L = ap (λ (q : Made B). q.locals) E in
     let T = ap (λ (q : Made B). q.routines) E in
     let l' = ap (λ (us : List ValueType). length us) L in
     let t' = ap (λ (us : List TypedRoutine). length us) T in
+    let k' = ap (λ (us : List TypedRoutine). numbers_taken us) T in
+    let l_fits : d.local + length (rest c.local d.local d.function).locals < 2 ^ 32 = omega (arith, few, three, l') in
+    let f_fits : d.function + numbers_taken (rest c.local d.local d.function).routines < 2 ^ 32 = omega (arith, taken, hf, k') in
+    let (ey, (ly, (ry, (my, ny)))) = built (l_fits, f_fits) in
     let locals : value_types e.locals ≡ value_types c.locals ++ u ∷ v ∷ w ∷ R.locals =
     ly ∙ ap (λ (us : List ValueType). value_types d.locals ++ us) L ∙ ap (λ (us : List ValueType). us ++ R.locals) hl ∙ append_assoc (value_types c.locals) (u ∷ v ∷ w ∷ []) R.locals in
     let routines : typed_routines e.routines ≡ typed_routines c.routines ++ R.routines =
     ry ∙ ap (λ (us : List TypedRoutine). typed_routines d.routines ++ us) T ∙ ap (λ (us : List TypedRoutine). us ++ R.routines) hr in
-    let local : e.local ≡ c.local + length (u ∷ v ∷ w ∷ R.locals) = omega (arith, my, hm, l') in
+    let local : e.local ≡ c.local + length (u ∷ v ∷ w ∷ R.locals) = omega (arith, my, three, l') in
     let function : e.function ≡ c.function + length R.routines = omega (arith, ny, hf, t') in
     (ey ∙ ap (λ (q : Made B). q.it) E, (locals, (routines, (local, function))))
 

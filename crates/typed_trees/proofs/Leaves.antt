@@ -21,6 +21,7 @@ use Rattle.type_derive.specs.Typing as typing
 use Rattle.type_derive.specs.Typing.{◌>>=◌}
 use Rattle.typed_trees.specs.declared.build_places.Builder.{Builder}
 use Rattle.typed_trees.specs.declared.build_places.Plan.{Plan}
+use Rattle.typed_trees.specs.Fits.{RoutineFits}
 use Rattle.typed_trees.specs.Steps.{IsBuilt, handler_step}
 use Rattle.typed_trees.specs.Functions as functions
 use Rattle.typed_trees.specs.Sites.{tree_made, body_made, tree_kind, noted, made_of, spot_of, member_read, part_behind, class_behind}
@@ -138,18 +139,23 @@ handler_kind p st g x a k is kind = kind ∙ sym (ap (λ q. tree_kind p st g (no
 
 -- its function stands behind those that are there, and those in it behind that one
 pub handler_joined : (p : Plan) (st : b.Site) (r : Routine) (c d : Builder) (own : TypedRoutine) (inner : List TypedRoutine) (it : TypedTree)
-    → it ≡ e.Handler t.Nothing c.function → own ≡ (functions.routine p [] t.Nothing (body_made p st r) c.function).it → inner ≡ (functions.routine p [] t.Nothing (body_made p st r) c.function).routines
+    → it ≡ e.Handler t.Nothing c.function
+    → (RoutineFits c.function (functions.routine p [] t.Nothing (body_made p st r) c.function) → own ≡ (functions.routine p [] t.Nothing (body_made p st r) c.function).it)
+    → (RoutineFits c.function (functions.routine p [] t.Nothing (body_made p st r) c.function) → inner ≡ (functions.routine p [] t.Nothing (body_made p st r) c.function).routines)
     → value_types d.locals ≡ value_types c.locals → typed_routines d.routines ≡ typed_routines c.routines ++ (own ∷ inner) → d.local ≡ c.local
-    → d.function ≡ c.function + 1 + length (functions.routine p [] t.Nothing (body_made p st r) c.function).routines → IsBuilt c d (handler_step p st r) it
+    → (RoutineFits c.function (functions.routine p [] t.Nothing (body_made p st r) c.function) → d.function ≡ c.function + 1 + length (functions.routine p [] t.Nothing (body_made p st r) c.function).routines)
+    → IsBuilt c d (handler_step p st r) it
 unfolding handler_step
-handler_joined p st r c d own inner it node first others locals all local behind =
+handler_joined p st r c d own inner it node first others locals all local behind fits =
     let R : Made TypedRoutine = functions.routine p [] t.Nothing (body_made p st r) c.function in
-    let function : d.function ≡ c.function + length (R.it ∷ R.routines) = omega (arith, behind) in (
+    let few : RoutineFits c.function R = fits.1 in
+    let behind' = behind few in
+    let function : d.function ≡ c.function + length (R.it ∷ R.routines) = omega (arith, behind') in (
       node,
       (
         locals ∙ sym (append-nil (value_types c.locals)),
         (
-          all ∙ ap (λ (x : TypedRoutine). typed_routines c.routines ++ (x ∷ inner)) first ∙ ap (λ (xs : List TypedRoutine). typed_routines c.routines ++ (R.it ∷ xs)) others,
+          all ∙ ap (λ (x : TypedRoutine). typed_routines c.routines ++ (x ∷ inner)) (first few) ∙ ap (λ (xs : List TypedRoutine). typed_routines c.routines ++ (R.it ∷ xs)) (others few),
           (local ∙ sym (add-zero c.local), function),
         ),
       ),

@@ -24,12 +24,13 @@ use Rattle.type_derive.specs.Making.{Making, pure, ◌>=>◌}
 use Rattle.sts_scope.specs.Numbers.{Numbering}
 use Rattle.type_derive.specs.Returns.{all_declared, declared, bound}
 use Rattle.typed_numbers.specs.Building.{numbering_of}
+use Rattle.typed_trees.specs.Fits.{NumbersFit}
 use Rattle.typed_trees.specs.Sites as s
 use Rattle.typed_trees.specs.Steps.{handler_site, IsBuilt, local_made, bound_kind}
 use Rattle.typed_trees.specs.declared.build_places.Builder.{Builder}
 use Rattle.typed_trees.specs.declared.build_places.Plan.{Plan}
 use Rattle.typed_trees.proofs.Blocks.{site_is}
-use Rattle.typed_trees.proofs.Pieces.{then, stays, last, drop_all}
+use Rattle.typed_trees.proofs.Pieces.{fits_first, fits_then, then, then_if, stays, last, drop_all}
 use Rattle.typed_trees.proofs.Undeclared.{tree0}
 
 -- statements before others
@@ -58,17 +59,16 @@ NamesGo p fixed b whole c st rest made =
     (d : Builder) (ys : List TypedDeclaration) → IsBuilt c d (s.locals_made p st fixed (declarations rest)) ys → IsBuilt b d whole (typed_declarations made ++ ys)
 
 pub statements_step : (p : Plan) (xs : List Stmt) (i : ℕ) (x : Stmt) (st st' : Site) (b0 b c : Builder) (whole : Making TypedStatements) (made made' : List TypedStmt) (y : TypedStmt)
-    → i < length xs → x ≡ get_or xs i x → made' ≡ made ++ y ∷ [] → st' ≡ s.behind p b.local st (statement x) → IsBuilt b c (s.statement_made p st (statement x)) (typed_statement y)
+    → i < length xs → x ≡ get_or xs i x → made' ≡ made ++ y ∷ [] → (NumbersFit b (s.statement_made p st (statement x) b.local b.function) → st' ≡ s.behind p b.local st (statement x)) → IsBuilt b c (s.statement_made p st (statement x)) (typed_statement y)
     → StatementsGo p b0 whole b st (drop i xs) made → StatementsGo p b0 whole c st' (drop (i + 1) xs) made'
 unfolding s.statements_made s.statement_made
 statements_step p xs i x st st' b0 b c whole made made' y lt is more here built go d ys given =
     let rest = drop (i + 1) xs in
     let st2 = s.behind p b.local st (statement x) in
     let D : drop i xs ≡ x ∷ rest = drop_at xs i x lt is in
-    let tail : IsBuilt c d (s.statements_made p st2 (statements rest)) ys = subst (λ (z : Site). IsBuilt c d (s.statements_made p z (statements rest)) ys) here given in
     let one : IsBuilt b d (s.statement_made p st (statement x) >=> λ a. s.statements_made p st2 (statements rest) >=> λ rs. pure (also a rs)) (also (typed_statement y) ys) =
-    then b c d (s.statement_made p st (statement x)) (λ a. s.statements_made p st2 (statements rest) >=> λ rs. pure (also a rs)) (typed_statement y) (also (typed_statement y) ys) built
-    (last c d (s.statements_made p st2 (statements rest)) (λ rs. also (typed_statement y) rs) ys tail) in
+    then_if b c d (s.statement_made p st (statement x)) (λ a. s.statements_made p st2 (statements rest) >=> λ rs. pure (also a rs)) (typed_statement y) (also (typed_statement y) ys) built
+    (λ fits. last c d (s.statements_made p st2 (statements rest)) (λ rs. also (typed_statement y) rs) ys (subst (λ (z : Site). IsBuilt c d (s.statements_made p z (statements rest)) ys) (here fits) given)) in
     let all : IsBuilt b d (s.statements_made p st (statements (drop i xs))) (also (typed_statement y) ys) =
     subst (λ (zs : List Stmt). IsBuilt b d (s.statements_made p st (statements zs)) (also (typed_statement y) ys)) (sym D) one in
     subst (λ (zs : TypedStatements). IsBuilt b0 d whole zs) (onto_more made y ys ∙ ap (λ (zs : List TypedStmt). onto zs ys) (sym more)) (go d (also (typed_statement y) ys) all)
@@ -114,23 +114,36 @@ first0 t f k w st shape (present e) m n = ap (λ (us : List ValueType). us ++ []
 one_local : (t : Tables) (f : Naming) (k : Known) (w : Numbering) (st : Site) (a : Declaration) (m n : ℕ) → length (made_local t f k w st a m n).locals ≡ 1
 one_local t f k w st (Declare at x shape first) m n = ap (λ (us : List ValueType). length (us ++ value_type (kind_or_nothing t f k w (bound t f k st.place shape first)) ∷ [])) (first0 t f k w st shape first m n)
 
+-- 32 bits number what is left of declared names, behind which the site is that one
+abbrev pub NamesEnd : Plan → Bool → Builder → Site → List Binding → Site → Type 0
+NamesEnd p fixed b st rest end = NumbersFit b (s.locals_made p st fixed (declarations rest) b.local b.function) × (s.behind p b.local st (Let 0 fixed (declarations rest)) ≡ end)
+
 pub names_here : (p : Plan) (fixed : Bool) (xs : List Binding) (i : ℕ) (x : Binding) (st st' : Site) (b c : Builder) (y : TypedBinding) (end : Site)
     → i < length xs → x ≡ get_or xs i x → st' ≡ s.behind p b.local st (Let 0 fixed (declarations (x ∷ []))) → IsBuilt b c (local_made p st (declaration x)) (typed_declaration y)
-    → s.behind p b.local st (Let 0 fixed (declarations (drop i xs))) ≡ end → s.behind p c.local st' (Let 0 fixed (declarations (drop (i + 1) xs))) ≡ end
-unfolding local_made
-names_here p fixed xs i x st st' b c y end lt is here built e =
+    → NamesEnd p fixed b st (drop i xs) end → NamesEnd p fixed c st' (drop (i + 1) xs) end
+unfolding s.locals_made local_made
+names_here p fixed xs i x st st' b c y end lt is here built (fits, e) =
     let t = p.tables.now in
     let f = s.naming p in
     let k = p.known.now in
     let rest = drop (i + 1) xs in
     let a = declaration x in
+    let st2 = s.behind p b.local st (Let 0 fixed (declarations (x ∷ []))) in
+    let first = local_made p st a in
+    let others = s.locals_made p st2 fixed (declarations rest) in
     let D : drop i xs ≡ x ∷ rest = drop_at xs i x lt is in
-    let n : c.local ≡ suc b.local = omega (arith, built.1.1.1.0, one_local t f k (numbering_of p.numbers.now) st a b.local b.function) in
-    let q = all_declared t f k (declared t f k st.place fixed a) fixed (declarations rest) in
-    ap (λ (z : Site). s.behind p c.local z (Let 0 fixed (declarations rest))) here
-    ∙ site_is q q ((st.spots ++ Local b.local ∷ []) ++ spots_from c.local (declarations rest)) (st.spots ++ Local b.local ∷ spots_from (suc b.local) (declarations rest)) refl
-    (append_assoc st.spots (Local b.local ∷ []) (spots_from c.local (declarations rest)) ∙ ap (λ (m : ℕ). st.spots ++ Local b.local ∷ spots_from m (declarations rest)) n)
-    ∙ ap (λ (zs : List Binding). s.behind p b.local st (Let 0 fixed (declarations zs))) (sym D) ∙ e
+    let both : NumbersFit b ((first >=> λ d. others >=> λ ds. pure (d ∷ ds)) b.local b.function) = subst (λ (zs : List Binding). NumbersFit b (s.locals_made p st fixed (declarations zs) b.local b.function)) D fits in
+    let made = built (fits_first b first (λ d. others >=> λ ds. pure (d ∷ ds)) both) in
+    let next = fits_then b c first (λ d. others >=> λ ds. pure (d ∷ ds)) (typed_declaration y) made both in
+    let left = fits_first c others (λ ds. pure (typed_declaration y ∷ ds)) next in
+    let n : c.local ≡ suc b.local = omega (arith, made.1.1.1.0, one_local t f k (numbering_of p.numbers.now) st a b.local b.function) in
+    let q = all_declared t f k (declared t f k st.place fixed a) fixed (declarations rest) in (
+      subst (λ (z : Site). NumbersFit c (s.locals_made p z fixed (declarations rest) c.local c.function)) (sym here) left,
+      ap (λ (z : Site). s.behind p c.local z (Let 0 fixed (declarations rest))) here
+          ∙ site_is q q ((st.spots ++ Local b.local ∷ []) ++ spots_from c.local (declarations rest)) (st.spots ++ Local b.local ∷ spots_from (suc b.local) (declarations rest)) refl
+          (append_assoc st.spots (Local b.local ∷ []) (spots_from c.local (declarations rest)) ∙ ap (λ (m : ℕ). st.spots ++ Local b.local ∷ spots_from m (declarations rest)) n)
+          ∙ ap (λ (zs : List Binding). s.behind p b.local st (Let 0 fixed (declarations zs))) (sym D) ∙ e,
+    )
 
 -- the type of a declared name, from that of its initialiser in its place
 pub bound_is : (p : Plan) (st : Site) (shape : Option Annotation) (first : Tree)

@@ -9,20 +9,24 @@ use Rattle.sts_syntax.specs.TypedViews.{typed_routines}
 use Rattle.sts_scope.specs.declared.kinds.Kind.{Kind}
 use Rattle.type_derive.specs.Built as b
 use Rattle.type_derive.specs.Returns.{is_alone}
-use Rattle.type_derive.specs.Making.{Making, pure, ◌>=>◌}
+use Rattle.type_derive.specs.Making.{Made, Making, pure, ◌>=>◌}
 use Rattle.typed_numbers.specs.Building.{numbering_of}
+use Rattle.typed_trees.specs.Fits.{NumbersFit}
 use Rattle.typed_trees.specs.Sites.{naming, body_made, optional_made, statement_made}
 use Rattle.typed_trees.specs.declared.build_places.Plan.{Plan}
 use Rattle.typed_trees.specs.declared.build_places.Builder.{Builder}
 
 -- From b on, this was made: b's locals and functions have those that it adds behind them, and the next numbers are behind theirs.
-abbrev pub IsBuilt : {A : Type 0} → Builder → Builder → Making A → A → Type 0
-IsBuilt b c make it =
-    let made = make b.local b.function in
+abbrev pub IsMade : {A : Type 0} → Builder → Builder → Made A → A → Type 0
+IsMade b c made it =
     (it ≡ made.it)
     × ((value_types c.locals ≡ value_types b.locals ++ made.locals)
     × ((typed_routines c.routines ≡ typed_routines b.routines ++ made.routines)
     × ((c.local ≡ b.local + length made.locals) × (c.function ≡ b.function + length made.routines))))
+
+-- This was made, where 32 bits number it.
+abbrev pub IsBuilt : {A : Type 0} → Builder → Builder → Making A → A → Type 0
+IsBuilt b c make it = NumbersFit b (make b.local b.function) → IsMade b c (make b.local b.function) it
 
 unfoldable pub local_made : Plan → b.Site → Declaration → Making TypedDeclaration
 local_made p = b.made_local p.tables.now (naming p) p.known.now (numbering_of p.numbers.now)

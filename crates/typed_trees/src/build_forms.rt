@@ -1,15 +1,17 @@
 // Typed statements and locals, made of their parts.
-ghost use Rattle.std.specs.Prelude.{◌≡◌, ◌+◌, ◌++◌, ◌∷◌, [], Ok, IfOk, OnOk};
+ghost use Rattle.std.specs.Prelude.{◌≡◌, ◌+◌, ◌-◌, ◌^◌, ◌++◌, ◌∷◌, [], min, Ok, IfOk, OnOk};
 ghost use Rattle.sts_syntax.specs.Types as value;
 ghost use Rattle.sts_syntax.specs.Types.{value_types};
 ghost use Rattle.sts_syntax.specs.TypedTrees as t;
-ghost use Rattle.sts_syntax.specs.TypedViews.{typed_statement, typed_statements};
+ghost use Rattle.sts_syntax.specs.TypedViews.{typed_routines, typed_statement, typed_statements};
 ghost use Rattle.typed_trees.specs.Sites as s;
 
 use crate::build_nodes::{noted_type, or_nothing};
 use crate::build_numbers::one_more;
 use crate::build_places::Builder;
 use crate::build_types::list_of_values;
+use crate::gathered::Gathered;
+use std::alloc::Global;
 use sts_base::{NoMemory, Seq};
 use sts_scope::Kind;
 use sts_syntax::{Ty, TypedStmt};
@@ -31,18 +33,32 @@ pub fn block_of(all: Seq<TypedStmt>) -> TypedStmt
     TypedStmt::Block(all)
 }
 
+/// What is built of a function before its first statement: nothing. The next function that is built has this number.
+pub fn nothing_built(alloc: Global, next: u32) -> Builder
+    ensures locals { value_types result.locals ≡ [] }
+    ensures routines { typed_routines result.routines ≡ [] }
+    ensures local { result.local ≡ 0 }
+    ensures function { result.function ≡ next }
+{
+    Builder {
+        locals: Seq::new(alloc),
+        routines: Gathered::new(alloc),
+        local: 0,
+        function: next,
+    }
+}
+
 /// A further local of this type; its number.
 fn add_typed(builder: &mut Builder, ty: Ty) -> Result<u32, NoMemory>
     ensures number { IfOk result (λ i. i ≡ builder.old.local) }
     ensures locals { OnOk result (builder.new.locals ≡ builder.old.locals ++ ty ∷ []) }
     ensures routines { OnOk result (builder.new.routines ≡ builder.old.routines) }
-    ensures local { OnOk result (builder.new.local ≡ builder.old.local + 1) }
+    ensures local { OnOk result (builder.new.local ≡ min (builder.old.local + 1) (2 ^ 32 - 1)) }
     ensures function { OnOk result (builder.new.function ≡ builder.old.function) }
 {
     let number = builder.local;
-    let next = one_more(number)?;
     builder.locals.push(ty)?;
-    builder.local = next;
+    builder.local = one_more(number);
     Ok(number)
 }
 
@@ -52,7 +68,7 @@ pub fn add_local(builder: &mut Builder, kind: Option<Kind>) -> Result<u32, NoMem
     ensures number { IfOk result (λ i. i ≡ builder.old.local) }
     ensures locals { OnOk result (value_types builder.new.locals ≡ value_types builder.old.locals ++ s.noted kind ∷ []) }
     ensures routines { OnOk result (builder.new.routines ≡ builder.old.routines) }
-    ensures local { OnOk result (builder.new.local ≡ builder.old.local + 1) }
+    ensures local { OnOk result (builder.new.local ≡ min (builder.old.local + 1) (2 ^ 32 - 1)) }
     ensures function { OnOk result (builder.new.function ≡ builder.old.function) }
 {
     add_typed(builder, noted_type(kind))
@@ -71,7 +87,7 @@ pub fn add_loop(builder: &mut Builder, kind: Option<Kind>) -> Result<u32, NoMemo
     ensures number { IfOk result (λ i. i ≡ builder.old.local) }
     ensures locals { OnOk result (value_types builder.new.locals ≡ value_types builder.old.locals ++ s.noted kind ∷ value.ListOf (s.noted kind) ∷ value.Number ∷ []) }
     ensures routines { OnOk result (builder.new.routines ≡ builder.old.routines) }
-    ensures local { OnOk result (builder.new.local ≡ builder.old.local + 3) }
+    ensures local { OnOk result (builder.new.local ≡ min (builder.old.local + 3) (2 ^ 32 - 1)) }
     ensures function { OnOk result (builder.new.function ≡ builder.old.function) }
 {
     let number = add_local(builder, kind)?;

@@ -1,15 +1,17 @@
 // Functions and methods of a typed program, each before those that stand in it.
-ghost use Rattle.std.specs.Prelude.{◌≡◌, ◌+◌, ◌∷◌, [], ◌++◌, length, IfOk, OnOk};
+ghost use Rattle.std.specs.Prelude.{◌≡◌, ◌+◌, ◌^◌, ◌<◌, ◌∷◌, ◌++◌, length, IfOk, OnOk};
 ghost use Rattle.sts_syntax.specs.Types as value;
-ghost use Rattle.sts_syntax.specs.TypedViews.{typed_routine, typed_routines, typed_statements};
+ghost use Rattle.sts_syntax.specs.TypedViews.{typed_routine, typed_routines};
 ghost use Rattle.sts_syntax.specs.Views.{parameters, statements, routine};
 ghost use Rattle.sts_scope.specs.Kinds as kind;
 ghost use Rattle.sts_scope.specs.Entries.{parameter_kinds};
 ghost use Rattle.type_derive.specs.Programs.{parameter_spots};
+ghost use Rattle.typed_trees.specs.Fits.{numbers_taken, RoutineFits};
 ghost use Rattle.typed_trees.specs.Sites as s;
 ghost use Rattle.typed_trees.specs.Sites.{IsPlan, naming};
 ghost use Rattle.typed_trees.specs.Functions as functions;
 
+use crate::build_forms::nothing_built;
 use crate::build_nodes::noted_type;
 use crate::build_numbers::one_more;
 use crate::build_places::{Builder, Plan, Site};
@@ -23,13 +25,14 @@ use type_derive::routine_scope;
 
 /// Where their values are, from a parameter on.
 fn parameter_spots(plan: &Plan, first: u32, params: &[Param]) -> Result<Spots, NoMemory>
+    requires { first + length params.now < 2 ^ 32 }
     ensures { IfOk result (λ all. all ≡ parameter_spots first (parameters params.now)) }
 {
     let mut all = Spots::new(plan.alloc);
     let mut at = first;
     for _param in params {
         all.push(Spot::Param(at))?;
-        at = one_more(at)?;
+        at += 1;
     }
     Ok(all)
 }
@@ -54,6 +57,7 @@ pub fn function_site<'a>(
     first: u32,
     params: &[Param],
 ) -> Result<Site<'a>, NoMemory>
+    requires { first + length params.now < 2 ^ 32 }
     ensures { IfOk result (λ site. s.site site ≡ functions.site_of plan.now this gives library first (parameters params.now)) }
 {
     let scope = routine_scope(plan.alloc, plan.classes, params, this, gives, library)?;
@@ -77,16 +81,12 @@ fn build_function(
     n: u32,
     all: &[Stmt],
 ) -> Result<Function, NoMemory>
-    requires { IsPlan plan.now }
+    requires plan { IsPlan plan.now }
+    requires fits { RoutineFits n (functions.routine plan.now (value.value_types params) (value.value_type gives) (s.statements_made plan.now (s.site site.old) (statements all.now)) n) }
     ensures own { IfOk result (λ f. typed_routine f.own ≡ (functions.routine plan.now (value.value_types params) (value.value_type gives) (s.statements_made plan.now (s.site site.old) (statements all.now)) n).it) }
     ensures inner { IfOk result (λ f. typed_routines f.inner ≡ (functions.routine plan.now (value.value_types params) (value.value_type gives) (s.statements_made plan.now (s.site site.old) (statements all.now)) n).routines) }
 {
-    let mut builder = Builder {
-        locals: Seq::new(plan.alloc),
-        routines: Gathered::new(plan.alloc),
-        local: 0,
-        function: one_more(n)?,
-    };
+    let mut builder = nothing_built(plan.alloc, one_more(n));
     let stmts = build_statements(plan, site, &mut builder, all)?;
     let Builder {
         locals,
@@ -122,7 +122,8 @@ pub fn add_function(
     gives: Option<Kind>,
     body: &Body,
 ) -> Result<(), NoMemory>
-    requires { IsPlan plan.now }
+    requires plan { IsPlan plan.now }
+    requires fits { n + numbers_taken (functions.function_made plan.now library n gives (routine body.now)) < 2 ^ 32 }
     ensures { OnOk result (typed_routines routines.new ≡ typed_routines routines.old ++ functions.function_made plan.now library n gives (routine body.now)) }
 {
     let params = body.params.as_slice();
@@ -143,7 +144,8 @@ pub fn add_method(
     gives: Option<Kind>,
     body: &Body,
 ) -> Result<(), NoMemory>
-    requires { IsPlan plan.now }
+    requires plan { IsPlan plan.now }
+    requires fits { n + numbers_taken (functions.method_made plan.now class n gives (routine body.now)) < 2 ^ 32 }
     ensures { OnOk result (typed_routines routines.new ≡ typed_routines routines.old ++ functions.method_made plan.now class n gives (routine body.now)) }
 {
     let params = body.params.as_slice();

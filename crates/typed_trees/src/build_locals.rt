@@ -1,11 +1,12 @@
 // Declared names of a block with their initialisers, and expressions that may be left out.
-ghost use Rattle.std.specs.Prelude.{◌≡◌, ◌+◌, ◌++◌, ◌∷◌, [], length, IfOk, OnOk};
-ghost use Rattle.sts_syntax.specs.Types.{value_types};
+ghost use Rattle.std.specs.Prelude.{◌≡◌, ◌∷◌, [], IfOk, OnOk};
 ghost use Rattle.sts_syntax.specs.Trees as t;
-ghost use Rattle.sts_syntax.specs.TypedViews.{optional_typed_tree, typed_declaration, typed_declarations, typed_routines};
+ghost use Rattle.sts_syntax.specs.TypedViews.{optional_typed_tree, typed_declaration, typed_declarations};
 ghost use Rattle.sts_syntax.specs.Views.{tree, optional_expression, optional_annotation, declaration, declarations};
 ghost use Rattle.type_derive.specs.Returns as derive;
 ghost use Rattle.type_derive.specs.Scopes.{place};
+ghost use Rattle.typed_trees.specs.Fits.{NumbersFit};
+ghost use Rattle.typed_trees.specs.Grown.{Grown};
 ghost use Rattle.typed_trees.specs.Sites as s;
 ghost use Rattle.typed_trees.specs.Sites.{IsPlan};
 ghost use Rattle.typed_trees.specs.Steps as steps;
@@ -105,11 +106,7 @@ pub fn build_first(
     first: &Option<Expr>,
 ) -> Result<Option<TypedExpr>, NoMemory>
     requires { IsPlan plan.now }
-    ensures made { IfOk result (λ r. optional_typed_tree r ≡ (s.first_made plan.now (s.site site.now) (optional_annotation shape.now) (optional_expression first.now) builder.old.local builder.old.function).it) }
-    ensures locals { OnOk result (value_types builder.new.locals ≡ value_types builder.old.locals ++ (s.first_made plan.now (s.site site.now) (optional_annotation shape.now) (optional_expression first.now) builder.old.local builder.old.function).locals) }
-    ensures routines { OnOk result (typed_routines builder.new.routines ≡ typed_routines builder.old.routines ++ (s.first_made plan.now (s.site site.now) (optional_annotation shape.now) (optional_expression first.now) builder.old.local builder.old.function).routines) }
-    ensures local { OnOk result (builder.new.local ≡ builder.old.local + length (s.first_made plan.now (s.site site.now) (optional_annotation shape.now) (optional_expression first.now) builder.old.local builder.old.function).locals) }
-    ensures function { OnOk result (builder.new.function ≡ builder.old.function + length (s.first_made plan.now (s.site site.now) (optional_annotation shape.now) (optional_expression first.now) builder.old.local builder.old.function).routines) }
+    ensures { IfOk result (λ r. IsBuilt builder.old builder.new (s.first_made plan.now (s.site site.now) (optional_annotation shape.now) (optional_expression first.now)) (optional_typed_tree r)) }
 {
     let initial = build_initial(plan, site, builder, shape, first)?;
     Ok(initial.first)
@@ -151,7 +148,8 @@ pub fn build_locals(
 ) -> Result<Seq<TypedBinding>, NoMemory>
     requires { IsPlan plan.now }
     ensures built { IfOk result (λ r. IsBuilt builder.old builder.new (s.locals_made plan.now (s.site site.old) fixed (declarations each.now)) (typed_declarations r)) }
-    ensures site { OnOk result (s.site site.new ≡ s.behind plan.now builder.old.local (s.site site.old) (t.Let 0 fixed (declarations each.now))) }
+    ensures site { OnOk result (NumbersFit builder.old (s.locals_made plan.now (s.site site.old) fixed (declarations each.now) builder.old.local builder.old.function) → s.site site.new ≡ s.behind plan.now builder.old.local (s.site site.old) (t.Let 0 fixed (declarations each.now))) }
+    ensures grown { OnOk result (Grown (s.site site.old) (s.site site.new)) }
 {
     let mut made = Seq::new(plan.alloc);
     for i in 0..each.len() {

@@ -1,16 +1,16 @@
 // Numbers of functions and constructors, and names of members, as a plan has them.
-ghost use Rattle.std.specs.Prelude.{◌≡◌, ◌+◌, ◌<◌, [], length, get_or, IfOk};
+ghost use Rattle.std.specs.Prelude.{◌≡◌, ◌+◌, ◌-◌, ◌^◌, ◌<◌, [], length, get_or, min};
 ghost use Rattle.sts_scope.specs.Numbers as number;
 ghost use Rattle.typed_numbers.specs.Building.{numbering_of};
 
-use sts_base::{NoMemory, Seq};
+use sts_base::Seq;
 use typed_numbers::Numbers;
 
-/// The number behind one, of which 32 bits count no more than there is memory for.
-pub fn one_more(number: u32) -> Result<u32, NoMemory>
-    ensures { IfOk result (λ n. n ≡ number + 1) }
+/// The number behind one, up to the last one of 32 bits.
+pub fn one_more(number: u32) -> u32
+    ensures { result ≡ min (number + 1) (2 ^ 32 - 1) }
 {
-    number.checked_add(1).ok_or(NoMemory)
+    number.saturating_add(1)
 }
 
 /// The number of a function by its declaration.

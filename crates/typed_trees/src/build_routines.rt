@@ -5,16 +5,17 @@ ghost use Rattle.sts_syntax.specs.TypedViews.{typed_tree, typed_routine, typed_r
 ghost use Rattle.sts_syntax.specs.Views.{routine};
 ghost use Rattle.typed_trees.specs.Sites as s;
 ghost use Rattle.typed_trees.specs.Sites.{IsPlan};
+ghost use Rattle.typed_trees.specs.Fits.{RoutineFits};
 ghost use Rattle.typed_trees.specs.Functions as functions;
 ghost use Rattle.typed_trees.specs.Steps as steps;
 ghost use Rattle.typed_trees.specs.Steps.{IsBuilt};
 
+use crate::build_forms::nothing_built;
 use crate::build_functions::{Function, add};
 use crate::build_nodes::noted;
 use crate::build_numbers::one_more;
 use crate::build_places::{Builder, Noted, Plan, Site};
 use crate::build_statements::build_body;
-use crate::gathered::Gathered;
 use sts_base::{NoMemory, Seq};
 use sts_syntax::{Body, Ty, TypedBody, TypedNode};
 
@@ -29,16 +30,11 @@ pub struct Inner {
 #[cycle(build)]
 fn build_inner(plan: &Plan, site: &Site, n: u32, body: &Body) -> Result<Inner, NoMemory>
     requires { IsPlan plan.now }
-    ensures own { IfOk result (λ r. typed_routine r.function.own ≡ (functions.routine plan.now [] value.Nothing (s.body_made plan.now (s.site site.now) (routine body.now)) n).it) }
-    ensures inner { IfOk result (λ r. typed_routines r.function.inner ≡ (functions.routine plan.now [] value.Nothing (s.body_made plan.now (s.site site.now) (routine body.now)) n).routines) }
-    ensures behind { IfOk result (λ r. r.behind ≡ n + 1 + length (functions.routine plan.now [] value.Nothing (s.body_made plan.now (s.site site.now) (routine body.now)) n).routines) }
+    ensures own { IfOk result (λ r. RoutineFits n (functions.routine plan.now [] value.Nothing (s.body_made plan.now (s.site site.now) (routine body.now)) n) → typed_routine r.function.own ≡ (functions.routine plan.now [] value.Nothing (s.body_made plan.now (s.site site.now) (routine body.now)) n).it) }
+    ensures inner { IfOk result (λ r. RoutineFits n (functions.routine plan.now [] value.Nothing (s.body_made plan.now (s.site site.now) (routine body.now)) n) → typed_routines r.function.inner ≡ (functions.routine plan.now [] value.Nothing (s.body_made plan.now (s.site site.now) (routine body.now)) n).routines) }
+    ensures behind { IfOk result (λ r. RoutineFits n (functions.routine plan.now [] value.Nothing (s.body_made plan.now (s.site site.now) (routine body.now)) n) → r.behind ≡ n + 1 + length (functions.routine plan.now [] value.Nothing (s.body_made plan.now (s.site site.now) (routine body.now)) n).routines) }
 {
-    let mut builder = Builder {
-        locals: Seq::new(plan.alloc),
-        routines: Gathered::new(plan.alloc),
-        local: 0,
-        function: one_more(n)?,
-    };
+    let mut builder = nothing_built(plan.alloc, one_more(n));
     let stmts = build_body(plan, site, &mut builder, body)?;
     let Builder {
         locals,

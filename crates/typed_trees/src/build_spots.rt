@@ -1,5 +1,5 @@
 // Numbers of fields, slots and globals, and where the values of names are.
-ghost use Rattle.std.specs.Prelude.{◌≡◌, IfOk, get_or, unwrap_or, Some};
+ghost use Rattle.std.specs.Prelude.{◌≡◌, IfOk, get_or, Some};
 ghost use Rattle.sts_syntax.specs.declared.typed.Spot.TheVariants as spot;
 ghost use Rattle.sts_scope.specs.Numbers as number;
 ghost use Rattle.typed_trees.specs.Sites as s;

@@ -5,6 +5,8 @@ ghost use Rattle.sts_syntax.specs.TypedTrees.{OptionalTypedStatement};
 ghost use Rattle.sts_syntax.specs.TypedViews.{optional_typed_tree, typed_statement, typed_statements};
 ghost use Rattle.sts_syntax.specs.Views.{routine, statement, statements};
 ghost use Rattle.type_derive.specs.Built as b;
+ghost use Rattle.typed_trees.specs.Fits.{NumbersFit};
+ghost use Rattle.typed_trees.specs.Grown.{Grown};
 ghost use Rattle.typed_trees.specs.Sites as s;
 ghost use Rattle.typed_trees.specs.Sites.{IsPlan};
 ghost use Rattle.typed_trees.specs.Steps as steps;
@@ -229,7 +231,8 @@ pub fn build_statement(
 ) -> Result<TypedStmt, NoMemory>
     requires { IsPlan plan.now }
     ensures built { IfOk result (λ r. IsBuilt builder.old builder.new (s.statement_made plan.now (s.site site.old) (statement a.now)) (typed_statement r)) }
-    ensures site { OnOk result (s.site site.new ≡ s.behind plan.now builder.old.local (s.site site.old) (statement a.now)) }
+    ensures site { OnOk result (NumbersFit builder.old (s.statement_made plan.now (s.site site.old) (statement a.now) builder.old.local builder.old.function) → s.site site.new ≡ s.behind plan.now builder.old.local (s.site site.old) (statement a.now)) }
+    ensures grown { OnOk result (Grown (s.site site.old) (s.site site.new)) }
 {
     match &a.form {
         Form::Block(all) => {

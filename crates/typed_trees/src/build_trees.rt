@@ -1,7 +1,6 @@
 // Typed expressions: each of an expression's parts is gone through once, before itself.
-ghost use Rattle.std.specs.Prelude.{◌≡◌, ◌+◌, ◌++◌, length, IfOk, OnOk};
-ghost use Rattle.sts_syntax.specs.Types.{value_types};
-ghost use Rattle.sts_syntax.specs.TypedViews.{typed_tree, typed_trees, typed_routines};
+ghost use Rattle.std.specs.Prelude.{◌≡◌, IfOk};
+ghost use Rattle.sts_syntax.specs.TypedViews.{typed_tree, typed_trees};
 ghost use Rattle.sts_syntax.specs.Views.{tree, trees};
 ghost use Rattle.typed_trees.specs.Sites as s;
 ghost use Rattle.typed_trees.specs.Sites.{IsPlan};
@@ -10,17 +9,14 @@ ghost use Rattle.typed_trees.specs.Steps.{IsBuilt};
 use crate::build_arguments::Takes;
 use crate::build_calls::{build_arguments, build_call};
 use crate::build_forms::beside;
-use crate::build_members::{
-    name_leaf, null_leaf, number_leaf, read_of, text_leaf, this_leaf, truth_leaf,
-};
+use crate::build_members::{name_leaf, null_leaf, number_leaf, text_leaf, this_leaf, truth_leaf};
 use crate::build_operators::{Operator, build_last, build_part, bump_of, prefix_of};
 use crate::build_places::{Builder, Noted, Plan, Site};
 use crate::build_routines::build_handler;
-use crate::build_targets::may_be_set;
+use crate::build_targets::{build_member, build_target};
 use sts_base::{NoMemory, Seq};
 use sts_scope::Kind;
 use sts_syntax::{Expr, Node, TypedExpr};
-use type_derive::constant;
 
 /// A typed expression, to whose place a type may be given.
 #[cycle(build)]
@@ -63,9 +59,8 @@ pub fn build_tree(
             build_last(plan, site, builder, b, Operator::Item, x)
         }
         Node::Set(op, a, b) => {
-            let x = build_part(plan, site, builder, None, a)?;
-            let can = may_be_set(plan, site, a, &x.tree);
-            build_last(plan, site, builder, b, Operator::Set(*op, can), x)
+            let x = build_target(plan, site, builder, a)?;
+            build_last(plan, site, builder, b, Operator::Set(*op, x.can), x.part)
         }
         Node::Choice(q, a, b) => {
             let test = build_part(plan, site, builder, None, q)?;
@@ -73,17 +68,13 @@ pub fn build_tree(
             build_last(plan, site, builder, b, Operator::Choice(test), x)
         }
         Node::Bump { target, by, after } => {
-            let x = build_part(plan, site, builder, None, target)?;
-            let can = may_be_set(plan, site, target, &x.tree);
-            Ok(bump_of(*by, *after, can, x))
+            let x = build_target(plan, site, builder, target)?;
+            Ok(bump_of(*by, *after, x.can, x.part))
         }
-        Node::Member(a, m) => match constant(plan.tables, plan.known, &site.scope, a, *m) {
-            Some(z) => Ok(number_leaf(z)),
-            None => {
-                let x = build_part(plan, site, builder, None, a)?;
-                read_of(plan, *m, x)
-            }
-        },
+        Node::Member(_, _) => {
+            let member = build_member(plan, site, builder, given, e)?;
+            Ok(member.read)
+        }
         Node::Handler(body) => build_handler(plan, site, builder, body),
         Node::Call(_, _) | Node::SuperCall(_, _) | Node::Make(_, _) | Node::Items(_) => {
             build_call(plan, site, builder, given, e)
@@ -100,11 +91,7 @@ pub fn build_given(
     args: &[Expr],
 ) -> Result<Seq<TypedExpr>, NoMemory>
     requires { IsPlan plan.now }
-    ensures made { IfOk result (λ r. typed_trees r ≡ (s.given_made plan.now (s.site site.now) takes.now (trees args.now) builder.old.local builder.old.function).it) }
-    ensures locals { OnOk result (value_types builder.new.locals ≡ value_types builder.old.locals ++ (s.given_made plan.now (s.site site.now) takes.now (trees args.now) builder.old.local builder.old.function).locals) }
-    ensures routines { OnOk result (typed_routines builder.new.routines ≡ typed_routines builder.old.routines ++ (s.given_made plan.now (s.site site.now) takes.now (trees args.now) builder.old.local builder.old.function).routines) }
-    ensures local { OnOk result (builder.new.local ≡ builder.old.local + length (s.given_made plan.now (s.site site.now) takes.now (trees args.now) builder.old.local builder.old.function).locals) }
-    ensures function { OnOk result (builder.new.function ≡ builder.old.function + length (s.given_made plan.now (s.site site.now) takes.now (trees args.now) builder.old.local builder.old.function).routines) }
+    ensures { IfOk result (λ r. IsBuilt builder.old builder.new (s.given_made plan.now (s.site site.now) takes.now (trees args.now)) (typed_trees r)) }
 {
     let none = Seq::new(plan.alloc);
     let all = build_arguments(plan, site, builder, Takes::Given(takes), args, none)?;

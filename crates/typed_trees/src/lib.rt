@@ -22,7 +22,7 @@ mod build_types;
 mod gathered;
 mod spots;
 
-pub use build_forms::beside;
+pub use build_forms::{beside, nothing_built};
 pub use build_functions::{Function, add, add_function, add_method, add_types, function_site};
 pub use build_locals::build_first;
 pub use build_nodes::{boxed, noted_type};

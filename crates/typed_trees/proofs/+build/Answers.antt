@@ -1,7 +1,7 @@
-use Rattle.std.proofs.Common.{◌≡◌, ◌+◌, ◌++◌, ◌∷◌, [], ◌<◌, ◌≤◌, length, List, refl, sym, ap, ◌∙◌, subst, arith, append-nil, rules}
-use Rattle.std.specs.Prelude.{IfOk, OnOk, Ok, Err, Some, None, true}
+use Rattle.std.proofs.Common.{◌≡◌, ◌+◌, ◌-◌, ◌^◌, ◌++◌, ◌∷◌, [], ◌<◌, ◌≤◌, min, length, List, refl, sym, ap, ◌∙◌, subst, arith, append-nil, rules}
+use Rattle.std.specs.Prelude.{IfOk, OnOk, Ok, Err, Option, Some, None, true, ℕ}
 use Rattle.std.proofs.lemmas.Result.{IfOk-weaker, IfOk-from_err}
-use Rattle.sts_syntax.specs.declared.trees.Binding.{Binding}
+use Rattle.sts_syntax.specs.declared.trees.Binding.{Binding, out-Binding}
 use Rattle.sts_syntax.specs.declared.trees.Stmt.{Stmt}
 use Rattle.sts_syntax.specs.declared.typed.TypedExpr.{TypedExpr}
 use Rattle.sts_syntax.specs.declared.trees.Form.TheVariants as form
@@ -11,10 +11,11 @@ use Rattle.sts_syntax.specs.Types as v
 use Rattle.sts_syntax.specs.Types.{value_types}
 use Rattle.sts_syntax.specs.declared.typed.Spot.TheVariants.{Local}
 use Rattle.sts_scope.specs.Places.{inner, with}
+use Rattle.sts_scope.specs.Rules as rule
 use Rattle.sts_syntax.specs.TypedTrees as e
-use Rattle.sts_syntax.specs.TypedTrees.{TypedStatements}
+use Rattle.sts_syntax.specs.TypedTrees.{TypedDeclaration, TypedStatements}
 use Rattle.sts_syntax.specs.TypedViews.{optional_typed_tree, typed_declarations, typed_tree, typed_trees, typed_statement, typed_statements, typed_routine, typed_routines}
-use Rattle.sts_syntax.specs.Views.{tree, trees, optional_expression, optional_annotation, declarations, statement, statements, routine, node_tree}
+use Rattle.sts_syntax.specs.Views.{tree, trees, optional_expression, optional_annotation, declaration, declarations, statement, statements, routine, node_tree}
 use Rattle.type_derive.specs.Built as b
 use Rattle.type_derive.specs.Making.{Making, pure, ◌>=>◌, a_local}
 use Rattle.type_derive.specs.Returns as derive
@@ -23,21 +24,25 @@ use Rattle.typed_numbers.specs.Building.{numbering_of}
 use Rattle.typed_trees.specs.declared.build_nodes.Part.{Part}
 use Rattle.typed_trees.specs.declared.build_operators.Operator.TheVariants as o
 use Rattle.typed_trees.specs.Calls as call
+use Rattle.typed_trees.specs.Fits.{NumbersFit}
+use Rattle.typed_trees.specs.Grown.{Grown}
 use Rattle.typed_trees.specs.Sites as s
 use Rattle.typed_trees.specs.Steps as steps
 use Rattle.typed_trees.specs.Steps.{IsBuilt}
-use Rattle.typed_trees.proofs.Blocks.{Grown, grown_not, grown_is, grown_further, grown_block, grown_behind, site_closed, site_is, site_of}
+use Rattle.typed_trees.proofs.Blocks.{grown_not, grown_is, grown_on_ok, grown_further, grown_block, grown_behind, site_closed, site_is, site_of}
 use Rattle.typed_trees.proofs.GivenTrees.{arguments_begin, arguments_step, arguments_end}
 use Rattle.typed_trees.proofs.Passed.{head_built, no_object, none_built}
 use Rattle.typed_numbers.proofs.Laws.{block_is, let_is, items_is, make_is, super_call_is, call_is}
+use Rattle.sts_syntax.proofs.Laws.{declaration_parts}
+use Rattle.typed_trees.proofs.Functions.{routine_built, routine_of}
 use Rattle.typed_trees.proofs.Forms.{if_only_is, if_else_is, while_is, do_while_is, for_is, for_first_is, for_of_is, return_is, plain_is, of_two, of_three, optional_is, turns_is, three_locals, from_ok, value_built, first_built}
-use Rattle.typed_trees.proofs.Pieces.{then, stays, last, via, drop_all}
+use Rattle.typed_trees.proofs.Pieces.{fits_first, one_made, then, then_if, stays, last, via, drop_all}
 use Rattle.sts_scope.specs.Entries.{written_kind}
 use Rattle.typed_trees.proofs.Runs.{body_is, bound_is, NamesGo, StatementsGo, names_step, names_here, names_end, statements_step, statements_end}
 use Rattle.sts_syntax.specs.declared.trees.Expr.{Expr}
 use Rattle.typed_trees.proofs.Leaves.{num_built, num_kind, text_built, text_kind, truth_built, truth_kind, null_built, null_kind, this_built, this_kind, name_built, name_kind, constant_built, constant_noted, handler_built, handler_kind, handler_joined}
 use Rattle.typed_trees.proofs.Operators.{last_built, unary_built, unary_kind, bump_built, bump_kind, read_built, read_kind, binary_is, both_is, either_is, item_is, set_is, two_built, two_kind, choice_built, choice_kind}
-use Rattle.typed_trees.proofs.Targets.{target_read}
+use Rattle.typed_trees.proofs.Targets.{constant_kept, member_set}
 use Rattle.typed_trees.proofs.+build.Goals as goal
 
 pub build_locals::build_initial-returns-in_ok-noted-in-Some-clause-kind : goal.build_locals::build_initial-returns-in_ok-noted-in-Some-clause-kind
@@ -58,7 +63,8 @@ build_locals::build_locals-loop-i-init t c =
     let b = c.args.builder.now in
     record {
       go = subst (λ z. NamesGo p c.args.fixed b (s.locals_made p st c.args.fixed (declarations c.args.each.now)) b st c.args.each.now z) (sym c.new-made.ensures) (λ d ys given. given);
-      here = refl;
+      here = λ fits. (fits, refl);
+      grown = grown_not st;
     }
 
 pub build_locals::build_locals-loop-i-preserved : goal.build_locals::build_locals-loop-i-preserved
@@ -72,9 +78,11 @@ build_locals::build_locals-loop-i-preserved t c =
     let st' = s.site c.build_local.new.site in
     let b0 = c.args.builder.now in
     let whole = s.locals_made p (s.site c.args.site.now) fixed (declarations xs) in
+    let a = u.Let 0 fixed (declarations (c.index-each-i.result ∷ [])) in
     record {
       go = names_step p fixed xs i c.index-each-i.result st st' b0 c.loop-i.builder c.build_local.new.builder whole c.loop-i.made c.push.new.self c.in_ok-a.a lt c.index-each-i.is c.in_ok-push.ensures.ok c.in_ok-a.ensures.site c.in_ok-a.ensures.built c.loop-i.invariant.go;
-      here = names_here p fixed xs i c.index-each-i.result st st' c.loop-i.builder c.build_local.new.builder c.in_ok-a.a _ lt c.index-each-i.is c.in_ok-a.ensures.site c.in_ok-a.ensures.built c.loop-i.invariant.here;
+      here = λ fits. names_here p fixed xs i c.index-each-i.result st st' c.loop-i.builder c.build_local.new.builder c.in_ok-a.a _ lt c.index-each-i.is c.in_ok-a.ensures.site c.in_ok-a.ensures.built (c.loop-i.invariant.here fits);
+      grown = grown_further (s.site c.args.site.now) st st' c.loop-i.invariant.grown (grown_is st (s.behind p c.loop-i.builder.local st a) st' (grown_behind p.tables.now (s.naming p) p.known.now (numbering_of p.numbers.now) c.loop-i.builder.local st a) c.in_ok-a.ensures.site);
     }
 
 pub build_locals::build_locals-returns-clause-built : goal.build_locals::build_locals-returns-clause-built
@@ -86,24 +94,23 @@ build_locals::build_locals-returns-clause-built t c =
     names_end p fixed xs c.loop-i.i (s.site c.loop-i.site) c.args.builder.now c.loop-i.builder (s.locals_made p (s.site c.args.site.now) fixed (declarations xs)) c.loop-i.made le c.loop-i.invariant.go
 
 pub build_locals::build_locals-returns-clause-site : goal.build_locals::build_locals-returns-clause-site
-build_locals::build_locals-returns-clause-site t c =
+build_locals::build_locals-returns-clause-site t c = λ fits.
     let p = c.args.plan.now in
     let xs = c.args.each.now in
     let le : length xs ≤ c.loop-i.i = omega arith in
     let st = s.site c.loop-i.site in
     site_is st.place st.place st.spots (st.spots ++ []) refl (sym (append-nil st.spots))
-    ∙ ap (λ (zs : List Binding). s.behind p c.loop-i.builder.local st (u.Let 0 c.args.fixed (declarations zs))) (sym (drop_all xs c.loop-i.i le)) ∙ c.loop-i.invariant.here
+    ∙ ap (λ (zs : List Binding). s.behind p c.loop-i.builder.local st (u.Let 0 c.args.fixed (declarations zs))) (sym (drop_all xs c.loop-i.i le)) ∙ (c.loop-i.invariant.here fits).1
+
+pub build_locals::build_locals-returns-clause-grown : goal.build_locals::build_locals-returns-clause-grown
+build_locals::build_locals-returns-clause-grown t c = c.loop-i.invariant.grown
 
 pub build_statements::build_branch-returns-clause-site : goal.build_statements::build_branch-returns-clause-site
 build_statements::build_branch-returns-clause-site t c =
-    let p = c.args.plan.now in
     let P = s.site c.args.site.now in
     let B = s.site c.begin-around.new.site in
     let Q = s.site c.build_statement.new.site in
-    let m = c.args.builder.now.local in
-    let a = statement c.args.a.now in
-    let G : Grown P Q = grown_further P B Q (grown_is P (b.in_block P) B (grown_block P) c.begin-around.ensures.site)
-    (grown_is B (s.behind p m B a) Q (grown_behind p.tables.now (s.naming p) p.known.now (numbering_of p.numbers.now) m B a) c.in_ok-made.ensures.site) in
+    let G : Grown P Q = grown_further P B Q (grown_is P (b.in_block P) B (grown_block P) c.begin-around.ensures.site) c.in_ok-made.ensures.grown in
     let same : s.site c.end.new.site ≡ P = site_closed P Q (s.site c.end.new.site) c.begin-around.result.scope.locals c.begin-around.result.scope.block c.begin-around.result.spots G c.end.ensures.place c.end.ensures.spots
     c.begin-around.ensures.locals c.begin-around.ensures.block c.begin-around.ensures.spots in
     elim c.boxed.result as (λ r. OnOk r (s.site c.end.new.site ≡ P)) [ Ok v ↦ same | Err w ↦ tt ]
@@ -144,13 +151,20 @@ build_statements::build_statement-returns-in_ok-each-in-Let-clause-built t c =
     (sym (ap (s.statement_made p S) is)) refl (last b0 b1 made (λ ds. e.Let fixed ds) each inner)
 
 pub build_statements::build_statement-returns-in_ok-each-in-Let-clause-site : goal.build_statements::build_statement-returns-in_ok-each-in-Let-clause-site
-build_statements::build_statement-returns-in_ok-each-in-Let-clause-site t c =
+unfolding s.statement_made s.locals_made
+build_statements::build_statement-returns-in_ok-each-in-Let-clause-site t c = λ fits.
     let p = c.args.plan.now in
     let S = s.site c.args.site.now in
-    let m = c.args.builder.now.local in
+    let b0 = c.args.builder.now in
+    let m = b0.local in
+    let n = b0.function in
     let fixed = c.in-Let.fixed in
-    c.in_ok-each-in-Let.ensures.site ∙ ap (λ (xs : List Binding). s.behind p m S (u.Let 0 fixed (declarations xs))) c.as_slice-in-Let.ensures
-    ∙ sym (ap (s.behind p m S) (let_is c.args.a.now fixed c.in-Let.each c.in-Let.is))
+    let is = let_is c.args.a.now fixed c.in-Let.each c.in-Let.is in
+    let whole : NumbersFit b0 ((s.locals_made p S fixed (declarations c.in-Let.each) >=> λ ds. pure (e.Let fixed ds)) m n) = subst (λ z. NumbersFit b0 (s.statement_made p S z m n)) is fits in
+    let names = fits_first b0 (s.locals_made p S fixed (declarations c.in-Let.each)) (λ ds. pure (e.Let fixed ds)) whole in
+    let each = subst (λ (xs : List Binding). NumbersFit b0 (s.locals_made p S fixed (declarations xs) m n)) (sym c.as_slice-in-Let.ensures) names in
+    c.in_ok-each-in-Let.ensures.site each ∙ ap (λ (xs : List Binding). s.behind p m S (u.Let 0 fixed (declarations xs))) c.as_slice-in-Let.ensures
+    ∙ sym (ap (s.behind p m S) is)
 
 pub build_statements::build_if-returns-in-None-clause-built : goal.build_statements::build_if-returns-in-None-clause-built
 unfolding s.statement_made s.tree_made
@@ -299,16 +313,20 @@ build_statements::build_for-returns-in_ok-first-in-Some-3-clause-built t c =
     let y = e.For (e.written fx) (optional_typed_tree r.test) (optional_typed_tree r.step) (typed_statement r.body.value) in
     let made1 : IsBuilt b0 b1 (s.statement_made p I F) fx =
     via b0 b1 (s.statement_made p B F1) (s.statement_made p I F) fx fx (ap (λ z. s.statement_made p z F1) eB ∙ ap (λ z. s.statement_made p I z) eF) refl c.in_ok-first-in-Some.ensures.built in
-    let eI : inside ≡ s.behind p b0.local I F = c.in_ok-first-in-Some.ensures.site ∙ ap (λ z. s.behind p b0.local z F1) eB ∙ ap (λ z. s.behind p b0.local I z) eF in
+    let m = b0.local in
+    let n = b0.function in
+    let eI : NumbersFit b0 (s.statement_made p I F m n) → inside ≡ s.behind p m I F =
+    λ fits. c.in_ok-first-in-Some.ensures.site (subst (λ z. NumbersFit b0 (s.statement_made p z F1 m n)) (sym eB) (subst (λ z. NumbersFit b0 (s.statement_made p I z m n)) (sym eF) fits)) ∙ ap (λ z. s.behind p m z F1) eB ∙ ap (λ z. s.behind p m I z) eF in
     let turns1 : IsBuilt b1 b2 (steps.turns_made p inside (e.written fx) (statement a)) y =
     from_ok c.build_turns-in-Some.result r (λ k. (f : e.OptionalTypedStatement) → IsBuilt b1 b2 (steps.turns_made p inside f (statement a)) (e.For f (optional_typed_tree k.test) (optional_typed_tree k.step) (typed_statement k.body.value)))
     c.in_ok-first-in-Some-3.ensures.other c.build_turns-in-Some.ensures.built (e.written fx) in
-    let turns2 : IsBuilt b1 b2 (steps.turns_of p (s.behind p b0.local I F) (e.written fx) t1 t2 A) y =
-    via b1 b2 (steps.turns_made p inside (e.written fx) (statement a)) (steps.turns_of p (s.behind p b0.local I F) (e.written fx) t1 t2 A) y y
-    (ap (λ z. steps.turns_made p z (e.written fx) (statement a)) eI ∙ turns_is p (s.behind p b0.local I F) (e.written fx) a (Some c.in-Some.first) c.in-For.field-1 c.in-For.field-2 c.in-For.field-3 isF) refl turns1 in
+    let turns2 : inside ≡ s.behind p m I F → IsBuilt b1 b2 (steps.turns_of p (s.behind p m I F) (e.written fx) t1 t2 A) y =
+    λ here. via b1 b2 (steps.turns_made p inside (e.written fx) (statement a)) (steps.turns_of p (s.behind p m I F) (e.written fx) t1 t2 A) y y
+    (ap (λ z. steps.turns_made p z (e.written fx) (statement a)) here ∙ turns_is p (s.behind p m I F) (e.written fx) a (Some c.in-Some.first) c.in-For.field-1 c.in-For.field-2 c.in-For.field-3 isF) refl turns1 in
     let opening : IsBuilt b0 b1 (s.statement_made p I F >=> λ x. pure (e.written x)) (e.written fx) = last b0 b1 (s.statement_made p I F) (λ x. e.written x) fx made1 in
     let all : IsBuilt b0 b2 (s.statement_made p S (u.For a.at (u.written F) t1 t2 A)) y =
-    then b0 b1 b2 (s.statement_made p I F >=> λ x. pure (e.written x)) (λ f. steps.turns_of p (s.behind p b0.local I F) f t1 t2 A) (e.written fx) y opening turns2 in
+    then_if b0 b1 b2 (s.statement_made p I F >=> λ x. pure (e.written x)) (λ f. steps.turns_of p (s.behind p m I F) f t1 t2 A) (e.written fx) y opening
+    (λ fits. turns2 (eI (fits_first b0 (s.statement_made p I F) (λ x. pure (e.written x)) fits))) in
     let is = for_first_is a c.in-Some.first c.in-For.field-1 c.in-For.field-2 c.in-For.field-3 (c.in-For.is ∙ ap (λ o. form.For o c.in-For.field-1 c.in-For.field-2 c.in-For.field-3) c.in-Some.is) in
     let kept = ap (λ z. typed_statement z.value) c.in_ok-first-in-Some-3.ensures.kept ∙ ap typed_statement c.in_ok-first-in-Some-2.ensures in
     via b0 b2 (s.statement_made p S (u.For a.at (u.written F) t1 t2 A)) (s.statement_made p S (statement a)) y
@@ -326,11 +344,9 @@ build_statements::build_for-returns-in_ok-first-in-Some-3-clause-site t c =
     let Q = s.site c.build_statement.new.site in
     let R = s.site c.build_turns-in-Some.new.site in
     let Z = s.site c.end-in-Some.new.site in
-    let F1 = statement c.deref.result.now in
     let r = c.in_ok-first-in-Some-3.turns in
     let same : R ≡ Q = from_ok c.build_turns-in-Some.result r (λ k. R ≡ Q) c.in_ok-first-in-Some-3.ensures.other c.build_turns-in-Some.ensures.site in
-    let G : Grown S R = grown_is S Q R (grown_further S B Q (grown_is S (b.in_block S) B (grown_block S) c.begin-around.ensures.site)
-    (grown_is B (s.behind p m B F1) Q (grown_behind p.tables.now (s.naming p) p.known.now (numbering_of p.numbers.now) m B F1) c.in_ok-first-in-Some.ensures.site)) same in
+    let G : Grown S R = grown_is S Q R (grown_further S B Q (grown_is S (b.in_block S) B (grown_block S) c.begin-around.ensures.site) c.in_ok-first-in-Some.ensures.grown) same in
     let around = c.begin-around.result in
     let is = for_first_is a c.in-Some.first c.in-For.field-1 c.in-For.field-2 c.in-For.field-3 (c.in-For.is ∙ ap (λ o. form.For o c.in-For.field-1 c.in-For.field-2 c.in-For.field-3) c.in-Some.is) in
     site_closed S R Z around.scope.locals around.scope.block around.spots G c.end-in-Some.ensures.place c.end-in-Some.ensures.spots
@@ -367,7 +383,8 @@ build_statements::build_for_of-returns-clause-built t c =
     from_ok Ra i (λ z. value_types b2.locals ≡ value_types b1.locals ++ s.noted kind ∷ v.ListOf (s.noted kind) ∷ v.Number ∷ []) o2 c.add_loop.ensures.locals
     ∙ ap (λ k. value_types b1.locals ++ s.noted k ∷ v.ListOf (s.noted k) ∷ v.Number ∷ []) ek in
     let hr : typed_routines b2.routines ≡ typed_routines b1.routines = ap typed_routines (from_ok Ra i (λ z. b2.routines ≡ b1.routines) o2 c.add_loop.ensures.routines) in
-    let hm : b2.local ≡ b1.local + 3 = from_ok Ra i (λ z. b2.local ≡ b1.local + 3) o2 c.add_loop.ensures.local in
+    let hm : b1.local + 3 < 2 ^ 32 → b2.local ≡ b1.local + 3 =
+    λ few. (let three : b2.local ≡ min (b1.local + 3) (2 ^ 32 - 1) = from_ok Ra i (λ z. b2.local ≡ min (b1.local + 3) (2 ^ 32 - 1)) o2 c.add_loop.ensures.local in omega (arith, few, three)) in
     let hf : b2.function ≡ b1.function = from_ok Ra i (λ z. b2.function ≡ b1.function) o2 c.add_loop.ensures.function in
     let B = s.site c.begin-around.new.site in
     let D = s.site c.declare_local.new.site in
@@ -443,13 +460,10 @@ build_statements::build_statements-loop-i-preserved t c =
     let first = s.site c.args.site.now in
     let st = s.site c.loop-i.site in
     let st' = s.site c.build_statement.new.site in
-    let m = c.loop-i.builder.local in
-    let a = statement c.index-all-i.result in
     let whole = s.statements_made p first (statements xs) in
     record {
       go = statements_step p xs i c.index-all-i.result st st' c.args.builder.now c.loop-i.builder c.build_statement.new.builder whole c.loop-i.made c.push.new.self c.in_ok-a.a lt c.index-all-i.is c.in_ok-push.ensures.ok c.in_ok-a.ensures.site c.in_ok-a.ensures.built c.loop-i.invariant.go;
-      here = grown_further first st st' c.loop-i.invariant.here
-          (grown_is st (s.behind p m st a) st' (grown_behind p.tables.now (s.naming p) p.known.now (numbering_of p.numbers.now) m st a) c.in_ok-a.ensures.site);
+      here = grown_further first st st' c.loop-i.invariant.here c.in_ok-a.ensures.grown;
     }
 
 pub build_statements::build_statements-returns-clause-built : goal.build_statements::build_statements-returns-clause-built
@@ -823,23 +837,14 @@ build_locals::build_locals-returns-in_err-push-clause-built t c = IfOk-from_err 
 pub build_locals::build_locals-returns-in_err-push-clause-site : goal.build_locals::build_locals-returns-in_err-push-clause-site
 build_locals::build_locals-returns-in_err-push-clause-site t c = IfOk-from_err c.from_residual-in_err-push.result _ c.from_residual-in_err-push.ensures.0
 
-pub build_routines::build_inner-returns-in_err-one_more-clause-own : goal.build_routines::build_inner-returns-in_err-one_more-clause-own
-build_routines::build_inner-returns-in_err-one_more-clause-own t c = IfOk-from_err c.from_residual.result _ c.from_residual.ensures.0
-
-pub build_routines::build_inner-returns-in_err-one_more-clause-inner : goal.build_routines::build_inner-returns-in_err-one_more-clause-inner
-build_routines::build_inner-returns-in_err-one_more-clause-inner t c = IfOk-from_err c.from_residual.result _ c.from_residual.ensures.0
-
-pub build_routines::build_inner-returns-in_err-one_more-clause-behind : goal.build_routines::build_inner-returns-in_err-one_more-clause-behind
-build_routines::build_inner-returns-in_err-one_more-clause-behind t c = IfOk-from_err c.from_residual.result _ c.from_residual.ensures.0
-
 pub build_routines::build_inner-returns-in_err-stmts-clause-own : goal.build_routines::build_inner-returns-in_err-stmts-clause-own
-build_routines::build_inner-returns-in_err-stmts-clause-own t c = IfOk-from_err c.from_residual-in_err-stmts.result _ c.from_residual-in_err-stmts.ensures.0
+build_routines::build_inner-returns-in_err-stmts-clause-own t c = IfOk-from_err c.from_residual.result _ c.from_residual.ensures.0
 
 pub build_routines::build_inner-returns-in_err-stmts-clause-inner : goal.build_routines::build_inner-returns-in_err-stmts-clause-inner
-build_routines::build_inner-returns-in_err-stmts-clause-inner t c = IfOk-from_err c.from_residual-in_err-stmts.result _ c.from_residual-in_err-stmts.ensures.0
+build_routines::build_inner-returns-in_err-stmts-clause-inner t c = IfOk-from_err c.from_residual.result _ c.from_residual.ensures.0
 
 pub build_routines::build_inner-returns-in_err-stmts-clause-behind : goal.build_routines::build_inner-returns-in_err-stmts-clause-behind
-build_routines::build_inner-returns-in_err-stmts-clause-behind t c = IfOk-from_err c.from_residual-in_err-stmts.result _ c.from_residual-in_err-stmts.ensures.0
+build_routines::build_inner-returns-in_err-stmts-clause-behind t c = IfOk-from_err c.from_residual.result _ c.from_residual.ensures.0
 
 pub build_trees::build_tree-returns-in-Num-clause-built : goal.build_trees::build_tree-returns-in-Num-clause-built
 build_trees::build_tree-returns-in-Num-clause-built t c = let h : typed_tree c.number_leaf.result.tree ≡ e.Num v.Number c.in-Num.v = search rules in num_built c.args.plan.now (s.site c.args.site.now) c.args.given c.args.e.now c.in-Num.v c.args.builder.now (typed_tree c.number_leaf.result.tree) c.in-Num.is h
@@ -938,19 +943,16 @@ pub build_trees::build_tree-returns-in_err-x-in-Item-clause-kind : goal.build_tr
 build_trees::build_tree-returns-in_err-x-in-Item-clause-kind t c = IfOk-from_err c.from_residual-in_err-x-in-Item.result _ c.from_residual-in_err-x-in-Item.ensures.0
 
 pub build_trees::build_tree-returns-in_ok-x-in-Set-clause-built : goal.build_trees::build_tree-returns-in_ok-x-in-Set-clause-built
-build_trees::build_tree-returns-in_ok-x-in-Set-clause-built t c = IfOk-weaker c.build_last-in-Set.result _ _ (λ r h. two_built c.args.plan.now (s.site c.args.site.now) c.args.given (o.Set c.in-Set.op c.may_be_set-can.result) (tree c.args.e.now) (tree c.deref-in-Set.result.now) (tree c.deref-in-Set-4.result.now) c.args.builder.now c.build_part-in-Set.new.builder c.build_last-in-Set.new.builder c.in_ok-x-in-Set.x.kind (typed_tree c.in_ok-x-in-Set.x.tree.value) (typed_tree r.tree) (set_is c.args.plan.now (s.site c.args.site.now) c.args.given c.args.e.now c.in-Set.op c.in-Set.a c.in-Set.b c.deref-in-Set.result.now c.deref-in-Set-2.result.now c.deref-in-Set-4.result.now c.may_be_set-can.result c.in-Set.is c.deref-in-Set.ensures c.deref-in-Set-2.ensures c.deref-in-Set-4.ensures c.may_be_set-can.ensures) c.in_ok-x-in-Set.ensures.kind c.in_ok-x-in-Set.ensures.built h) c.build_last-in-Set.ensures.built
+build_trees::build_tree-returns-in_ok-x-in-Set-clause-built t c = IfOk-weaker c.build_last-in-Set.result _ _ (λ r h. two_built c.args.plan.now (s.site c.args.site.now) c.args.given (o.Set c.in-Set.op c.in_ok-x-in-Set.x.can) (tree c.args.e.now) (tree c.deref-in-Set.result.now) (tree c.deref-in-Set-2.result.now) c.args.builder.now c.build_target.new.builder c.build_last-in-Set.new.builder c.in_ok-x-in-Set.x.part.kind (typed_tree c.in_ok-x-in-Set.x.part.tree.value) (typed_tree r.tree) (set_is c.args.plan.now (s.site c.args.site.now) c.args.given c.args.e.now c.in-Set.op c.in-Set.a c.in-Set.b c.deref-in-Set.result.now c.deref-in-Set.result.now c.deref-in-Set-2.result.now c.in_ok-x-in-Set.x.can c.in-Set.is c.deref-in-Set.ensures c.deref-in-Set.ensures c.deref-in-Set-2.ensures c.in_ok-x-in-Set.ensures.can) c.in_ok-x-in-Set.ensures.kind c.in_ok-x-in-Set.ensures.built h) c.build_last-in-Set.ensures.built
 
 pub build_trees::build_tree-returns-in_ok-x-in-Set-clause-kind : goal.build_trees::build_tree-returns-in_ok-x-in-Set-clause-kind
-build_trees::build_tree-returns-in_ok-x-in-Set-clause-kind t c = IfOk-weaker c.build_last-in-Set.result _ _ (λ r h. two_kind c.args.plan.now (s.site c.args.site.now) c.args.given (o.Set c.in-Set.op c.may_be_set-can.result) (tree c.args.e.now) (tree c.deref-in-Set.result.now) (tree c.deref-in-Set-4.result.now) c.in_ok-x-in-Set.x.kind r.kind (set_is c.args.plan.now (s.site c.args.site.now) c.args.given c.args.e.now c.in-Set.op c.in-Set.a c.in-Set.b c.deref-in-Set.result.now c.deref-in-Set-2.result.now c.deref-in-Set-4.result.now c.may_be_set-can.result c.in-Set.is c.deref-in-Set.ensures c.deref-in-Set-2.ensures c.deref-in-Set-4.ensures c.may_be_set-can.ensures) c.in_ok-x-in-Set.ensures.kind h) c.build_last-in-Set.ensures.kind
+build_trees::build_tree-returns-in_ok-x-in-Set-clause-kind t c = IfOk-weaker c.build_last-in-Set.result _ _ (λ r h. two_kind c.args.plan.now (s.site c.args.site.now) c.args.given (o.Set c.in-Set.op c.in_ok-x-in-Set.x.can) (tree c.args.e.now) (tree c.deref-in-Set.result.now) (tree c.deref-in-Set-2.result.now) c.in_ok-x-in-Set.x.part.kind r.kind (set_is c.args.plan.now (s.site c.args.site.now) c.args.given c.args.e.now c.in-Set.op c.in-Set.a c.in-Set.b c.deref-in-Set.result.now c.deref-in-Set.result.now c.deref-in-Set-2.result.now c.in_ok-x-in-Set.x.can c.in-Set.is c.deref-in-Set.ensures c.deref-in-Set.ensures c.deref-in-Set-2.ensures c.in_ok-x-in-Set.ensures.can) c.in_ok-x-in-Set.ensures.kind h) c.build_last-in-Set.ensures.kind
 
 pub build_trees::build_tree-returns-in_err-x-in-Set-clause-built : goal.build_trees::build_tree-returns-in_err-x-in-Set-clause-built
 build_trees::build_tree-returns-in_err-x-in-Set-clause-built t c = IfOk-from_err c.from_residual-in_err-x-in-Set.result _ c.from_residual-in_err-x-in-Set.ensures.0
 
 pub build_trees::build_tree-returns-in_err-x-in-Set-clause-kind : goal.build_trees::build_tree-returns-in_err-x-in-Set-clause-kind
 build_trees::build_tree-returns-in_err-x-in-Set-clause-kind t c = IfOk-from_err c.from_residual-in_err-x-in-Set.result _ c.from_residual-in_err-x-in-Set.ensures.0
-
-pub build_trees::build_tree-may_be_set-can-requires : goal.build_trees::build_tree-may_be_set-can-requires
-build_trees::build_tree-may_be_set-can-requires t c = target_read c.args.plan.now (s.site c.args.site.now) c.deref-in-Set.result.now c.deref-in-Set-2.result.now c.in_ok-x-in-Set.x.tree.value c.deref-in-Set-3.result.now (c.deref-in-Set-2.ensures ∙ sym c.deref-in-Set.ensures) c.deref-in-Set-3.ensures (c.args.builder.now.local, c.args.builder.now.function, c.in_ok-x-in-Set.ensures.built.0)
 
 pub build_trees::build_tree-returns-in_ok-test-in-Choice-2-clause-built : goal.build_trees::build_tree-returns-in_ok-test-in-Choice-2-clause-built
 build_trees::build_tree-returns-in_ok-test-in-Choice-2-clause-built t c =
@@ -978,10 +980,10 @@ pub build_trees::build_tree-returns-in_err-test-in-Choice-2-clause-kind : goal.b
 build_trees::build_tree-returns-in_err-test-in-Choice-2-clause-kind t c = IfOk-from_err c.from_residual-in_err-test-in-Choice-2.result _ c.from_residual-in_err-test-in-Choice-2.ensures.0
 
 pub build_trees::build_tree-returns-in_ok-x-in-Bump-clause-built : goal.build_trees::build_tree-returns-in_ok-x-in-Bump-clause-built
-build_trees::build_tree-returns-in_ok-x-in-Bump-clause-built t c = let h : typed_tree c.bump_of.result.tree ≡ e.Bump v.Number (typed_tree c.in_ok-x-in-Bump.x.tree.value) c.in-Bump.by c.in-Bump.after = search rules in bump_built c.args.plan.now (s.site c.args.site.now) c.args.given c.args.e.now c.in-Bump.target c.in-Bump.by c.in-Bump.after c.deref-in-Bump.result.now c.args.builder.now c.build_part-in-Bump.new.builder c.in_ok-x-in-Bump.x (typed_tree c.bump_of.result.tree) c.in-Bump.is c.deref-in-Bump.ensures h c.in_ok-x-in-Bump.ensures.built
+build_trees::build_tree-returns-in_ok-x-in-Bump-clause-built t c = let h : typed_tree c.bump_of.result.tree ≡ e.Bump v.Number (typed_tree c.in_ok-x-in-Bump.x.part.tree.value) c.in-Bump.by c.in-Bump.after = search rules in bump_built c.args.plan.now (s.site c.args.site.now) c.args.given c.args.e.now c.in-Bump.target c.in-Bump.by c.in-Bump.after c.deref-in-Bump.result.now c.args.builder.now c.build_target-in-Bump.new.builder c.in_ok-x-in-Bump.x.part (typed_tree c.bump_of.result.tree) c.in-Bump.is c.deref-in-Bump.ensures h c.in_ok-x-in-Bump.ensures.built
 
 pub build_trees::build_tree-returns-in_ok-x-in-Bump-clause-kind : goal.build_trees::build_tree-returns-in_ok-x-in-Bump-clause-kind
-build_trees::build_tree-returns-in_ok-x-in-Bump-clause-kind t c = bump_kind c.args.plan.now (s.site c.args.site.now) c.args.given c.args.e.now c.in-Bump.target c.in-Bump.by c.in-Bump.after c.deref-in-Bump.result.now c.deref-in-Bump-2.result.now c.in_ok-x-in-Bump.x.kind c.bump_of.result.kind c.may_be_set-can-in-Bump.result c.in-Bump.is c.deref-in-Bump.ensures c.deref-in-Bump-2.ensures c.in_ok-x-in-Bump.ensures.kind c.may_be_set-can-in-Bump.ensures c.bump_of.ensures.kind
+build_trees::build_tree-returns-in_ok-x-in-Bump-clause-kind t c = bump_kind c.args.plan.now (s.site c.args.site.now) c.args.given c.args.e.now c.in-Bump.target c.in-Bump.by c.in-Bump.after c.deref-in-Bump.result.now c.deref-in-Bump.result.now c.in_ok-x-in-Bump.x.part.kind c.bump_of.result.kind c.in_ok-x-in-Bump.x.can c.in-Bump.is c.deref-in-Bump.ensures c.deref-in-Bump.ensures c.in_ok-x-in-Bump.ensures.kind c.in_ok-x-in-Bump.ensures.can c.bump_of.ensures.kind
 
 pub build_trees::build_tree-returns-in_err-x-in-Bump-clause-built : goal.build_trees::build_tree-returns-in_err-x-in-Bump-clause-built
 build_trees::build_tree-returns-in_err-x-in-Bump-clause-built t c = IfOk-from_err c.from_residual-in_err-x-in-Bump.result _ c.from_residual-in_err-x-in-Bump.ensures.0
@@ -989,26 +991,51 @@ build_trees::build_tree-returns-in_err-x-in-Bump-clause-built t c = IfOk-from_er
 pub build_trees::build_tree-returns-in_err-x-in-Bump-clause-kind : goal.build_trees::build_tree-returns-in_err-x-in-Bump-clause-kind
 build_trees::build_tree-returns-in_err-x-in-Bump-clause-kind t c = IfOk-from_err c.from_residual-in_err-x-in-Bump.result _ c.from_residual-in_err-x-in-Bump.ensures.0
 
-pub build_trees::build_tree-may_be_set-can-requires-in-Bump : goal.build_trees::build_tree-may_be_set-can-requires-in-Bump
-build_trees::build_tree-may_be_set-can-requires-in-Bump t c = target_read c.args.plan.now (s.site c.args.site.now) c.deref-in-Bump.result.now c.deref-in-Bump-2.result.now c.in_ok-x-in-Bump.x.tree.value c.deref-in-Bump-3.result.now (c.deref-in-Bump-2.ensures ∙ sym c.deref-in-Bump.ensures) c.deref-in-Bump-3.ensures (c.args.builder.now.local, c.args.builder.now.function, c.in_ok-x-in-Bump.ensures.built.0)
+pub build_targets::build_member-returns-in-Some-clause-built : goal.build_targets::build_member-returns-in-Some-clause-built
+build_targets::build_member-returns-in-Some-clause-built t c =
+    let h : typed_tree c.number_leaf.result.tree ≡ e.Num v.Number c.in-Some.z = search rules in
+    constant_built c.args.plan.now (s.site c.args.site.now) c.args.given c.args.e.now c.in-Member.a c.in-Member.m c.deref.result.now c.in-Some.z c.args.builder.now (typed_tree c.number_leaf.result.tree) c.in-Member.is c.deref.ensures (sym c.constant.ensures ∙ c.in-Some.is) h
 
-pub build_trees::build_tree-returns-in-Some-clause-built : goal.build_trees::build_tree-returns-in-Some-clause-built
-build_trees::build_tree-returns-in-Some-clause-built t c = let h : typed_tree c.number_leaf-in-Some.result.tree ≡ e.Num v.Number c.in-Some.z = search rules in constant_built c.args.plan.now (s.site c.args.site.now) c.args.given c.args.e.now c.in-Member.a c.in-Member.m c.deref-in-Member.result.now c.in-Some.z c.args.builder.now (typed_tree c.number_leaf-in-Some.result.tree) c.in-Member.is c.deref-in-Member.ensures (sym c.constant.ensures ∙ c.in-Some.is) h
+pub build_targets::build_member-returns-in-Some-clause-kind : goal.build_targets::build_member-returns-in-Some-clause-kind
+build_targets::build_member-returns-in-Some-clause-kind t c =
+    constant_noted c.args.plan.now (s.site c.args.site.now) c.args.given c.args.e.now c.in-Member.a c.in-Member.m c.deref.result.now c.in-Some.z c.number_leaf.result.kind c.in-Member.is c.deref.ensures (sym c.constant.ensures ∙ c.in-Some.is) c.number_leaf.ensures.kind
 
-pub build_trees::build_tree-returns-in-Some-clause-kind : goal.build_trees::build_tree-returns-in-Some-clause-kind
-build_trees::build_tree-returns-in-Some-clause-kind t c = constant_noted c.args.plan.now (s.site c.args.site.now) c.args.given c.args.e.now c.in-Member.a c.in-Member.m c.deref-in-Member.result.now c.in-Some.z c.number_leaf-in-Some.result.kind c.in-Member.is c.deref-in-Member.ensures (sym c.constant.ensures ∙ c.in-Some.is) c.number_leaf-in-Some.ensures.kind
+pub build_targets::build_member-returns-in-Some-clause-can : goal.build_targets::build_member-returns-in-Some-clause-can
+build_targets::build_member-returns-in-Some-clause-can t c =
+    constant_kept c.args.plan.now (s.site c.args.site.now) c.args.e.now c.in-Member.a c.in-Member.m c.deref.result.now c.in-Some.z c.in-Member.is c.deref.ensures (sym c.constant.ensures ∙ c.in-Some.is)
 
-pub build_trees::build_tree-returns-in_ok-x-in-None-clause-built : goal.build_trees::build_tree-returns-in_ok-x-in-None-clause-built
-build_trees::build_tree-returns-in_ok-x-in-None-clause-built t c = IfOk-weaker c.read_of.result _ _ (λ r h. read_built c.args.plan.now (s.site c.args.site.now) c.args.given c.args.e.now c.in-Member.a c.in-Member.m c.deref-in-None.result.now c.deref-in-Member.result.now c.args.builder.now c.build_part-in-None.new.builder c.in_ok-x-in-None.x (typed_tree r.tree) c.in-Member.is c.deref-in-None.ensures c.deref-in-Member.ensures (sym c.constant.ensures ∙ c.in-None.is) c.in_ok-x-in-None.ensures.kind h c.in_ok-x-in-None.ensures.built) c.read_of.ensures.tree
+pub build_targets::build_member-returns-in_ok-read-in-None-clause-built : goal.build_targets::build_member-returns-in_ok-read-in-None-clause-built
+build_targets::build_member-returns-in_ok-read-in-None-clause-built t c =
+    read_built c.args.plan.now (s.site c.args.site.now) c.args.given c.args.e.now c.in-Member.a c.in-Member.m c.deref-in-None.result.now c.deref.result.now c.args.builder.now c.build_part.new.builder c.in_ok-x-in-None.x (typed_tree c.in_ok-read-in-None.read.tree)
+    c.in-Member.is c.deref-in-None.ensures c.deref.ensures (sym c.constant.ensures ∙ c.in-None.is) c.in_ok-x-in-None.ensures.kind c.in_ok-read-in-None.ensures.tree c.in_ok-x-in-None.ensures.built
 
-pub build_trees::build_tree-returns-in_ok-x-in-None-clause-kind : goal.build_trees::build_tree-returns-in_ok-x-in-None-clause-kind
-build_trees::build_tree-returns-in_ok-x-in-None-clause-kind t c = IfOk-weaker c.read_of.result _ _ (λ r h. read_kind c.args.plan.now (s.site c.args.site.now) c.args.given c.args.e.now c.in-Member.a c.in-Member.m c.deref-in-None.result.now c.deref-in-Member.result.now c.in_ok-x-in-None.x.kind r.kind c.in-Member.is c.deref-in-None.ensures c.deref-in-Member.ensures (sym c.constant.ensures ∙ c.in-None.is) c.in_ok-x-in-None.ensures.kind h) c.read_of.ensures.kind
+pub build_targets::build_member-returns-in_ok-read-in-None-clause-kind : goal.build_targets::build_member-returns-in_ok-read-in-None-clause-kind
+build_targets::build_member-returns-in_ok-read-in-None-clause-kind t c =
+    read_kind c.args.plan.now (s.site c.args.site.now) c.args.given c.args.e.now c.in-Member.a c.in-Member.m c.deref-in-None.result.now c.deref.result.now c.in_ok-x-in-None.x.kind c.in_ok-read-in-None.read.kind
+    c.in-Member.is c.deref-in-None.ensures c.deref.ensures (sym c.constant.ensures ∙ c.in-None.is) c.in_ok-x-in-None.ensures.kind c.in_ok-read-in-None.ensures.kind
 
-pub build_trees::build_tree-returns-in_err-x-in-None-clause-built : goal.build_trees::build_tree-returns-in_err-x-in-None-clause-built
-build_trees::build_tree-returns-in_err-x-in-None-clause-built t c = IfOk-from_err c.from_residual-in_err-x-in-None.result _ c.from_residual-in_err-x-in-None.ensures.0
+pub build_targets::build_member-returns-in_ok-read-in-None-clause-can : goal.build_targets::build_member-returns-in_ok-read-in-None-clause-can
+build_targets::build_member-returns-in_ok-read-in-None-clause-can t c =
+    member_set c.args.plan.now (s.site c.args.site.now) c.args.e.now c.in-Member.a c.in-Member.m c.deref.result.now c.deref-in-None.result.now c.in_ok-x-in-None.x.kind c.part_settable-can.result
+    c.in-Member.is c.deref.ensures c.deref-in-None.ensures (sym c.constant.ensures ∙ c.in-None.is) c.in_ok-x-in-None.ensures.kind (c.part_settable-can.ensures ∙ ap rule.part_settable c.part_behind.ensures)
 
-pub build_trees::build_tree-returns-in_err-x-in-None-clause-kind : goal.build_trees::build_tree-returns-in_err-x-in-None-clause-kind
-build_trees::build_tree-returns-in_err-x-in-None-clause-kind t c = IfOk-from_err c.from_residual-in_err-x-in-None.result _ c.from_residual-in_err-x-in-None.ensures.0
+pub build_targets::build_member-returns-in_err-x-in-None-clause-built : goal.build_targets::build_member-returns-in_err-x-in-None-clause-built
+build_targets::build_member-returns-in_err-x-in-None-clause-built t c = IfOk-from_err c.from_residual.result _ c.from_residual.ensures.0
+
+pub build_targets::build_member-returns-in_err-read-in-None-clause-built : goal.build_targets::build_member-returns-in_err-read-in-None-clause-built
+build_targets::build_member-returns-in_err-read-in-None-clause-built t c = IfOk-from_err c.from_residual-in_err-read-in-None.result _ c.from_residual-in_err-read-in-None.ensures.0
+
+pub build_targets::build_member-returns-in_err-x-in-None-clause-kind : goal.build_targets::build_member-returns-in_err-x-in-None-clause-kind
+build_targets::build_member-returns-in_err-x-in-None-clause-kind t c = IfOk-from_err c.from_residual.result _ c.from_residual.ensures.0
+
+pub build_targets::build_member-returns-in_err-read-in-None-clause-kind : goal.build_targets::build_member-returns-in_err-read-in-None-clause-kind
+build_targets::build_member-returns-in_err-read-in-None-clause-kind t c = IfOk-from_err c.from_residual-in_err-read-in-None.result _ c.from_residual-in_err-read-in-None.ensures.0
+
+pub build_targets::build_member-returns-in_err-x-in-None-clause-can : goal.build_targets::build_member-returns-in_err-x-in-None-clause-can
+build_targets::build_member-returns-in_err-x-in-None-clause-can t c = IfOk-from_err c.from_residual.result _ c.from_residual.ensures.0
+
+pub build_targets::build_member-returns-in_err-read-in-None-clause-can : goal.build_targets::build_member-returns-in_err-read-in-None-clause-can
+build_targets::build_member-returns-in_err-read-in-None-clause-can t c = IfOk-from_err c.from_residual-in_err-read-in-None.result _ c.from_residual-in_err-read-in-None.ensures.0
 
 pub build_trees::build_tree-returns-in-Handler-clause-built : goal.build_trees::build_tree-returns-in-Handler-clause-built
 build_trees::build_tree-returns-in-Handler-clause-built t c = IfOk-weaker c.build_handler.result _ _ (λ r h. handler_built c.args.plan.now (s.site c.args.site.now) c.args.given c.args.e.now c.in-Handler.body c.deref-in-Handler.result.now c.args.builder.now c.build_handler.new.builder (typed_tree r.tree) c.in-Handler.is c.deref-in-Handler.ensures h) c.build_handler.ensures.built
@@ -1093,3 +1120,108 @@ build_statements::build_body-returns t c =
 
 pub build_statements::build_body-returns-in_err-inside : goal.build_statements::build_body-returns-in_err-inside
 build_statements::build_body-returns-in_err-inside t c = IfOk-from_err c.from_residual.result _ c.from_residual.ensures.0
+
+pub build_locals::build_value-returns-in-None : goal.build_locals::build_value-returns-in-None
+unfolding s.value_made
+build_locals::build_value-returns-in-None t c =
+    let p = c.args.plan.now in
+    let S = s.site c.args.site.now in
+    let b0 = c.args.builder.now in
+    via b0 b0 (pure None) (s.value_made p S c.args.given (optional_expression c.args.e.now)) None None (sym (ap (λ (o : Option Expr). s.value_made p S c.args.given (optional_expression o)) c.in-None.is)) refl (stays b0 None)
+
+pub build_locals::build_initial-returns-in-None-clause-built : goal.build_locals::build_initial-returns-in-None-clause-built
+unfolding s.first_made
+build_locals::build_initial-returns-in-None-clause-built t c =
+    let p = c.args.plan.now in
+    let S = s.site c.args.site.now in
+    let b0 = c.args.builder.now in
+    let shape = optional_annotation c.args.shape.now in
+    via b0 b0 (pure None) (s.first_made p S shape (optional_expression c.args.first.now)) None None (sym (ap (λ (o : Option Expr). s.first_made p S shape (optional_expression o)) c.in-None.is)) refl (stays b0 None)
+
+pub build_locals::build_local-returns-clause-built : goal.build_locals::build_local-returns-clause-built
+unfolding steps.local_made s.first_made
+build_locals::build_local-returns-clause-built t c =
+    let p = c.args.plan.now in
+    let S = s.site c.args.site.now in
+    let a : Binding = c.args.a.now in
+    let b0 = c.args.builder.now in
+    let b1 = c.build_initial.new.builder in
+    let b2 = c.add_local.new.builder in
+    let shape = optional_annotation (out-Binding a).shape in
+    let first = optional_expression (out-Binding a).first in
+    let h = c.in_ok-initial.ensures in
+    let x = optional_typed_tree c.in_ok-initial.initial.first in
+    let i = c.in_ok-first.local in
+    let R = c.add_local.result in
+    let o = c.in_ok-first.ensures.other in
+    let of = derive.bound p.tables.now (s.naming p) p.known.now S.place shape first in
+    let number : i ≡ b1.local = from_ok R i (λ z. z ≡ b1.local) o c.add_local.ensures.number in
+    let locals : value_types b2.locals ≡ value_types b1.locals ++ s.noted of ∷ [] =
+    from_ok R i (λ z. value_types b2.locals ≡ value_types b1.locals ++ s.noted c.in_ok-initial.initial.kind ∷ []) o c.add_local.ensures.locals ∙ ap (λ k. value_types b1.locals ++ s.noted k ∷ []) h.kind in
+    let routines : typed_routines b2.routines ≡ typed_routines b1.routines = ap typed_routines (from_ok R i (λ z. b2.routines ≡ b1.routines) o c.add_local.ensures.routines) in
+    let local : b2.local ≡ min (b1.local + 1) (2 ^ 32 - 1) = from_ok R i (λ z. b2.local ≡ min (b1.local + 1) (2 ^ 32 - 1)) o c.add_local.ensures.local in
+    let function : b2.function ≡ b1.function = from_ok R i (λ z. b2.function ≡ b1.function) o c.add_local.ensures.function in
+    let make : Option e.TypedTree → ℕ → TypedDeclaration = λ y j. record { name = Local j; first = y } in
+    let all : IsBuilt b0 b2 (s.first_made p S shape first >=> λ y. a_local (s.noted of) (make y)) (make x i) =
+    then b0 b1 b2 (s.first_made p S shape first) (λ y. a_local (s.noted of) (make y)) x (make x i) h.built (one_made b1 b2 (s.noted of) (make x) i number locals routines local function) in
+    via b0 b2 (s.first_made p S shape first >=> λ y. a_local (s.noted of) (make y)) (steps.local_made p S (declaration a)) (make x i) (make (optional_typed_tree c.in_ok-first-2.first) i)
+    (sym (ap (steps.local_made p S) (declaration_parts a))) (sym (ap (λ z. make (optional_typed_tree z) i) (c.in_ok-first-2.ensures.kept ∙ c.in_ok-first.ensures.kept))) all
+
+pub build_routines::build_inner-returns-clause-own : goal.build_routines::build_inner-returns-clause-own
+build_routines::build_inner-returns-clause-own t c = λ fits.
+    let p = c.args.plan.now in
+    let made = c.nothing_built-builder.ensures in
+    ap (λ us. routine_of us (value_types c.build_body.new.builder.locals) v.Nothing (typed_statements c.in_ok-stmts.stmts)) (ap value_types c.new.ensures)
+    ∙ (routine_built p [] v.Nothing (s.body_made p (s.site c.args.site.now) (routine c.args.body.now)) c.args.n c.nothing_built-builder.result c.build_body.new.builder (typed_statements c.in_ok-stmts.stmts)
+    made.local (made.function ∙ c.one_more.ensures) made.locals made.routines c.in_ok-stmts.ensures fits).0
+
+pub build_routines::build_inner-returns-clause-inner : goal.build_routines::build_inner-returns-clause-inner
+build_routines::build_inner-returns-clause-inner t c = λ fits.
+    let p = c.args.plan.now in
+    let made = c.nothing_built-builder.ensures in
+    (routine_built p [] v.Nothing (s.body_made p (s.site c.args.site.now) (routine c.args.body.now)) c.args.n c.nothing_built-builder.result c.build_body.new.builder (typed_statements c.in_ok-stmts.stmts)
+    made.local (made.function ∙ c.one_more.ensures) made.locals made.routines c.in_ok-stmts.ensures fits).1.0
+
+pub build_routines::build_inner-returns-clause-behind : goal.build_routines::build_inner-returns-clause-behind
+build_routines::build_inner-returns-clause-behind t c = λ fits.
+    let p = c.args.plan.now in
+    let made = c.nothing_built-builder.ensures in
+    (routine_built p [] v.Nothing (s.body_made p (s.site c.args.site.now) (routine c.args.body.now)) c.args.n c.nothing_built-builder.result c.build_body.new.builder (typed_statements c.in_ok-stmts.stmts)
+    made.local (made.function ∙ c.one_more.ensures) made.locals made.routines c.in_ok-stmts.ensures fits).1.1
+
+pub build_statements::build_statement-returns-in_ok-all-in-Block-clause-grown : goal.build_statements::build_statement-returns-in_ok-all-in-Block-clause-grown
+build_statements::build_statement-returns-in_ok-all-in-Block-clause-grown t c =
+    let S = s.site c.args.site.now in
+    let Q = s.site c.build_statements.new.site in
+    let Z = s.site c.end.new.site in
+    let around = c.begin-around.result in
+    let h = c.begin-around.ensures in
+    let G : Grown S Q = grown_is S (b.in_block S) Q (grown_block S) (c.in_ok-all-in-Block.ensures.site ∙ h.site) in
+    grown_is S S Z (grown_not S) (site_closed S Q Z around.scope.locals around.scope.block around.spots G c.end.ensures.place c.end.ensures.spots h.locals h.block h.spots)
+
+pub build_statements::build_statement-returns-in-If-clause-grown : goal.build_statements::build_statement-returns-in-If-clause-grown
+build_statements::build_statement-returns-in-If-clause-grown t c = grown_on_ok c.args.plan.now c.args.builder.now.local (s.site c.args.site.now) (s.site c.build_if.new.site) (statement c.args.a.now) c.build_if.result c.build_if.ensures.site
+
+pub build_statements::build_statement-returns-in-While-clause-grown : goal.build_statements::build_statement-returns-in-While-clause-grown
+build_statements::build_statement-returns-in-While-clause-grown t c = grown_on_ok c.args.plan.now c.args.builder.now.local (s.site c.args.site.now) (s.site c.build_while.new.site) (statement c.args.a.now) c.build_while.result c.build_while.ensures.site
+
+pub build_statements::build_statement-returns-in-For-clause-grown : goal.build_statements::build_statement-returns-in-For-clause-grown
+build_statements::build_statement-returns-in-For-clause-grown t c = grown_on_ok c.args.plan.now c.args.builder.now.local (s.site c.args.site.now) (s.site c.build_for.new.site) (statement c.args.a.now) c.build_for.result c.build_for.ensures.site
+
+pub build_statements::build_statement-returns-in-ForOf-clause-grown : goal.build_statements::build_statement-returns-in-ForOf-clause-grown
+build_statements::build_statement-returns-in-ForOf-clause-grown t c = grown_on_ok c.args.plan.now c.args.builder.now.local (s.site c.args.site.now) (s.site c.build_for_of.new.site) (statement c.args.a.now) c.build_for_of.result c.build_for_of.ensures.site
+
+pub build_statements::build_statement-returns-in_ok-value-in-Return-clause-grown : goal.build_statements::build_statement-returns-in_ok-value-in-Return-clause-grown
+build_statements::build_statement-returns-in_ok-value-in-Return-clause-grown t c = grown_not (s.site c.args.site.now)
+
+pub build_statements::build_statement-returns-in-Break-clause-grown : goal.build_statements::build_statement-returns-in-Break-clause-grown
+build_statements::build_statement-returns-in-Break-clause-grown t c = grown_not (s.site c.args.site.now)
+
+pub build_statements::build_statement-returns-in-Continue-clause-grown : goal.build_statements::build_statement-returns-in-Continue-clause-grown
+build_statements::build_statement-returns-in-Continue-clause-grown t c = grown_not (s.site c.args.site.now)
+
+pub build_statements::build_statement-returns-in_ok-e-in-Plain-clause-grown : goal.build_statements::build_statement-returns-in_ok-e-in-Plain-clause-grown
+build_statements::build_statement-returns-in_ok-e-in-Plain-clause-grown t c = grown_not (s.site c.args.site.now)
+
+pub build_statements::build_statement-returns-in-Empty-clause-grown : goal.build_statements::build_statement-returns-in-Empty-clause-grown
+build_statements::build_statement-returns-in-Empty-clause-grown t c = grown_not (s.site c.args.site.now)
