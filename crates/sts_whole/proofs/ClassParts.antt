@@ -6,6 +6,8 @@ use Rattle.sts_scope.proofs.Laws.{drop_at}
 use Rattle.sts_syntax.specs.TypedTrees.{TypedStatement}
 use Rattle.sts_scope.specs.Entries.{Naming, member_entry, member_entries}
 use Rattle.sts_scope.specs.Handlers.{member_routines, members_routines, declared_handlers, routine_handlers}
+use Rattle.text_sizes.specs.Numbered.{member_numbered, members_numbered}
+use Rattle.text_sizes.proofs.Laws.{member_routines_numbered}
 use Rattle.typed_trees.specs.declared.build_places.Plan.{Plan}
 use Rattle.typed_trees.specs.Sites.{naming}
 use Rattle.sts_whole.specs.Wholes as w
@@ -44,28 +46,32 @@ declared_left names c d d' xs i x whole lt is hd inv =
     omega (arith, e, hd, inv)
 
 -- a member has a number where all that are left have numbers, and so have those behind it
-pub member_numbered : (names : Naming) (c d : ℕ) (xs : List Member) (i : ℕ) (x : Member) → i < length xs → x ≡ get_or xs i x
+pub member_declared : (names : Naming) (c d : ℕ) (xs : List Member) (i : ℕ) (x : Member) → i < length xs → x ≡ get_or xs i x
     → d + length (member_entries names c (class_members (drop i xs))) < 2 ^ 64 → d + length (member_entry names c (class_member x)) < 2 ^ 64
-member_numbered names c d xs i x lt is h =
+member_declared names c d xs i x lt is h =
     let e = ap (λ (q : List Member). length (member_entries names c (class_members q))) (drop_at xs i x lt is) ∙ members_behind names c (class_member x) (class_members (drop (i + 1) xs)) in
     omega (arith, e, h)
 
-pub members_numbered : (names : Naming) (c d d' : ℕ) (xs : List Member) (i : ℕ) (x : Member) → i < length xs → x ≡ get_or xs i x → d' ≡ d + length (member_entry names c (class_member x))
+pub members_declared : (names : Naming) (c d d' : ℕ) (xs : List Member) (i : ℕ) (x : Member) → i < length xs → x ≡ get_or xs i x → d' ≡ d + length (member_entry names c (class_member x))
     → d + length (member_entries names c (class_members (drop i xs))) < 2 ^ 64 → d' + length (member_entries names c (class_members (drop (i + 1) xs))) < 2 ^ 64
-members_numbered names c d d' xs i x lt is hd h =
+members_declared names c d d' xs i x lt is hd h =
     let e = declared_left names c d d' xs i x (d + length (member_entries names c (class_members (drop i xs)))) lt is hd refl in
     omega (arith, e, h)
 
-pub member_counted : (n : ℕ) (xs : List Member) (i : ℕ) (x : Member) → i < length xs → x ≡ get_or xs i x → n + members_routines (class_members (drop i xs)) < 2 ^ 32 → n + member_routines (class_member x) < 2 ^ 32
+pub member_counted : (n : ℕ) (xs : List Member) (i : ℕ) (x : Member) → i < length xs → x ≡ get_or xs i x → n + members_numbered (class_members (drop i xs)) < 2 ^ 32 → n + member_numbered (class_member x) < 2 ^ 32
 member_counted n xs i x lt is h =
-    let e = ap (λ (q : List Member). members_routines (class_members q)) (drop_at xs i x lt is) in
+    let e = ap (λ (q : List Member). members_numbered (class_members q)) (drop_at xs i x lt is) in
     omega (arith, e, h)
 
+-- and its functions
+pub member_functions : (n : ℕ) (m : ClassMember) → n + member_numbered m < 2 ^ 32 → n + member_routines m < 2 ^ 32
+member_functions n m h = omega (arith, h, member_routines_numbered m)
+
 pub members_counted : (n n' : ℕ) (xs : List Member) (i : ℕ) (x : Member) → i < length xs → x ≡ get_or xs i x → n' ≡ n + member_routines (class_member x)
-    → n + members_routines (class_members (drop i xs)) < 2 ^ 32 → n' + members_routines (class_members (drop (i + 1) xs)) < 2 ^ 32
+    → n + members_numbered (class_members (drop i xs)) < 2 ^ 32 → n' + members_numbered (class_members (drop (i + 1) xs)) < 2 ^ 32
 members_counted n n' xs i x lt is hn h =
-    let e = ap (λ (q : List Member). members_routines (class_members q)) (drop_at xs i x lt is) in
-    omega (arith, e, hn, h)
+    let e = ap (λ (q : List Member). members_numbered (class_members q)) (drop_at xs i x lt is) in
+    omega (arith, e, hn, h, member_routines_numbered (class_member x))
 
 pub functions_left : (n n' : ℕ) (xs : List Member) (i : ℕ) (x : Member) (whole : ℕ) → i < length xs → x ≡ get_or xs i x → n' ≡ n + member_routines (class_member x)
     → n + members_routines (class_members (drop i xs)) ≡ whole → n' + members_routines (class_members (drop (i + 1) xs)) ≡ whole

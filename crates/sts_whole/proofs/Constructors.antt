@@ -1,12 +1,13 @@
 -- Constructors: the call of the base's first, then the initialisers, then their own statements.
-use Rattle.std.proofs.Common.{◌≡◌, ℕ, zero, suc, ◌+◌, ◌<◌, ◌≤◌, List, [], ◌∷◌, ◌++◌, length, drop, get_or, take, refl, ap, sym, ◌∙◌, subst, arith, length-drop, ◌-◌}
+use Rattle.std.proofs.Common.{◌≡◌, ℕ, zero, suc, ◌+◌, ◌^◌, ◌<◌, ◌≤◌, List, [], ◌∷◌, ◌++◌, length, drop, get_or, take, refl, ap, sym, ◌∙◌, subst, arith, length-drop, ◌-◌}
 use Rattle.std.specs.Prelude.{Some, None, false}
 use Rattle.sts_syntax.specs.declared.trees.Body.{Body, out-Body}
+use Rattle.sts_syntax.specs.declared.trees.Param.{Param}
 use Rattle.sts_syntax.specs.declared.trees.Stmt.{Stmt}
 use Rattle.sts_syntax.specs.declared.typed.TypedBody.{TypedBody}
 use Rattle.sts_syntax.specs.declared.typed.TypedStmt.{TypedStmt}
 use Rattle.sts_syntax.specs.declared.types.Ty.{Ty}
-use Rattle.sts_syntax.specs.Trees.{Trees, Statement, Statements, also, done}
+use Rattle.sts_syntax.specs.Trees.{Trees, Routine, Statement, Statements, also, done}
 use Rattle.sts_syntax.specs.Trees as t
 use Rattle.sts_syntax.specs.Types as value
 use Rattle.sts_syntax.specs.Types.{ValueType}
@@ -28,7 +29,12 @@ use Rattle.typed_trees.specs.declared.build_places.Plan.{Plan}
 use Rattle.typed_trees.specs.Sites as s
 use Rattle.typed_trees.specs.Steps.{IsBuilt}
 use Rattle.typed_trees.specs.Functions as functions
+use Rattle.text_sizes.specs.Numbered.{routine_numbered, statements_numbered}
+use Rattle.typed_numbers.specs.Building.{numbering_of}
+use Rattle.typed_trees.specs.Fits.{numbers_taken}
+use Rattle.typed_trees.specs.Sites.{naming}
 use Rattle.sts_whole.specs.Wholes as w
+use Rattle.sts_whole.proofs.AtMost.{constructor_at_most}
 use Rattle.typed_trees.proofs.Laws.{drop_next, next_value, then, last, onto, StatementsGo}
 
 -- without a base
@@ -170,15 +176,35 @@ abbrev both : Plan → ℕ → ℕ → List TypedStatement → List ValueType �
 both l c n inits vs st all =
     let made = functions.routine l vs (value.Object c) (w.maker_statements l st (base_of l.known.now.classes c) inits (statements all)) n in made.it ∷ made.routines
 
-pub constructor_is : (l : Plan) (c n : ℕ) (inits : List TypedStatement) (body : Body) (vs : List ValueType) (st : b.Site) (all : List Stmt) (own : TypedBody) (inner : List TypedBody)
+pub both_of : (l : Plan) (c n : ℕ) (inits : List TypedStatement) (vs : List ValueType) (st : b.Site) (all : List Stmt) (own : TypedBody) (inner : List TypedBody)
     → typed_routine own ≡ (functions.routine l vs (value.Object c) (w.maker_statements l st (base_of l.known.now.classes c) inits (statements all)) n).it
     → typed_routines inner ≡ (functions.routine l vs (value.Object c) (w.maker_statements l st (base_of l.known.now.classes c) inits (statements all)) n).routines
-    → vs ≡ value.Object c ∷ kind.value_types (w.written_takes l (out-Body body).params) → st ≡ functions.site_of l (this.Object c) (Some kind.nothing) false 1 (parameters (out-Body body).params) → all ≡ (out-Body body).stmts
-    → (typed_routine own ∷ typed_routines inner) ≡ w.constructor_made l c n inits (routine body)
-unfolding w.maker_statements
-constructor_is l c n inits body vs st all own inner eo ei e1 e2 e3 =
+    → (typed_routine own ∷ typed_routines inner) ≡ both l c n inits vs st all
+both_of l c n inits vs st all own inner eo ei =
     let made = functions.routine l vs (value.Object c) (w.maker_statements l st (base_of l.known.now.classes c) inits (statements all)) n in
-    (ap (λ q. q ∷ typed_routines inner) eo ∙ ap (λ q. made.it ∷ q) ei)
-    ∙ (ap (λ q. both l c n inits q st all) e1 ∙ (ap (λ q. both l c n inits (value.Object c ∷ kind.value_types (w.written_takes l (out-Body body).params)) q all) e2
+    ap (λ q. q ∷ typed_routines inner) eo ∙ ap (λ q. made.it ∷ q) ei
+
+-- it is that of a text, with what is taken from there
+pub constructor_whole : (l : Plan) (c n : ℕ) (inits : List TypedStatement) (body : Body) (vs : List ValueType) (st : b.Site) (all : List Stmt)
+    → vs ≡ value.Object c ∷ kind.value_types (w.written_takes l (out-Body body).params) → st ≡ functions.site_of l (this.Object c) (Some kind.nothing) false 1 (parameters (out-Body body).params) → all ≡ (out-Body body).stmts
+    → both l c n inits vs st all ≡ w.constructor_made l c n inits (routine body)
+unfolding w.maker_statements
+constructor_whole l c n inits body vs st all e1 e2 e3 =
+    (ap (λ q. both l c n inits q st all) e1 ∙ (ap (λ q. both l c n inits (value.Object c ∷ kind.value_types (w.written_takes l (out-Body body).params)) q all) e2
     ∙ ap (λ q. both l c n inits (value.Object c ∷ kind.value_types (w.written_takes l (out-Body body).params)) (functions.site_of l (this.Object c) (Some kind.nothing) false 1 (parameters (out-Body body).params)) q) e3))
     ∙ sym (ap (λ q. w.constructor_made l c n inits q) (routine_parts body))
+
+-- 32 bits number it where they number what stands in its text
+pub constructor_fits : (l : Plan) (c n : ℕ) (inits : List TypedStatement) (r : Routine) → n + suc (suc (routine_numbered r)) < 2 ^ 32 → n + numbers_taken (w.constructor_made l c n inits r) < 2 ^ 32
+constructor_fits l c n inits r h =
+    let a = constructor_at_most l.tables.now (naming l) l.known.now (numbering_of l.numbers.now) c n inits r in
+    omega (arith, a, h)
+
+parameters_long : (params : List Param) → length (parameters params) ≡ length params
+parameters_long [] = refl
+parameters_long (a ∷ rest) = ap suc (parameters_long rest)
+
+pub params_few : (n : ℕ) (body : Body) → n + suc (suc (routine_numbered (routine body))) < 2 ^ 32 → 1 + length (out-Body body).params < 2 ^ 32
+params_few n body h =
+    let e : routine_numbered (routine body) ≡ length (parameters (out-Body body).params) + statements_numbered (statements (out-Body body).stmts) = ap routine_numbered (routine_parts body) in
+    omega (arith, e, h, parameters_long (out-Body body).params)

@@ -1,4 +1,4 @@
--- A library and a text have few functions, declarations and classes.
+-- A library and a text have few functions, parameters and locals, declarations and classes.
 use Rattle.std.proofs.Common.{◌≡◌, ℕ, ◌+◌, ◌^◌, ◌<◌, ◌≤◌, List, [], ◌∷◌, ◌++◌, length, ap, arith, length-append}
 use Rattle.sts_base.specs.declared.tables.Tables.{Tables}
 use Rattle.sts_lexer.specs.declared.token.Token.{Token}
@@ -11,7 +11,7 @@ use Rattle.sts_scope.specs.declared.collect.Declared.{Declared}
 use Rattle.sts_scope.specs.declared.known.Known.{Known}
 use Rattle.sts_scope.specs.Entries.{Naming, classes_in, item_class, class_names, item_entries, entries_from}
 use Rattle.sts_scope.specs.Scopes.{all_names}
-use Rattle.text_sizes.proofs.Laws.{most_tokens, few_functions, few_declarations}
+use Rattle.text_sizes.proofs.Laws.{most_tokens, few_numbered, few_declarations}
 use Rattle.type_derive.specs.Solved.{IsSolved}
 use Rattle.sts_whole.specs.Few.{HasFewParts, AreFew}
 use Rattle.sts_whole.proofs.Numbered.{entries_long}
@@ -20,7 +20,7 @@ use Rattle.sts_whole.proofs.Numbered.{entries_long}
 pub spelled_few : (tables : Tables) (tokens : List Token) (p : Program) → length tokens ≤ most_bytes + 1 → IsProgram (source tokens tables) p → HasFewParts p
 spelled_few tables tokens p few h =
     record {
-      functions = (let a = few_functions (source tokens tables) p h in omega (arith, a, few));
+      numbers = (let a = few_numbered (source tokens tables) p h in omega (arith, a, few));
       declarations = λ names first. (let a = few_declarations (source tokens tables) p h names first in omega (arith, a, few));
     }
 
@@ -51,7 +51,7 @@ both_few library text a b =
     let y = b.declarations names (0 + n) in
     let z = classes_declared names 0 (library ++ text) in
     record {
-      functions = omega (arith, a.functions, b.functions);
+      numbers = omega (arith, a.numbers, b.numbers);
       declarations = omega (arith, long, x, y);
       classes = omega (arith, long, x, y, z);
     }

@@ -19,6 +19,7 @@ mod PassPlaces
 mod TextPlaces
 pub mod PlaceLaws
 mod AtMost
+mod Takes
 pub mod Checked
 pub mod ClassParts
 pub mod Classes

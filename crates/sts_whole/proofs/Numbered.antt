@@ -1,8 +1,5 @@
 -- What is still to be built has numbers: of declarations and of functions.
-use Rattle.std.proofs.Common.{◌≡◌, ℕ, ◌+◌, ◌^◌, ◌<◌, ◌≤◌, ◌&&◌, Bool, true, false, Option, None, List, [], ◌∷◌, ◌++◌, length, drop, get_or, refl, ap, sym, ◌∙◌, arith, length-append, zero-add}
-use Rattle.std.specs.Prelude.{nat_le}
-use Rattle.std.specs.List.{list_all}
-use Rattle.std.proofs.lemmas.Bool.Decides.{nat_tests}
+use Rattle.std.proofs.Common.{◌≡◌, ℕ, ◌+◌, ◌^◌, ◌<◌, ◌≤◌, Bool, true, false, Option, None, List, [], ◌∷◌, ◌++◌, length, drop, get_or, refl, ap, sym, ◌∙◌, arith, length-append, zero-add}
 use Rattle.sts_base.specs.declared.refused.Code.TheVariants.{OverLimit}
 use Rattle.sts_syntax.specs.declared.units.Item.{Item}
 use Rattle.sts_syntax.specs.Programs.{TopLevel, Class, Function, Main, Program, top_level, top_levels}
@@ -13,18 +10,18 @@ use Rattle.sts_scope.specs.declared.known.Known.{Known}
 use Rattle.sts_scope.specs.Entries.{Naming, class_names, classes_in, item_class, item_entries, entries_from}
 use Rattle.sts_scope.specs.Faults.{unless}
 use Rattle.sts_scope.specs.Handlers.{item_routines, all_routines}
-use Rattle.sts_scope.specs.Lookup.{is_field}
-use Rattle.sts_scope.specs.Numbers.{is_method}
-use Rattle.sts_scope.specs.Scopes.{is_global, names_of, all_names, library_entries, library_classes}
+use Rattle.sts_scope.specs.Scopes.{all_names, library_entries, library_classes}
+use Rattle.text_sizes.specs.Numbered.{item_numbered, all_numbered}
+use Rattle.text_sizes.proofs.Laws.{item_routines_numbered}
 use Rattle.type_derive.specs.Accepted.{known}
-use Rattle.typed_numbers.specs.Building.{numbering_of, names_upto}
-use Rattle.typed_numbers.specs.Counts.{is_short, counts_fit}
+use Rattle.typed_numbers.specs.Building.{numbering_of}
+use Rattle.typed_numbers.specs.Counts.{counts_fit}
 use Rattle.typed_trees.specs.declared.build_places.Plan.{Plan}
 use Rattle.typed_trees.specs.Sites.{naming}
 use Rattle.sts_whole.specs.declared.build_parts.Whole.{Whole}
 use Rattle.sts_whole.specs.Wholes as w
 use Rattle.sts_whole.specs.Wholes.{AddsPart}
-use Rattle.sts_whole.proofs.AtMost.{library_at_most, text_at_most}
+use Rattle.sts_whole.proofs.AtMost.{library_long, main_at_most, text_long}
 
 -- a part of the library is one declaration at most
 pub library_next : (d : ℕ) (i : TopLevel) → w.library_declaration d i ≤ d + 1
@@ -58,9 +55,9 @@ pub item_declared : (f : Naming) (c d : ℕ) (xs : List Item) (i : ℕ) (x : Ite
     → d + length (entries_from f c (top_levels (drop i xs))) < 2 ^ 64 → d + length (item_entries f c (top_level x)) < 2 ^ 64
 item_declared f c d xs i x lt is h = let e = entries_left f c xs i x lt is in omega (arith, e, h)
 
-pub item_counted : (n : ℕ) (xs : List Item) (i : ℕ) (x : Item) → i < length xs → x ≡ get_or xs i x → n + all_routines (top_levels (drop i xs)) < 2 ^ 32 → n + item_routines (top_level x) < 2 ^ 32
+pub item_counted : (n : ℕ) (xs : List Item) (i : ℕ) (x : Item) → i < length xs → x ≡ get_or xs i x → n + all_numbered (top_levels (drop i xs)) < 2 ^ 32 → n + item_numbered (top_level x) < 2 ^ 32
 item_counted n xs i x lt is h =
-    let e = ap (λ (q : List Item). all_routines (top_levels q)) (drop_at xs i x lt is) in
+    let e = ap (λ (q : List Item). all_numbered (top_levels q)) (drop_at xs i x lt is) in
     omega (arith, e, h)
 
 pub item_classes : (c : ℕ) (xs : List Item) (i : ℕ) (x : Item) → i < length xs → x ≡ get_or xs i x → c + length (class_names (top_levels (drop i xs))) < 2 ^ 32 → c + classes_in (top_level x) < 2 ^ 32
@@ -78,10 +75,24 @@ items_declared l old new xs i x lt is a h =
     omega (arith, e, k, h, a.declaration)
 
 pub items_counted : (l : Plan) (old new : Whole) (xs : List Item) (i : ℕ) (x : Item) → i < length xs → x ≡ get_or xs i x → AddsPart l old new (top_level x)
-    → old.builder.function + all_routines (top_levels (drop i xs)) < 2 ^ 32 → new.builder.function + all_routines (top_levels (drop (i + 1) xs)) < 2 ^ 32
+    → old.builder.function + all_numbered (top_levels (drop i xs)) < 2 ^ 32 → new.builder.function + all_numbered (top_levels (drop (i + 1) xs)) < 2 ^ 32
 items_counted l old new xs i x lt is a h =
-    let e = ap (λ (q : List Item). all_routines (top_levels q)) (drop_at xs i x lt is) in
-    omega (arith, e, h, a.function)
+    let e = ap (λ (q : List Item). all_numbered (top_levels q)) (drop_at xs i x lt is) in
+    omega (arith, e, h, a.function, item_routines_numbered (top_level x))
+
+-- the locals of a part have numbers
+item_locals : (l : Plan) (old : Whole) (i : TopLevel) → length (w.item_of l old i).locals ≤ item_numbered i
+item_locals l old (Class at x base base_at members) = omega arith
+item_locals l old (Function x r) = omega arith
+item_locals l old (Main a) =
+    let m = main_at_most l.tables.now (naming l) l.known.now (numbering_of l.numbers.now) old.declaration a old.builder.local old.builder.function in
+    omega (arith, m)
+
+pub items_located : (l : Plan) (old new : Whole) (xs : List Item) (i : ℕ) (x : Item) → i < length xs → x ≡ get_or xs i x → AddsPart l old new (top_level x)
+    → old.builder.local + all_numbered (top_levels (drop i xs)) < 2 ^ 32 → new.builder.local + all_numbered (top_levels (drop (i + 1) xs)) < 2 ^ 32
+items_located l old new xs i x lt is a h =
+    let e = ap (λ (q : List Item). all_numbered (top_levels q)) (drop_at xs i x lt is) in
+    omega (arith, e, h, a.local, item_locals l old (top_level x))
 
 pub items_classes : (l : Plan) (old new : Whole) (xs : List Item) (i : ℕ) (x : Item) → i < length xs → x ≡ get_or xs i x → AddsPart l old new (top_level x)
     → old.class + length (class_names (top_levels (drop i xs))) < 2 ^ 32 → new.class + length (class_names (top_levels (drop (i + 1) xs))) < 2 ^ 32
@@ -92,11 +103,11 @@ items_classes l old new xs i x lt is a h =
 
 -- a part of the library has numbers where all that are left have numbers, and so have those behind it
 pub library_counted : (n n' : ℕ) (xs : List Item) (i : ℕ) (x : Item) → i < length xs → x ≡ get_or xs i x → n' ≡ w.library_function n (top_level x)
-    → n + all_routines (top_levels (drop i xs)) < 2 ^ 32 → n' + all_routines (top_levels (drop (i + 1) xs)) < 2 ^ 32
+    → n + all_numbered (top_levels (drop i xs)) < 2 ^ 32 → n' + all_numbered (top_levels (drop (i + 1) xs)) < 2 ^ 32
 library_counted n n' xs i x lt is hn h =
-    let e = ap (λ (q : List Item). all_routines (top_levels q)) (drop_at xs i x lt is) in
+    let e = ap (λ (q : List Item). all_numbered (top_levels q)) (drop_at xs i x lt is) in
     let a = at_most (top_level x) in
-    omega (arith, e, a, hn, h)
+    omega (arith, e, a, hn, h, item_routines_numbered (top_level x))
   where
     at_most : (t : TopLevel) → w.library_function n t ≤ n + item_routines t
     at_most (Class at y base base_at members) = omega arith
@@ -132,32 +143,16 @@ text_declared l c library text kinds en ek ec =
     ∙ ap (λ (q : ℕ). library_entries library text + length (entries_from f q text)) (ec ∙ sym z)
     ∙ sym all ∙ ap (λ (q : Known). length q.entries) (sym ek)
 
--- all functions of a library and a text have numbers where those that stand in their trees have
+-- all functions of a library and a text have numbers where all that stands in their trees has
 pub routines_counted : (l : Plan) (c : ℕ) (library text : Program) (all : List TypedRoutine) → all ≡ w.library_made l 0 0 library ++ (w.text_made l c library text).routines
-    → all_routines library + all_routines text < 2 ^ 32 → length all < 2 ^ 32
+    → all_numbered library + all_numbered text < 2 ^ 32 → length all < 2 ^ 32
 routines_counted l c library text all is h =
     let first = w.library_made l 0 0 library in
-    let rest = (w.text_made l c library text).routines in
-    let a : length first ≤ all_routines library = library_at_most l.tables.now (naming l) l.known.now (numbering_of l.numbers.now) 0 0 library in
-    let b : length rest ≤ all_routines text = text_at_most l.tables.now (naming l) l.known.now (numbering_of l.numbers.now) c l.known.now.library 0 (all_routines library) text in
-    let e : length all ≡ length first + length rest = ap length is ∙ length-append first rest in
+    let made = w.text_made l c library text in
+    let a : length first ≤ all_numbered library = library_long l.tables.now (naming l) l.known.now (numbering_of l.numbers.now) 0 0 library in
+    let b : length made.locals + length made.routines ≤ all_numbered text = text_long l.tables.now (naming l) l.known.now (numbering_of l.numbers.now) c l.known.now.library 0 (all_routines library) text in
+    let e : length all ≡ length first + length made.routines = ap length is ∙ length-append first made.routines in
     omega (arith, a, b, e, h)
-
--- what the counted limits say of the classes
-both : (x y : Bool) → (x && y) ≡ true → (x ≡ true) × (y ≡ true)
-both true y h = (refl, h)
-both false y h = cc
-
-pub classes_few : (k : Known) → counts_fit k ≡ true → length k.classes < 2 ^ 32
-classes_few k h =
-    let n = length k.classes in
-    let (h3, slots) = both (nat_le n 64 && nat_le (length (names_of is_global k.entries)) 256 && list_all is_short (names_upto is_field k n)) (list_all is_short (names_upto is_method k n)) h in
-    let (h2, fields) = both (nat_le n 64 && nat_le (length (names_of is_global k.entries)) 256) (list_all is_short (names_upto is_field k n)) h3 in
-    let (h1, globals) = both (nat_le n 64) (nat_le (length (names_of is_global k.entries)) 256) h2 in
-    at_most n h1
-  where
-    at_most : (n : ℕ) → nat_le n 64 ≡ true → n < 2 ^ 32
-    at_most n h = grind (arith, nat_tests)
 
 -- a program of which no count is past a limit
 pub counts_hold : (k : Known) → unless (counts_fit k) OverLimit 0 ≡ None → counts_fit k ≡ true

@@ -1,5 +1,5 @@
 // An image, run on a board.
-ghost use Rattle.std.specs.Prelude.{◌≡◌, ◌≤◌, [], List, ℕ, IfOk, OnErr, vec_len};
+ghost use Rattle.std.specs.Prelude.{◌≡◌, ◌≤◌, [], IfOk, OnErr, vec_len};
 ghost use Rattle.thumb_code.specs.Map.{flash_end};
 ghost use Rattle.tool_io.specs.Putting.{Took};
 ghost use Rattle.event_script.specs.Sound.{IsSound};

@@ -1,17 +1,17 @@
 // Classes of a typed program with the functions in them, and the types of its globals.
-ghost use Rattle.std.specs.Prelude.{◌≡◌, suc, ◌+◌, ◌^◌, ◌<◌, ◌++◌, [], length, map, get_or, Some, None, IfOk, OnOk};
+ghost use Rattle.std.specs.Prelude.{◌≡◌, suc, ◌+◌, ◌^◌, ◌<◌, ◌++◌, length, map, Some, None, IfOk, OnOk};
 ghost use Rattle.sts_syntax.specs.Types as value;
 ghost use Rattle.sts_syntax.specs.Programs.{class_member, class_members};
 ghost use Rattle.sts_syntax.specs.TypedViews as view;
 ghost use Rattle.sts_syntax.specs.TypedViews.{typed_routines};
 ghost use Rattle.sts_scope.specs.Entries as entry;
 ghost use Rattle.sts_syntax.specs.Views.{declaration};
-ghost use Rattle.sts_scope.specs.Scopes as scope;
 ghost use Rattle.sts_scope.specs.Lookup as look;
 ghost use Rattle.sts_scope.specs.Handlers as h;
 ghost use Rattle.sts_scope.specs.Numbers as number;
-ghost use Rattle.typed_numbers.specs.Building.{numbering_of};
+ghost use Rattle.text_sizes.specs.Numbered as numbered;
 ghost use Rattle.typed_trees.specs.Sites.{IsPlan, naming};
+ghost use Rattle.sts_whole.specs.Few.{HasFewTakes};
 ghost use Rattle.sts_whole.specs.Numbered.{AreNumbered};
 ghost use Rattle.sts_whole.specs.Wholes as w;
 
@@ -93,8 +93,7 @@ fn class_entry(plan: &Plan, class: u32) -> Result<TypedClass, NoMemory>
 
 /// All classes.
 pub fn class_entries(plan: &Plan) -> Result<Seq<TypedClass>, NoMemory>
-    requires plan { IsPlan plan.now }
-    requires few { length plan.now.known.now.classes < 2 ^ 32 }
+    requires { IsPlan plan.now }
     ensures { IfOk result (λ all. view.class_entries all ≡ w.class_entries plan.now 0 plan.now.known.now.classes) }
 {
     let mut all = Seq::new(plan.alloc);
@@ -135,7 +134,8 @@ fn add_inner(
     n: u32,
     a: &Binding,
 ) -> Result<(), NoMemory>
-    requires { IsPlan plan.now }
+    requires plan { IsPlan plan.now }
+    requires functions { n + numbered.declared_numbered (declaration a.now) < 2 ^ 32 }
     ensures { OnOk result (typed_routines routines.new ≡ typed_routines routines.old ++ (w.initial_made plan.now class n (declaration a.now)).routines) }
 {
     let Initial { inner, .. } = build_field(plan, class, n, a)?;
@@ -152,6 +152,7 @@ fn add_member(
 ) -> Result<(), NoMemory>
     requires plan { IsPlan plan.now }
     requires numbered { AreNumbered plan.now parts.now }
+    requires functions { next.function + numbered.member_numbered (class_member member.now) < 2 ^ 32 }
     ensures { OnOk result (typed_routines routines.new ≡ typed_routines routines.old ++ w.member_made plan.now parts.now.class (w.initials_of plan.now parts.now) next.function next.declaration (class_member member.now)) }
 {
     let class = parts.class;
@@ -197,7 +198,8 @@ pub fn add_class(
 ) -> Result<Next, NoMemory>
     requires plan { IsPlan plan.now }
     requires declarations { next.declaration + suc (length (entry.member_entries (naming plan.now) class (class_members members.now))) < 2 ^ 64 }
-    requires functions { next.function + (h.unwritten (class_members members.now) + h.members_routines (class_members members.now)) < 2 ^ 32 }
+    requires functions { next.function + (h.unwritten (class_members members.now) + numbered.members_numbered (class_members members.now)) < 2 ^ 32 }
+    requires takes { HasFewTakes plan.now }
     ensures routines { OnOk result (typed_routines routines.new ≡ typed_routines routines.old ++ w.class_made plan.now class next.function (suc next.declaration) (class_members members.now)) }
     ensures declaration { IfOk result (λ n. n.declaration ≡ next.declaration + suc (length (entry.member_entries (naming plan.now) class (class_members members.now)))) }
     ensures function { IfOk result (λ n. n.function ≡ next.function + (h.unwritten (class_members members.now) + h.members_routines (class_members members.now))) }

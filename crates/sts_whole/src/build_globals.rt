@@ -1,7 +1,6 @@
 // Statements of the main program: a declaration in it gives globals their first values.
-ghost use Rattle.std.specs.Prelude.{◌≡◌, ◌+◌, ◌^◌, ◌<◌, ◌++◌, length, IfOk, OnOk};
-ghost use Rattle.sts_syntax.specs.Types.{value_types};
-ghost use Rattle.sts_syntax.specs.TypedViews.{typed_declaration, typed_declarations, typed_routines, typed_statement};
+ghost use Rattle.std.specs.Prelude.{◌+◌, ◌^◌, ◌<◌, length, IfOk};
+ghost use Rattle.sts_syntax.specs.TypedViews.{typed_declaration, typed_declarations, typed_statement};
 ghost use Rattle.sts_syntax.specs.Views.{declaration, declarations, statement};
 ghost use Rattle.sts_scope.specs.declared.known.This.TheVariants as this;
 ghost use Rattle.sts_scope.specs.Entries as entry;
@@ -27,11 +26,7 @@ pub fn build_global(
     a: &Binding,
 ) -> Result<TypedBinding, NoMemory>
     requires { IsPlan plan.now }
-    ensures made { IfOk result (λ r. typed_declaration r ≡ (w.global_made plan.now (s.site site.now) number (declaration a.now) builder.old.local builder.old.function).it) }
-    ensures locals { OnOk result (value_types builder.new.locals ≡ value_types builder.old.locals ++ (w.global_made plan.now (s.site site.now) number (declaration a.now) builder.old.local builder.old.function).locals) }
-    ensures routines { OnOk result (typed_routines builder.new.routines ≡ typed_routines builder.old.routines ++ (w.global_made plan.now (s.site site.now) number (declaration a.now) builder.old.local builder.old.function).routines) }
-    ensures local { OnOk result (builder.new.local ≡ builder.old.local + length (w.global_made plan.now (s.site site.now) number (declaration a.now) builder.old.local builder.old.function).locals) }
-    ensures function { OnOk result (builder.new.function ≡ builder.old.function + length (w.global_made plan.now (s.site site.now) number (declaration a.now) builder.old.local builder.old.function).routines) }
+    ensures { IfOk result (λ r. IsBuilt builder.old builder.new (w.global_made plan.now (s.site site.now) number (declaration a.now)) (typed_declaration r)) }
 {
     let first = build_first(plan, site, builder, &a.shape, &a.first)?;
     Ok(TypedBinding {

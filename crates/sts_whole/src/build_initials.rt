@@ -1,5 +1,5 @@
 // Initialisers of a class's own fields: each constructor begins with them.
-ghost use Rattle.std.specs.Prelude.{◌≡◌, ◌++◌, ◌∷◌, [], None, IfOk, OnOk};
+ghost use Rattle.std.specs.Prelude.{◌≡◌, ◌+◌, ◌^◌, ◌<◌, ◌++◌, ◌∷◌, [], None, IfOk, OnOk};
 ghost use Rattle.sts_syntax.specs.TypedTrees as e;
 ghost use Rattle.sts_syntax.specs.Types as value;
 ghost use Rattle.sts_syntax.specs.Types.{value_type};
@@ -7,6 +7,7 @@ ghost use Rattle.sts_syntax.specs.TypedViews.{optional_typed_tree, typed_tree, t
 ghost use Rattle.sts_syntax.specs.Views.{declaration};
 ghost use Rattle.sts_syntax.specs.Programs.{class_member};
 ghost use Rattle.sts_scope.specs.Numbers as number;
+ghost use Rattle.text_sizes.specs.Numbered as numbered;
 ghost use Rattle.typed_trees.specs.Sites as s;
 ghost use Rattle.typed_trees.specs.Sites.{IsPlan};
 ghost use Rattle.sts_whole.specs.Numbered.{AreNumbered};
@@ -18,7 +19,8 @@ use sts_scope::{Kind, This};
 use sts_syntax::{Binding, Member, Ty, TypedBody, TypedExpr, TypedNode, TypedStmt};
 use type_derive::{kind_at, outer_scope};
 use typed_trees::{
-    Builder, Gathered, Plan, Site, Spots, beside, boxed, build_first, field_number, noted_type,
+    Gathered, Plan, Site, Spots, beside, boxed, build_first, field_number, noted_type,
+    nothing_built,
 };
 
 /// A field's initialiser, and the functions that stand in it.
@@ -41,17 +43,13 @@ pub fn outer_site<'a>(plan: &Plan, this: This) -> Site<'a>
 /// The initialiser of a class's field, whose first function has the number n.
 #[tactic(auto, using(crate::proofs::Initials::initial_is))]
 pub fn build_field(plan: &Plan, class: u32, n: u32, a: &Binding) -> Result<Initial, NoMemory>
-    requires { IsPlan plan.now }
+    requires plan { IsPlan plan.now }
+    requires functions { n + numbered.declared_numbered (declaration a.now) < 2 ^ 32 }
     ensures first { IfOk result (λ r. optional_typed_tree r.first ≡ (w.initial_made plan.now class n (declaration a.now)).it) }
     ensures inner { IfOk result (λ r. typed_routines r.inner ≡ (w.initial_made plan.now class n (declaration a.now)).routines) }
 {
     let site = outer_site(plan, This::Object(class));
-    let mut builder = Builder {
-        locals: Seq::new(plan.alloc),
-        routines: Gathered::new(plan.alloc),
-        local: 0,
-        function: n,
-    };
+    let mut builder = nothing_built(plan.alloc, n);
     let first = build_first(plan, &site, &mut builder, &a.shape, &a.first)?;
     Ok(Initial {
         first,
@@ -124,7 +122,8 @@ fn add_field(
     next: Next,
     a: &Binding,
 ) -> Result<(), NoMemory>
-    requires { IsPlan plan.now }
+    requires plan { IsPlan plan.now }
+    requires functions { next.function + numbered.declared_numbered (declaration a.now) < 2 ^ 32 }
     ensures { OnOk result (w.typed_list all.new ≡ w.typed_list all.old ++ w.set_field plan.now class next.declaration (declaration a.now) (w.initial_made plan.now class next.function (declaration a.now)).it) }
 {
     let Initial { first, .. } = build_field(plan, class, next.function, a)?;
@@ -145,7 +144,8 @@ fn add_member_initial(
     next: Next,
     member: &Member,
 ) -> Result<(), NoMemory>
-    requires { IsPlan plan.now }
+    requires plan { IsPlan plan.now }
+    requires functions { next.function + numbered.member_numbered (class_member member.now) < 2 ^ 32 }
     ensures { OnOk result (w.typed_list all.new ≡ w.typed_list all.old ++ w.member_initials plan.now class next.function next.declaration (class_member member.now)) }
 {
     match member {

@@ -1,12 +1,14 @@
 // Constructors. Each calls its base's first, then come the initialisers of its class's fields, then its own statements.
-ghost use Rattle.std.specs.Prelude.{◌≡◌, ◌∷◌, [], ◌++◌, Some, IfOk, OnOk};
+ghost use Rattle.std.specs.Prelude.{◌≡◌, suc, ◌+◌, ◌^◌, ◌<◌, ◌∷◌, [], ◌++◌, length, Some, IfOk, OnOk};
 ghost use Rattle.sts_syntax.specs.Types as value;
-ghost use Rattle.sts_syntax.specs.Types.{value_types, value_type};
+ghost use Rattle.sts_syntax.specs.Types.{value_types};
 ghost use Rattle.sts_syntax.specs.TypedViews.{typed_trees, typed_routine, typed_routines, typed_statement, typed_statements};
 ghost use Rattle.sts_syntax.specs.Views.{trees, statements, routine};
 ghost use Rattle.sts_scope.specs.Kinds as kind;
 ghost use Rattle.sts_scope.specs.Lookup.{base_of as base};
 ghost use Rattle.type_derive.specs.Programs.{passed_on as passes};
+ghost use Rattle.text_sizes.specs.Numbered as numbered;
+ghost use Rattle.typed_trees.specs.Fits.{RoutineFits};
 ghost use Rattle.typed_trees.specs.Sites as s;
 ghost use Rattle.typed_trees.specs.Sites.{IsPlan};
 ghost use Rattle.typed_trees.specs.Steps.{IsBuilt};
@@ -24,11 +26,12 @@ use type_derive::head_of;
 use typed_numbers::base_of;
 use typed_trees::{
     Builder, Function, Gathered, Plan, Site, add, add_types, build_given, build_statement,
-    function_site, maker_number, one_more, type_of_values,
+    function_site, maker_number, nothing_built, one_more, type_of_values,
 };
 
 /// Parameters of some types that are passed on, from one on.
 pub fn passed_on(alloc: Global, first: u32, takes: &[Kind]) -> Result<Seq<TypedExpr>, NoMemory>
+    requires { first + length takes.now < 2 ^ 32 }
     ensures { IfOk result (λ all. typed_trees all ≡ passes first takes.now) }
 {
     let mut all = Seq::new(alloc);
@@ -37,7 +40,7 @@ pub fn passed_on(alloc: Global, first: u32, takes: &[Kind]) -> Result<Seq<TypedE
         let ty = type_of_values(*kind);
         let node = TypedNode::Name(Spot::Param(at));
         all.push(TypedExpr { ty, node })?;
-        at = one_more(at)?;
+        at += 1;
     }
     Ok(all)
 }
@@ -179,15 +182,11 @@ fn build_constructor(
 ) -> Result<Function, NoMemory>
     requires plan { IsPlan plan.now }
     requires numbered { AreNumbered plan.now parts.now }
+    requires fits { RoutineFits n (functions.routine plan.now (value_types params) (value.Object parts.now.class) (w.maker_statements plan.now (s.site site.old) (base plan.now.known.now.classes parts.now.class) (w.initials_of plan.now parts.now) (statements all.now)) n) }
     ensures own { IfOk result (λ f. typed_routine f.own ≡ (functions.routine plan.now (value_types params) (value.Object parts.now.class) (w.maker_statements plan.now (s.site site.old) (base plan.now.known.now.classes parts.now.class) (w.initials_of plan.now parts.now) (statements all.now)) n).it) }
     ensures inner { IfOk result (λ f. typed_routines f.inner ≡ (functions.routine plan.now (value_types params) (value.Object parts.now.class) (w.maker_statements plan.now (s.site site.old) (base plan.now.known.now.classes parts.now.class) (w.initials_of plan.now parts.now) (statements all.now)) n).routines) }
 {
-    let mut builder = Builder {
-        locals: Seq::new(plan.alloc),
-        routines: Gathered::new(plan.alloc),
-        local: 0,
-        function: one_more(n)?,
-    };
+    let mut builder = nothing_built(plan.alloc, one_more(n));
     let stmts = build_made(plan, site, &mut builder, parts, all)?;
     let Builder {
         locals,
@@ -234,6 +233,7 @@ pub fn add_constructor(
 ) -> Result<(), NoMemory>
     requires plan { IsPlan plan.now }
     requires numbered { AreNumbered plan.now parts.now }
+    requires functions { n + suc (suc (numbered.routine_numbered (routine body.now))) < 2 ^ 32 }
     ensures { OnOk result (typed_routines routines.new ≡ typed_routines routines.old ++ w.constructor_made plan.now parts.now.class n (w.initials_of plan.now parts.now) (routine body.now)) }
 {
     let class = parts.class;
@@ -265,6 +265,7 @@ fn add_passed(
     base: Option<u32>,
     takes: &[Kind],
 ) -> Result<(), NoMemory>
+    requires { 1 + length takes.now < 2 ^ 32 }
     ensures { OnOk result (w.typed_list all.new ≡ w.typed_list all.old ++ w.passes_on plan.now base takes.now) }
 {
     match base {

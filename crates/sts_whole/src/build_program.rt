@@ -13,8 +13,9 @@ ghost use Rattle.sts_scope.specs.Numbers as number;
 ghost use Rattle.type_derive.specs.Programs.{◌before◌};
 ghost use Rattle.typed_numbers.specs.Building.{numbering_of};
 ghost use Rattle.typed_numbers.specs.Counts.{counts_fit};
+ghost use Rattle.text_sizes.specs.Numbered as numbered;
 ghost use Rattle.typed_trees.specs.Sites.{IsPlan, naming};
-ghost use Rattle.sts_whole.specs.Few.{AreFew};
+ghost use Rattle.sts_whole.specs.Few.{AreFew, HasFewTakes};
 ghost use Rattle.sts_whole.specs.Wholes as w;
 ghost use Rattle.sts_whole.specs.Wholes.{AddsPart};
 
@@ -40,7 +41,7 @@ fn add_library_item(
 ) -> Result<Next, NoMemory>
     requires plan { IsPlan plan.now }
     requires numbered { next.declaration + 1 < 2 ^ 64 }
-    requires functions { next.function + h.item_routines (top_level item.now) < 2 ^ 32 }
+    requires functions { next.function + numbered.item_numbered (top_level item.now) < 2 ^ 32 }
     ensures routines { OnOk result (typed_routines routines.new ≡ typed_routines routines.old ++ w.library_item plan.now next.declaration next.function (top_level item.now)) }
     ensures declaration { IfOk result (λ n. n.declaration ≡ w.library_declaration next.declaration (top_level item.now)) }
     ensures function { IfOk result (λ n. n.function ≡ w.library_function next.function (top_level item.now)) }
@@ -63,7 +64,7 @@ pub fn add_library(
     items: &[Item],
 ) -> Result<(), NoMemory>
     requires plan { IsPlan plan.now }
-    requires functions { h.all_routines (top_levels items.now) < 2 ^ 32 }
+    requires functions { numbered.all_numbered (top_levels items.now) < 2 ^ 32 }
     ensures { OnOk result (typed_routines routines.new ≡ typed_routines routines.old ++ w.library_made plan.now 0 0 (top_levels items.now)) }
 {
     let mut next = Next {
@@ -80,8 +81,9 @@ pub fn add_library(
 fn add_class_item(plan: &Plan, whole: &mut Whole, members: &[Member]) -> Result<(), NoMemory>
     requires plan { IsPlan plan.now }
     requires declarations { whole.old.declaration + suc (length (entry.member_entries (naming plan.now) whole.old.class (class_members members.now))) < 2 ^ 64 }
-    requires functions { whole.old.builder.function + (h.unwritten (class_members members.now) + h.members_routines (class_members members.now)) < 2 ^ 32 }
+    requires functions { whole.old.builder.function + (h.unwritten (class_members members.now) + numbered.members_numbered (class_members members.now)) < 2 ^ 32 }
     requires classes { whole.old.class + 1 < 2 ^ 32 }
+    requires takes { HasFewTakes plan.now }
     ensures { OnOk result ((at x : ℕ) (base : Option ℕ) (base_at : ℕ) → AddsPart plan.now whole.old whole.new (Class at x base base_at (class_members members.now))) }
 {
     let next = Next {
@@ -100,7 +102,7 @@ fn add_class_item(plan: &Plan, whole: &mut Whole, members: &[Member]) -> Result<
 fn add_function_item(plan: &Plan, whole: &mut Whole, body: &Body) -> Result<(), NoMemory>
     requires plan { IsPlan plan.now }
     requires numbered { whole.old.declaration + 1 < 2 ^ 64 }
-    requires functions { whole.old.builder.function + suc (h.routine_handlers (routine body.now)) < 2 ^ 32 }
+    requires functions { whole.old.builder.function + suc (numbered.routine_numbered (routine body.now)) < 2 ^ 32 }
     ensures { OnOk result ((x : ℕ) → AddsPart plan.now whole.old whole.new (Function x (routine body.now))) }
 {
     let n = whole.builder.function;
@@ -116,7 +118,8 @@ fn add_function_item(plan: &Plan, whole: &mut Whole, body: &Body) -> Result<(), 
 fn add_main_item(plan: &Plan, whole: &mut Whole, a: &Stmt) -> Result<(), NoMemory>
     requires plan { IsPlan plan.now }
     requires numbered { whole.old.declaration + length (entry.main_entries (statement a.now)) < 2 ^ 64 }
-    requires functions { whole.old.builder.function + h.statement_handlers (statement a.now) < 2 ^ 32 }
+    requires locals { whole.old.builder.local + numbered.statement_numbered (statement a.now) < 2 ^ 32 }
+    requires functions { whole.old.builder.function + numbered.statement_numbered (statement a.now) < 2 ^ 32 }
     ensures { OnOk result (AddsPart plan.now whole.old whole.new (Main (statement a.now))) }
 {
     let n = whole.builder.function;
@@ -132,8 +135,10 @@ fn add_main_item(plan: &Plan, whole: &mut Whole, a: &Stmt) -> Result<(), NoMemor
 fn add_item(plan: &Plan, whole: &mut Whole, item: &Item) -> Result<(), NoMemory>
     requires plan { IsPlan plan.now }
     requires declarations { whole.old.declaration + length (entry.item_entries (naming plan.now) whole.old.class (top_level item.now)) < 2 ^ 64 }
-    requires functions { whole.old.builder.function + h.item_routines (top_level item.now) < 2 ^ 32 }
+    requires locals { whole.old.builder.local + numbered.item_numbered (top_level item.now) < 2 ^ 32 }
+    requires functions { whole.old.builder.function + numbered.item_numbered (top_level item.now) < 2 ^ 32 }
     requires classes { whole.old.class + entry.classes_in (top_level item.now) < 2 ^ 32 }
+    requires takes { HasFewTakes plan.now }
     ensures { OnOk result (AddsPart plan.now whole.old whole.new (top_level item.now)) }
 {
     match item {
@@ -162,8 +167,10 @@ fn add_item(plan: &Plan, whole: &mut Whole, item: &Item) -> Result<(), NoMemory>
 fn add_items(plan: &Plan, whole: &mut Whole, items: &[Item]) -> Result<(), NoMemory>
     requires plan { IsPlan plan.now }
     requires declarations { whole.old.declaration + length (entry.entries_from (naming plan.now) whole.old.class (top_levels items.now)) < 2 ^ 64 }
-    requires functions { whole.old.builder.function + h.all_routines (top_levels items.now) < 2 ^ 32 }
+    requires locals { whole.old.builder.local + numbered.all_numbered (top_levels items.now) < 2 ^ 32 }
+    requires functions { whole.old.builder.function + numbered.all_numbered (top_levels items.now) < 2 ^ 32 }
     requires classes { whole.old.class + length (entry.class_names (top_levels items.now)) < 2 ^ 32 }
+    requires takes { HasFewTakes plan.now }
     ensures stmts { OnOk result (typed_statements whole.new.stmts ≡ (w.typed_list whole.old.stmts before (w.items_of plan.now whole.old (top_levels items.now)).it)) }
     ensures locals { OnOk result (value_types whole.new.builder.locals ≡ value_types whole.old.builder.locals ++ (w.items_of plan.now whole.old (top_levels items.now)).locals) }
     ensures routines { OnOk result (typed_routines whole.new.builder.routines ≡ typed_routines whole.old.builder.routines ++ (w.items_of plan.now whole.old (top_levels items.now)).routines) }
@@ -214,8 +221,9 @@ fn build_whole(
     requires plan { IsPlan plan.now }
     requires count { plan.now.numbers.now.library ≡ h.all_routines (top_levels library.now) }
     requires declarations { plan.now.known.now.library + length (entry.entries_from (naming plan.now) first_class (top_levels text.now)) < 2 ^ 64 }
-    requires functions { h.all_routines (top_levels library.now) + h.all_routines (top_levels text.now) < 2 ^ 32 }
+    requires functions { numbered.all_numbered (top_levels library.now) + numbered.all_numbered (top_levels text.now) < 2 ^ 32 }
     requires classes { first_class + length (entry.class_names (top_levels text.now)) < 2 ^ 32 }
+    requires takes { HasFewTakes plan.now }
     ensures stmts { IfOk result (λ r. typed_statements r.stmts ≡ (w.text_made plan.now first_class (top_levels library.now) (top_levels text.now)).it) }
     ensures locals { IfOk result (λ r. value_types r.builder.locals ≡ (w.text_made plan.now first_class (top_levels library.now) (top_levels text.now)).locals) }
     ensures routines { IfOk result (λ r. typed_routines r.builder.routines ≡ w.library_made plan.now 0 0 (top_levels library.now) ++ (w.text_made plan.now first_class (top_levels library.now) (top_levels text.now)).routines) }
@@ -247,10 +255,10 @@ fn build_program(
 ) -> Result<Typed, NoMemory>
     requires plan { IsPlan plan.now }
     requires count { plan.now.numbers.now.library ≡ h.all_routines (top_levels library.now) }
-    requires few { length plan.now.known.now.classes < 2 ^ 32 }
     requires declarations { plan.now.known.now.library + length (entry.entries_from (naming plan.now) first_class (top_levels text.now)) < 2 ^ 64 }
-    requires functions { h.all_routines (top_levels library.now) + h.all_routines (top_levels text.now) < 2 ^ 32 }
+    requires functions { numbered.all_numbered (top_levels library.now) + numbered.all_numbered (top_levels text.now) < 2 ^ 32 }
     requires classes { first_class + length (entry.class_names (top_levels text.now)) < 2 ^ 32 }
+    requires takes { HasFewTakes plan.now }
     ensures { IfOk result (λ t. typed_program t ≡ w.program_made plan.now first_class (top_levels library.now) (top_levels text.now)) }
 {
     let classes = class_entries(plan)?;
@@ -275,7 +283,6 @@ fn build_planned(
 ) -> Result<Typed, NoMemory>
     requires plan { IsPlan plan.now }
     requires count { plan.now.numbers.now.library ≡ h.all_routines (top_levels library.now) }
-    requires few { length plan.now.known.now.classes < 2 ^ 32 }
     requires both { AreFew (top_levels library.now) (top_levels text.now) }
     requires names { (y : ℕ) → naming plan.now y ≡ all_names (top_levels library.now) (top_levels text.now) y }
     requires known { plan.now.known.now ≡ accepted.known (top_levels library.now) (top_levels text.now) plan.now.known.now.kinds }

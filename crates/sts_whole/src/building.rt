@@ -1,8 +1,6 @@
 //! A typed program's image.
 ghost use Rattle.std.specs.Prelude.{◌≡◌, ◌≤◌, length, map, take, IfOk};
 ghost use Rattle.std.specs.List.{AllByRecursion};
-ghost use Rattle.flat_ir.specs.WellFormed.{IsWellFormedFunction};
-ghost use Rattle.flat_ir.specs.Liveness.{OnlyParametersAreLive};
 ghost use Rattle.sts_syntax.specs.TypedViews.{typed_program};
 ghost use Rattle.sts_syntax.specs.BoardTable.{library_size};
 ghost use Rattle.sts_syntax.specs.Nodes.{NamesTexts};
@@ -10,7 +8,6 @@ ghost use Rattle.sts_syntax.specs.Weights.{routines_weight};
 ghost use Rattle.sts_syntax.specs.WellTypedPrograms.{IsWellTyped, IsProgramWithinLimits};
 ghost use Rattle.thumb_layout.specs.Cells.{laid};
 ghost use Rattle.thumb_emit.specs.Emit.{function_pieces};
-ghost use Rattle.thumb_emit.specs.Ready.{IsReady};
 ghost use Rattle.sts_whole.specs.Building.{IsPlaceable, HasSoundPlaces, IsLayable};
 ghost use Rattle.sts_whole.specs.Compiled.{functions_of, bodies_of, IsCompiled};
 

@@ -1,8 +1,9 @@
-use Rattle.std.proofs.Common.{◌≡◌, ◌+◌, ◌++◌, drop, length}
+use Rattle.std.proofs.Common.{◌≡◌, ◌+◌, ◌^◌, ◌<◌, ◌++◌, drop, length}
 use Rattle.sts_syntax.specs.Programs.{class_members}
 use Rattle.sts_syntax.specs.TypedViews.{typed_routines}
 use Rattle.sts_scope.specs.Entries as entry
 use Rattle.sts_scope.specs.Handlers as h
+use Rattle.text_sizes.specs.Numbered as counts
 use Rattle.typed_trees.specs.Sites.{naming}
 use Rattle.sts_whole.specs.Wholes as w
 use Rattle.sts_whole.proofs.build_classes.add_members.Given as goal
@@ -19,4 +20,5 @@ invariant-loop-member l =
       routines : typed_routines l.routines ++ w.members_made l.plan c inits l.next.function l.next.declaration rest ≡ typed_routines l.initial.routines ++ w.members_made l.plan c inits first.function first.declaration all;
       declaration : l.next.declaration + length (entry.member_entries (naming l.plan) c rest) ≡ first.declaration + length (entry.member_entries (naming l.plan) c all);
       function : l.next.function + h.members_routines rest ≡ first.function + h.members_routines all;
+      counted : l.next.function + counts.members_numbered rest < 2 ^ 32;
     }

@@ -14,6 +14,5 @@ pub returns : goal.returns
 returns c =
     let l = c.args.plan.now in
     let a = declaration c.args.a.now in
-    let h = c.in_ok-made.ensures in
     let e = ap (λ (st : b.Site). w.global_made l st c.global_number-number.result a) c.outer_site-site.ensures ∙ ap (λ (n : ℕ). w.global_made l (w.outer_site this.Nowhere) n a) c.global_number-number.ensures ∙ declared_is l c.args.d a in
-    subst (λ (f : Making TypedDeclaration). IsBuilt c.args.builder.now c.build_global.new.builder f (typed_declaration c.in_ok-made.made)) e (h.made, (h.locals, (h.routines, (h.local, h.function))))
+    subst (λ (f : Making TypedDeclaration). IsBuilt c.args.builder.now c.build_global.new.builder f (typed_declaration c.in_ok-made.made)) e c.in_ok-made.ensures

@@ -1,7 +1,10 @@
-use Rattle.std.proofs.Common.{◌≡◌, drop}
+use Rattle.std.proofs.Common.{◌≡◌, ◌+◌, drop}
 use Rattle.type_derive.specs.Programs.{passed_on}
 use Rattle.sts_whole.specs.Wholes.{onto}
 use Rattle.sts_whole.proofs.build_makers.passed_on.Given as goal
 
 abbrev pub invariant-loop-kind : goal.invariant-loop-kind
-invariant-loop-kind l = onto l.all (passed_on l.at (drop l.kind-index l.takes)) ≡ passed_on l.first l.takes
+invariant-loop-kind l = record {
+  all : onto l.all (passed_on l.at (drop l.kind-index l.takes)) ≡ passed_on l.first l.takes;
+  at : l.at ≡ l.first + l.kind-index;
+}

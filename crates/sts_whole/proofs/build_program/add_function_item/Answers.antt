@@ -4,9 +4,23 @@ use Rattle.sts_scope.specs.declared.kinds.Kind.{Kind}
 use Rattle.sts_syntax.specs.Types.{value_types}
 use Rattle.sts_syntax.specs.TypedViews.{typed_routines}
 use Rattle.sts_syntax.specs.Views.{routine}
+use Rattle.sts_syntax.specs.Programs.{Function}
+use Rattle.text_sizes.proofs.Laws.{item_routines_numbered}
+use Rattle.typed_numbers.specs.Building.{numbering_of}
 use Rattle.typed_trees.specs.Functions as functions
+use Rattle.typed_trees.specs.Sites.{naming}
 use Rattle.sts_whole.specs.Wholes as w
+use Rattle.sts_whole.proofs.AtMost.{function_at_most}
 use Rattle.sts_whole.proofs.build_program.add_function_item.Goals as goal
+
+pub add_function-requires-clause-fits : goal.add_function-requires-clause-fits
+add_function-requires-clause-fits c =
+    let l = c.args.plan.now in
+    let n = c.args.whole.now.builder.function in
+    omega (arith, c.requires.functions, function_at_most l.tables.now (naming l) l.known.now (numbering_of l.numbers.now) false n c.kind_at-gives.result (routine c.args.body.now))
+
+pub routine_handlers-whole-requires : goal.routine_handlers-whole-requires
+routine_handlers-whole-requires c = record { few = omega (arith, c.requires.functions, item_routines_numbered (Function 0 (routine c.args.body.now))) }
 
 pub returns : goal.returns
 returns c = λ x.

@@ -1,8 +1,9 @@
-use Rattle.std.proofs.Common.{◌+◌, ◌^◌, ◌<◌, List, length, sym, ap, ◌∙◌, subst}
+use Rattle.std.proofs.Common.{◌+◌, ◌^◌, ◌<◌, List, length, sym, ap, ◌∙◌, subst, arith}
 use Rattle.sts_syntax.specs.declared.units.Member.{Member}
 use Rattle.sts_syntax.specs.Programs.{TopLevel, Class, class_members, top_level}
 use Rattle.sts_scope.specs.Entries.{classes_in, item_entries}
-use Rattle.sts_scope.specs.Handlers.{item_routines}
+use Rattle.sts_scope.specs.Handlers.{unwritten}
+use Rattle.text_sizes.specs.Numbered.{members_numbered, item_numbered}
 use Rattle.typed_trees.specs.Sites.{naming}
 use Rattle.sts_whole.specs.Wholes.{AddsPart}
 use Rattle.sts_whole.proofs.build_program.add_item.Goals as goal
@@ -17,18 +18,24 @@ pub add_class_item-requires-clause-functions : goal.add_class_item-requires-clau
 add_class_item-requires-clause-functions c =
     let k = c.in-Class in
     let e = ap top_level k.is ∙ sym (ap (λ (xs : List Member). Class k.at k.name k.base k.base_at (class_members xs)) c.as_slice.ensures) in
-    subst (λ (i : TopLevel). c.args.whole.now.builder.function + item_routines i < 2 ^ 32) e c.requires.functions
+    let h : c.args.whole.now.builder.function + (unwritten (class_members c.as_slice.result.now) + unwritten (class_members c.as_slice.result.now) + members_numbered (class_members c.as_slice.result.now)) < 2 ^ 32 =
+    subst (λ (i : TopLevel). c.args.whole.now.builder.function + item_numbered i < 2 ^ 32) e c.requires.functions in
+    omega (arith, h)
 
 pub add_class_item-requires-clause-classes : goal.add_class_item-requires-clause-classes
 add_class_item-requires-clause-classes c = subst (λ (i : TopLevel). c.args.whole.now.class + classes_in i < 2 ^ 32) (ap top_level c.in-Class.is) c.requires.classes
 
 pub add_function_item-requires-clause-functions : goal.add_function_item-requires-clause-functions
 add_function_item-requires-clause-functions c =
-    subst (λ (i : TopLevel). c.args.whole.now.builder.function + item_routines i < 2 ^ 32) (ap top_level c.in-Function.is) c.requires.functions
+    subst (λ (i : TopLevel). c.args.whole.now.builder.function + item_numbered i < 2 ^ 32) (ap top_level c.in-Function.is) c.requires.functions
 
 pub add_main_item-requires-clause-functions : goal.add_main_item-requires-clause-functions
 add_main_item-requires-clause-functions c =
-    subst (λ (i : TopLevel). c.args.whole.now.builder.function + item_routines i < 2 ^ 32) (ap top_level c.in-Stmt.is) c.requires.functions
+    subst (λ (i : TopLevel). c.args.whole.now.builder.function + item_numbered i < 2 ^ 32) (ap top_level c.in-Stmt.is) c.requires.functions
+
+pub add_main_item-requires-clause-locals : goal.add_main_item-requires-clause-locals
+add_main_item-requires-clause-locals c =
+    subst (λ (i : TopLevel). c.args.whole.now.builder.local + item_numbered i < 2 ^ 32) (ap top_level c.in-Stmt.is) c.requires.locals
 
 pub add_function_item-requires-clause-numbered : goal.add_function_item-requires-clause-numbered
 add_function_item-requires-clause-numbered c =

@@ -10,7 +10,7 @@ use Rattle.sts_whole.specs.Wholes as w
 use Rattle.sts_whole.proofs.ClassParts.{step_list}
 use Rattle.sts_whole.proofs.Constructors.{list_before}
 use Rattle.sts_whole.proofs.Items.{items_left, items_end, step_before}
-use Rattle.sts_whole.proofs.Numbered.{item_declared, item_counted, item_classes, items_declared, items_counted, items_classes}
+use Rattle.sts_whole.proofs.Numbered.{item_declared, item_counted, item_classes, items_declared, items_counted, items_located, items_classes}
 use Rattle.sts_whole.proofs.build_program.add_items.Goals as goal
 
 pub add_item-requires-clause-declarations : goal.add_item-requires-clause-declarations
@@ -24,6 +24,12 @@ add_item-requires-clause-functions c =
     let xs = c.args.items.now in let i = c.loop-item.item-index in
     let lt : i < length xs = omega (arith, c.loop-item-test.true) in
     item_counted c.loop-item.whole.builder.function xs i c.item-item.result lt c.item-item.is c.loop-item.invariant.functions
+
+pub add_item-requires-clause-locals : goal.add_item-requires-clause-locals
+add_item-requires-clause-locals c =
+    let xs = c.args.items.now in let i = c.loop-item.item-index in
+    let lt : i < length xs = omega (arith, c.loop-item-test.true) in
+    item_counted c.loop-item.whole.builder.local xs i c.item-item.result lt c.item-item.is c.loop-item.invariant.locals_counted
 
 pub add_item-requires-clause-classes : goal.add_item-requires-clause-classes
 add_item-requires-clause-classes c =
@@ -49,6 +55,7 @@ loop-item-preserved c =
           c.loop-item.invariant.routines (ap (λ (q : Made TypedStatements). q.routines) e) a.routines;
       declarations = items_declared l old new xs i x lt c.item-item.is a c.loop-item.invariant.declarations;
       classes = items_classes l old new xs i x lt c.item-item.is a c.loop-item.invariant.classes;
+      locals_counted = items_located l old new xs i x lt c.item-item.is a c.loop-item.invariant.locals_counted;
       functions = items_counted l old new xs i x lt c.item-item.is a c.loop-item.invariant.functions;
     }
 

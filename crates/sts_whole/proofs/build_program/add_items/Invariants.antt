@@ -3,7 +3,7 @@ use Rattle.sts_syntax.specs.Programs.{top_levels}
 use Rattle.sts_syntax.specs.Types.{value_types}
 use Rattle.sts_syntax.specs.TypedViews.{typed_routines}
 use Rattle.sts_scope.specs.Entries as entry
-use Rattle.sts_scope.specs.Handlers as h
+use Rattle.text_sizes.specs.Numbered as counts
 use Rattle.type_derive.specs.Programs.{◌before◌}
 use Rattle.typed_trees.specs.Sites.{naming}
 use Rattle.sts_whole.specs.Wholes as w
@@ -21,5 +21,6 @@ invariant-loop-item l =
       routines : typed_routines l.whole.builder.routines ++ left.routines ≡ typed_routines first.builder.routines ++ all.routines;
       declarations : l.whole.declaration + length (entry.entries_from (naming l.plan) l.whole.class (top_levels (drop l.item-index l.items))) < 2 ^ 64;
       classes : l.whole.class + length (entry.class_names (top_levels (drop l.item-index l.items))) < 2 ^ 32;
-      functions : l.whole.builder.function + h.all_routines (top_levels (drop l.item-index l.items)) < 2 ^ 32;
+      locals_counted : l.whole.builder.local + counts.all_numbered (top_levels (drop l.item-index l.items)) < 2 ^ 32;
+      functions : l.whole.builder.function + counts.all_numbered (top_levels (drop l.item-index l.items)) < 2 ^ 32;
     }

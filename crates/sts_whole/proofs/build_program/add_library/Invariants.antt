@@ -1,7 +1,7 @@
 use Rattle.std.proofs.Common.{◌≡◌, ◌+◌, ◌^◌, ◌<◌, ◌≤◌, ◌++◌, drop}
 use Rattle.sts_syntax.specs.TypedViews.{typed_routines}
 use Rattle.sts_syntax.specs.Programs.{top_levels}
-use Rattle.sts_scope.specs.Handlers as h
+use Rattle.text_sizes.specs.Numbered as counts
 use Rattle.sts_whole.specs.Wholes as w
 use Rattle.sts_whole.proofs.build_program.add_library.Given as goal
 
@@ -11,5 +11,5 @@ invariant-loop-item l =
       made : typed_routines l.routines ++ w.library_made l.plan l.next.declaration l.next.function (top_levels (drop l.item-index l.items))
           ≡ typed_routines l.fn.routines ++ w.library_made l.plan 0 0 (top_levels l.items);
       numbered : l.next.declaration ≤ l.item-index;
-      counted : l.next.function + h.all_routines (top_levels (drop l.item-index l.items)) < 2 ^ 32;
+      counted : l.next.function + counts.all_numbered (top_levels (drop l.item-index l.items)) < 2 ^ 32;
     }

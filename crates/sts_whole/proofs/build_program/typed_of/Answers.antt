@@ -1,12 +1,12 @@
-use Rattle.std.proofs.Common.{List, sym, subst}
+use Rattle.std.proofs.Common.{List, sym, subst, arith}
 use Rattle.sts_syntax.specs.declared.units.Item.{Item}
-use Rattle.sts_syntax.specs.Programs.{top_levels}
+use Rattle.sts_syntax.specs.Programs.{program, top_levels}
+use Rattle.text_sizes.proofs.Laws.{routines_numbered}
 use Rattle.sts_whole.specs.Few.{AreFew}
-use Rattle.sts_whole.proofs.Numbered.{classes_few}
 use Rattle.sts_whole.proofs.build_program.typed_of.Goals as goal
 
-pub build_planned-requires-clause-few : goal.build_planned-requires-clause-few
-build_planned-requires-clause-few c = classes_few c.args.declared.now.known c.requires.counts
+pub numbering-requires : goal.numbering-requires
+numbering-requires c = record { few = omega (arith, c.requires.few.numbers, routines_numbered (program c.args.library.now), routines_numbered (program c.args.text.now)) }
 
 pub build_planned-requires-clause-both : goal.build_planned-requires-clause-both
 build_planned-requires-clause-both c =
