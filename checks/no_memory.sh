@@ -1,12 +1,9 @@
 #!/bin/sh
 # Where code answers that there was no memory, an allocation was refused: whatever the answer is decided by (the condition, what is matched, what `let .. else` or `map_err` is over) is a call
-# that takes memory, or hands on such an answer. Places where it is something else, as a number that would pass its type or a form that never comes, stand in checks/no_memory.txt, each with
-# its function; no line is to be added there, and one that is no longer true goes.
-# usage: checks/no_memory.sh            looks for places that aren't allowed
-#        checks/no_memory.sh --list     the lines as checks/no_memory.txt would have them
+# that takes memory, or hands on such an answer, and never something else, as a number that would pass its type or a form that never comes.
 set -eu
 cd "$(dirname "$0")/.."
-exec python3 - "$@" <<'PYTHON'
+exec python3 - <<'PYTHON'
 import glob
 import re
 import sys
@@ -52,14 +49,8 @@ for file in sorted(glob.glob("crates/*/src/**/*.rt", recursive=True)):
             # (`None` and `_` are no refused allocations)
             if re.search(r"\b(None|_)\s*$", arm.rstrip()) or re.search(r"ok_or\(|\.or\(Err", line) or re.search(r"\btry_from\(|\bchecked_\w+\(", by.partition("\n")[0]) or not TAKES.search(by):
                 found.append(f"{file}: {function}")
-allowed = [it.rstrip("\n") for it in open("checks/no_memory.txt", encoding="utf-8")]
-wrong = [f"{it}: answers NoMemory, and no allocation was refused" for it in sorted(set(found)) if found.count(it) > allowed.count(it)]
-wrong += [f"checks/no_memory.txt: {it}: {allowed.count(it)} times, and found {found.count(it)} times" for it in sorted(set(allowed)) if allowed.count(it) > found.count(it)]
-if sys.argv[1:] == ["--list"]:
-    print("\n".join(sorted(found)))
-    sys.exit(0)
-for it in wrong:
-    print(it)
-print(f"no_memory: {len(found)} places where no allocation is refused, {len(wrong)} wrong")
-sys.exit(1 if wrong else 0)
+for it in sorted(found):
+    print(f"{it}: answers NoMemory, and no allocation was refused")
+print(f"no_memory: {len(found)} wrong")
+sys.exit(1 if found else 0)
 PYTHON
