@@ -5,7 +5,7 @@ use crate::commands::{HEARS, RAISE, call, folder, sink, words_of};
 use crate::devices::{device, show_place};
 use crate::folders::wanting;
 use crate::game::{GAME, SCRIPT};
-use board_ports::Device;
+use board_ports::{Device, MemoryDevice};
 use run_tool::sts_main;
 use std::alloc::Global;
 use std::io;
@@ -75,6 +75,20 @@ fn files(alloc: Global, f: &str, s: &str) -> io::Result<MemoryFolder> {
     Ok(files)
 }
 
+/// A device that was told a word, the number of its place.
+fn told(alloc: Global, port: u32) -> io::Result<MemoryDevice> {
+    let mut device = device(alloc, 20, 0).map_err(wanting)?;
+    device.write(7, port);
+    Ok(device)
+}
+
+/// Writes a status, and what was taken between bars.
+fn show_taken<W: Write>(out: &mut W, status: u8, taken: &[u8]) -> io::Result<()> {
+    write!(out, "{status} |")?;
+    out.write_all(taken)?;
+    out.write_all(b"|")
+}
+
 /// Calls the top call over four devices, each of which was told a word before, and writes the status, what was taken,
 /// between bars, and the devices.
 fn show_call<W: Write>(
@@ -84,17 +98,14 @@ fn show_call<W: Write>(
     files: &mut MemoryFolder,
 ) -> io::Result<()> {
     let mut sink = sink(alloc, 0, 1000).map_err(wanting)?;
+    let words = words_of(alloc, words)?;
     let mut plugs: Vec<Option<Box<dyn Device>>> = Vec::new(alloc);
     for port in 0..4u32 {
-        let mut device = device(alloc, 20, 0).map_err(wanting)?;
-        device.write(7, port);
+        let device = told(alloc, port)?;
         plugs.push(Some(Box::new(alloc, device)?))?;
     }
-    let words = words_of(alloc, words)?;
     let status = sts_main(alloc, words.as_slice(), files, &mut sink, &mut plugs);
-    write!(out, "{status} |")?;
-    out.write_all(sink.taken())?;
-    out.write_all(b"|")?;
+    show_taken(out, status, sink.taken())?;
     for place in &plugs {
         show_place(out, place)?;
     }
