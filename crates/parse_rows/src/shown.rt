@@ -133,6 +133,9 @@ fn put<'a>(todo: &mut Vec<Part<'a>>, part: Part<'a>) -> Result<(), AllocError> {
     Ok(())
 }
 
+/// More turns than any tree of a text of at most 65,536 bytes takes.
+const TURNS: u32 = 16_777_216;
+
 /// Writes a tree. What is still to be written stands in a list, the next at its end.
 pub fn write_tree(
     alloc: Global,
@@ -141,7 +144,7 @@ pub fn write_tree(
     tree: Part<'_>,
 ) -> Result<(), AllocError> {
     let mut todo = vec![in alloc; tree]?;
-    for _turn in 0..u64::MAX {
+    for _turn in 0..TURNS {
         let Some(part) = todo.pop() else {
             return Ok(());
         };
