@@ -13,8 +13,11 @@ fn takes_nothing() -> io::Error
     io::Error::new(ErrorKind::WriteZero, "the stream takes nothing more")
 }
 
+/// How often a write of a piece that is interrupted is tried again.
+const TRIES: usize = 1_048_576;
+
 /// Writes a piece, from its front on, and tells how many of its bytes the stream took: all of them, or what it took before an error. A
-/// write that is interrupted is tried again; one that takes nothing is an error.
+/// write that is interrupted is tried again, up to 1,048,576 times for a piece; one that takes nothing is an error.
 pub fn write_front<W: Write>(writer: &mut W, piece: &[u8]) -> (usize, io::Result<()>)
     ensures front { Appends (W.contents writer.old) (W.contents writer.new) (take result.0 piece.now) }
     ensures within { result.0 ≤ length piece.now }
@@ -22,7 +25,7 @@ pub fn write_front<W: Write>(writer: &mut W, piece: &[u8]) -> (usize, io::Result
     ensures retried { IfErr result.1 (λ error. error_kind error ≢ ErrorKind.Interrupted) }
 {
     let mut done = 0;
-    'writing: for _ in 0..u64::MAX {
+    'writing: for _ in 0..piece.len().saturating_add(TRIES) {
         if done == piece.len() {
             return (done, Ok(()));
         }

@@ -14,6 +14,9 @@ use std::io::{ErrorKind, Read};
 /// The most bytes of one read.
 const PIECE: usize = 4096;
 
+/// How often a read that is interrupted is tried again.
+const TRIES: u32 = 1_048_576;
+
 /// The error of a reader that never comes to an end.
 fn too_many_reads() -> io::Error
     ensures { error_kind result ≡ ErrorKind.Other }
@@ -21,7 +24,7 @@ fn too_many_reads() -> io::Error
     io::Error::new(ErrorKind::Other, "too many reads")
 }
 
-/// One read, which is tried again where it is interrupted.
+/// One read, which is tried again where it is interrupted, up to 1,048,576 times.
 fn read_piece<F: Read>(file: &mut F, piece: &mut [u8]) -> io::Result<usize>
     ensures bound { ReadsAtMost result piece.new }
     ensures within { length piece.new ≡ length piece.old }
@@ -30,7 +33,7 @@ fn read_piece<F: Read>(file: &mut F, piece: &mut [u8]) -> io::Result<usize>
     ensures nothing { OnErr result (Keeps (F.remaining file.old) (F.remaining file.new)) }
     ensures retried { IfErr result (λ error. error_kind error ≢ ErrorKind.Interrupted) }
 {
-    'reading: for _ in 0..u64::MAX {
+    'reading: for _ in 0..TRIES {
         match file.read(piece) {
             Ok(count) => return Ok(count),
             Err(error) if error.kind() == ErrorKind::Interrupted => continue 'reading,
@@ -66,7 +69,7 @@ pub fn read_up_to<F: Read>(alloc: Global, file: &mut F, limit: usize) -> io::Res
 {
     let mut whole = Vec::new(alloc);
     let mut piece = [0; PIECE];
-    'reading: for _ in 0..u64::MAX {
+    'reading: for _ in 0..limit.saturating_add(2) {
         if whole.len() > limit {
             return Ok(Found::TooLong);
         }
