@@ -1,5 +1,5 @@
 -- Lists with one more at the end.
-use Rattle.std.proofs.Common.{◌≡◌, List, [], ◌∷◌, ◌++◌, refl, ap, arith}
+use Rattle.std.proofs.Common.{◌≡◌, ℕ, List, [], ◌∷◌, ◌++◌, refl, ap, ◌∙◌, arith}
 use Rattle.std.specs.Prelude.{max}
 use Rattle.sts_syntax.specs.declared.trees.Param.{Param}
 use Rattle.sts_syntax.specs.declared.trees.Expr.{Expr}
@@ -38,3 +38,21 @@ deepest_put_statement (also b rest) a = omega (arith, deepest_put_statement rest
 pub deepest_put_declaration : (all : Declarations) (a : Declaration) → deepest_declaration (put_declaration all a) ≡ max (declaration_nesting a) (deepest_declaration all)
 deepest_put_declaration ended a = omega arith
 deepest_put_declaration (next b rest) a = omega (arith, deepest_put_declaration rest a)
+
+pub trees_more : (xs ys : List Expr) (a : Expr) → ys ≡ xs ++ a ∷ [] → trees ys ≡ put (trees xs) (tree a)
+trees_more xs ys a e = ap trees e ∙ trees_put xs a
+
+pub trees_deepest : (xs ys : List Expr) (a : Expr) (w n k : ℕ) → ys ≡ xs ++ a ∷ [] → w ≡ nesting (tree a) → n ≡ deepest_tree (trees xs) → k ≡ max w n → k ≡ deepest_tree (trees ys)
+trees_deepest xs ys a w n k e p q r = let d : deepest_tree (trees ys) ≡ max (nesting (tree a)) (deepest_tree (trees xs)) = ap deepest_tree (trees_more xs ys a e) ∙ deepest_put (trees xs) (tree a) in omega arith
+
+pub statements_more : (xs ys : List Stmt) (a : Stmt) → ys ≡ xs ++ a ∷ [] → statements ys ≡ put_statement (statements xs) (statement a)
+statements_more xs ys a e = ap statements e ∙ statements_put xs a
+
+pub statements_deepest : (xs ys : List Stmt) (a : Stmt) (w n k : ℕ) → ys ≡ xs ++ a ∷ [] → w ≡ statement_nesting (statement a) → n ≡ deepest_statement (statements xs) → k ≡ max w n → k ≡ deepest_statement (statements ys)
+statements_deepest xs ys a w n k e p q r = let d : deepest_statement (statements ys) ≡ max (statement_nesting (statement a)) (deepest_statement (statements xs)) = ap deepest_statement (statements_more xs ys a e) ∙ deepest_put_statement (statements xs) (statement a) in omega arith
+
+pub declarations_more : (xs ys : List Binding) (a : Binding) → ys ≡ xs ++ a ∷ [] → declarations ys ≡ put_declaration (declarations xs) (declaration a)
+declarations_more xs ys a e = ap declarations e ∙ declarations_put xs a
+
+pub declarations_deepest : (xs ys : List Binding) (a : Binding) (w n k : ℕ) → ys ≡ xs ++ a ∷ [] → w ≡ declaration_nesting (declaration a) → n ≡ deepest_declaration (declarations xs) → k ≡ max w n → k ≡ deepest_declaration (declarations ys)
+declarations_deepest xs ys a w n k e p q r = let d : deepest_declaration (declarations ys) ≡ max (declaration_nesting (declaration a)) (deepest_declaration (declarations xs)) = ap deepest_declaration (declarations_more xs ys a e) ∙ deepest_put_declaration (declarations xs) (declaration a) in omega arith

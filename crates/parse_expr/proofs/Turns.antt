@@ -1,6 +1,6 @@
 -- The readings with one more turn left.
-use Rattle.std.proofs.Common.{◌≡◌, ◌≢◌, ℕ, ◌≤◌, ap, sym, length, ◌∙◌, lt-ltb, le-ltb, zero, suc, ◌+◌, ◌-◌, ◌<◌, refl, arith}
-use Rattle.std.specs.Prelude.{Bool, if◌then◌else◌, nat_lt, Option, Some, None}
+use Rattle.std.proofs.Common.{◌≡◌, ◌≢◌, ℕ, ◌≤◌, ap, sym, subst, length, ◌∙◌, lt-ltb, le-ltb, zero, suc, ◌+◌, ◌-◌, ◌<◌, refl, arith}
+use Rattle.std.specs.Prelude.{Bool, if◌then◌else◌, nat_lt, Option, Some, None, Result, Ok, Err, IsErrAnd}
 use Rattle.sts_syntax.specs.Trees.{Tree}
 use Rattle.sts_syntax.specs.Nesting.{nesting}
 use Rattle.sts_lexer.specs.declared.marks.Mark.{Mark}
@@ -9,7 +9,7 @@ use Rattle.sts_grammar.specs.Source.{Source, kind, place}
 use Rattle.sts_grammar.specs.Operators.{infix_number, assignment, bump_by}
 use Rattle.sts_grammar.specs.Found.{◌>>=◌}
 use Rattle.sts_grammar.specs.ReadExpressions.{Readers, binds_before, read_operator, read_further, read_behind, climb, close_at, unwind, read_operand}
-use Rattle.parse_expr.specs.Gives.{Fails}
+use Rattle.parse_expr.specs.Gives.{Fails, Gives}
 use Rattle.parse_expr.specs.declared.reader.Unread.{Unread}
 use Rattle.parse_expr.specs.declared.reader.Unread.TheVariants.{Syntax, NoMemory}
 use Rattle.sts_grammar.specs.ReadStatements.{read_statement}
@@ -48,6 +48,11 @@ further_operator s readers at e i mark a b c d f g = refl
 pub fails_first : {A B : Type 0} (why : Unread) (read : Option A) (f : A → Option B) → Fails why read → Fails why (read >>= f)
 fails_first (Syntax at) read f h = ap (λ r. r >>= f) h
 fails_first NoMemory read f h = tt
+
+-- what the exit of a `?` hands on
+pub handed : {X Y : Type 0} (view : X → Y) (result : Result X Unread) (why : Unread) (read : Option Y) → IsErrAnd result (λ given. given ≡ why) → Fails why read → Gives view result read
+handed view (Ok v) why read h f = absurd h
+handed view (Err given) why read h f = subst (λ w. Fails w read) (sym h) f
 
 pub unwind_at : (s : Source) (upto room : ℕ) (readers : Readers) (p l from : ℕ) (e : Tree) (i : ℕ) → 0 < p →
     unwind s upto room readers p l from e i ≡ (climb s upto room readers (room + 1) 1 (place s (from + p)) e i >>= λ a. close_at s a.1 >>= λ j. unwind s upto room readers (p - 1) l from a.0 j)

@@ -65,7 +65,7 @@ impl<
     }
 
     /// Declared names with commas between them.
-    #[tactic(auto, using(crate::proofs::Loops::declarations_at, crate::proofs::OneMore::declarations_put, crate::proofs::OneMore::deepest_put_declaration), unfolding(sts_grammar::specs::ReadStatements::read_let, sts_grammar::specs::ReadStatements::read_declarations))]
+    #[tactic(auto, unfolding(sts_grammar::specs::ReadStatements::read_let))]
     pub fn declarations(&self, fixed: bool, at: usize) -> Result<Read<Seq<Binding>>, Unread>
         requires { Nests self.now E.pre E.post S.pre S.post }
         ensures reads { Gives (read_of declarations) result (read.read_let (source self.now.reader) ((nested self.now.reader self.now.room).expr assignment_level) fixed at) }

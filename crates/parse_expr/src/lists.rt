@@ -21,7 +21,6 @@ impl<
     S: Fn(Reader<'a>, usize, bool, bool, usize) -> Result<Read<Stmt>, Unread>,
 > Grammar<'a, E, S> {
     /// Expressions from the first on up to the mark that closes them, and the token behind it.
-    #[tactic(auto, using(crate::proofs::Loops::items_at, crate::proofs::OneMore::trees_put, crate::proofs::OneMore::deepest_put), unfolding(sts_grammar::specs::ReadExpressions::read_items))]
     fn some_items(&self, square: bool, at: usize) -> Result<Read<Seq<Expr>>, Unread>
         requires { Nests self.now E.pre E.post S.pre S.post }
         ensures reads { Gives (read_of trees) result (read.read_items (source self.now.reader) square ((nested self.now.reader self.now.room).expr assignment_level) (length self.now.reader.tokens.now) none at) }
@@ -82,7 +81,6 @@ impl<
     }
 
     /// Statements up to a `}`, and the token behind it.
-    #[tactic(auto, using(crate::proofs::Loops::statements_at, crate::proofs::OneMore::statements_put, crate::proofs::OneMore::deepest_put_statement), unfolding(sts_grammar::specs::ReadExpressions::read_statements))]
     fn statements(
         &self,
         in_function: bool,
