@@ -4,6 +4,7 @@ pub mod Fitted
 pub mod Loads
 pub mod Spans
 pub mod Makers
+pub mod Handlers
 pub mod Assigning
 pub mod Turns
 pub mod Bounds
