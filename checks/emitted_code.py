@@ -1,5 +1,5 @@
 """Functions of flat code with their code, written by hand in the words of an assembler (checks/emitted_code.txt), and the bytes that GNU as for ARM
-gives: crates/thumb_rows is run on the functions, and must write these bytes. They are the last rows of its two files, behind the title that both have. With --write these are made
+gives: tests/thumb_rows is run on the functions, and must write these bytes. They are the last rows of its two files, behind the title that both have. With --write these are made
 anew of them."""
 
 import os
@@ -8,7 +8,7 @@ import sys
 import tempfile
 
 top = os.path.dirname(os.path.dirname(os.path.abspath(__file__)))
-crate = os.path.join(top, "crates", "thumb_rows")
+crate = os.path.join(top, "tests", "thumb_rows")
 TITLE = "-- emitted functions\n"
 
 

@@ -1,4 +1,4 @@
-"""Runs the code of functions of flat code, as crates/thumb_rows writes it, on QEMU's processor, and compares what they give with what their ops mean.
+"""Runs the code of functions of flat code, as tests/thumb_rows writes it, on QEMU's processor, and compares what they give with what their ops mean.
 
     checks/emitted_runs.py FOLDER
 

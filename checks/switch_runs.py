@@ -1,4 +1,4 @@
-"""Runs the routine of the switch on QEMU's processor for each number of words, and compares words and instructions with those of crates/thumb_rows.
+"""Runs the routine of the switch on QEMU's processor for each number of words, and compares words and instructions with those of tests/thumb_rows.
 
     checks/switch_runs.py FOLDER
 

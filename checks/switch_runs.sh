@@ -1,6 +1,6 @@
 #!/bin/sh
 # The routine of the switch is run by another program's processor, QEMU, for 0 to 1,024 words: it copies them, changes no other word, and takes as many instructions
-# as crates/thumb_rows, which executes the same bytes by the instruction table. Without the assembler or QEMU it is skipped (status 77).
+# as tests/thumb_rows, which executes the same bytes by the instruction table. Without the assembler or QEMU it is skipped (status 77).
 # PROGRAM is thumb_rows, as bin/compile makes it where it is left out.
 # usage: checks/switch_runs.sh [PROGRAM]
 set -eu

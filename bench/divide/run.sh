@@ -4,7 +4,7 @@
 # usage: bench/divide/run.sh [SEED] [COUNT]
 set -eu
 here=$(cd "$(dirname "$0")" && pwd)
-crate=$here/../../crates/thumb_rows
+crate=$here/../../tests/thumb_rows
 program=$crate/out/thumb_rows
 [ -x "$program" ] || (cd "$crate" && rt run -- < /dev/null > /dev/null) || [ -x "$program" ]
 folder=$(mktemp -d)

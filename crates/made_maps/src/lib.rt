@@ -2,7 +2,5 @@
 #![tactic(auto)]
 
 mod maps;
-#[cfg(test)]
-mod tests;
 
 pub use maps::{MadeMaps, Node};

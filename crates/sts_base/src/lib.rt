@@ -7,8 +7,6 @@ mod places;
 mod refused;
 mod seq;
 mod tables;
-#[cfg(test)]
-mod tests;
 
 pub use memory::NoMemory;
 pub use places::{Span, place};

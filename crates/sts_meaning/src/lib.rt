@@ -5,8 +5,6 @@
 
 mod arithmetic;
 mod rows;
-#[cfg(test)]
-mod tests;
 
 pub use arithmetic::apply;
 pub use rows::{

@@ -1,0 +1,22 @@
+//! Reads rows from standard input, and prints behind each what the calls of `sts_syntax`, `sts_meaning` and `sts_prelude` give. README.md has their form.
+
+mod deep_types;
+mod forms;
+mod interface;
+mod library;
+mod measured;
+mod numbers;
+mod routines;
+mod rows;
+
+use std::io;
+
+fn main(rt: HostRuntime) -> io::Result<()> {
+    for line in rt.lines(rt.alloc()) {
+        let line = line?;
+        let mut answer = String::new(rt.alloc());
+        rows::write_answer(rt.alloc(), &mut answer, &line)?;
+        print!(rt; "{line}\n{answer}")?;
+    }
+    Ok(())
+}

@@ -1,0 +1,27 @@
+//! Reads rows from standard input, each with a text of the language and what is asked of it, and prints behind each what the product's own
+//! calls give: a tree, the tokens, or the refusal. Every other line is printed as it stands.
+
+mod answers;
+mod cuts;
+mod entries;
+mod lexed;
+mod nodes;
+mod operators;
+mod parts;
+mod pieces;
+mod rows;
+mod shown;
+mod tokens;
+mod units;
+
+use std::io;
+
+fn main(rt: HostRuntime) -> io::Result<()> {
+    for line in rt.lines(rt.alloc()) {
+        let line = line?;
+        let mut answer = String::new(rt.alloc());
+        answers::write_lines(rt.alloc(), &mut answer, &line)?;
+        print!(rt; "{line}\n{answer}")?;
+    }
+    Ok(())
+}

@@ -1,0 +1,35 @@
+//! Tests alone: reads rows, and writes what each is answered with. README.md has the rows' forms; every other line is written as it stands.
+
+mod arena;
+mod bases;
+mod calls;
+mod drivers;
+mod fibers;
+mod listeners;
+mod lists;
+mod numbers;
+mod places;
+mod records;
+mod refusals;
+mod rows;
+mod streams;
+mod worlds;
+
+use fiber_runtime::Runtime;
+use std::alloc::Global;
+use std::io;
+
+/// Answers all rows.
+fn answer_all(rt: &(impl Input + Print), alloc: Global, runtime: &mut Runtime) -> io::Result<()> {
+    for row in rt.lines(alloc) {
+        let text = rows::answer(alloc, runtime, row?.as_str())?;
+        print!(rt; "{text}")?;
+    }
+    Ok(())
+}
+
+fn main(rt: HostRuntime) -> io::Result<()> {
+    let alloc = rt.alloc();
+    let mut runtime = fibers::runtime_of(alloc)?;
+    answer_all(&rt, alloc, &mut runtime)
+}

@@ -1,0 +1,35 @@
+//! Tests alone: reads rows, and writes what each is answered with. README.md has the rows' forms; every other line is written as it stands.
+
+mod dividing;
+mod emitted;
+mod emulated;
+mod encodings;
+mod fiber;
+mod functions;
+mod images;
+mod machines;
+mod names;
+mod places;
+mod refusals;
+mod registers;
+mod rows;
+mod switched;
+
+use machines::Bench;
+use std::alloc::Global;
+use std::io;
+
+/// Answers all rows.
+fn answer_all(rt: &(impl Input + Print), alloc: Global, bench: &mut Bench) -> io::Result<()> {
+    for row in rt.lines(alloc) {
+        let text = rows::answer(alloc, bench, row?.as_str())?;
+        print!(rt; "{text}")?;
+    }
+    Ok(())
+}
+
+fn main(rt: HostRuntime) -> io::Result<()> {
+    let alloc = rt.alloc();
+    let mut bench = machines::bench_of(alloc, dividing::image(alloc)?)?;
+    answer_all(&rt, alloc, &mut bench)
+}
