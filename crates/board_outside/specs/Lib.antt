@@ -1,4 +1,4 @@
 pub mod Moves
 pub mod Ports
-pub mod Sights
+pub mod Outputs
 pub mod Cuts

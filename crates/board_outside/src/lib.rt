@@ -4,14 +4,14 @@
 mod flash;
 mod lines;
 mod order;
+mod output;
 mod sending;
 mod showing;
-mod sight;
 
 pub use lines::{
     then_put_budget, then_put_fault, then_put_panic, then_put_quiet, then_put_script,
     then_put_serial,
 };
 pub use order::runs_meet_in_order;
+pub use output::Output;
 pub use showing::show;
-pub use sight::Sight;

@@ -9,13 +9,13 @@ ghost use Rattle.board_ports.specs.History.{PortMove, Word, Follows};
 ghost use Rattle.board_outside.specs.Moves.{seen_of};
 ghost use Rattle.board_outside.specs.Ports.{serial_port, radio_port, bytes_sent, port_moves};
 ghost use Rattle.board_ports.specs.Plugged.{SettledAt};
-ghost use Rattle.board_outside.specs.Sights.{moves_of, IsSeen, HasSettled};
+ghost use Rattle.board_outside.specs.Outputs.{moves_of, IsSeen, HasSettled};
 
 use crate::lines::{
     then_put_display, then_put_pin, then_put_radio, then_put_serial, then_put_text,
 };
+use crate::output::Output;
 use crate::sending::{send_bytes, send_text, send_word};
-use crate::sight::Sight;
 use armv6m_machine::Machine;
 use board_ports::{Device, Plugs};
 use itoa::Buffer;
@@ -37,23 +37,23 @@ fn put_radio<K: Sink>(now: u32, number: i32, out: &mut K) -> Result<(), PutFaile
 }
 
 /// Puts the line of what was seen at a moment.
-fn put_sight<K: Sink>(
-    sight: Sight,
+fn put_output<K: Sink>(
+    output: Output,
     now: u32,
     machine: &Machine,
     out: &mut K,
 ) -> Result<(), PutFailed>
     ensures puts { Puts (K.taken out.old) (K.taken out.new) (K.faults out.old) (K.faults out.new)
-        (lines (seen_of (moves_of machine.now.memory.flash now sight))) result }
-    ensures seen { OnErr result (IsSeen machine.now.memory.flash now sight) }
+        (lines (seen_of (moves_of machine.now.memory.flash now output))) result }
+    ensures seen { OnErr result (IsSeen machine.now.memory.flash now output) }
 {
-    match sight {
-        Sight::Nothing => Ok(()),
-        Sight::Frame(frame) => then_put_display(Ok(()), out, now, frame),
-        Sight::Number(number) => put_number(now, number, out),
-        Sight::Text(address) => then_put_text(Ok(()), out, now, machine, address),
-        Sight::Pin(pin, level) => then_put_pin(Ok(()), out, now, u32::from(pin), u32::from(level)),
-        Sight::Radio(number) => put_radio(now, number, out),
+    match output {
+        Output::Nothing => Ok(()),
+        Output::Frame(frame) => then_put_display(Ok(()), out, now, frame),
+        Output::Number(number) => put_number(now, number, out),
+        Output::Text(address) => then_put_text(Ok(()), out, now, machine, address),
+        Output::Pin(pin, level) => then_put_pin(Ok(()), out, now, u32::from(pin), u32::from(level)),
+        Output::Radio(number) => put_radio(now, number, out),
     }
 }
 
@@ -77,18 +77,18 @@ fn send_radio<D: Device>(now: u32, number: i32, plugs: &mut Plugs<D>)
 }
 
 /// Sends the words of what was seen at a moment, and lets the device that they go to settle.
-fn send_sight<D: Device>(sight: Sight, now: u32, machine: &Machine, plugs: &mut Plugs<D>)
-    ensures settled { HasSettled D.settled sight plugs.new }
+fn send_output<D: Device>(output: Output, now: u32, machine: &Machine, plugs: &mut Plugs<D>)
+    ensures settled { HasSettled D.settled output plugs.new }
     ensures sends { (moves : List PortMove) (start : List (Option D)) → Follows D.account moves start plugs.old
-        → Follows D.account (moves ++ port_moves (moves_of machine.now.memory.flash now sight)) start plugs.new }
+        → Follows D.account (moves ++ port_moves (moves_of machine.now.memory.flash now output)) start plugs.new }
 {
-    match sight {
-        Sight::Nothing => {}
-        Sight::Frame(frame) => send_word(plugs, 0, now, frame),
-        Sight::Number(number) => send_number(now, number, plugs),
-        Sight::Text(address) => send_text(plugs, now, machine, address),
-        Sight::Pin(pin, level) => send_word(plugs, 2, now, 2 * u32::from(pin) + u32::from(level)),
-        Sight::Radio(number) => send_radio(now, number, plugs),
+    match output {
+        Output::Nothing => {}
+        Output::Frame(frame) => send_word(plugs, 0, now, frame),
+        Output::Number(number) => send_number(now, number, plugs),
+        Output::Text(address) => send_text(plugs, now, machine, address),
+        Output::Pin(pin, level) => send_word(plugs, 2, now, 2 * u32::from(pin) + u32::from(level)),
+        Output::Radio(number) => send_radio(now, number, plugs),
     }
 }
 
@@ -96,23 +96,23 @@ fn send_sight<D: Device>(sight: Sight, now: u32, machine: &Machine, plugs: &mut 
 /// then. Where the sink fails, no device is
 /// touched.
 pub fn show<K: Sink, D: Device>(
-    sight: Sight,
+    output: Output,
     now: u32,
     machine: &Machine,
     out: &mut K,
     plugs: &mut Plugs<D>,
 ) -> Result<(), PutFailed>
     ensures puts { Puts (K.taken out.old) (K.taken out.new) (K.faults out.old) (K.faults out.new)
-        (lines (seen_of (moves_of machine.now.memory.flash now sight))) result }
+        (lines (seen_of (moves_of machine.now.memory.flash now output))) result }
     ensures sends { OnOk result ((moves : List PortMove) (start : List (Option D)) → Follows D.account moves start plugs.old
-        → Follows D.account (moves ++ port_moves (moves_of machine.now.memory.flash now sight)) start plugs.new) }
-    ensures settled { OnOk result (HasSettled D.settled sight plugs.new) }
+        → Follows D.account (moves ++ port_moves (moves_of machine.now.memory.flash now output)) start plugs.new) }
+    ensures settled { OnOk result (HasSettled D.settled output plugs.new) }
     ensures stays { OnErr result (plugs.new ≡ plugs.old) }
-    ensures seen { OnErr result (IsSeen machine.now.memory.flash now sight) }
+    ensures seen { OnErr result (IsSeen machine.now.memory.flash now output) }
 {
-    match put_sight(sight, now, machine, out) {
+    match put_output(output, now, machine, out) {
         Ok(()) => {
-            send_sight(sight, now, machine, plugs);
+            send_output(output, now, machine, plugs);
             Ok(())
         }
         Err(PutFailed) => Err(PutFailed),

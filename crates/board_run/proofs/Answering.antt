@@ -25,24 +25,24 @@ use Rattle.message_bus.specs.BusState.{BusState, queued}
 use Rattle.fiber_runtime.specs.declared.turning.Turning.{Turning}
 use Rattle.fiber_runtime.specs.State.{State}
 use Rattle.board_run.specs.declared.engine.Engine.{Engine}
-use Rattle.board_outside.specs.declared.sight.Sight.{Sight}
-use Rattle.board_outside.specs.declared.sight.Sight.TheVariants.{Nothing, Frame, Number, Text, Pin, Radio}
+use Rattle.board_outside.specs.declared.output.Output.{Output}
+use Rattle.board_outside.specs.declared.output.Output.TheVariants.{Nothing, Frame, Number, Text, Pin, Radio}
 use Rattle.board_run.specs.declared.engine.Served.TheVariants.{Goes}
 use Rattle.board_run.specs.Represents.{Represents}
 use Rattle.board_outside.specs.Moves.{Move, Seen, seen_of}
 use Rattle.board_run.specs.Serving.{turned}
-use Rattle.board_outside.specs.Sights.{moves_of}
+use Rattle.board_outside.specs.Outputs.{moves_of}
 use Rattle.board_run.specs.Served.{IsServed}
 use Rattle.board_run.specs.View.{state_of}
 use Rattle.board_run.proofs.Acting.{Unplugless, Leaves, shared_is, goes_leaves, asks_leaves}
 
-pub sight_unplugless : (flash : List ℕ) (now : ℕ) (sight : Sight) → Unplugless (moves_of flash now sight)
-sight_unplugless flash now Nothing k = refl
-sight_unplugless flash now (Frame frame) k = refl
-sight_unplugless flash now (Number number) k = refl
-sight_unplugless flash now (Text at) k = refl
-sight_unplugless flash now (Pin pin level) k = refl
-sight_unplugless flash now (Radio number) k = refl
+pub output_unplugless : (flash : List ℕ) (now : ℕ) (output : Output) → Unplugless (moves_of flash now output)
+output_unplugless flash now Nothing k = refl
+output_unplugless flash now (Frame frame) k = refl
+output_unplugless flash now (Number number) k = refl
+output_unplugless flash now (Text at) k = refl
+output_unplugless flash now (Pin pin level) k = refl
+output_unplugless flash now (Radio number) k = refl
 
 -- a board with these observations and unplugs
 abbrev pub with_met : Board → List Observation → List (ℕ × ℕ) → Board
@@ -153,36 +153,36 @@ module _ (e : Engine) where
       answered_by runtime word is image t runs w h _ (asks_back e image t runs w h word (Pressed (argument g 0)) a
       (λ s u. ap (λ x. (with_met (state_of e).plain s u, x)) (ap (λ y. pressed y (with_met (state_of e).plain s u)) (sym same) ∙ down (with_met (state_of e).plain s u) refl refl refl refl)) (number_of a fits ∙ z))
 
-  shows_frame : (frame : ℕ) (sight : Sight) → sight ≡ (if frame == e.display then Nothing else Frame frame) → (q : Question)
+  shows_frame : (frame : ℕ) (output : Output) → output ≡ (if frame == e.display then Nothing else Frame frame) → (q : Question)
       → ((value : ℤ) (s : List Observation) (u : List (ℕ × ℕ)) → answer q value (with_met (state_of e).plain s u) ≡ (showed frame (with_met (state_of e).plain s u), pos 0))
       → (image : List ℕ) (t : Turning) (runs : e.runtime.running ≡ Some t) (w : World Fiber Shared) (h : Represents image (state_of e) w)
-      → Leaves image (state_of e) t runs w h (state_of (record e { display = frame })) (moves_of e.runtime.machine.memory.flash e.clock sight) (turned image (λ f s. Asks q (λ a. (f, s))) (state_of e) t h.mark w)
-  shows_frame frame sight is q shows image t runs w h =
+      → Leaves image (state_of e) t runs w h (state_of (record e { display = frame })) (moves_of e.runtime.machine.memory.flash e.clock output) (turned image (λ f s. Asks q (λ a. (f, s))) (state_of e) t h.mark w)
+  shows_frame frame output is q shows image t runs w h =
       let flash = e.runtime.machine.memory.flash in
-      tells_leaves e image t runs w h (record (state_of e).plain { frame = frame }) (moves_of flash e.clock sight) q (sight_unplugless flash e.clock sight) refl refl refl
+      tells_leaves e image t runs w h (record (state_of e).plain { frame = frame }) (moves_of flash e.clock output) q (output_unplugless flash e.clock output) refl refl refl
       (λ s u. (pos 0, shows t.value s u ∙ ap (λ b. (b, pos 0)) (showed_plain flash frame (state_of e).plain s u ∙ ap (λ x. with_met (record (state_of e).plain { frame = frame }) (s ++ seen_of (moves_of flash e.clock x)) u) (sym is))))
 
-  pub serve_show : (frame : ℕ) (sight : Sight) → frame ≡ word_argument g 0 % 2 ^ 25 → sight ≡ (if frame == e.display then Nothing else Frame frame) → (at : ℕ) → IsServed (λ image. service image at 11) (Goes sight) e (record e { display = frame })
-  serve_show frame sight same is at = λ image t runs w h.
-      subst (λ n. Leaves image (state_of e) t runs w h (state_of (record e { display = frame })) (moves_of e.runtime.machine.memory.flash e.clock sight) (turned image (λ f s. Asks (Displays n) (λ a. (f, s))) (state_of e) t h.mark w)) same
-      (shows_frame frame sight is (Displays frame) (λ value s u. refl) image t runs w h)
+  pub serve_show : (frame : ℕ) (output : Output) → frame ≡ word_argument g 0 % 2 ^ 25 → output ≡ (if frame == e.display then Nothing else Frame frame) → (at : ℕ) → IsServed (λ image. service image at 11) (Goes output) e (record e { display = frame })
+  serve_show frame output same is at = λ image t runs w h.
+      subst (λ n. Leaves image (state_of e) t runs w h (state_of (record e { display = frame })) (moves_of e.runtime.machine.memory.flash e.clock output) (turned image (λ f s. Asks (Displays n) (λ a. (f, s))) (state_of e) t h.mark w)) same
+      (shows_frame frame output is (Displays frame) (λ value s u. refl) image t runs w h)
 
-  pub serve_plot : (frame mode : ℕ) (x y : ℤ) (sight : Sight) (at : ℕ) → x ≡ argument g 0 → y ≡ argument g 1 → mode ≡ word_argument g 2 → mode ≤ 2 → frame ≡ plotted e.display x y mode → sight ≡ (if frame == e.display then Nothing else Frame frame)
-      → IsServed (λ image. service image at 10) (Goes sight) e (record e { display = frame })
-  serve_plot frame mode x y sight at ex ey em l same is = λ image t runs w h.
+  pub serve_plot : (frame mode : ℕ) (x y : ℤ) (output : Output) (at : ℕ) → x ≡ argument g 0 → y ≡ argument g 1 → mode ≡ word_argument g 2 → mode ≤ 2 → frame ≡ plotted e.display x y mode → output ≡ (if frame == e.display then Nothing else Frame frame)
+      → IsServed (λ image. service image at 10) (Goes output) e (record e { display = frame })
+  serve_plot frame mode x y output at ex ey em l same is = λ image t runs w h.
       let few : nat_lt (word_argument g 2) 3 ≡ true = grind (arith, nat_tests, em, l) in
       let q = Plots (argument g 0) (argument g 1) (word_argument g 2) in
       let as_asked : frame ≡ plotted e.display (argument g 0) (argument g 1) (word_argument g 2) = same ∙ ap (λ a. plotted e.display a y mode) ex ∙ ap (λ a. plotted e.display (argument g 0) a mode) ey ∙ ap (plotted e.display (argument g 0) (argument g 1)) em in
-      rw few (shows_frame frame sight is q (λ value s u. ap (λ n. (showed n (with_met (state_of e).plain s u), pos 0)) (sym as_asked)) image t runs w h)
+      rw few (shows_frame frame output is q (λ value s u. ap (λ n. (showed n (with_met (state_of e).plain s u), pos 0)) (sym as_asked)) image t runs w h)
 
-  -- a sight without a change of the board
-  pub seen_only : (sight : Sight) (q : Question) (moves : List Move) → moves ≡ moves_of e.runtime.machine.memory.flash e.clock sight
+  -- a output without a change of the board
+  pub seen_only : (output : Output) (q : Question) (moves : List Move) → moves ≡ moves_of e.runtime.machine.memory.flash e.clock output
       → ((value : ℤ) (s : List Observation) (u : List (ℕ × ℕ)) → (a : ℤ) × (answer q value (with_met (state_of e).plain s u) ≡ (with_met (state_of e).plain (s ++ seen_of moves) u, a)))
       → (image : List ℕ) (t : Turning) (runs : e.runtime.running ≡ Some t) (w : World Fiber Shared) (h : Represents image (state_of e) w)
-      → Leaves image (state_of e) t runs w h (state_of e) (moves_of e.runtime.machine.memory.flash e.clock sight) (turned image (λ f s. Asks q (λ a. (f, s))) (state_of e) t h.mark w)
-  seen_only sight q moves is a image t runs w h =
+      → Leaves image (state_of e) t runs w h (state_of e) (moves_of e.runtime.machine.memory.flash e.clock output) (turned image (λ f s. Asks q (λ a. (f, s))) (state_of e) t h.mark w)
+  seen_only output q moves is a image t runs w h =
       let flash = e.runtime.machine.memory.flash in
-      tells_leaves e image t runs w h (state_of e).plain (moves_of flash e.clock sight) q (sight_unplugless flash e.clock sight) refl refl refl
+      tells_leaves e image t runs w h (state_of e).plain (moves_of flash e.clock output) q (output_unplugless flash e.clock output) refl refl refl
       (λ s u. (let x = a t.value s u in (x.0, x.1 ∙ ap (λ ms. (with_met (state_of e).plain (s ++ seen_of ms) u, x.0)) is)))
 
   pub serve_number : (n : ℤ) → n ≡ argument g 0 → 0 < length (decimal_text (argument g 0)) → (at : ℕ) → IsServed (λ image. service image at 12) (Goes (Number n)) e e

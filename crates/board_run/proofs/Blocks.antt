@@ -15,7 +15,7 @@ use Rattle.fiber_runtime.specs.declared.blocking.Why.TheVariants.{Pause, Wait}
 use Rattle.fiber_runtime.specs.State.{State, running_key}
 use Rattle.fiber_runtime.specs.Moves.{Blocked, Adopted}
 use Rattle.board_run.specs.declared.engine.Engine.{Engine}
-use Rattle.board_outside.specs.declared.sight.Sight.TheVariants.{Nothing}
+use Rattle.board_outside.specs.declared.output.Output.TheVariants.{Nothing}
 use Rattle.board_run.specs.declared.engine.Served.TheVariants.{Goes}
 use Rattle.board_run.specs.Represents.{BoardState, Represents, behind}
 use Rattle.board_run.specs.Serving.{turned}

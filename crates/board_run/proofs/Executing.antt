@@ -12,9 +12,9 @@ use Rattle.tool_io.proofs.Laws.{took-nothing, took-then}
 use Rattle.board_ports.specs.Account.{Account}
 use Rattle.board_ports.specs.Plugged.{Plugged}
 use Rattle.board_ports.specs.History.{Follows}
-use Rattle.board_outside.specs.declared.sight.Sight.{Sight}
+use Rattle.board_outside.specs.declared.output.Output.{Output}
 use Rattle.board_outside.specs.Moves.{Move, Seen, seen_of}
-use Rattle.board_outside.specs.Sights.{moves_of, IsSeen}
+use Rattle.board_outside.specs.Outputs.{moves_of, IsSeen}
 use Rattle.board_outside.specs.Ports.{port_moves}
 use Rattle.board_outside.specs.Cuts.{TookInto}
 use Rattle.board_outside.proofs.Laws.{seen_of-append, port_moves-append, lines-append}
@@ -108,10 +108,10 @@ module _ {B : Type 0} (account : B → Account) where
   }
 
   -- an instruction whose line was cut
-  pub fails_one : (a c : OverSink B) (b : Engine) (flash : List ℕ) (now : ℕ) (sight : Sight) → a.board.engine.end ≡ None → IsSome a.board.engine.runtime.running
-      → ((image : List ℕ) → Comes image 1 (moves_of flash now sight) (state_of a.board.engine) (state_of b)) → IsSeen flash now sight → c.board.plugs ≡ a.board.plugs
-      → TookPart a.taken c.taken (lines (seen_of (moves_of flash now sight))) → Fails account 1 a c
-  fails_one a c b flash now sight going runs comes seen same part =
+  pub fails_one : (a c : OverSink B) (b : Engine) (flash : List ℕ) (now : ℕ) (output : Output) → a.board.engine.end ≡ None → IsSome a.board.engine.runtime.running
+      → ((image : List ℕ) → Comes image 1 (moves_of flash now output) (state_of a.board.engine) (state_of b)) → IsSeen flash now output → c.board.plugs ≡ a.board.plugs
+      → TookPart a.taken c.taken (lines (seen_of (moves_of flash now output))) → Fails account 1 a c
+  fails_one a c b flash now output going runs comes seen same part =
       let o = seen.0 in
       record {
         count = 1;
@@ -163,44 +163,44 @@ whole_after n a b c first second w s f g script within counts early =
       words = (let x = s.words in let y = w.words in let z = ap (λ (k : Counts). k.words) counts in omega (arith, x, y, z));
     }
 
-module _ {B : Type 0} (account : B → Account) (a mid : Engine) (sight : Sight) (shown : IsShown (state_of a))
-    (comes : (image : List ℕ) → Comes image 1 (moves_of a.runtime.machine.memory.flash a.clock sight) (state_of a) (state_of mid)) where
+module _ {B : Type 0} (account : B → Account) (a mid : Engine) (output : Output) (shown : IsShown (state_of a))
+    (comes : (image : List ℕ) → Comes image 1 (moves_of a.runtime.machine.memory.flash a.clock output) (state_of a) (state_of mid)) where
   pub same_flash : mid.runtime.machine.memory.flash ≡ a.runtime.machine.memory.flash
-  same_flash = flash_kept 1 (moves_of a.runtime.machine.memory.flash a.clock sight) (state_of a) (state_of mid) shown (λ image. comes image None)
+  same_flash = flash_kept 1 (moves_of a.runtime.machine.memory.flash a.clock output) (state_of a) (state_of mid) shown (λ image. comes image None)
 
   pub step_whole : (n : ℕ) (told new : Engine) (p q : Plugged B) → IsWhole a n → Steps a mid → told ≡ mid → Idles account (state_of told) (state_of new) p q
       → new.script ≡ told.script → new.next ≤ length told.script.entries → new.counts ≡ told.counts → (told.clock ≤ end_limit → new.clock ≤ end_limit) → IsWhole new (n + 1)
   step_whole n told new p q w s same idles script within counts early =
       let i : Idles account (state_of mid) (state_of new) p q = subst (λ (x : Engine). Idles account (state_of x) (state_of new) p q) same idles in
-      whole_after n a mid new (moves_of a.runtime.machine.memory.flash a.clock sight) i.moves w s comes i.comes
+      whole_after n a mid new (moves_of a.runtime.machine.memory.flash a.clock output) i.moves w s comes i.comes
       (script ∙ ap (λ (x : Engine). x.script) same) (subst (λ (x : Engine). new.next ≤ length x.script.entries) same within) (counts ∙ ap (λ (x : Engine). x.counts) same)
       (subst (λ (x : Engine). x.clock ≤ end_limit → new.clock ≤ end_limit) same early)
 
   pub step_shown : (told : Engine) → told ≡ mid → IsShown (state_of told)
-  step_shown told same = subst (λ (x : Engine). IsShown (state_of x)) (sym same) (comes_shown 1 (moves_of a.runtime.machine.memory.flash a.clock sight) (state_of a) (state_of mid) shown (λ image. comes image None))
+  step_shown told same = subst (λ (x : Engine). IsShown (state_of x)) (sym same) (comes_shown 1 (moves_of a.runtime.machine.memory.flash a.clock output) (state_of a) (state_of mid) shown (λ image. comes image None))
 
-module _ {B : Type 0} (account : B → Account) (old : OverSink B) (mid : Engine) (sight : Sight) (shown : IsShown (state_of old.board.engine))
-    (comes : (image : List ℕ) → Comes image 1 (moves_of old.board.engine.runtime.machine.memory.flash old.board.engine.clock sight) (state_of old.board.engine) (state_of mid)) where
+module _ {B : Type 0} (account : B → Account) (old : OverSink B) (mid : Engine) (output : Output) (shown : IsShown (state_of old.board.engine))
+    (comes : (image : List ℕ) → Comes image 1 (moves_of old.board.engine.runtime.machine.memory.flash old.board.engine.clock output) (state_of old.board.engine) (state_of mid)) where
   abbrev a : Engine
   a = old.board.engine
 
   flash_same : mid.runtime.machine.memory.flash ≡ a.runtime.machine.memory.flash
-  flash_same = same_flash account a mid sight shown comes
+  flash_same = same_flash account a mid output shown comes
 
   -- a whole step: an instruction, its line, its words, and the idle moves behind it
   pub step_goes : (told : Engine) (q : Plugged B) (new : OverSink B) → a.end ≡ None → IsSome a.runtime.running → told ≡ mid
-      → PortsMeet account (moves_of mid.runtime.machine.memory.flash a.clock sight) old.board.plugs q → Took old.taken new.taken (lines (seen_of (moves_of mid.runtime.machine.memory.flash a.clock sight)))
+      → PortsMeet account (moves_of mid.runtime.machine.memory.flash a.clock output) old.board.plugs q → Took old.taken new.taken (lines (seen_of (moves_of mid.runtime.machine.memory.flash a.clock output)))
       → Idles account (state_of told) (state_of new.board.engine) q new.board.plugs → Advances account 1 old new
   step_goes told q new going runs same ports took idles =
       let there : OverSink B = record { board = record old.board { engine = mid; plugs = q }; taken = new.taken; faults = new.faults } in
-      let one = advances_one account old there (moves_of a.runtime.machine.memory.flash a.clock sight) going runs comes
-      (subst (λ f. PortsMeet account (moves_of f a.clock sight) old.board.plugs q) flash_same ports)
-      (subst (λ f. Took old.taken new.taken (lines (seen_of (moves_of f a.clock sight)))) flash_same took) in
+      let one = advances_one account old there (moves_of a.runtime.machine.memory.flash a.clock output) going runs comes
+      (subst (λ f. PortsMeet account (moves_of f a.clock output) old.board.plugs q) flash_same ports)
+      (subst (λ f. Took old.taken new.taken (lines (seen_of (moves_of f a.clock output)))) flash_same took) in
       let rest = advances_idle account there new refl (subst (λ (x : Engine). Idles account (state_of x) (state_of new.board.engine) q new.board.plugs) same idles) in
       advances_then account 1 0 old there new one rest
 
-  pub step_fails : (new : OverSink B) → a.end ≡ None → IsSome a.runtime.running → IsSeen mid.runtime.machine.memory.flash a.clock sight → new.board.plugs ≡ old.board.plugs
-      → TookPart old.taken new.taken (lines (seen_of (moves_of mid.runtime.machine.memory.flash a.clock sight))) → Fails account 1 old new
+  pub step_fails : (new : OverSink B) → a.end ≡ None → IsSome a.runtime.running → IsSeen mid.runtime.machine.memory.flash a.clock output → new.board.plugs ≡ old.board.plugs
+      → TookPart old.taken new.taken (lines (seen_of (moves_of mid.runtime.machine.memory.flash a.clock output))) → Fails account 1 old new
   step_fails new going runs seen same part =
-      fails_one account old new mid a.runtime.machine.memory.flash a.clock sight going runs comes
-      (subst (λ f. IsSeen f a.clock sight) flash_same seen) same (subst (λ f. TookPart old.taken new.taken (lines (seen_of (moves_of f a.clock sight)))) flash_same part)
+      fails_one account old new mid a.runtime.machine.memory.flash a.clock output going runs comes
+      (subst (λ f. IsSeen f a.clock output) flash_same seen) same (subst (λ f. TookPart old.taken new.taken (lines (seen_of (moves_of f a.clock output)))) flash_same part)

@@ -10,7 +10,7 @@ use Rattle.bank_model.specs.Standing.{fiber_on}
 use Rattle.bank_model.specs.AllServices.{service, word_argument}
 use Rattle.fiber_runtime.specs.State.{State}
 use Rattle.board_run.specs.declared.engine.Engine.{Engine}
-use Rattle.board_outside.specs.declared.sight.Sight.TheVariants.{Nothing}
+use Rattle.board_outside.specs.declared.output.Output.TheVariants.{Nothing}
 use Rattle.board_run.specs.declared.engine.Served.TheVariants.{Goes}
 use Rattle.board_run.specs.Served.{IsServed}
 use Rattle.board_run.proofs.Answering.{answered_by, goes_back}

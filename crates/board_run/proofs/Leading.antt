@@ -3,14 +3,14 @@ use Rattle.std.proofs.Common.{◌≡◌, ℕ, List, [], ◌++◌, Option, refl, 
 use Rattle.board_world.specs.Observations.{ByteList}
 use Rattle.board_world.specs.Transcript.{lines}
 use Rattle.tool_io.specs.Putting.{TookPart}
-use Rattle.board_outside.specs.declared.sight.Sight.{Sight}
-use Rattle.board_outside.specs.declared.sight.Sight.TheVariants.{Nothing, Frame, Number, Text, Pin, Radio}
+use Rattle.board_outside.specs.declared.output.Output.{Output}
+use Rattle.board_outside.specs.declared.output.Output.TheVariants.{Nothing, Frame, Number, Text, Pin, Radio}
 use Rattle.board_outside.specs.Moves.{seen_of}
-use Rattle.board_outside.specs.Sights.{moves_of}
+use Rattle.board_outside.specs.Outputs.{moves_of}
 use Rattle.board_outside.specs.Cuts.{TookInto}
 use Rattle.board_run.specs.Proceeding.{led_lines, lead_before}
 
-pub led_told : (lead : ByteList) (flash : List ℕ) (now : ℕ) (sight : Sight) → lead_before lead sight ++ lines (seen_of (moves_of flash now sight)) ≡ led_lines lead (seen_of (moves_of flash now sight))
+pub led_told : (lead : ByteList) (flash : List ℕ) (now : ℕ) (output : Output) → lead_before lead output ++ lines (seen_of (moves_of flash now output)) ≡ led_lines lead (seen_of (moves_of flash now output))
 led_told lead flash now Nothing = refl
 led_told lead flash now (Frame frame) = sym (append_assoc lead _ [])
 led_told lead flash now (Number number) = sym (append_assoc lead _ [])

@@ -23,7 +23,7 @@ use Rattle.fiber_runtime.specs.declared.turning.Raiser.{Raiser}
 use Rattle.fiber_runtime.specs.State.{State}
 use Rattle.fiber_runtime.specs.Moves.{Ended, Woken, restarted, suspended}
 use Rattle.board_run.specs.declared.engine.Engine.{Engine}
-use Rattle.board_outside.specs.declared.sight.Sight.TheVariants.{Nothing}
+use Rattle.board_outside.specs.declared.output.Output.TheVariants.{Nothing}
 use Rattle.board_run.specs.declared.engine.Served.TheVariants.{Goes}
 use Rattle.board_run.specs.Places.{Place, ArePlaces, place_for}
 use Rattle.board_run.specs.Represents.{Represents, IsShown, behind}

@@ -9,9 +9,9 @@ use Rattle.tool_io.specs.Putting.{Took, TookPart}
 use Rattle.tool_io.proofs.Laws.{took-then, took-nothing}
 use Rattle.board_ports.specs.Account.{Account}
 use Rattle.board_ports.specs.History.{Follows}
-use Rattle.board_outside.specs.declared.sight.Sight.{Sight}
+use Rattle.board_outside.specs.declared.output.Output.{Output}
 use Rattle.board_outside.specs.Moves.{Seen, seen_of}
-use Rattle.board_outside.specs.Sights.{moves_of, IsSeen}
+use Rattle.board_outside.specs.Outputs.{moves_of, IsSeen}
 use Rattle.board_outside.specs.Cuts.{TookInto}
 use Rattle.board_outside.proofs.Laws.{seen_of-append}
 use Rattle.board_run.specs.declared.engine.Engine.{Engine}
@@ -90,38 +90,38 @@ module _ {B : Type 0} (account : B → Account) (lead : ByteList) where
         (into_then account (led_lines lead (seen_of f.moves)) (led_lines lead (seen_of g.done)) (lead ++ line g.last) f.written g.written);
   }
 
-  module _ (old : OverSink B) (mid : Engine) (sight : Sight) (shown : IsShown (state_of old.board.engine))
-      (comes : (image : List ℕ) → Comes image 1 (moves_of old.board.engine.runtime.machine.memory.flash old.board.engine.clock sight) (state_of old.board.engine) (state_of mid)) where
+  module _ (old : OverSink B) (mid : Engine) (output : Output) (shown : IsShown (state_of old.board.engine))
+      (comes : (image : List ℕ) → Comes image 1 (moves_of old.board.engine.runtime.machine.memory.flash old.board.engine.clock output) (state_of old.board.engine) (state_of mid)) where
     abbrev a : Engine
     a = old.board.engine
 
     flash_same : mid.runtime.machine.memory.flash ≡ a.runtime.machine.memory.flash
-    flash_same = same_flash account a mid sight shown comes
+    flash_same = same_flash account a mid output shown comes
 
     -- an instruction, its line, its words, and what follows while the clock stands
     pub step_proceeds : (told : Engine) (new : OverSink B) → a.end ≡ None → IsSome a.runtime.running → told ≡ mid
-        → PortsMeet account (moves_of mid.runtime.machine.memory.flash a.clock sight) old.board.plugs new.board.plugs
-        → Took old.taken new.taken (led_lines lead (seen_of (moves_of mid.runtime.machine.memory.flash a.clock sight)))
-        → ((flash : List ℕ) (now : ℕ) → new.board.sent ≡ first_sent old.board.sent (seen_of (moves_of flash now sight)))
+        → PortsMeet account (moves_of mid.runtime.machine.memory.flash a.clock output) old.board.plugs new.board.plugs
+        → Took old.taken new.taken (led_lines lead (seen_of (moves_of mid.runtime.machine.memory.flash a.clock output)))
+        → ((flash : List ℕ) (now : ℕ) → new.board.sent ≡ first_sent old.board.sent (seen_of (moves_of flash now output)))
         → ((image : List ℕ) → Comes image 0 [] (state_of told) (state_of new.board.engine)) → Proceeds account lead 1 old new
     step_proceeds told new going runs same ports took sent stay =
-        let moves = moves_of a.runtime.machine.memory.flash a.clock sight in
+        let moves = moves_of a.runtime.machine.memory.flash a.clock output in
         let count : 0 + 1 ≡ 1 = omega arith in
         record {
           moves = moves;
           makes = λ image bound. through_one bound image moves (state_of a) (state_of new.board.engine) (none_yet a.end going) runs (subst (λ k. ComesTo bound image k moves (state_of a) (state_of new.board.engine)) count
               (subst (λ ms. ComesTo bound image (0 + 1) ms (state_of a) (state_of new.board.engine)) (append-nil moves)
               (comes_then bound image 1 0 moves [] (state_of a) (state_of mid) (state_of new.board.engine) (comes image bound) (subst (λ (x : Engine). ComesTo bound image 0 [] (state_of x) (state_of new.board.engine)) same (stay image bound)))));
-          ports = subst (λ f. PortsMeet account (moves_of f a.clock sight) old.board.plugs new.board.plugs) flash_same ports;
+          ports = subst (λ f. PortsMeet account (moves_of f a.clock output) old.board.plugs new.board.plugs) flash_same ports;
           sent = sent a.runtime.machine.memory.flash a.clock;
-          written = subst (λ f. Took old.taken new.taken (led_lines lead (seen_of (moves_of f a.clock sight)))) flash_same took;
+          written = subst (λ f. Took old.taken new.taken (led_lines lead (seen_of (moves_of f a.clock output)))) flash_same took;
         }
 
-    pub step_stops : (new : OverSink B) → a.end ≡ None → IsSome a.runtime.running → IsSeen mid.runtime.machine.memory.flash a.clock sight → new.board.plugs ≡ old.board.plugs
-        → TookPart old.taken new.taken (led_lines lead (seen_of (moves_of mid.runtime.machine.memory.flash a.clock sight))) → Stops account lead 1 old new
+    pub step_stops : (new : OverSink B) → a.end ≡ None → IsSome a.runtime.running → IsSeen mid.runtime.machine.memory.flash a.clock output → new.board.plugs ≡ old.board.plugs
+        → TookPart old.taken new.taken (led_lines lead (seen_of (moves_of mid.runtime.machine.memory.flash a.clock output))) → Stops account lead 1 old new
     step_stops new going runs seen same part =
-        let seen' = subst (λ f. IsSeen f a.clock sight) flash_same seen in
-        let part' = subst (λ f. TookPart old.taken new.taken (led_lines lead (seen_of (moves_of f a.clock sight)))) flash_same part in
+        let seen' = subst (λ f. IsSeen f a.clock output) flash_same seen in
+        let part' = subst (λ f. TookPart old.taken new.taken (led_lines lead (seen_of (moves_of f a.clock output)))) flash_same part in
         let o = seen'.0 in
         record {
           count = 1;
@@ -144,6 +144,6 @@ module _ {B : Type 0} (account : B → Account) (lead : ByteList) where
         let within : new.next ≤ length told.script.entries =
         subst (λ (x : Engine). x.next ≤ length told.script.entries) (sym stays) (subst (λ (x : Engine). x.next ≤ length x.script.entries) (sym same)
         (subst (λ k. k ≤ length mid.script.entries) (sym s.next) (subst (λ x. a.next ≤ length x.entries) (sym s.script) w.within))) in
-        whole_after n a mid new (moves_of a.runtime.machine.memory.flash a.clock sight) [] w s comes (λ image. subst (λ (x : Engine). ComesTo None image 0 [] (state_of x) (state_of new)) same (stay image None))
+        whole_after n a mid new (moves_of a.runtime.machine.memory.flash a.clock output) [] w s comes (λ image. subst (λ (x : Engine). ComesTo None image 0 [] (state_of x) (state_of new)) same (stay image None))
         (ap (λ (x : Engine). x.script) stays ∙ ap (λ (x : Engine). x.script) same) (subst (λ (x : Engine). new.next ≤ length x.script.entries) same within)
         (ap (λ (x : Engine). x.counts) stays ∙ ap (λ (x : Engine). x.counts) same) (λ l. subst (λ (x : Engine). x.clock ≤ end_limit) (sym (stays)) (subst (λ (x : Engine). x.clock ≤ end_limit) (sym same) l))

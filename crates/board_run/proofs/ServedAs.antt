@@ -12,7 +12,7 @@ use Rattle.board_run.specs.declared.engine.Engine.{Engine}
 use Rattle.board_run.specs.declared.engine.Served.{Served}
 use Rattle.board_run.specs.declared.engine.Served.TheVariants.{Goes, Stops}
 use Rattle.board_run.specs.Represents.{behind}
-use Rattle.board_outside.specs.Sights.{moves_of}
+use Rattle.board_outside.specs.Outputs.{moves_of}
 use Rattle.board_run.specs.Served.{IsServed}
 use Rattle.board_run.specs.View.{state_of, end_of}
 use Rattle.board_run.proofs.Goes.{current}
@@ -20,8 +20,8 @@ use Rattle.board_run.proofs.Acting.{Leaves}
 
 pub served_as : (T U : List ℕ → Fiber → Shared → Turn Fiber Shared) (r : Served) (old new : Engine) → ((image : List ℕ) (s : Shared) → T image (fiber_on old.runtime.machine) s ≡ U image (fiber_on old.runtime.machine) s)
     → IsServed T r old new → IsServed U r old new
-served_as T U (Goes sight) old new same x = λ image t runs w h.
-    subst (λ (turn : Turn Fiber Shared). Leaves image (state_of old) t runs w h (state_of new) (moves_of old.runtime.machine.memory.flash old.clock sight) (acted (fibers image) (current (state_of old) t h.mark) (behind image (state_of old)) w turn)) (same image w.shared) (x image t runs w h)
+served_as T U (Goes output) old new same x = λ image t runs w h.
+    subst (λ (turn : Turn Fiber Shared). Leaves image (state_of old) t runs w h (state_of new) (moves_of old.runtime.machine.memory.flash old.clock output) (acted (fibers image) (current (state_of old) t h.mark) (behind image (state_of old)) w turn)) (same image w.shared) (x image t runs w h)
 served_as T U (Stops stop) old new same x = (
   x.0,
   λ image t runs w h.

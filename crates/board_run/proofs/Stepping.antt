@@ -21,12 +21,12 @@ use Rattle.board_world.specs.Activities.{World}
 use Rattle.board_run.specs.declared.end.Stop.{Stop}
 use Rattle.board_run.specs.declared.end.Stop.TheVariants.{Fault as StopFault}
 use Rattle.board_run.specs.declared.engine.Engine.{Engine}
-use Rattle.board_outside.specs.declared.sight.Sight.{Sight}
+use Rattle.board_outside.specs.declared.output.Output.{Output}
 use Rattle.board_run.specs.declared.engine.Served.TheVariants.{Goes, Stops}
 use Rattle.board_run.specs.Represents.{BoardState, Represents, IsShown}
 use Rattle.board_run.specs.Run.{Comes}
 use Rattle.board_run.specs.Serving.{Acts, StopsAt}
-use Rattle.board_outside.specs.Sights.{moves_of}
+use Rattle.board_outside.specs.Outputs.{moves_of}
 use Rattle.board_run.specs.Served.{IsServed}
 use Rattle.board_run.specs.View.{state_of, end_of}
 use Rattle.board_run.proofs.Instructs.{moved_to, moved_shows, went, faulted, served, served_stops, served_inside}
@@ -102,13 +102,13 @@ module _ (e : Engine) (s : State) (turn : Turn) (rest : s ≡ record e.runtime {
   asked_inside number is t runs going shown = (served_inside e.runtime.machine.memory.flash (state_of e) t runs (none_yet going) number s.machine shown.world shown.shows (step_served number is)).inside
 
   -- a service that is done
-  pub step_goes : (number : ℕ) → turn ≡ Service number → (t : Turning) → e.runtime.running ≡ Some t → e.end ≡ None → (at : ℕ) → at ≡ e.runtime.machine.registers.pc → (sight : Sight) (new : Engine)
-      → IsServed (λ image. service image at number) (Goes sight) behind_step new → (image : List ℕ) → Comes image 1 (moves_of e.runtime.machine.memory.flash e.clock sight) (state_of e) (state_of new)
-  step_goes number is t runs going at here sight new done image =
-      served image (state_of e) t runs (none_yet going) number s.machine (state_of new) (moves_of e.runtime.machine.memory.flash e.clock sight) (step_served number is)
-      (subst (λ (b : BoardState). Acts image (service image e.runtime.machine.registers.pc number) (moves_of e.runtime.machine.memory.flash e.clock sight) b (state_of new)) (sym moved_is)
-      (subst (λ l. Acts image (service image e.runtime.machine.registers.pc number) (moves_of l e.clock sight) (state_of behind_step) (state_of new)) (flash_stays number is)
-      (subst (λ p. Acts image (service image p number) (moves_of s.machine.memory.flash e.clock sight) (state_of behind_step) (state_of new)) here (done image))))
+  pub step_goes : (number : ℕ) → turn ≡ Service number → (t : Turning) → e.runtime.running ≡ Some t → e.end ≡ None → (at : ℕ) → at ≡ e.runtime.machine.registers.pc → (output : Output) (new : Engine)
+      → IsServed (λ image. service image at number) (Goes output) behind_step new → (image : List ℕ) → Comes image 1 (moves_of e.runtime.machine.memory.flash e.clock output) (state_of e) (state_of new)
+  step_goes number is t runs going at here output new done image =
+      served image (state_of e) t runs (none_yet going) number s.machine (state_of new) (moves_of e.runtime.machine.memory.flash e.clock output) (step_served number is)
+      (subst (λ (b : BoardState). Acts image (service image e.runtime.machine.registers.pc number) (moves_of e.runtime.machine.memory.flash e.clock output) b (state_of new)) (sym moved_is)
+      (subst (λ l. Acts image (service image e.runtime.machine.registers.pc number) (moves_of l e.clock output) (state_of behind_step) (state_of new)) (flash_stays number is)
+      (subst (λ p. Acts image (service image p number) (moves_of s.machine.memory.flash e.clock output) (state_of behind_step) (state_of new)) here (done image))))
 
   -- the fiber that is put back
   pub put_back_is : (number : ℕ) → turn ≡ Service number → (at : ℕ) → at ≡ e.runtime.machine.registers.pc → (back : State)

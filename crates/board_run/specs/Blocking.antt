@@ -31,7 +31,7 @@ copied_behind words e = count_behind e.switch (routine_steps words)
 
 -- The switch copied the running fiber's words, unless the turn ends the run.
 abbrev pub IsCopiedOut : Served → Engine → Engine → Type 0
-IsCopiedOut (Goes sight) old new = new.switch ≡ copied_behind (depth old.runtime.machine) old
+IsCopiedOut (Goes output) old new = new.switch ≡ copied_behind (depth old.runtime.machine) old
 IsCopiedOut (Stops stop) old new = new.switch ≡ old.switch
 
 -- Nobody but a fiber that stands in a record is next: no handler is to begin, and none is suspended.

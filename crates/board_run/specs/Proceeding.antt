@@ -6,8 +6,8 @@ use Rattle.board_world.specs.Board.{over}
 use Rattle.board_world.specs.Activities.{World}
 use Rattle.bank_model.specs.Fibers.{Fiber, Shared}
 use Rattle.tool_io.specs.Putting.{Took}
-use Rattle.board_outside.specs.declared.sight.Sight.{Sight}
-use Rattle.board_outside.specs.declared.sight.Sight.TheVariants.{Nothing, Frame, Number, Text, Pin as PinSight, Radio as RadioSight}
+use Rattle.board_outside.specs.declared.output.Output.{Output}
+use Rattle.board_outside.specs.declared.output.Output.TheVariants.{Nothing, Frame, Number, Text, Pin as PinOutput, Radio as RadioOutput}
 use Rattle.board_outside.specs.Moves.{Move, Seen, seen_of}
 use Rattle.board_outside.specs.Cuts.{TookInto}
 use Rattle.board_run.specs.declared.engine.Engine.{Engine}
@@ -34,13 +34,13 @@ first_sent numbers (Pin at pin level ∷ os) = first_sent numbers os
 first_sent numbers (Radio at number ∷ os) = first_sent (if nat_lt (length numbers) 32 then numbers ++ number ∷ [] else numbers) os
 
 -- what is put before the line of what an instruction showed
-abbrev pub lead_before : ByteList → Sight → ByteList
+abbrev pub lead_before : ByteList → Output → ByteList
 lead_before lead Nothing = []
 lead_before lead (Frame frame) = lead
 lead_before lead (Number number) = lead
 lead_before lead (Text at) = lead
-lead_before lead (PinSight pin level) = lead
-lead_before lead (RadioSight number) = lead
+lead_before lead (PinOutput pin level) = lead
+lead_before lead (RadioOutput number) = lead
 
 -- The run isn't over, and somebody is ready.
 abbrev pub IsBusy : World Fiber Shared → Type 0

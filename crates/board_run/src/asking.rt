@@ -8,7 +8,7 @@ use crate::arguments::{answer, asked_event, number, word};
 use crate::end::Stop;
 use crate::engine::{Engine, Served};
 use armv6m_machine::Fault;
-use board_outside::Sight;
+use board_outside::Output;
 use board_world::{PIN_LIMIT, plot};
 
 impl Engine {
@@ -19,7 +19,7 @@ impl Engine {
     {
         let event = asked_event(&self.runtime);
         let _ = self.bus.raise(event);
-        Served::Goes(Sight::Nothing)
+        Served::Goes(Output::Nothing)
     }
 
     /// Service 7: the time.
@@ -28,7 +28,7 @@ impl Engine {
         ensures keeps { Keeps self.old self.new }
     {
         answer(&mut self.runtime, self.clock);
-        Served::Goes(Sight::Nothing)
+        Served::Goes(Output::Nothing)
     }
 
     /// Service 8: the value of the latest event.
@@ -39,7 +39,7 @@ impl Engine {
     {
         let value = self.runtime.event_value();
         answer(&mut self.runtime, value.cast_unsigned());
-        Served::Goes(Sight::Nothing)
+        Served::Goes(Output::Nothing)
     }
 
     /// Service 9: whether a button is down.
@@ -49,7 +49,7 @@ impl Engine {
     {
         let down = self.buttons.is_down(number(&self.runtime, 0));
         answer(&mut self.runtime, u32::from(down));
-        Served::Goes(Sight::Nothing)
+        Served::Goes(Output::Nothing)
     }
 
     /// Service 10: one light.
@@ -83,7 +83,7 @@ impl Engine {
     pub fn write_number(&self) -> Served
         ensures { (at : ℕ) → IsServed (λ image. service image at WRITE_NUMBER) result self.now self.now }
     {
-        Served::Goes(Sight::Number(number(&self.runtime, 0)))
+        Served::Goes(Output::Number(number(&self.runtime, 0)))
     }
 
     /// Service 14: a pin.
@@ -93,32 +93,32 @@ impl Engine {
         let pin = number(&self.runtime, 0);
         let value = number(&self.runtime, 1);
         if pin < 0 || pin as u32 >= PIN_LIMIT {
-            return Served::Goes(Sight::Nothing);
+            return Served::Goes(Output::Nothing);
         }
-        Served::Goes(Sight::Pin(pin as u8, u8::from(value != 0)))
+        Served::Goes(Output::Pin(pin as u8, u8::from(value != 0)))
     }
 
     /// Service 15: a number by radio.
     pub fn send(&self) -> Served
         ensures { (at : ℕ) → IsServed (λ image. service image at SEND) result self.now self.now }
     {
-        Served::Goes(Sight::Radio(number(&self.runtime, 0)))
+        Served::Goes(Output::Radio(number(&self.runtime, 0)))
     }
 }
 
 ghost use Rattle.std.specs.Prelude.{if◌then◌else◌, ◌==◌};
-ghost use Rattle.board_outside.specs.declared.sight.Sight.TheVariants.{Nothing, Frame};
+ghost use Rattle.board_outside.specs.declared.output.Output.TheVariants.{Nothing, Frame};
 
 impl Engine {
     /// A frame is shown, and seen where it differs from the one before.
-    fn show_frame(&mut self, frame: u32) -> Sight
-        ensures sight { result ≡ (if frame == self.old.display then Nothing else Frame frame) }
+    fn show_frame(&mut self, frame: u32) -> Output
+        ensures output { result ≡ (if frame == self.old.display then Nothing else Frame frame) }
         ensures after { self.new ≡ record self.old { display = frame } }
     {
         if self.display.show(frame) {
-            Sight::Frame(frame)
+            Output::Frame(frame)
         } else {
-            Sight::Nothing
+            Output::Nothing
         }
     }
 }

@@ -15,7 +15,7 @@ use crate::arguments::{number, word};
 use crate::end::Stop;
 use crate::engine::{Engine, Served};
 use armv6m_machine::Fault;
-use board_outside::Sight;
+use board_outside::Output;
 use board_world::{LISTENER_PANIC, Listener, SEAT_PANIC};
 use fiber_runtime::{Runtime, Why};
 use fork_on_block::fork;
@@ -70,7 +70,7 @@ impl Engine {
     {
         if self.runtime.running().is_some() {
             self.rest(why);
-            return Served::Goes(Sight::Nothing);
+            return Served::Goes(Output::Nothing);
         }
         if fork(&mut self.runtime).is_err() {
             return Served::Stops(Stop::Panic(SEAT_PANIC));
@@ -78,7 +78,7 @@ impl Engine {
         self.counts.blocked += 1;
         self.count_seats();
         self.rest(why);
-        Served::Goes(Sight::Nothing)
+        Served::Goes(Output::Nothing)
     }
 
     /// Service 4: another fiber begins, as the last ready one.
@@ -96,7 +96,7 @@ impl Engine {
             Ok(()) => {
                 self.counts.spawned += 1;
                 self.count_seats();
-                Served::Goes(Sight::Nothing)
+                Served::Goes(Output::Nothing)
             }
             Err(_) => Served::Stops(Stop::Panic(SEAT_PANIC)),
         }
@@ -119,7 +119,7 @@ impl Engine {
             mode,
         };
         match self.bus.listen(listener) {
-            Ok(()) => Served::Goes(Sight::Nothing),
+            Ok(()) => Served::Goes(Output::Nothing),
             Err(_) => Served::Stops(Stop::Panic(LISTENER_PANIC)),
         }
     }

@@ -9,7 +9,7 @@ ghost use Rattle.board_ports.specs.History.{Follows};
 ghost use Rattle.event_script.specs.Sound.{IsSound};
 ghost use Rattle.board_outside.specs.Moves.{seen_of};
 ghost use Rattle.board_outside.specs.Ports.{port_moves};
-ghost use Rattle.board_outside.specs.Sights.{moves_of, IsSeen};
+ghost use Rattle.board_outside.specs.Outputs.{moves_of, IsSeen};
 ghost use Rattle.board_run.specs.Advancing.{Advances, HasExecuted, Fails, PortsMeet, IsWhole, IsSettled};
 ghost use Rattle.board_run.specs.Outside.{outside_of, over_sink};
 ghost use Rattle.board_run.specs.Ran.{world_after, IsMounted, Finishes, Ran};
@@ -23,7 +23,7 @@ use crate::slots::Slots;
 use arena_heap::Arena;
 use armv6m_machine::Machine;
 use board_drivers::{Buttons, Display};
-use board_outside::{Sight, show};
+use board_outside::{Output, show};
 use board_ports::{Device, Plugs};
 use board_world::Event;
 use event_script::Script;
@@ -122,21 +122,21 @@ fn fresh_parts(
 #[inline(always)]
 pub fn tell<K: Sink, D: Device>(
     engine: &mut Engine,
-    sight: Sight,
+    output: Output,
     now: u32,
     out: &mut K,
     plugs: &mut Plugs<D>,
 ) -> Result<(), PutFailed>
     requires size { length engine.old.runtime.machine.memory.flash ≤ flash_end }
     requires bytes { All (λ b. b < 256) engine.old.runtime.machine.memory.flash }
-    ensures puts { PutsTo K.taken K.faults out.old out.new (lines (seen_of (moves_of engine.old.runtime.machine.memory.flash now sight))) result }
-    ensures sends { OnOk result (PortsMeet D.account (moves_of engine.old.runtime.machine.memory.flash now sight) plugs.old plugs.new) }
+    ensures puts { PutsTo K.taken K.faults out.old out.new (lines (seen_of (moves_of engine.old.runtime.machine.memory.flash now output))) result }
+    ensures sends { OnOk result (PortsMeet D.account (moves_of engine.old.runtime.machine.memory.flash now output) plugs.old plugs.new) }
     ensures stays { OnErr result (plugs.new ≡ plugs.old) }
-    ensures seen { OnErr result (IsSeen engine.old.runtime.machine.memory.flash now sight) }
+    ensures seen { OnErr result (IsSeen engine.old.runtime.machine.memory.flash now output) }
     ensures same { engine.new ≡ engine.old }
 {
-    match sight {
-        Sight::Nothing => Ok(()),
+    match output {
+        Output::Nothing => Ok(()),
         seen => show(seen, now, engine.runtime.machine(), out, plugs),
     }
 }
@@ -188,9 +188,9 @@ impl<D: Device> Board<D> {
         ensures failed { OnErr result (Rose (K.faults out.old) (K.faults out.new)) }
     {
         let now = self.engine.clock;
-        let sight = self.engine.instruct();
+        let output = self.engine.instruct();
         self.instructions += 1;
-        match tell(&mut self.engine, sight, now, out, &mut self.plugs) {
+        match tell(&mut self.engine, output, now, out, &mut self.plugs) {
             Ok(()) => {
                 self.engine.settle(&mut self.plugs);
                 Ok(())

@@ -15,7 +15,7 @@ use crate::arguments::asked_event;
 use crate::end::Stop;
 use crate::engine::{Engine, Served};
 use crate::place::place_for;
-use board_outside::Sight;
+use board_outside::Output;
 use board_world::{Event, RAISER_PANIC};
 use fiber_runtime::Runtime;
 use fork_on_block::{again, leave, nest};
@@ -60,7 +60,7 @@ impl Engine {
                 Some(event) => begin_again(&mut self.runtime, &self.bus, at, event),
             },
         }
-        Served::Goes(Sight::Nothing)
+        Served::Goes(Output::Nothing)
     }
 
     /// Service 23: the handlers of an event begin on top of the fiber, which goes on behind them.
@@ -79,12 +79,12 @@ impl Engine {
                     let place = place_for(&mut self.bus, event);
                     self.places.push(place);
                     self.runtime.wake_waiters(event);
-                    Served::Goes(Sight::Nothing)
+                    Served::Goes(Output::Nothing)
                 }
             };
         }
         let _ = self.bus.dispatch(event);
         self.runtime.wake_waiters(event);
-        Served::Goes(Sight::Nothing)
+        Served::Goes(Output::Nothing)
     }
 }

@@ -4,7 +4,7 @@ use crate::end::{Counts, Stop};
 use crate::places::Places;
 use arena_heap::Arena;
 use board_drivers::{Buttons, Display};
-use board_outside::Sight;
+use board_outside::Output;
 use event_script::Script;
 use fiber_runtime::Runtime;
 use message_bus::Bus;
@@ -33,7 +33,7 @@ pub struct Engine {
 #[derive(Clone, Copy, Drop)]
 pub enum Served {
     /// The run goes on, and this was seen.
-    Goes(Sight),
+    Goes(Output),
     /// The run ends, and nothing has changed.
     Stops(Stop),
 }

@@ -3,14 +3,14 @@ ghost use Rattle.std.specs.Prelude.{◌≡◌, ◌+◌, ◌^◌, ◌<◌, ◌≤
 ghost use Rattle.board_world.specs.Limits.{end_limit};
 ghost use Rattle.board_run.specs.Represents.{IsShown};
 ghost use Rattle.board_run.specs.Run.{Comes};
-ghost use Rattle.board_outside.specs.Sights.{moves_of};
+ghost use Rattle.board_outside.specs.Outputs.{moves_of};
 ghost use Rattle.board_run.specs.Served.{Steps};
 ghost use Rattle.board_run.specs.View.{state_of};
 
 use crate::end::Stop;
 use crate::engine::{Engine, Served};
 use armv6m_machine::Turn;
-use board_outside::Sight;
+use board_outside::Output;
 use fiber_runtime::Runtime;
 
 /// Puts the running fiber back to the instruction at an address.
@@ -26,7 +26,7 @@ impl Engine {
     /// One instruction of the running fiber, with the service that it asks for. A fault or a panic ends the run, and leaves the fiber before
     /// its instruction.
     #[inline(always)]
-    pub fn instruct(&mut self) -> Sight
+    pub fn instruct(&mut self) -> Output
         requires runs { IsSome self.old.runtime.running }
         requires shown { IsShown (state_of self.old) }
         requires going { self.old.end ≡ None }
@@ -40,18 +40,18 @@ impl Engine {
     {
         let at = self.runtime.registers().pc;
         match self.runtime.step() {
-            Turn::Went => Sight::Nothing,
+            Turn::Went => Output::Nothing,
             Turn::Service(number) => match self.serve(number, at) {
-                Served::Goes(sight) => sight,
+                Served::Goes(output) => output,
                 Served::Stops(stop) => {
                     put_back(&mut self.runtime, at);
                     self.end = Some(stop);
-                    Sight::Nothing
+                    Output::Nothing
                 }
             },
             Turn::Fault(fault, address) => {
                 self.end = Some(Stop::Fault(fault, address));
-                Sight::Nothing
+                Output::Nothing
             }
         }
     }

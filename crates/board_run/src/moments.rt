@@ -9,7 +9,7 @@ ghost use Rattle.board_world.specs.Transcript.{closing_line};
 ghost use Rattle.message_bus.specs.BusState.{queued};
 ghost use Rattle.message_bus.specs.Answers.{answer_of as raised_as};
 ghost use Rattle.board_outside.specs.Moves.{seen_of};
-ghost use Rattle.board_outside.specs.Sights.{moves_of, IsSeen};
+ghost use Rattle.board_outside.specs.Outputs.{moves_of, IsSeen};
 ghost use Rattle.board_run.specs.Represents.{IsShown};
 ghost use Rattle.board_run.specs.Run.{Comes};
 ghost use Rattle.board_run.specs.Idling.{IsEmpty};
@@ -26,7 +26,7 @@ use crate::closing::{put_closing, told};
 use crate::end::{End, Stop};
 use crate::engine::Engine;
 use crate::slots::Slots;
-use board_outside::Sight;
+use board_outside::Output;
 use board_ports::{Device, Plugs};
 use board_world::Event;
 use message_bus::Raised;
@@ -42,23 +42,23 @@ pub enum Gone {
 }
 
 /// What is put before the line of what was seen: nothing where nothing was.
-fn lead_of<'a>(sight: Sight, lead: &'a [u8]) -> &'a [u8]
-    ensures { result.now ≡ lead_before lead.now sight }
+fn lead_of<'a>(output: Output, lead: &'a [u8]) -> &'a [u8]
+    ensures { result.now ≡ lead_before lead.now output }
 {
-    match sight {
-        Sight::Nothing => &lead[..0],
-        Sight::Frame(_) => lead,
-        Sight::Number(_) => lead,
-        Sight::Text(_) => lead,
-        Sight::Pin(_, _) => lead,
-        Sight::Radio(_) => lead,
+    match output {
+        Output::Nothing => &lead[..0],
+        Output::Frame(_) => lead,
+        Output::Number(_) => lead,
+        Output::Text(_) => lead,
+        Output::Pin(_, _) => lead,
+        Output::Radio(_) => lead,
     }
 }
 
 /// Puts the line of what was seen at a moment, behind a lead, and then sends its words to the devices.
 fn tell_behind<K: Sink, D: Device>(
     engine: &mut Engine,
-    sight: Sight,
+    output: Output,
     now: u32,
     lead: &[u8],
     out: &mut K,
@@ -66,13 +66,13 @@ fn tell_behind<K: Sink, D: Device>(
 ) -> Result<(), PutFailed>
     requires size { length engine.old.runtime.machine.memory.flash ≤ flash_end }
     requires bytes { All (λ b. b < 256) engine.old.runtime.machine.memory.flash }
-    ensures puts { PutsTo K.taken K.faults out.old out.new (led_lines lead.now (seen_of (moves_of engine.old.runtime.machine.memory.flash now sight))) result }
-    ensures sends { OnOk result (PortsMeet D.account (moves_of engine.old.runtime.machine.memory.flash now sight) plugs.old plugs.new) }
+    ensures puts { PutsTo K.taken K.faults out.old out.new (led_lines lead.now (seen_of (moves_of engine.old.runtime.machine.memory.flash now output))) result }
+    ensures sends { OnOk result (PortsMeet D.account (moves_of engine.old.runtime.machine.memory.flash now output) plugs.old plugs.new) }
     ensures stays { OnErr result (plugs.new ≡ plugs.old) }
     ensures same { engine.new ≡ engine.old }
 {
-    match out.put(lead_of(sight, lead)) {
-        Ok(()) => tell(engine, sight, now, out, plugs),
+    match out.put(lead_of(output, lead)) {
+        Ok(()) => tell(engine, output, now, out, plugs),
         Err(PutFailed) => Err(PutFailed),
     }
 }
@@ -81,7 +81,7 @@ fn tell_behind<K: Sink, D: Device>(
 #[inline(always)]
 fn tell_led<K: Sink, D: Device>(
     engine: &mut Engine,
-    sight: Sight,
+    output: Output,
     now: u32,
     lead: &[u8],
     out: &mut K,
@@ -89,37 +89,37 @@ fn tell_led<K: Sink, D: Device>(
 ) -> Result<(), PutFailed>
     requires size { length engine.old.runtime.machine.memory.flash ≤ flash_end }
     requires bytes { All (λ b. b < 256) engine.old.runtime.machine.memory.flash }
-    ensures puts { PutsTo K.taken K.faults out.old out.new (led_lines lead.now (seen_of (moves_of engine.old.runtime.machine.memory.flash now sight))) result }
-    ensures sends { OnOk result (PortsMeet D.account (moves_of engine.old.runtime.machine.memory.flash now sight) plugs.old plugs.new) }
+    ensures puts { PutsTo K.taken K.faults out.old out.new (led_lines lead.now (seen_of (moves_of engine.old.runtime.machine.memory.flash now output))) result }
+    ensures sends { OnOk result (PortsMeet D.account (moves_of engine.old.runtime.machine.memory.flash now output) plugs.old plugs.new) }
     ensures stays { OnErr result (plugs.new ≡ plugs.old) }
-    ensures seen { OnErr result (IsSeen engine.old.runtime.machine.memory.flash now sight) }
+    ensures seen { OnErr result (IsSeen engine.old.runtime.machine.memory.flash now output) }
     ensures same { engine.new ≡ engine.old }
 {
-    match sight {
-        Sight::Nothing => Ok(()),
-        Sight::Frame(_) => tell_behind(engine, sight, now, lead, out, plugs),
-        Sight::Number(_) => tell_behind(engine, sight, now, lead, out, plugs),
-        Sight::Text(_) => tell_behind(engine, sight, now, lead, out, plugs),
-        Sight::Pin(_, _) => tell_behind(engine, sight, now, lead, out, plugs),
-        Sight::Radio(_) => tell_behind(engine, sight, now, lead, out, plugs),
+    match output {
+        Output::Nothing => Ok(()),
+        Output::Frame(_) => tell_behind(engine, output, now, lead, out, plugs),
+        Output::Number(_) => tell_behind(engine, output, now, lead, out, plugs),
+        Output::Text(_) => tell_behind(engine, output, now, lead, out, plugs),
+        Output::Pin(_, _) => tell_behind(engine, output, now, lead, out, plugs),
+        Output::Radio(_) => tell_behind(engine, output, now, lead, out, plugs),
     }
 }
 
 /// Notes a number that was sent by radio, while there is room.
-fn note(sent: &mut Slots<i32>, sight: Sight)
-    ensures { (flash : List ℕ) (now : ℕ) → sent.new ≡ first_sent sent.old (seen_of (moves_of flash now sight)) }
+fn note(sent: &mut Slots<i32>, output: Output)
+    ensures { (flash : List ℕ) (now : ℕ) → sent.new ≡ first_sent sent.old (seen_of (moves_of flash now output)) }
 {
-    match sight {
-        Sight::Radio(number) => {
+    match output {
+        Output::Radio(number) => {
             if sent.has_room() {
                 sent.push(number);
             }
         }
-        Sight::Nothing => {}
-        Sight::Frame(_) => {}
-        Sight::Number(_) => {}
-        Sight::Text(_) => {}
-        Sight::Pin(_, _) => {}
+        Output::Nothing => {}
+        Output::Frame(_) => {}
+        Output::Number(_) => {}
+        Output::Text(_) => {}
+        Output::Pin(_, _) => {}
     }
 }
 
@@ -186,11 +186,11 @@ impl<D: Device> Board<D> {
         ensures failed { OnErr result (Rose (K.faults out.old) (K.faults out.new)) }
     {
         let now = self.engine.clock;
-        let sight = self.engine.instruct();
+        let output = self.engine.instruct();
         self.instructions += 1;
-        match tell_led(&mut self.engine, sight, now, lead, out, &mut self.plugs) {
+        match tell_led(&mut self.engine, output, now, lead, out, &mut self.plugs) {
             Ok(()) => {
-                note(&mut self.sent, sight);
+                note(&mut self.sent, output);
                 self.engine.stay();
                 Ok(())
             }

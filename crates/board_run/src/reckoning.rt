@@ -13,7 +13,7 @@ use crate::engine::{Engine, Served};
 use arena_heap::Pushed;
 use armv6m_machine::Fault;
 use board_drivers::glyph;
-use board_outside::Sight;
+use board_outside::Output;
 use board_world::{ARENA_PANIC, NULL_PANIC};
 use itoa::Buffer;
 
@@ -67,7 +67,7 @@ impl Engine {
     {
         let glyph = glyph_of_number(number(&self.runtime, 0), word(&self.runtime, 1));
         answer(&mut self.runtime, glyph.cast_unsigned());
-        Served::Goes(Sight::Nothing)
+        Served::Goes(Output::Nothing)
     }
 
     /// Service 18: words of the arena.
@@ -83,7 +83,7 @@ impl Engine {
             None => Served::Stops(Stop::Panic(ARENA_PANIC)),
             Some(address) => {
                 answer(&mut self.runtime, address);
-                Served::Goes(Sight::Nothing)
+                Served::Goes(Output::Nothing)
             }
         }
     }
@@ -99,7 +99,7 @@ impl Engine {
             return Served::Stops(Stop::Panic(NULL_PANIC));
         }
         match self.arena.push(self.runtime.machine(), array, item) {
-            Pushed::Done => Served::Goes(Sight::Nothing),
+            Pushed::Done => Served::Goes(Output::Nothing),
             Pushed::Full => Served::Stops(Stop::Panic(ARENA_PANIC)),
             Pushed::Bad => Served::Stops(Stop::Fault(Fault::BadService, at)),
         }
@@ -112,7 +112,7 @@ impl Engine {
     {
         let result = quotient(number(&self.runtime, 0), number(&self.runtime, 1));
         answer(&mut self.runtime, result.cast_unsigned());
-        Served::Goes(Sight::Nothing)
+        Served::Goes(Output::Nothing)
     }
 
     /// Service 21: a remainder.
@@ -122,6 +122,6 @@ impl Engine {
     {
         let result = remainder(number(&self.runtime, 0), number(&self.runtime, 1));
         answer(&mut self.runtime, result.cast_unsigned());
-        Served::Goes(Sight::Nothing)
+        Served::Goes(Output::Nothing)
     }
 }

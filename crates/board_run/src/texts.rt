@@ -13,7 +13,7 @@ use crate::end::Stop;
 use crate::engine::{Engine, Served};
 use armv6m_machine::Fault;
 use board_drivers::glyph;
-use board_outside::Sight;
+use board_outside::Output;
 use board_world::NULL_PANIC;
 use fiber_runtime::Runtime;
 
@@ -101,9 +101,9 @@ impl Engine {
         match text_length(&mut self.runtime, address) {
             None => Served::Stops(Stop::Fault(Fault::BadService, at)),
             Some(length) => if length == 0 {
-                Served::Goes(Sight::Nothing)
+                Served::Goes(Output::Nothing)
             } else {
-                Served::Goes(Sight::Text(address))
+                Served::Goes(Output::Text(address))
             },
         }
     }
@@ -124,7 +124,7 @@ impl Engine {
             Some(length) => {
                 let glyph = glyph_of_text(&mut self.runtime, address, length, place);
                 answer(&mut self.runtime, glyph);
-                Served::Goes(Sight::Nothing)
+                Served::Goes(Output::Nothing)
             }
         }
     }

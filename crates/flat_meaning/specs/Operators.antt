@@ -4,7 +4,7 @@ use Rattle.board_services.specs.declared.numbers.TheConstants.{TIME, EVENT_VALUE
 use Rattle.sts_syntax.specs.Types.{ValueType}
 use Rattle.sts_syntax.specs.BoardTable.{BoardAction, Service, Library, Repeats}
 use Rattle.sts_syntax.specs.Nodes.{is_among}
-use Rattle.sts_meaning.specs.Todo.{gives_value}
+use Rattle.sts_meaning.specs.Continuation.{gives_value}
 use Rattle.sts_meaning.specs.Values.{Value, Whole, default, Outcome, Gives, Stuck, then_gives, whole, to_int32, negated}
 use Rattle.sts_meaning.specs.Heaps.{HeapOf}
 

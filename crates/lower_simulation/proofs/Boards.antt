@@ -6,7 +6,7 @@ use Rattle.sts_syntax.specs.declared.board_calls.BoardCall.TheVariants as b
 use Rattle.sts_syntax.specs.TypedTrees as e
 use Rattle.sts_syntax.specs.TypedTrees.{TypedTree, TypedTrees}
 use Rattle.sts_syntax.specs.BoardTable.{BoardAction, Service, Library, Repeats, row_of, placed}
-use Rattle.sts_meaning.specs.Todo.{gives_value}
+use Rattle.sts_meaning.specs.Continuation.{gives_value}
 use Rattle.flat_meaning.specs.Operators.{answers}
 use Rattle.sts_lower.specs.Code.{handler_of}
 use Rattle.lowered_code.specs.Fine.{FineGiven}

@@ -11,7 +11,7 @@ use Rattle.sts_syntax.specs.BoardTable.{BoardParameter, Of, Handler, ServicePlac
 use Rattle.sts_syntax.specs.Measures.{total, argument_sizes, how_many}
 use Rattle.sts_syntax.specs.TypeRules.{IsOne}
 use Rattle.sts_meaning.specs.Values.{Whole}
-use Rattle.sts_meaning.specs.Todo.{Todo, Put, Get, Store, Unary, Apply, Choose, Both, Either, Read, Peek, Write, At, PeekAt, SetAt, Bump, BumpField, BumpAt, Measure, Push, Pop, Append, New, Build, Invoke, Send, Ask, Repeat, gives_value, asks, chained, by_one, appended, evals, evals_each, reaches}
+use Rattle.sts_meaning.specs.Continuation.{Continuation, Put, Get, Store, Unary, Apply, Choose, Both, Either, Read, Peek, Write, At, PeekAt, SetAt, Bump, BumpField, BumpAt, Measure, Push, Pop, Append, New, Build, Invoke, Send, Ask, Repeat, gives_value, asks, chained, by_one, appended, evals, evals_each, reaches}
 use Rattle.sts_lower.specs.Sizes.{Target, ToName, ToField, ToItem, ToNothing, target, store_size, bump_size, action_size, items_size, size, sizes, reach_size}
 use Rattle.sts_lower.specs.Code as l
 use Rattle.sts_lower.specs.Code.{span, Part, handler_of, maker_of}
@@ -41,45 +41,45 @@ module _ (classes : List ClassEntry) (functions : ℕ) (repeating : ℕ → ℕ)
   abbrev pub b : ℕ
   b = params + locals
 
-  abbrev pub LiesAt : Todo → ℕ → Marks → Type 0
+  abbrev pub LiesAt : Continuation → ℕ → Marks → Type 0
   LiesAt k pc p = Lies classes functions repeating repeated params locals fetch maker k pc p
 
-  abbrev pub IsNear : Todo → ℕ → Marks → Type 0
+  abbrev pub IsNear : Continuation → ℕ → Marks → Type 0
   IsNear k pc p = Near classes functions repeating repeated params locals fetch maker (LiesAt k) pc p
 
   abbrev pub cd : TypedTree → (d at next : ℕ) → List Op
   cd a d at next = l.code classes repeating params b a d at next
 
-  pub near_at : (k : Todo) (p : Marks) (m n : ℕ) → m ≡ n → IsNear k m p → IsNear k n p
+  pub near_at : (k : Continuation) (p : Marks) (m n : ℕ) → m ≡ n → IsNear k m p → IsNear k n p
   near_at k p m n e h = subst (λ x. IsNear k x p) e h
 
-  lies_at : (k : Todo) (p : Marks) (m n : ℕ) → m ≡ n → LiesAt k m p → LiesAt k n p
+  lies_at : (k : Continuation) (p : Marks) (m n : ℕ) → m ≡ n → LiesAt k m p → LiesAt k n p
   lies_at k p m n e h = subst (λ x. LiesAt k x p) e h
 
   -- an expression's code, and then what is left to do
   pub record ExprAt (a : TypedTree) : Type 0 where
-    pub at : (pc next : ℕ) (p : Marks) (k : Todo) → HasAt fetch pc (cd a (length p) pc next) → LiesAt k next (None ∷ p) → IsNear k (pc + size a) (None ∷ p) → LiesAt (evals a k) pc p
+    pub at : (pc next : ℕ) (p : Marks) (k : Continuation) → HasAt fetch pc (cd a (length p) pc next) → LiesAt k next (None ∷ p) → IsNear k (pc + size a) (None ∷ p) → LiesAt (evals a k) pc p
 
   -- an argument's
-  record ArgAt (f : Todo → Todo) (q : Part) (m : Option ℕ) : Type 0 where
-    pub at : (pc : ℕ) (p : Marks) (k : Todo) → HasAt fetch pc (q.ops (length p) pc) → LiesAt k (pc + q.size) (m ∷ p) → LiesAt (f k) pc p
+  record ArgAt (f : Continuation → Continuation) (q : Part) (m : Option ℕ) : Type 0 where
+    pub at : (pc : ℕ) (p : Marks) (k : Continuation) → HasAt fetch pc (q.ops (length p) pc) → LiesAt k (pc + q.size) (m ∷ p) → LiesAt (f k) pc p
 
-  abbrev ArgsAt : List (Todo → Todo) → List Part → Marks → Type 0
+  abbrev ArgsAt : List (Continuation → Continuation) → List Part → Marks → Type 0
   ArgsAt [] [] [] = Unit {0}
   ArgsAt (f ∷ fs) (q ∷ qs) (m ∷ ms) = ArgAt f q m × ArgsAt fs qs ms
   ArgsAt fs qs ms = ⊥
 
-  parts_as_many : (fs : List (Todo → Todo)) (qs : List Part) (ms : Marks) → ArgsAt fs qs ms → length qs ≡ length fs
+  parts_as_many : (fs : List (Continuation → Continuation)) (qs : List Part) (ms : Marks) → ArgsAt fs qs ms → length qs ≡ length fs
   parts_as_many [] [] [] h = refl
   parts_as_many (f ∷ fs) (q ∷ qs) (m ∷ ms) h = ap suc (parts_as_many fs qs ms h.1)
   parts_as_many _ _ _ h = absurd h
 
-  marks_as_many : (fs : List (Todo → Todo)) (qs : List Part) (ms : Marks) → ArgsAt fs qs ms → length ms ≡ length fs
+  marks_as_many : (fs : List (Continuation → Continuation)) (qs : List Part) (ms : Marks) → ArgsAt fs qs ms → length ms ≡ length fs
   marks_as_many [] [] [] h = refl
   marks_as_many (f ∷ fs) (q ∷ qs) (m ∷ ms) h = ap suc (marks_as_many fs qs ms h.1)
   marks_as_many _ _ _ h = absurd h
 
-  chained_at : (fs : List (Todo → Todo)) (qs : List Part) (ms : Marks) → ArgsAt fs qs ms → AreLong qs → (pc : ℕ) (p : Marks) (k : Todo)
+  chained_at : (fs : List (Continuation → Continuation)) (qs : List Part) (ms : Marks) → ArgsAt fs qs ms → AreLong qs → (pc : ℕ) (p : Marks) (k : Continuation)
       → HasAt fetch pc (l.parts_code classes repeating params b qs (length p) pc) → LiesAt k (pc + total (sizes_of qs)) (onto ms p) → LiesAt (chained fs k) pc p
   chained_at [] [] [] h long pc p k has there = let e : pc + 0 ≡ pc = omega arith in lies_at k p (pc + 0) pc e there
   chained_at (f ∷ fs) (q ∷ qs) (m ∷ ms) h long pc p k has there =
@@ -90,20 +90,20 @@ module _ (classes : List ClassEntry) (functions : ℕ) (repeating : ℕ → ℕ)
   chained_at _ _ _ h long pc p k has there = absurd h
 
   -- arguments, and then what is left to do behind them
-  passed_at : (fs : List (Todo → Todo)) (qs : List Part) (ms : Marks) → ArgsAt fs qs ms → AreLong qs → (pc : ℕ) (p : Marks) (k : Todo) (ops : List Op)
+  passed_at : (fs : List (Continuation → Continuation)) (qs : List Part) (ms : Marks) → ArgsAt fs qs ms → AreLong qs → (pc : ℕ) (p : Marks) (k : Continuation) (ops : List Op)
       → HasAt fetch pc (l.parts_code classes repeating params b qs (length p) pc ++ ops)
       → (HasAt fetch (pc + total (sizes_of qs)) ops → LiesAt k (pc + total (sizes_of qs)) (onto ms p)) → LiesAt (chained fs k) pc p
   passed_at fs qs ms h long pc p k ops has then =
       chained_at fs qs ms h long pc p k (has_front fetch pc _ _ has)
       (then (has_after fetch pc (total (sizes_of qs)) (l.parts_code classes repeating params b qs (length p) pc) ops (parts_length classes repeating params b qs (length p) pc long) has))
 
-  above_args : (fs : List (Todo → Todo)) (qs : List Part) (ms : Marks) → ArgsAt fs qs ms → (p : Marks) → IsAbove (length fs) (onto ms p) p
+  above_args : (fs : List (Continuation → Continuation)) (qs : List Part) (ms : Marks) → ArgsAt fs qs ms → (p : Marks) → IsAbove (length fs) (onto ms p) p
   above_args fs qs ms h p = subst (λ n. IsAbove n (onto ms p) p) (marks_as_many fs qs ms h) (above_onto ms p)
 
   number_at : (n : ℤ) → ArgAt (λ k. Put (Whole n) k) (l.number_part classes repeating params b n) None
   number_at n = record { at = λ pc p k has there. (has.0, inl there) }
 
-  placed_at : (places : List ServicePlace) (fs : List (Todo → Todo)) (qs : List Part) (ms : Marks) → ArgsAt fs qs ms
+  placed_at : (places : List ServicePlace) (fs : List (Continuation → Continuation)) (qs : List Part) (ms : Marks) → ArgsAt fs qs ms
       → ArgsAt (placed (λ n. Put (Whole n)) places fs) (placed (l.number_part classes repeating params b) places qs) (placed (λ n. None) places ms)
   placed_at [] fs qs ms h = h
   placed_at (Written ∷ places) [] [] [] h = placed_at places [] [] [] tt
@@ -144,7 +144,7 @@ module _ (classes : List ClassEntry) (functions : ℕ) (repeating : ℕ → ℕ)
   handler_at u f = record { at = λ pc p k has there. (has.0, inl there) }
 
   -- items that go into an array
-  items_at : (fs : List (Todo → Todo)) (qs : List Part) (ms : Marks) → ArgsAt fs qs ms → AreLong qs → (pc : ℕ) (p : Marks) (k : Todo)
+  items_at : (fs : List (Continuation → Continuation)) (qs : List Part) (ms : Marks) → ArgsAt fs qs ms → AreLong qs → (pc : ℕ) (p : Marks) (k : Continuation)
       → HasAt fetch pc (l.items_code classes repeating params b qs (length p) pc) → IsNear k (pc + items_size (sizes_of qs)) (None ∷ p) → IsNear (appended fs k) pc (None ∷ p)
   items_at [] [] [] h long pc p k has near = let e : pc + 0 ≡ pc = omega arith in near_at k (None ∷ p) (pc + 0) pc e near
   items_at (f ∷ fs) (q ∷ qs) (m ∷ ms) h long pc p k has near =
@@ -155,7 +155,7 @@ module _ (classes : List ClassEntry) (functions : ℕ) (repeating : ℕ → ℕ)
   items_at _ _ _ h long pc p k has near = absurd h
 
   -- what is done with a target behind what is evaluated of it
-  abbrev TargetAt : Target → ℕ → Marks → (Spot → Todo) → (ℕ → Todo) → Todo → Type 0
+  abbrev TargetAt : Target → ℕ → Marks → (Spot → Continuation) → (ℕ → Continuation) → Continuation → Type 0
   TargetAt (ToName x) pc p name field item = LiesAt (name x) pc p
   TargetAt (ToField f) pc p name field item = LiesAt (field f) pc (None ∷ p)
   TargetAt ToItem pc p name field item = LiesAt item pc (None ∷ (None ∷ p))
@@ -174,10 +174,10 @@ module _ (classes : List ClassEntry) (functions : ℕ) (repeating : ℕ → ℕ)
   target_there x h = absurd h
 
   record ReachAt (x : TypedTree) : Type 0 where
-    pub at : (pc : ℕ) (p : Marks) (name : Spot → Todo) (field : ℕ → Todo) (item : Todo) → HasAt fetch pc (l.reach_code classes repeating params b x (length p) pc)
+    pub at : (pc : ℕ) (p : Marks) (name : Spot → Continuation) (field : ℕ → Continuation) (item : Continuation) → HasAt fetch pc (l.reach_code classes repeating params b x (length p) pc)
         → TargetAt (target x) (pc + reach_size x) p name field item → LiesAt (reaches x name field item) pc p
 
-  set_at : (t : Target) (r : TypedTree) → ExprAt r → TargetThere t → (pc : ℕ) (p : Marks) (k : Todo)
+  set_at : (t : Target) (r : TypedTree) → ExprAt r → TargetThere t → (pc : ℕ) (p : Marks) (k : Continuation)
       → HasAt fetch pc (cd r (l.stored_at classes repeating params b t (length p)) pc (pc + size r) ++ l.store_code classes repeating params b t (length p))
       → IsNear k (pc + size r + store_size t) (None ∷ p) → TargetAt t pc p (λ s. evals r (Store s k)) (λ f. evals r (Write f k)) (evals r (SetAt k))
   set_at (ToName x) r h there pc p k has near =
@@ -197,7 +197,7 @@ module _ (classes : List ClassEntry) (functions : ℕ) (repeating : ℕ → ℕ)
   set_at ToNothing r h there pc p k has near = absurd there
 
   -- an assignment of what an operator makes of the target's value and another one
-  compound_at : (t : Target) (op : ℕ) (r : TypedTree) → ExprAt r → TargetThere t → (pc : ℕ) (p : Marks) (k : Todo)
+  compound_at : (t : Target) (op : ℕ) (r : TypedTree) → ExprAt r → TargetThere t → (pc : ℕ) (p : Marks) (k : Continuation)
       → HasAt fetch pc (l.read_code classes repeating params b t (length p)
       ∷ (cd r (suc (l.stored_at classes repeating params b t (length p))) (pc + 1) (pc + 1 + size r)
       ++ (o.Binary (b + l.stored_at classes repeating params b t (length p)) op (b + l.stored_at classes repeating params b t (length p)) (b + suc (l.stored_at classes repeating params b t (length p)))
@@ -229,7 +229,7 @@ module _ (classes : List ClassEntry) (functions : ℕ) (repeating : ℕ → ℕ)
       (has.0, inl at_r)
   compound_at ToNothing op r h there pc p k has near = absurd there
 
-  bump_at : (t : Target) (by : ℤ) (late : Bool) → IsOne by → TargetThere t → (pc : ℕ) (p : Marks) (k : Todo)
+  bump_at : (t : Target) (by : ℤ) (late : Bool) → IsOne by → TargetThere t → (pc : ℕ) (p : Marks) (k : Continuation)
       → HasAt fetch pc (l.bump_code classes repeating params b t by late (length p)) → IsNear k (pc + bump_size t late) (None ∷ p)
       → TargetAt t pc p (λ s. Bump s by late k) (λ f. BumpField f by late k) (BumpAt by late k)
   bump_at (ToName x) by late one there pc p k has near = (has, there, one, near)
@@ -240,7 +240,7 @@ module _ (classes : List ClassEntry) (functions : ℕ) (repeating : ℕ → ℕ)
   bump_at ToNothing by late one there pc p k has near = absurd there
 
   -- `++` and `--`; nothing else is done by one
-  bumps_at : (by : ℤ) (pc : ℕ) (p : Marks) (k : Todo) → (IsOne by → LiesAt k pc p) → LiesAt (by_one by k) pc p
+  bumps_at : (by : ℤ) (pc : ℕ) (p : Marks) (k : Continuation) → (IsOne by → LiesAt k pc p) → LiesAt (by_one by k) pc p
   bumps_at (pos zero) pc p k h = tt
   bumps_at (pos (suc zero)) pc p k h = h (inl refl)
   bumps_at (pos (suc (suc n))) pc p k h = tt
@@ -248,8 +248,8 @@ module _ (classes : List ClassEntry) (functions : ℕ) (repeating : ℕ → ℕ)
   bumps_at (negsuc (suc n)) pc p k h = tt
 
   -- the rest of a call of the board
-  board_at : (action : BoardAction) (gives : Bool) (args : TypedTrees) (fs : List (Todo → Todo)) (qs : List Part) → ArgsAt fs qs (marks args) → AreLong qs
-      → (p : Marks) → RowFine functions repeated params locals action gives args p → FineAction functions repeated params locals action (handler_of args) → (pc : ℕ) (k : Todo)
+  board_at : (action : BoardAction) (gives : Bool) (args : TypedTrees) (fs : List (Continuation → Continuation)) (qs : List Part) → ArgsAt fs qs (marks args) → AreLong qs
+      → (p : Marks) → RowFine functions repeated params locals action gives args p → FineAction functions repeated params locals action (handler_of args) → (pc : ℕ) (k : Continuation)
       → let all = arranged (l.number_part classes repeating params b) action qs in let todo = arranged (λ n. Put (Whole n)) action fs in
       AreLong all → HasAt fetch pc (l.parts_code classes repeating params b all (length p) pc ++ l.action_code classes repeating params b action (handler_of args) (length p) (length all))
       → IsNear k (pc + total (sizes_of all) + action_size action) (None ∷ p) → LiesAt (chained todo (asks action (length todo) gives k)) pc p
@@ -283,7 +283,7 @@ module _ (classes : List ClassEntry) (functions : ℕ) (repeating : ℕ → ℕ)
   one_more n e = omega arith
 
   push_at : (args : TypedTrees) → FineEach functions repeated params locals args → how_many args ≡ 2
-      → ArgsAt (evals_each args) (l.parts classes repeating params b args) (nothings args) → (pc : ℕ) (p : Marks) (k : Todo)
+      → ArgsAt (evals_each args) (l.parts classes repeating params b args) (nothings args) → (pc : ℕ) (p : Marks) (k : Continuation)
       → HasAt fetch pc (l.parts_code classes repeating params b (l.parts classes repeating params b args) (length p) pc ++ o.Ask (b + length p) 19 (span (b + length p) (length (l.parts classes repeating params b args)) []) ∷ [])
       → IsNear k (pc + (total (sizes args) + 1)) (None ∷ p) → LiesAt (chained (evals_each args) (Push k)) pc p
   push_at (e.more x (e.more y e.none)) fine two h pc p k has near =
@@ -305,7 +305,7 @@ module _ (classes : List ClassEntry) (functions : ℕ) (repeating : ℕ → ℕ)
   push_at (e.more x (e.more y (e.more z rest))) fine two h pc p k has near = absurd (two_more (how_many rest) two)
 
   pop_at : (args : TypedTrees) → FineEach functions repeated params locals args → how_many args ≡ 1
-      → ArgsAt (evals_each args) (l.parts classes repeating params b args) (nothings args) → (pc : ℕ) (p : Marks) (k : Todo)
+      → ArgsAt (evals_each args) (l.parts classes repeating params b args) (nothings args) → (pc : ℕ) (p : Marks) (k : Continuation)
       → HasAt fetch pc (l.parts_code classes repeating params b (l.parts classes repeating params b args) (length p) pc ++ o.Pop (b + length p) (b + length p) ∷ [])
       → IsNear k (pc + (total (sizes args) + 1)) (None ∷ p) → LiesAt (chained (evals_each args) (Pop k)) pc p
   pop_at (e.more x e.none) fine two h pc p k has near =

@@ -19,7 +19,7 @@ use Rattle.sts_syntax.specs.WellTypedPrograms.{is_maker}
 use Rattle.sts_meaning.specs.Values.{Value, Whole, Object, Text, Code, default, Outcome, Gives, Breaks, Stuck, then_gives, there, to_int32, applied, negated, bumped, Bumped, decided, with_entry}
 use Rattle.sts_meaning.specs.Heaps.{Heap, Fields, with_cell, write_global, object_at, read_field, write_field, read_item, write_item, length_at, pushed, popped}
 use Rattle.sts_meaning.specs.Services.{requested}
-use Rattle.sts_meaning.specs.Todo.{Todo, Put, Get, Store, Drop, Unary, Apply, Choose, Both, Either, Read, Peek, Write, At, PeekAt, SetAt, Bump, BumpField, BumpAt, Measure, Push, Pop, Open, Append, New, Build, Invoke, Send, Ask, Repeat, Again, Each, Leave, Give, Round, Amiss, runs}
+use Rattle.sts_meaning.specs.Continuation.{Continuation, Put, Get, Store, Drop, Unary, Apply, Choose, Both, Either, Read, Peek, Write, At, PeekAt, SetAt, Bump, BumpField, BumpAt, Measure, Push, Pop, Open, Append, New, Build, Invoke, Send, Ask, Repeat, Again, Each, Leave, Give, Round, Impossible, runs}
 use Rattle.sts_meaning.specs.Frames.{Names, Frame, Activity, Starts, Runs, after, grown, taken, named, with_local, with_param, stored, defaults, first, answered, round}
 use Rattle.sts_meaning.specs.Steps as source
 use Rattle.sts_implements.specs.Forgotten.{FlatHeap, forget, Agree}
@@ -63,22 +63,22 @@ module _ (P : TypedProgram) (texts : List ByteList) (fine : IsFine P) (weight : 
     abbrev at_op : FlatHeap → ℕ → (ℕ → Value) → Op → Turn FlatActivity FlatHeap
     at_op t pc temps op = flat.act (lowered P) texts t (fr j pc temps) waiting base op
 
-    abbrev now_with : Names → List Value → Todo → Activity
+    abbrev now_with : Names → List Value → Continuation → Activity
     now_with m vs k = Runs (record { function = f; names = m; values = vs; todo = k }) callers base depth
 
-    abbrev sact : Todo → List Value → Turn Activity Heap
+    abbrev sact : Continuation → List Value → Turn Activity Heap
     sact k vs = source.act P texts h f n callers base depth k vs
 
-    abbrev By : Todo → ℕ → Marks → Type 0
+    abbrev By : Continuation → ℕ → Marks → Type 0
     By k pc p = NearIn P texts f j params locals k pc p
 
     abbrev Sh : Names → Marks → List Value → (ℕ → Value) → Type 0
     Sh m p vs temps = Shows params locals m p vs temps
 
-    goes_on : (m : Names) (p : Marks) (vs : List Value) (k : Todo) (pc : ℕ) (temps : ℕ → Value) → Sh m p vs temps → By k pc p → Tied P texts (now_with m vs k) (here pc temps)
+    goes_on : (m : Names) (p : Marks) (vs : List Value) (k : Continuation) (pc : ℕ) (temps : ℕ → Value) → Sh m p vs temps → By k pc p → Tied P texts (now_with m vs k) (here pc temps)
     goes_on m p vs k pc temps shows near = (record { params = params; locals = locals; marks = p; words = deep; this = this; shows = shows; near = near }, wait, refl, deepness)
 
-    goes : (m : Names) (p : Marks) (vs : List Value) (k : Todo) (pc : ℕ) (temps : ℕ → Value) (h' : Heap) (t' : FlatHeap) → forget h' ≡ t' → Sh m p vs temps → By k pc p → M used h (Goes (now_with m vs k) h') (Goes (here pc temps) t')
+    goes : (m : Names) (p : Marks) (vs : List Value) (k : Continuation) (pc : ℕ) (temps : ℕ → Value) (h' : Heap) (t' : FlatHeap) → forget h' ≡ t' → Sh m p vs temps → By k pc p → M used h (Goes (now_with m vs k) h') (Goes (here pc temps) t')
     goes m p vs k pc temps h' t' e shows near = going P texts weight light used h h' t' (now_with m vs k) (here pc temps) e (goes_on m p vs k pc temps shows near)
 
     last : (u : Turn Activity Heap) (pc : ℕ) (temps : ℕ → Value) (t : FlatHeap) (op : Op) → fetch pc ≡ Some op → M used h u (at_op t pc temps op) → Mk (limit op) used h u (here pc temps) t
@@ -88,14 +88,14 @@ module _ (P : TypedProgram) (texts : List ByteList) (fine : IsFine P) (weight : 
     wide m k u b t le x = within P texts weight light m k used h u b t le x
 
     -- a value is put: w in flat code, which is v
-    puts : (q : Marks) (mark : Option ℕ) (v w : Value) (vs : List Value) (k : Todo) (pc : ℕ) (temps : ℕ → Value) (h' : Heap) (t' : FlatHeap) → forget h' ≡ t' → w ≡ v → Marked mark v → Sh n q vs temps → By k (pc + 1) (mark ∷ q)
+    puts : (q : Marks) (mark : Option ℕ) (v w : Value) (vs : List Value) (k : Continuation) (pc : ℕ) (temps : ℕ → Value) (h' : Heap) (t' : FlatHeap) → forget h' ≡ t' → w ≡ v → Marked mark v → Sh n q vs temps → By k (pc + 1) (mark ∷ q)
         → M used h (Goes (now_with n (v ∷ vs) k) h') (Goes (here (pc + 1) (with_entry (params + locals + length q) w temps)) t')
     puts q mark v w vs k pc temps h' t' heap e m shows near =
         subst (λ x. M used h (Goes (now_with n (v ∷ vs) k) h') (Goes (here (pc + 1) (with_entry (params + locals + length q) x temps)) t')) (sym e)
         (goes n (mark ∷ q) (v ∷ vs) k (pc + 1) (with_entry (params + locals + length q) v temps) h' t' heap (shows_put params locals n mark q v vs temps m shows) near)
 
     -- what an operation gives is put
-    puts_all : (q : Marks) (vs : List Value) (k : Todo) (pc : ℕ) (temps : ℕ → Value) (x y : Outcome Value) → Agree (λ v w. v ≡ w) x y → Sh n q vs temps → By k (pc + 1) (None ∷ q)
+    puts_all : (q : Marks) (vs : List Value) (k : Continuation) (pc : ℕ) (temps : ℕ → Value) (x y : Outcome Value) → Agree (λ v w. v ≡ w) x y → Sh n q vs temps → By k (pc + 1) (None ∷ q)
         → M used h (after x (λ v. Goes (now_with n (v ∷ vs) k) h)) (after y (λ v. Goes (here (pc + 1) (with_entry (params + locals + length q) v temps)) (forget h)))
     puts_all q vs k pc temps x y agree shows near =
         after_matches (source.source P texts) (flat.flat (lowered P) texts) _ (λ v w. v ≡ w) used h (forget h) x y _ _ agree
@@ -105,14 +105,14 @@ module _ (P : TypedProgram) (texts : List ByteList) (fine : IsFine P) (weight : 
     unmarked : (m : Option ℕ) (q : Marks) (v : Value) (vs : List Value) (temps : ℕ → Value) → Sh n (m ∷ q) (v ∷ vs) temps → Sh n (None ∷ q) (v ∷ vs) temps
     unmarked m q v vs temps shows = record { of_params = shows.of_params; of_locals = shows.of_locals; pending = (shows.pending.0, tt, shows.pending.2) }
 
-    get_follows : (x : Spot) (p : Marks) (vs : List Value) (k : Todo) (pc : ℕ) (temps : ℕ → Value) → IsThere (length P.functions) (repeated_in_program P) params locals x → Sh n p vs temps → By k (pc + 1) (None ∷ p)
+    get_follows : (x : Spot) (p : Marks) (vs : List Value) (k : Continuation) (pc : ℕ) (temps : ℕ → Value) → IsThere (length P.functions) (repeated_in_program P) params locals x → Sh n p vs temps → By k (pc + 1) (None ∷ p)
         → M used h (after (named h n x) (λ v. Goes (now_with n (v ∷ vs) k) h)) (at_op (forget h) pc temps (get_op params (params + locals + length p) x))
     get_follows (Param i) p vs k pc temps lt shows near = puts p None (n.params i) (temps i) vs k pc temps h (forget h) refl (shows.of_params i lt) tt shows near
     get_follows (Local i) p vs k pc temps lt shows near = puts p None (n.locals i) (temps (params + i)) vs k pc temps h (forget h) refl (shows.of_locals i lt) tt shows near
     get_follows (Global g) p vs k pc temps lt shows near = puts_all p vs k pc temps (there (entry h.globals g)) (there (entry h.globals g)) (agree_same (there (entry h.globals g))) shows near
 
     -- an operation changes the heap
-    changes_all : (q : Marks) (vs : List Value) (k : Todo) (pc : ℕ) (temps : ℕ → Value) (x : Outcome Heap) (y : Outcome FlatHeap) → Agree IsForgotten x y → Sh n q vs temps → By k (pc + 1) q
+    changes_all : (q : Marks) (vs : List Value) (k : Continuation) (pc : ℕ) (temps : ℕ → Value) (x : Outcome Heap) (y : Outcome FlatHeap) → Agree IsForgotten x y → Sh n q vs temps → By k (pc + 1) q
         → M used h (after x (λ h'. Goes (now_with n vs k) h')) (after y (λ t'. Goes (here (pc + 1) temps) t'))
     changes_all q vs k pc temps x y agree shows near =
         after_matches (source.source P texts) (flat.flat (lowered P) texts) _ IsForgotten used h (forget h) x y _ _ agree
@@ -122,7 +122,7 @@ module _ (P : TypedProgram) (texts : List ByteList) (fine : IsFine P) (weight : 
     with_names h' = Gives (n, h')
 
     -- a value is stored under a name
-    store_follows : (x : Spot) (q : Marks) (v w : Value) (vs : List Value) (k : Todo) (pc : ℕ) (temps : ℕ → Value) → IsThere (length P.functions) (repeated_in_program P) params locals x
+    store_follows : (x : Spot) (q : Marks) (v w : Value) (vs : List Value) (k : Continuation) (pc : ℕ) (temps : ℕ → Value) → IsThere (length P.functions) (repeated_in_program P) params locals x
         → temps (params + locals + length q) ≡ w → w ≡ v → Sh n (None ∷ q) (v ∷ vs) temps → By k (pc + 1) (None ∷ q)
         → M used h (after (stored x v n h) (λ s. Goes (now_with s.0 (v ∷ vs) k) s.1)) (at_op (forget h) pc temps (set_op params (params + locals + length q) x))
     store_follows (Param i) q v w vs k pc temps lt is e shows near =
@@ -137,21 +137,21 @@ module _ (P : TypedProgram) (texts : List ByteList) (fine : IsFine P) (weight : 
         (changes_all (None ∷ q) (v ∷ vs) k pc temps (write_global h g v) (write_global (forget h) g v) (write_global_agrees h g v) shows near))
 
     -- a condition that is decided
-    chooses : (c : Outcome Bool) (p : Marks) (vs : List Value) (so otherwise : Todo) (t pc : ℕ) (temps : ℕ → Value) → Sh n p vs temps → By so t p → By otherwise (pc + 1) p
+    chooses : (c : Outcome Bool) (p : Marks) (vs : List Value) (so otherwise : Continuation) (t pc : ℕ) (temps : ℕ → Value) → Sh n p vs temps → By so t p → By otherwise (pc + 1) p
         → M used h (after c (λ c. Goes (now_with n vs (if c then so else otherwise)) h)) (after c (λ c. Goes (here (if c then t else pc + 1) temps) (forget h)))
     chooses (Gives true) p vs so otherwise t pc temps shows near_so near_else = goes n p vs so t temps h (forget h) refl shows near_so
     chooses (Gives false) p vs so otherwise t pc temps shows near_so near_else = goes n p vs otherwise (pc + 1) temps h (forget h) refl shows near_else
     chooses (Breaks c) p vs so otherwise t pc temps shows near_so near_else = refl
     chooses Stuck p vs so otherwise t pc temps shows near_so near_else = (refl, refl)
 
-    both_chooses : (c : Outcome Bool) (m : Option ℕ) (q : Marks) (v : Value) (vs : List Value) (so otherwise : Todo) (t pc : ℕ) (temps : ℕ → Value) → Sh n (m ∷ q) (v ∷ vs) temps → By so t q → By otherwise (pc + 1) (None ∷ q)
+    both_chooses : (c : Outcome Bool) (m : Option ℕ) (q : Marks) (v : Value) (vs : List Value) (so otherwise : Continuation) (t pc : ℕ) (temps : ℕ → Value) → Sh n (m ∷ q) (v ∷ vs) temps → By so t q → By otherwise (pc + 1) (None ∷ q)
         → M used h (after c (λ c. Goes (if c then now_with n vs so else now_with n (v ∷ vs) otherwise) h)) (after c (λ c. Goes (here (if c then t else pc + 1) temps) (forget h)))
     both_chooses (Gives true) m q v vs so otherwise t pc temps shows near_so near_else = goes n q vs so t temps h (forget h) refl (shows_rest params locals n m q v vs temps shows) near_so
     both_chooses (Gives false) m q v vs so otherwise t pc temps shows near_so near_else = goes n (None ∷ q) (v ∷ vs) otherwise (pc + 1) temps h (forget h) refl (unmarked m q v vs temps shows) near_else
     both_chooses (Breaks c) m q v vs so otherwise t pc temps shows near_so near_else = refl
     both_chooses Stuck m q v vs so otherwise t pc temps shows near_so near_else = (refl, refl)
 
-    either_chooses : (c : Outcome Bool) (m : Option ℕ) (q : Marks) (v : Value) (vs : List Value) (so otherwise : Todo) (t pc : ℕ) (temps : ℕ → Value) → Sh n (m ∷ q) (v ∷ vs) temps → By so t (None ∷ q) → By otherwise (pc + 1) q
+    either_chooses : (c : Outcome Bool) (m : Option ℕ) (q : Marks) (v : Value) (vs : List Value) (so otherwise : Continuation) (t pc : ℕ) (temps : ℕ → Value) → Sh n (m ∷ q) (v ∷ vs) temps → By so t (None ∷ q) → By otherwise (pc + 1) q
         → M used h (after c (λ c. Goes (if c then now_with n (v ∷ vs) so else now_with n vs otherwise) h)) (after c (λ c. Goes (here (if c then t else pc + 1) temps) (forget h)))
     either_chooses (Gives true) m q v vs so otherwise t pc temps shows near_so near_else = goes n (None ∷ q) (v ∷ vs) so t temps h (forget h) refl (unmarked m q v vs temps shows) near_so
     either_chooses (Gives false) m q v vs so otherwise t pc temps shows near_so near_else = goes n q vs otherwise (pc + 1) temps h (forget h) refl (shows_rest params locals n m q v vs temps shows) near_else
@@ -163,7 +163,7 @@ module _ (P : TypedProgram) (texts : List ByteList) (fine : IsFine P) (weight : 
     higher q = omega arith
 
     -- The heap is changed, and the stored value becomes the only operand: two ops.
-    write_follows : (q : Marks) (v : Value) (vs : List Value) (k : Todo) (pc from : ℕ) (temps : ℕ → Value) (op : Op) (x : Outcome Heap) (y : Outcome FlatHeap) → fetch pc ≡ Some op → fetch (pc + 1) ≡ Some (o.Copy (params + locals + length q) from)
+    write_follows : (q : Marks) (v : Value) (vs : List Value) (k : Continuation) (pc from : ℕ) (temps : ℕ → Value) (op : Op) (x : Outcome Heap) (y : Outcome FlatHeap) → fetch pc ≡ Some op → fetch (pc + 1) ≡ Some (o.Copy (params + locals + length q) from)
         → at_op (forget h) pc temps op ≡ after y (λ t'. Goes (here (pc + 1) temps) t') → Agree IsForgotten x y → temps from ≡ v → Sh n q vs temps → By k (pc + 1 + 1) (None ∷ q)
         → NoFault (after x (λ h'. Goes (now_with n (v ∷ vs) k) h')) → Mk (limit op + 24) used h (after x (λ h'. Goes (now_with n (v ∷ vs) k) h')) (here pc temps) (forget h)
     write_follows q v vs k pc from temps op x y e e' is agree same shows near nf =
@@ -175,7 +175,7 @@ module _ (P : TypedProgram) (texts : List ByteList) (fine : IsFine P) (weight : 
     given_by by late z = if late then Whole (to_int32 z) else Whole (to_int32 (z +ℤ by))
 
     -- the last op of `++` and `--`: the old value is made of the new one, or this is given
-    bumped_last : (by z : ℤ) (late : Bool) → IsOne by → (m : Names) (q : Marks) (vs : List Value) (k : Todo) (pc from : ℕ) (temps : ℕ → Value) (h' : Heap) (t' : FlatHeap) → forget h' ≡ t' → fetch pc ≡ Some (bumped_op by late (params + locals + length q) from)
+    bumped_last : (by z : ℤ) (late : Bool) → IsOne by → (m : Names) (q : Marks) (vs : List Value) (k : Continuation) (pc from : ℕ) (temps : ℕ → Value) (h' : Heap) (t' : FlatHeap) → forget h' ≡ t' → fetch pc ≡ Some (bumped_op by late (params + locals + length q) from)
         → temps from ≡ Whole (to_int32 (z +ℤ by)) → Sh m q vs temps → By k (pc + 1) (None ∷ q) → Mk 32 used h (Goes (now_with m (given_by by late z ∷ vs) k) h') (here pc temps) t'
     bumped_last by z true one m q vs k pc from temps h' t' heap e is shows near =
         let d = params + locals + length q in
@@ -198,7 +198,7 @@ module _ (P : TypedProgram) (texts : List ByteList) (fine : IsFine P) (weight : 
         ap (λ w. after (prefixed_by (bump_op by) w) (λ v. Goes (here (pc + 1) (with_entry t v temps)) t')) is ∙ ap (λ x. after x (λ v. Goes (here (pc + 1) (with_entry t v temps)) t')) (bumps_to by z one)
 
     -- `++` and `--` of a name that is a temporary
-    name_bump : (by : ℤ) (late : Bool) → IsOne by → (q : Marks) (vs : List Value) (k : Todo) (pc t : ℕ) (temps : ℕ → Value) (names : Value → Names) (x : Value) → temps t ≡ x
+    name_bump : (by : ℤ) (late : Bool) → IsOne by → (q : Marks) (vs : List Value) (k : Continuation) (pc t : ℕ) (temps : ℕ → Value) (names : Value → Names) (x : Value) → temps t ≡ x
         → fetch pc ≡ Some (o.Unary t (bump_op by) t) → fetch (pc + 1) ≡ Some (bumped_op by late (params + locals + length q) t) → ((y : Value) → Sh (names y) q vs (with_entry t y temps)) → By k (pc + 1 + 1) (None ∷ q)
         → NoFault (after (bumped by late x) (λ b. Goes (now_with (names b.new) (b.given ∷ vs) k) h)) → Mk 64 used h (after (bumped by late x) (λ b. Goes (now_with (names b.new) (b.given ∷ vs) k) h)) (here pc temps) (forget h)
     name_bump by late one q vs k pc t temps names (Whole z) is e e' shown near nf =
@@ -210,7 +210,7 @@ module _ (P : TypedProgram) (texts : List ByteList) (fine : IsFine P) (weight : 
     name_bump by late one q vs k pc t temps names (Code x) is e e' shown near nf = absurd nf
 
     -- `++` and `--` of what is read from the heap: a value is read, made one more or one less, and stored
-    module _ (by : ℤ) (late : Bool) (one : IsOne by) (q : Marks) (vs : List Value) (k : Todo) (pc from : ℕ) (temps : ℕ → Value) (op op' : Op) (wr : Value → Outcome Heap) (wr' : Value → Outcome FlatHeap) (F : Value → Value → Turn Activity Heap)
+    module _ (by : ℤ) (late : Bool) (one : IsOne by) (q : Marks) (vs : List Value) (k : Continuation) (pc from : ℕ) (temps : ℕ → Value) (op op' : Op) (wr : Value → Outcome Heap) (wr' : Value → Outcome FlatHeap) (F : Value → Value → Turn Activity Heap)
         (e2 : fetch (pc + 1) ≡ Some (o.Unary from (bump_op by) from)) (e3 : fetch (pc + 1 + 1) ≡ Some op')
         (a3 : (x y : Value) → at_op (forget h) (pc + 1 + 1) (with_entry from y (with_entry from x temps)) op' ≡ after (wr' y) (λ t'. Goes (here (pc + 1 + 1 + 1) (with_entry from y (with_entry from x temps))) t'))
         (agree : (y : Value) → Agree IsForgotten (wr y) (wr' y)) (is : (y v : Value) → F y v ≡ after (wr y) (λ h'. Goes (now_with n (v ∷ vs) k) h'))
@@ -242,7 +242,7 @@ module _ (P : TypedProgram) (texts : List ByteList) (fine : IsFine P) (weight : 
           (fr j pc temps) waiting base (forget h) op e1 a1 agree1 (same_fault P texts weight light _ whole_turn same nf) (λ x y e ok. bump_value x y e ok))
 
     -- a call by an op at which the frame then waits
-    call_matches : (g : ℕ) (args args' : List Value) (q : Marks) (rest : List Value) (k : Todo) (pc : ℕ) (temps : ℕ → Value) → args' ≡ args → result_of (fetch pc) ≡ Gives (params + locals + length q) → Sh n q rest temps → By k (pc + 1) (None ∷ q)
+    call_matches : (g : ℕ) (args args' : List Value) (q : Marks) (rest : List Value) (k : Continuation) (pc : ℕ) (temps : ℕ → Value) → args' ≡ args → result_of (fetch pc) ≡ Gives (params + locals + length q) → Sh n q rest temps → By k (pc + 1) (None ∷ q)
         → NoFault (source.invoked P texts h base depth g args (record { function = f; names = n; values = rest; todo = k } ∷ callers))
         → M used h (source.invoked P texts h base depth g args (record { function = f; names = n; values = rest; todo = k } ∷ callers)) (flat.called (lowered P) texts (forget h) base (fr j pc temps ∷ waiting) g args')
     call_matches g args args' q rest k pc temps same result shows near nf =
@@ -271,7 +271,7 @@ module _ (P : TypedProgram) (texts : List ByteList) (fine : IsFine P) (weight : 
     ended_matches v w e (x ∷ fs) [] waits d = absurd waits
 
     -- a service of the board that is asked for
-    ask_matches : (r : Outcome Request) (gives : Bool) (q : Marks) (rest : List Value) (k : Todo) (pc : ℕ) (temps : ℕ → Value) → AllAmong (length P.functions) r → Sh n q rest temps → By k (pc + 1) (None ∷ q)
+    ask_matches : (r : Outcome Request) (gives : Bool) (q : Marks) (rest : List Value) (k : Continuation) (pc : ℕ) (temps : ℕ → Value) → AllAmong (length P.functions) r → Sh n q rest temps → By k (pc + 1) (None ∷ q)
         → M used h (after r (λ x. asked (source.asker P texts h f n callers base depth gives rest k) x)) (after r (λ x. asked (flat.flat_asker (lowered P) texts (forget h) (fr j pc temps) waiting base (params + locals + length q) gives) x))
     ask_matches (Gives r) gives q rest k pc temps among shows near =
         asked_matches P texts weight light used h (λ g. Starts g depth) (λ g. Starts g base) (λ g. Enters g (base + depth_of (lowered P) (fr j pc temps ∷ waiting))) (λ g. Enters g base)
@@ -292,7 +292,7 @@ module _ (P : TypedProgram) (texts : List ByteList) (fine : IsFine P) (weight : 
     pair_is x y a v e d = ap (λ z. z ∷ (y ∷ [])) e ∙ ap (λ z. a ∷ (z ∷ [])) d
 
     -- an object is made
-    new_matches : (c : ℕ) (p : Marks) (vs : List Value) (k : Todo) (pc : ℕ) (temps : ℕ → Value) → Sh n p vs temps → By k (pc + 1) (None ∷ p)
+    new_matches : (c : ℕ) (p : Marks) (vs : List Value) (k : Continuation) (pc : ℕ) (temps : ℕ → Value) → Sh n p vs temps → By k (pc + 1) (None ∷ p)
         → M used h (sact (New c k) vs) (at_op (forget h) pc temps (o.MakeObject (params + locals + length p) c))
     new_matches c p vs k pc temps shows near =
         after_matches (source.source P texts) (flat.flat (lowered P) texts) _ (λ x y. flat_class x ≡ y) used h (forget h) (there (entry P.classes c)) (there (entry (flat_classes P.classes) c)) _ _ (classes_agree P.classes c)
@@ -316,7 +316,7 @@ module _ (P : TypedProgram) (texts : List ByteList) (fine : IsFine P) (weight : 
         (agree_then (λ c d. flat_class c ≡ d) (λ a b. a ≡ b) (there (entry P.classes x.0)) (there (entry (flat_classes P.classes) x.0)) _ _ (classes_agree P.classes x.0)
         (λ c d r. subst (λ (y : FlatClass). Agree (λ a b. a ≡ b) (there (entry c.slots s)) (there (entry y.slots s))) r (agree_same (there (entry c.slots s))))))
 
-    send_matches : (s : ℕ) (args args' : List Value) (q : Marks) (rest : List Value) (k : Todo) (pc : ℕ) (temps : ℕ → Value) → args' ≡ args → result_of (fetch pc) ≡ Gives (params + locals + length q) → Sh n q rest temps → By k (pc + 1) (None ∷ q)
+    send_matches : (s : ℕ) (args args' : List Value) (q : Marks) (rest : List Value) (k : Continuation) (pc : ℕ) (temps : ℕ → Value) → args' ≡ args → result_of (fetch pc) ≡ Gives (params + locals + length q) → Sh n q rest temps → By k (pc + 1) (None ∷ q)
         → NoFault (after (then_gives (first args) (λ ob. source.method P texts h ob s)) (λ g. source.invoked P texts h base depth g args (record { function = f; names = n; values = rest; todo = k } ∷ callers)))
         → M used h (after (then_gives (first args) (λ ob. source.method P texts h ob s)) (λ g. source.invoked P texts h base depth g args (record { function = f; names = n; values = rest; todo = k } ∷ callers)))
         (after (flat.method (lowered P) texts (forget h) (fr j pc temps) waiting base s args') (λ g. flat.called (lowered P) texts (forget h) base (fr j pc temps ∷ waiting) g args'))
@@ -339,7 +339,7 @@ module _ (P : TypedProgram) (texts : List ByteList) (fine : IsFine P) (weight : 
         by_found _ _ agree ok = absurd agree
 
     -- `++` and `--` of a name
-    bump_follows : (x : Spot) (by : ℤ) (late : Bool) (p : Marks) (vs : List Value) (k : Todo) (pc : ℕ) (temps : ℕ → Value) → HasAt fetch pc (bump_code P.classes (repeating P) params (params + locals) (ToName x) by late (length p))
+    bump_follows : (x : Spot) (by : ℤ) (late : Bool) (p : Marks) (vs : List Value) (k : Continuation) (pc : ℕ) (temps : ℕ → Value) → HasAt fetch pc (bump_code P.classes (repeating P) params (params + locals) (ToName x) by late (length p))
         → IsThere (length P.functions) (repeated_in_program P) params locals x → IsOne by → By k (pc + bump_size (ToName x) late) (None ∷ p) → Sh n p vs temps
         → NoFault (sact (Bump x by late k) vs) → Mk 400 used h (sact (Bump x by late k) vs) (here pc temps) (forget h)
     bump_follows (Param i) by late p vs k pc temps has lt one near shows nf =
@@ -399,7 +399,7 @@ module _ (P : TypedProgram) (texts : List ByteList) (fine : IsFine P) (weight : 
         by_value (Code x) ok = absurd ok
 
     -- `++` and `--` of a field and of an item
-    field_bump_follows : (i : ℕ) (by : ℤ) (late : Bool) (m : Option ℕ) (q : Marks) (ob : Value) (vs : List Value) (k : Todo) (pc : ℕ) (temps : ℕ → Value) → HasAt fetch pc (bump_code P.classes (repeating P) params (params + locals) (ToField i) by late (length q))
+    field_bump_follows : (i : ℕ) (by : ℤ) (late : Bool) (m : Option ℕ) (q : Marks) (ob : Value) (vs : List Value) (k : Continuation) (pc : ℕ) (temps : ℕ → Value) → HasAt fetch pc (bump_code P.classes (repeating P) params (params + locals) (ToField i) by late (length q))
         → IsOne by → By k (pc + 1 + 1 + 1 + 1) (None ∷ q) → Sh n (m ∷ q) (ob ∷ vs) temps → NoFault (sact (BumpField i by late k) (ob ∷ vs)) → Mk 400 used h (sact (BumpField i by late k) (ob ∷ vs)) (here pc temps) (forget h)
     field_bump_follows i by late m q ob vs k pc temps has one near shows nf =
         let d = params + locals + length q in
@@ -418,7 +418,7 @@ module _ (P : TypedProgram) (texts : List ByteList) (fine : IsFine P) (weight : 
         (λ z h' t' heap. bumped_last by z late one n q vs k (pc + 1 + 1 + 1) t (with_entry t (Whole (to_int32 (z +ℤ by))) (with_entry t (Whole z) temps)) h' t' heap has.1.1.1.0 (entry_same t (Whole (to_int32 (z +ℤ by))) (with_entry t (Whole z) temps)) (shown (Whole z) (Whole (to_int32 (z +ℤ by)))) near)
         (read_field h ob i) (read_field (forget h) ob i) has.0 (ap (λ z. after (read_field (forget h) z i) (λ w. Goes (here (pc + 1) (with_entry t w temps)) (forget h))) shows.pending.0) (read_field_agrees h ob i) nf)
 
-    item_bump_follows : (by : ℤ) (late : Bool) (m m' : Option ℕ) (q : Marks) (ix ob : Value) (vs : List Value) (k : Todo) (pc : ℕ) (temps : ℕ → Value) → HasAt fetch pc (bump_code P.classes (repeating P) params (params + locals) ToItem by late (length q))
+    item_bump_follows : (by : ℤ) (late : Bool) (m m' : Option ℕ) (q : Marks) (ix ob : Value) (vs : List Value) (k : Continuation) (pc : ℕ) (temps : ℕ → Value) → HasAt fetch pc (bump_code P.classes (repeating P) params (params + locals) ToItem by late (length q))
         → IsOne by → By k (pc + 1 + 1 + 1 + 1) (None ∷ q) → Sh n (m ∷ (m' ∷ q)) (ix ∷ (ob ∷ vs)) temps → NoFault (sact (BumpAt by late k) (ix ∷ (ob ∷ vs))) → Mk 400 used h (sact (BumpAt by late k) (ix ∷ (ob ∷ vs))) (here pc temps) (forget h)
     item_bump_follows by late m m' q ix ob vs k pc temps has one near shows nf =
         let d = params + locals + length q in
@@ -444,7 +444,7 @@ module _ (P : TypedProgram) (texts : List ByteList) (fine : IsFine P) (weight : 
         (read_item_agrees h ob ix) nf)
 
     -- an activity begins that calls a function again and again
-    repeat_follows : (g : ℕ) (q : Marks) (ob : Value) (vs : List Value) (k : Todo) (pc : ℕ) (temps : ℕ → Value) → IsOneOf g (repeated_in_program P) → fetch pc ≡ Some (o.HandlerOf (params + locals + length q) (repeating P g))
+    repeat_follows : (g : ℕ) (q : Marks) (ob : Value) (vs : List Value) (k : Continuation) (pc : ℕ) (temps : ℕ → Value) → IsOneOf g (repeated_in_program P) → fetch pc ≡ Some (o.HandlerOf (params + locals + length q) (repeating P g))
         → fetch (pc + 1) ≡ Some (o.Ask (params + locals + length q) 4 ((params + locals + length q) ∷ [])) → By k (pc + 1 + 1) (None ∷ q) → Sh n (Some g ∷ q) (ob ∷ vs) temps
         → Mk 400 used h (sact (Repeat k) (Code g ∷ vs)) (here pc temps) (forget h)
     repeat_follows g q ob vs k pc temps among e e' near shows =
@@ -464,10 +464,10 @@ module _ (P : TypedProgram) (texts : List ByteList) (fine : IsFine P) (weight : 
     call_args m r q vs temps above shows = takes m params locals n r q vs temps above shows
 
     -- a word that is one op
-    alone : (k : Todo) (vs : List Value) (pc : ℕ) (temps : ℕ → Value) (op : Op) → limit op ≤ 488 → fetch pc ≡ Some op → M used h (sact k vs) (at_op (forget h) pc temps op) → Mk 488 used h (sact k vs) (here pc temps) (forget h)
+    alone : (k : Continuation) (vs : List Value) (pc : ℕ) (temps : ℕ → Value) (op : Op) → limit op ≤ 488 → fetch pc ≡ Some op → M used h (sact k vs) (at_op (forget h) pc temps op) → Mk 488 used h (sact k vs) (here pc temps) (forget h)
     alone k vs pc temps op le e m = wide (limit op) 488 (sact k vs) (here pc temps) (forget h) le (last (sact k vs) pc temps (forget h) op e m)
 
-    put_follows : (v : Value) (k : Todo) (p : Marks) (vs : List Value) (pc : ℕ) (temps : ℕ → Value) → Sh n p vs temps → LiesIn P texts f j params locals (Put v k) pc p → Mk 488 used h (sact (Put v k) vs) (here pc temps) (forget h)
+    put_follows : (v : Value) (k : Continuation) (p : Marks) (vs : List Value) (pc : ℕ) (temps : ℕ → Value) → Sh n p vs temps → LiesIn P texts f j params locals (Put v k) pc p → Mk 488 used h (sact (Put v k) vs) (here pc temps) (forget h)
     put_follows (Whole z) k p vs pc temps shows lies = alone (Put (Whole z) k) vs pc temps (o.Const (params + locals + length p) z) (omega arith) lies.0 (puts p None (Whole z) (Whole z) vs k pc temps h (forget h) refl refl tt shows lies.1)
     put_follows (Text x) k p vs pc temps shows lies = alone (Put (Text x) k) vs pc temps (o.TextOf (params + locals + length p) x) (omega arith) lies.0 (puts p None (Text x) (Text x) vs k pc temps h (forget h) refl refl tt shows lies.1)
     put_follows (Code g) k p vs pc temps shows lies = alone (Put (Code g) k) vs pc temps (o.HandlerOf (params + locals + length p) g) (omega arith) lies.0 (puts p (Some g) (Code g) (Code g) vs k pc temps h (forget h) refl refl refl shows lies.1)
@@ -483,7 +483,7 @@ module _ (P : TypedProgram) (texts : List ByteList) (fine : IsFine P) (weight : 
     light_set (Local i) t = omega arith
     light_set (Global g) t = omega arith
 
-    unary_follows : (op : ℕ) (v w : Value) (m : Option ℕ) (q : Marks) (vs : List Value) (k : Todo) (pc : ℕ) (temps : ℕ → Value) → w ≡ v → Sh n (m ∷ q) (v ∷ vs) temps → By k (pc + 1) (None ∷ q) → NoFault (after (negated op v) (λ x. Goes (now_with n (x ∷ vs) k) h))
+    unary_follows : (op : ℕ) (v w : Value) (m : Option ℕ) (q : Marks) (vs : List Value) (k : Continuation) (pc : ℕ) (temps : ℕ → Value) → w ≡ v → Sh n (m ∷ q) (v ∷ vs) temps → By k (pc + 1) (None ∷ q) → NoFault (after (negated op v) (λ x. Goes (now_with n (x ∷ vs) k) h))
         → M used h (after (negated op v) (λ x. Goes (now_with n (x ∷ vs) k) h)) (after (prefixed_by op w) (λ x. Goes (here (pc + 1) (with_entry (params + locals + length q) x temps)) (forget h)))
     unary_follows op v w m q vs k pc temps e shows near nf =
         subst (λ z. M used h (after (negated op v) (λ x. Goes (now_with n (x ∷ vs) k) h)) (after (prefixed_by op z) (λ x. Goes (here (pc + 1) (with_entry (params + locals + length q) x temps)) (forget h)))) (sym e)
@@ -493,7 +493,7 @@ module _ (P : TypedProgram) (texts : List ByteList) (fine : IsFine P) (weight : 
         (unary_is op v))
 
     -- what an operation gives, of operands that flat code has too
-    given_same : (q : Marks) (vs : List Value) (k : Todo) (pc : ℕ) (temps : ℕ → Value) (x : Outcome Value) (y : Outcome Value) (z : Outcome Value) → y ≡ z → Agree (λ v w. v ≡ w) x z → Sh n q vs temps → By k (pc + 1) (None ∷ q)
+    given_same : (q : Marks) (vs : List Value) (k : Continuation) (pc : ℕ) (temps : ℕ → Value) (x : Outcome Value) (y : Outcome Value) (z : Outcome Value) → y ≡ z → Agree (λ v w. v ≡ w) x z → Sh n q vs temps → By k (pc + 1) (None ∷ q)
         → M used h (after x (λ v. Goes (now_with n (v ∷ vs) k) h)) (after y (λ v. Goes (here (pc + 1) (with_entry (params + locals + length q) v temps)) (forget h)))
     given_same q vs k pc temps x y z e agree shows near =
         subst (λ w. M used h (after x (λ v. Goes (now_with n (v ∷ vs) k) h)) (after w (λ v. Goes (here (pc + 1) (with_entry (params + locals + length q) v temps)) (forget h)))) (sym e) (puts_all q vs k pc temps x z agree shows near)
@@ -508,7 +508,7 @@ module _ (P : TypedProgram) (texts : List ByteList) (fine : IsFine P) (weight : 
     plain_two : (m m' : Option ℕ) (q : Marks) (v w : Value) (vs : List Value) (temps : ℕ → Value) → Sh n (m ∷ (m' ∷ q)) (v ∷ (w ∷ vs)) temps → Sh n (None ∷ (None ∷ q)) (v ∷ (w ∷ vs)) temps
     plain_two m m' q v w vs temps shows = record { of_params = shows.of_params; of_locals = shows.of_locals; pending = (shows.pending.0, tt, (shows.pending.2.0, tt, shows.pending.2.2)) }
 
-    called_follows : (g m : ℕ) (k : Todo) (r : Marks) (q : Marks) (vs : List Value) (pc : ℕ) (temps : ℕ → Value) → IsAbove m r q → fetch pc ≡ Some (o.Call (params + locals + length q) g (span (params + locals + length q) m [])) → Sh n r vs temps → By k (pc + 1) (None ∷ q)
+    called_follows : (g m : ℕ) (k : Continuation) (r : Marks) (q : Marks) (vs : List Value) (pc : ℕ) (temps : ℕ → Value) → IsAbove m r q → fetch pc ≡ Some (o.Call (params + locals + length q) g (span (params + locals + length q) m [])) → Sh n r vs temps → By k (pc + 1) (None ∷ q)
         → NoFault (sact (Invoke g m k) vs) → Mk 488 used h (sact (Invoke g m k) vs) (here pc temps) (forget h)
     called_follows g m k r q vs pc temps above e shows near nf =
         let t = call_args m r q vs temps above shows in
@@ -518,7 +518,7 @@ module _ (P : TypedProgram) (texts : List ByteList) (fine : IsFine P) (weight : 
         (subst (λ u. M used h u (at_op (forget h) pc temps (o.Call (params + locals + length q) g (span (params + locals + length q) m [])))) (sym to)
         (call_matches g t.these (map temps (span (params + locals + length q) m [])) q t.rest k pc temps t.args (ap result_of e) t.shows near (same_fault P texts weight light (sact (Invoke g m k) vs) _ to nf)))
 
-    built_follows : (c m : ℕ) (k : Todo) (mk : Option ℕ) (r q : Marks) (ob : Value) (vs : List Value) (pc : ℕ) (temps : ℕ → Value) → IsAbove m r q
+    built_follows : (c m : ℕ) (k : Continuation) (mk : Option ℕ) (r q : Marks) (ob : Value) (vs : List Value) (pc : ℕ) (temps : ℕ → Value) → IsAbove m r q
         → fetch pc ≡ Some (o.Call (params + locals + length q) (maker_of P.classes c) ((params + locals + length r) ∷ span (params + locals + length q) m [])) → Sh n (mk ∷ r) (ob ∷ vs) temps → By k (pc + 1) (None ∷ q)
         → (x : Option ClassEntry) → entry P.classes c ≡ x
         → NoFault (after (there x) (λ class. after (taken m vs) (λ x. source.invoked P texts h base depth class.maker (ob ∷ x.0) (record { function = f; names = n; values = x.1; todo = k } ∷ callers))))
@@ -537,7 +537,7 @@ module _ (P : TypedProgram) (texts : List ByteList) (fine : IsFine P) (weight : 
         (subst (λ g. M used h turn (flat.called (lowered P) texts (forget h) base (fr j pc temps ∷ waiting) g (map temps ((params + locals + length r) ∷ span (params + locals + length q) m [])))) (sym (maker_is P c class is))
         (call_matches class.maker (ob ∷ t.these) (map temps ((params + locals + length r) ∷ span (params + locals + length q) m [])) q t.rest k pc temps args (ap result_of e) t.shows near (same_fault P texts weight light _ turn to nf)))))
 
-    sent_follows : (s m : ℕ) (k : Todo) (r : Marks) (q : Marks) (vs : List Value) (pc : ℕ) (temps : ℕ → Value) → IsAbove m r q → fetch pc ≡ Some (o.CallSlot (params + locals + length q) s (span (params + locals + length q) m [])) → Sh n r vs temps → By k (pc + 1) (None ∷ q)
+    sent_follows : (s m : ℕ) (k : Continuation) (r : Marks) (q : Marks) (vs : List Value) (pc : ℕ) (temps : ℕ → Value) → IsAbove m r q → fetch pc ≡ Some (o.CallSlot (params + locals + length q) s (span (params + locals + length q) m [])) → Sh n r vs temps → By k (pc + 1) (None ∷ q)
         → NoFault (sact (Send s m k) vs) → Mk 488 used h (sact (Send s m k) vs) (here pc temps) (forget h)
     sent_follows s m k r q vs pc temps above e shows near nf =
         let t = call_args m r q vs temps above shows in
@@ -549,7 +549,7 @@ module _ (P : TypedProgram) (texts : List ByteList) (fine : IsFine P) (weight : 
         (subst (λ u. M used h u (at_op (forget h) pc temps op)) (sym to)
         (send_matches s t.these (map temps (span (params + locals + length q) m [])) q t.rest k pc temps t.args (ap result_of e) t.shows near (same_fault P texts weight light (sact (Send s m k) vs) turn to nf)))
 
-    asked_follows : (service m : ℕ) (gives : Bool) (k : Todo) (r : Marks) (q : Marks) (vs : List Value) (pc : ℕ) (temps : ℕ → Value) → IsAbove m r q → fetch pc ≡ Some (o.Ask (params + locals + length q) service (span (params + locals + length q) m []))
+    asked_follows : (service m : ℕ) (gives : Bool) (k : Continuation) (r : Marks) (q : Marks) (vs : List Value) (pc : ℕ) (temps : ℕ → Value) → IsAbove m r q → fetch pc ≡ Some (o.Ask (params + locals + length q) service (span (params + locals + length q) m []))
         → service == 19 ≡ false → gives ≡ answers service → IsProper (length P.functions) r service m → Sh n r vs temps → By k (pc + 1) (None ∷ q) → Mk 488 used h (sact (Ask service m gives k) vs) (here pc temps) (forget h)
     asked_follows service m gives k r q vs pc temps above e other answering proper shows near =
         let t = call_args m r q vs temps above shows in
@@ -567,7 +567,7 @@ module _ (P : TypedProgram) (texts : List ByteList) (fine : IsFine P) (weight : 
         (ask_matches (requested service t.these) gives q t.rest k pc temps (proper vs t.these t.rest (marked temps (params + locals) r vs shows.pending) t.taken) t.shows near)))
 
     -- one counted step, of what is left to do and lies at the frame's place
-    act_follows : (k : Todo) (p : Marks) (vs : List Value) (pc : ℕ) (temps : ℕ → Value) → Sh n p vs temps → LiesIn P texts f j params locals k pc p → NoFault (sact k vs) → Mk 488 used h (sact k vs) (here pc temps) (forget h)
+    act_follows : (k : Continuation) (p : Marks) (vs : List Value) (pc : ℕ) (temps : ℕ → Value) → Sh n p vs temps → LiesIn P texts f j params locals k pc p → NoFault (sact k vs) → Mk 488 used h (sact k vs) (here pc temps) (forget h)
     act_follows (Put v k) p vs pc temps shows lies nf = put_follows v k p vs pc temps shows lies
     act_follows (Get x k) p vs pc temps shows lies nf = alone (Get x k) vs pc temps (get_op params (params + locals + length p) x) (light_get x (params + locals + length p)) lies.0 (get_follows x p vs k pc temps lies.1 shows lies.2)
     act_follows (Store x k) (m ∷ q) (v ∷ vs) pc temps shows lies nf =
@@ -675,7 +675,7 @@ module _ (P : TypedProgram) (texts : List ByteList) (fine : IsFine P) (weight : 
         let back : LiesIn P texts f j params locals (round g) 0 [] =
         subst (λ x. LiesIn P texts f j x locals (round g) 0 []) (sym lies.1) (subst (λ x. LiesIn P texts f j 0 x (round g) 0 []) (sym lies.2) (round_lies P texts fine weight light f j g lies.4)) in
         alone (Round g) vs pc temps (o.Jump 0) (omega arith) lies.3 (goes n [] vs (round g) 0 temps h (forget h) refl (subst (λ q. Sh n q vs temps) lies.0 shows) (inl back))
-    act_follows Amiss p vs pc temps shows lies nf = absurd nf
+    act_follows Impossible p vs pc temps shows lies nf = absurd nf
     act_follows (Repeat k) (None ∷ q) vs pc temps shows lies nf = absurd lies
     act_follows (Repeat k) [] vs pc temps shows lies nf = absurd lies
     act_follows (Store x k) [] vs pc temps shows lies nf = absurd lies

@@ -13,7 +13,7 @@ use Rattle.sts_syntax.specs.TypeRules.{entry}
 use Rattle.sts_syntax.specs.WellTypedPrograms.{is_maker}
 use Rattle.sts_meaning.specs.Values.{truth, Value, Whole, Object, Text, Code, Outcome, Gives, Breaks, then_gives, to_int32, applied, decided, with_entry}
 use Rattle.sts_meaning.specs.Heaps.{Heap, read_item, length_at, next_item, next_at, array_at, item_at, found, numbered, Row, RowOf}
-use Rattle.sts_meaning.specs.Todo.{Todo, Each, runs}
+use Rattle.sts_meaning.specs.Continuation.{Continuation, Each, runs}
 use Rattle.sts_meaning.specs.Frames.{Names, Frame, Activity, Runs, after, with_local}
 use Rattle.sts_meaning.specs.Steps as source
 use Rattle.sts_implements.specs.Forgotten.{FlatHeap, forget}
@@ -53,16 +53,16 @@ module _ (P : TypedProgram) (texts : List ByteList) (fine : IsFine P) (weight : 
     abbrev at_op : FlatHeap → ℕ → (ℕ → Value) → Op → Turn FlatActivity FlatHeap
     at_op t pc temps op = flat.act (lowered P) texts t (fr j pc temps) waiting base op
 
-    abbrev now_with : Names → List Value → Todo → Activity
+    abbrev now_with : Names → List Value → Continuation → Activity
     now_with m vs k = Runs (record { function = f; names = m; values = vs; todo = k }) callers base depth
 
-    abbrev By : Todo → ℕ → Marks → Type 0
+    abbrev By : Continuation → ℕ → Marks → Type 0
     By k pc p = NearIn P texts f j params locals k pc p
 
     abbrev Sh : Names → Marks → List Value → (ℕ → Value) → Type 0
     Sh m p vs temps = Shows params locals m p vs temps
 
-    goes : (m : Names) (p : Marks) (vs : List Value) (k : Todo) (pc : ℕ) (temps : ℕ → Value) → Sh m p vs temps → By k pc p → M used h (Goes (now_with m vs k) h) (Goes (here pc temps) (forget h))
+    goes : (m : Names) (p : Marks) (vs : List Value) (k : Continuation) (pc : ℕ) (temps : ℕ → Value) → Sh m p vs temps → By k pc p → M used h (Goes (now_with m vs k) h) (Goes (here pc temps) (forget h))
     goes m p vs k pc temps shows near =
         going P texts weight light used h h (forget h) (now_with m vs k) (here pc temps) refl (record { params = params; locals = locals; marks = p; words = deep; this = this; shows = shows; near = near }, wait, refl, deepness)
 
@@ -82,7 +82,7 @@ module _ (P : TypedProgram) (texts : List ByteList) (fine : IsFine P) (weight : 
         (eqb_tells x k)
 
     -- a turn of a loop over items, or its end
-    module _ (i : ℕ) (a : TypedStatement) (k : Todo) (vs : List Value) (pc next : ℕ) (temps : ℕ → Value) (shows : Sh n [] vs temps) (name : suc (suc i) < locals)
+    module _ (i : ℕ) (a : TypedStatement) (k : Continuation) (vs : List Value) (pc next : ℕ) (temps : ℕ → Value) (shows : Sh n [] vs temps) (name : suc (suc i) < locals)
         (has : HasAt fetch pc (each_code P.classes (length P.functions) (repeating P) (repeated_in_program P) params locals (fetched P texts j) (is_maker P.classes f) i a pc next))
         (there : LiesIn P texts f j params locals k next []) (near : By (runs (is_maker P.classes f) a k (Each i a k) (Each i a k)) (pc + item_size) []) where
       abbrev d : ℕ

@@ -5,7 +5,7 @@ use Rattle.sts_syntax.specs.declared.typed.Spot.TheVariants.{Param, Local, Globa
 use Rattle.sts_syntax.specs.TypedTrees as e
 use Rattle.sts_syntax.specs.TypedTrees.{TypedTree, TypedTrees, TypedStatement, TypedStatements, OptionalTypedStatement, TypedDeclaration, ClassEntry}
 use Rattle.sts_meaning.specs.Values.{default}
-use Rattle.sts_meaning.specs.Todo.{Todo, Put, Store, Drop, Choose, Again, Each, evals, initial, declares, tests, steps, bare, returns, runs, runs_first, runs_all}
+use Rattle.sts_meaning.specs.Continuation.{Continuation, Put, Store, Drop, Choose, Again, Each, evals, initial, declares, tests, steps, bare, returns, runs, runs_first, runs_all}
 use Rattle.sts_lower.specs.Sizes.{size, initial_size, declared_size, test_size, step_size, item_size, statement_size, first_size, statements_size}
 use Rattle.sts_lower.specs.Code as l
 use Rattle.sts_lower.specs.Statements as s
@@ -19,41 +19,41 @@ module _ (classes : List ClassEntry) (functions : ℕ) (repeating : ℕ → ℕ)
   abbrev pub b : ℕ
   b = params + locals
 
-  abbrev pub At : Todo → ℕ → Marks → Type 0
+  abbrev pub At : Continuation → ℕ → Marks → Type 0
   At k pc p = LiesAt classes functions repeating repeated params locals fetch maker k pc p
 
-  abbrev pub By : Todo → ℕ → Marks → Type 0
+  abbrev pub By : Continuation → ℕ → Marks → Type 0
   By k pc p = IsNear classes functions repeating repeated params locals fetch maker k pc p
 
   abbrev pub sc : TypedStatement → (at next out again : ℕ) → List Op
   sc a at next out again = s.statement_code classes repeating params b maker a at next out again
 
-  by_at : (k : Todo) (p : Marks) (m n : ℕ) → m ≡ n → By k m p → By k n p
+  by_at : (k : Continuation) (p : Marks) (m n : ℕ) → m ≡ n → By k m p → By k n p
   by_at k p m n e h = near_at classes functions repeating repeated params locals fetch maker k p m n e h
 
   expr : (a : TypedTree) → Fine functions repeated params locals a → ExprAt classes functions repeating repeated params locals fetch maker a
   expr a fine = expr_at classes functions repeating repeated params locals fetch maker a fine
 
   -- n ops do this and then k; where there is none it is k itself
-  abbrev pub Ready : ℕ → Todo → Todo → ℕ → Type 0
+  abbrev pub Ready : ℕ → Continuation → Continuation → ℕ → Type 0
   Ready zero todo k pc = todo ≡ k
   Ready (suc n) todo k pc = At todo pc []
 
-  ready : (n : ℕ) (todo k : Todo) (pc : ℕ) → 0 < n → At todo pc [] → Ready n todo k pc
+  ready : (n : ℕ) (todo k : Continuation) (pc : ℕ) → 0 < n → At todo pc [] → Ready n todo k pc
   ready zero todo k pc lt h = absurd (omega arith)
   ready (suc n) todo k pc lt h = h
 
-  near_ready : (n : ℕ) (todo k : Todo) (pc : ℕ) → Ready n todo k pc → By k (pc + n) [] → By todo pc []
+  near_ready : (n : ℕ) (todo k : Continuation) (pc : ℕ) → Ready n todo k pc → By k (pc + n) [] → By todo pc []
   near_ready zero todo k pc e near =
       let same : pc + 0 ≡ pc = omega arith in
       subst (λ t. By t pc []) (sym e) (by_at k [] _ _ same near)
   near_ready (suc n) todo k pc h near = inl h
 
-  at_behind : (n here next : ℕ) (todo k : Todo) → Ready n todo k here → At k next [] → At todo (behind n here next) []
+  at_behind : (n here next : ℕ) (todo k : Continuation) → Ready n todo k here → At k next [] → At todo (behind n here next) []
   at_behind zero here next todo k e h = subst (λ t. At t next []) (sym e) h
   at_behind (suc n) here next todo k h there = h
 
-  ready_both : (m n : ℕ) (one two k : Todo) (pc : ℕ) → Ready m one two pc → Ready n two k (pc + m) → Ready (m + n) one k pc
+  ready_both : (m n : ℕ) (one two k : Continuation) (pc : ℕ) → Ready m one two pc → Ready n two k (pc + m) → Ready (m + n) one k pc
   ready_both zero zero one two k pc e f = e ∙ f
   ready_both zero (suc n) one two k pc e h =
       let same : pc + 0 ≡ pc = omega arith in
@@ -63,14 +63,14 @@ module _ (classes : List ClassEntry) (functions : ℕ) (repeating : ℕ → ℕ)
       let len : suc (m + n) ≡ suc m + n = omega arith in
       subst (λ l. Ready l one k pc) len h
 
-  pub at_ready : (n : ℕ) (todo k : Todo) (pc : ℕ) → Ready n todo k pc → At k (pc + n) [] → At todo pc []
+  pub at_ready : (n : ℕ) (todo k : Continuation) (pc : ℕ) → Ready n todo k pc → At k (pc + n) [] → At todo pc []
   at_ready zero todo k pc e there =
       let same : pc + 0 ≡ pc = omega arith in
       subst (λ t. At t pc []) (sym e) (subst (λ p. At k p []) same there)
   at_ready (suc n) todo k pc h there = h
 
   -- a value that is let go
-  dropped : (k : Todo) (pc : ℕ) → By k pc [] → By (Drop k) pc (None ∷ [])
+  dropped : (k : Continuation) (pc : ℕ) → By k pc [] → By (Drop k) pc (None ∷ [])
   dropped k pc (inl h) = inl h
   dropped k pc (inr h) = inr h
 
@@ -82,7 +82,7 @@ module _ (classes : List ClassEntry) (functions : ℕ) (repeating : ℕ → ℕ)
   returns_at true that pc has = bare_at true that pc has
   returns_at false that pc has = has.0
 
-  initial_at : (first : Option TypedTree) → FineOption functions repeated params locals first → (pc : ℕ) (k : Todo) → HasAt fetch pc (s.initial_code classes repeating params b first pc)
+  initial_at : (first : Option TypedTree) → FineOption functions repeated params locals first → (pc : ℕ) (k : Continuation) → HasAt fetch pc (s.initial_code classes repeating params b first pc)
       → At k (pc + initial_size first) (None ∷ []) → At (initial first k) pc []
   initial_at None fine pc k has there = (has.0, inl there)
   initial_at (Some a) fine pc k has there = (expr a fine).at pc (pc + size a) [] k has there (inl there)
@@ -91,7 +91,7 @@ module _ (classes : List ClassEntry) (functions : ℕ) (repeating : ℕ → ℕ)
   initial_length' None at = refl
   initial_length' (Some a) at = code_length classes repeating params b a 0 at (at + size a)
 
-  declared_at : (ds : List TypedDeclaration) → FineDeclared functions repeated params locals ds → (pc : ℕ) (k : Todo) → HasAt fetch pc (s.declared_code classes repeating params b ds pc)
+  declared_at : (ds : List TypedDeclaration) → FineDeclared functions repeated params locals ds → (pc : ℕ) (k : Continuation) → HasAt fetch pc (s.declared_code classes repeating params b ds pc)
       → By k (pc + declared_size ds) [] → Ready (declared_size ds) (declares ds k) k pc
   declared_at [] fine pc k has near = refl
   declared_at (d ∷ rest) fine pc k has near =
@@ -104,11 +104,11 @@ module _ (classes : List ClassEntry) (functions : ℕ) (repeating : ℕ → ℕ)
       ready (initial_size d.first + 1 + declared_size rest) _ k pc (omega arith) (initial_at d.first fine.0 pc _ (has_front fetch pc _ _ has) at_s)
 
   pub record StatementAt (a : TypedStatement) : Type 0 where
-    pub at : (pc next out again : ℕ) (out' again' k : Todo) → HasAt fetch pc (sc a pc next out again) → At out' out [] → At again' again [] → At k next [] → By k (pc + statement_size maker a) []
+    pub at : (pc next out again : ℕ) (out' again' k : Continuation) → HasAt fetch pc (sc a pc next out again) → At out' out [] → At again' again [] → At k next [] → By k (pc + statement_size maker a) []
         → Ready (statement_size maker a) (runs maker a out' again' k) k pc
 
   -- a turn of each kind of loop, from its code and that of its body
-  pub while_at : (test : TypedTree) (a : TypedStatement) → Fine functions repeated params locals test → FineStatement functions repeated params locals a → StatementAt a → (pc next : ℕ) (k : Todo)
+  pub while_at : (test : TypedTree) (a : TypedStatement) → Fine functions repeated params locals test → FineStatement functions repeated params locals a → StatementAt a → (pc next : ℕ) (k : Continuation)
       → HasAt fetch pc (loop_code classes functions repeating repeated params locals fetch maker (e.While test a) pc next) → At k next [] → At (runs maker (e.While test a) k k k) pc []
   while_at test a ft fa body pc next k has there =
       let pt = pc + size test in
@@ -122,7 +122,7 @@ module _ (classes : List ClassEntry) (functions : ℕ) (repeating : ℕ → ℕ)
       let at_t : At (Choose (runs maker a k turn turn) k) pt (None ∷ []) = (pb, has_t.0, inl at_b, inr (next, has_t.1.0, there)) in
       (expr test ft).at pc pt [] (Choose (runs maker a k turn turn) k) (has_front fetch pc _ _ has) at_t (inl at_t)
 
-  pub do_at : (a : TypedStatement) (test : TypedTree) → Fine functions repeated params locals test → FineStatement functions repeated params locals a → StatementAt a → (pc next : ℕ) (k : Todo)
+  pub do_at : (a : TypedStatement) (test : TypedTree) → Fine functions repeated params locals test → FineStatement functions repeated params locals a → StatementAt a → (pc next : ℕ) (k : Continuation)
       → HasAt fetch pc (loop_code classes functions repeating repeated params locals fetch maker (e.DoWhile a test) pc next) → At k next [] → At (runs maker (e.DoWhile a test) k k k) pc []
   do_at a test ft fa body pc next k has there =
       let pe = pc + statement_size maker a in
@@ -135,11 +135,11 @@ module _ (classes : List ClassEntry) (functions : ℕ) (repeating : ℕ → ℕ)
       let at_e : At turn pe [] = (expr test ft).at pe pt [] (Choose (Again (e.DoWhile a test) k) k) (has_front fetch pe _ _ has_e) at_t (inl at_t) in
       at_ready (statement_size maker a) _ turn pc (body.at pc pe next pe k turn turn (has_front fetch pc _ _ has) there at_e at_e (inl at_e)) at_e
 
-  steps_at : (step : Option TypedTree) → FineOption functions repeated params locals step → (pc : ℕ) (k : Todo) → HasAt fetch pc (s.step_code classes repeating params b step pc) → At k (pc + step_size step) [] → At (steps step k) pc []
+  steps_at : (step : Option TypedTree) → FineOption functions repeated params locals step → (pc : ℕ) (k : Continuation) → HasAt fetch pc (s.step_code classes repeating params b step pc) → At k (pc + step_size step) [] → At (steps step k) pc []
   steps_at None fine pc k has there = let same : pc + 0 ≡ pc = omega arith in subst (λ p. At k p []) same there
   steps_at (Some a) fine pc k has there = (expr a fine).at pc (pc + size a) [] (Drop k) has there (inl there)
 
-  tests_at : (test : Option TypedTree) → FineOption functions repeated params locals test → (pc next : ℕ) (so k : Todo) → HasAt fetch pc (s.test_code classes repeating params b test pc next) → At so (pc + test_size test) [] → At k next [] → At (tests test so k) pc []
+  tests_at : (test : Option TypedTree) → FineOption functions repeated params locals test → (pc next : ℕ) (so k : Continuation) → HasAt fetch pc (s.test_code classes repeating params b test pc next) → At so (pc + test_size test) [] → At k next [] → At (tests test so k) pc []
   tests_at None fine pc next so k has there out = let same : pc + 0 ≡ pc = omega arith in subst (λ p. At so p []) same there
   tests_at (Some a) fine pc next so k has there out =
       let pt = pc + size a in
@@ -148,7 +148,7 @@ module _ (classes : List ClassEntry) (functions : ℕ) (repeating : ℕ → ℕ)
       let at_t : At (Choose so k) pt (None ∷ []) = (pt + 1 + 1, has_t.0, inl (subst (λ p. At so p []) same there), inr (next, has_t.1.0, out)) in
       (expr a fine).at pc pt [] (Choose so k) (has_front fetch pc _ _ has) at_t (inl at_t)
 
-  pub for_at : (test step : Option TypedTree) (a : TypedStatement) → FineOption functions repeated params locals test → FineOption functions repeated params locals step → FineStatement functions repeated params locals a → StatementAt a → (pc next : ℕ) (k : Todo)
+  pub for_at : (test step : Option TypedTree) (a : TypedStatement) → FineOption functions repeated params locals test → FineOption functions repeated params locals step → FineStatement functions repeated params locals a → StatementAt a → (pc next : ℕ) (k : Continuation)
       → HasAt fetch pc (for_code classes functions repeating repeated params locals fetch maker test step a pc next) → At k next [] → At (runs maker (e.For e.omitted test step a) k k k) pc []
   for_at test step a ft fs fa body pc next k has there =
       let pb = pc + test_size test in
@@ -164,7 +164,7 @@ module _ (classes : List ClassEntry) (functions : ℕ) (repeating : ℕ → ℕ)
       tests_at test ft pc next (runs maker a k turn turn) k (has_front fetch pc _ _ has) at_b there
 
   -- the body of a loop over items, from the loop's code
-  pub each_at : (i : ℕ) (a : TypedStatement) → StatementAt a → (pc next : ℕ) (k : Todo) → At (Each i a k) pc [] → HasAt fetch pc (each_code classes functions repeating repeated params locals fetch maker i a pc next) → At k next []
+  pub each_at : (i : ℕ) (a : TypedStatement) → StatementAt a → (pc next : ℕ) (k : Continuation) → At (Each i a k) pc [] → HasAt fetch pc (each_code classes functions repeating repeated params locals fetch maker i a pc next) → At k next []
       → By (runs maker a k (Each i a k) (Each i a k)) (pc + item_size) []
   each_at i a body pc next k turn has there =
       let pb = pc + item_size in
@@ -249,12 +249,12 @@ module _ (classes : List ClassEntry) (functions : ℕ) (repeating : ℕ → ℕ)
     }
     statement_at e.Empty fine = record { at = λ pc next out again out' again' k has at_b at_c there near. refl }
 
-    first_at : (f : OptionalTypedStatement) → FineFirst functions repeated params locals f → (pc next out again : ℕ) (out' again' k : Todo) → HasAt fetch pc (s.first_code classes repeating params b maker f pc next out again) → At out' out [] → At again' again [] → At k next []
+    first_at : (f : OptionalTypedStatement) → FineFirst functions repeated params locals f → (pc next out again : ℕ) (out' again' k : Continuation) → HasAt fetch pc (s.first_code classes repeating params b maker f pc next out again) → At out' out [] → At again' again [] → At k next []
         → By k (pc + first_size maker f) [] → Ready (first_size maker f) (runs_first maker f out' again' k) k pc
     first_at e.omitted fine pc next out again out' again' k has at_b at_c there near = refl
     first_at (e.written a) fine pc next out again out' again' k has at_b at_c there near = (statement_at a fine).at pc next out again out' again' k has at_b at_c there near
 
-    pub statements_at : (all : TypedStatements) → FineStatements functions repeated params locals all → (pc next out again : ℕ) (out' again' k : Todo) → HasAt fetch pc (s.statements_code classes repeating params b maker all pc next out again) → At out' out [] → At again' again [] → At k next []
+    pub statements_at : (all : TypedStatements) → FineStatements functions repeated params locals all → (pc next out again : ℕ) (out' again' k : Continuation) → HasAt fetch pc (s.statements_code classes repeating params b maker all pc next out again) → At out' out [] → At again' again [] → At k next []
         → By k (pc + statements_size maker all) [] → Ready (statements_size maker all) (runs_all maker all out' again' k) k pc
     statements_at e.done fine pc next out again out' again' k has at_b at_c there near = refl
     statements_at (e.also a rest) fine pc next out again out' again' k has at_b at_c there near =
@@ -268,7 +268,7 @@ module _ (classes : List ClassEntry) (functions : ℕ) (repeating : ℕ → ℕ)
         ready_both (statement_size maker a) (statements_size maker rest) _ _ _ pc at_a at_r
 
   -- a loop that turns back
-  pub turn_at : (loop : TypedStatement) (pc next : ℕ) (k : Todo) → FineTurn classes functions repeating repeated params locals fetch maker loop
+  pub turn_at : (loop : TypedStatement) (pc next : ℕ) (k : Continuation) → FineTurn classes functions repeating repeated params locals fetch maker loop
       → HasAt fetch pc (loop_code classes functions repeating repeated params locals fetch maker loop pc next) → At k next [] → At (runs maker loop k k k) pc []
   turn_at (e.While test a) pc next k fine has there = while_at test a fine.0 fine.1 (statement_at a fine.1) pc next k has there
   turn_at (e.DoWhile a test) pc next k fine has there = do_at a test fine.1 fine.0 (statement_at a fine.0) pc next k has there

@@ -13,7 +13,7 @@ use Rattle.sts_syntax.specs.TypeRules.{IsOneOf, IsOne}
 use Rattle.sts_meaning.specs.Values.{Value, Whole, Object, Text, Code, Outcome, Gives, Breaks, Stuck}
 use Rattle.sts_meaning.specs.Services.{requested}
 use Rattle.sts_meaning.specs.Frames.{taken}
-use Rattle.sts_meaning.specs.Todo.{Todo, Put, Get, Store, Drop, Unary, Apply, Choose, Both, Either, Read, Peek, Write, At, PeekAt, SetAt, Bump, BumpField, BumpAt, Measure, Push, Pop, Open, Append, New, Build, Invoke, Send, Ask, Repeat, Again, Each, Leave, Give, Round, Amiss}
+use Rattle.sts_meaning.specs.Continuation.{Continuation, Put, Get, Store, Drop, Unary, Apply, Choose, Both, Either, Read, Peek, Write, At, PeekAt, SetAt, Bump, BumpField, BumpAt, Measure, Push, Pop, Open, Append, New, Build, Invoke, Send, Ask, Repeat, Again, Each, Leave, Give, Round, Impossible}
 use Rattle.flat_meaning.specs.Operators.{answers}
 use Rattle.sts_lower.specs.Sizes.{ToName, ToField, ToItem, bump_size, test_size, item_size, statement_size}
 use Rattle.sts_lower.specs.Code.{get_op, set_op, bump_code, maker_of, span, code}
@@ -138,7 +138,7 @@ module _ (classes : List ClassEntry) (functions : ℕ) (repeating : ℕ → ℕ)
 
   abbrev mutual
     -- what is left to do lies at a place, with such values pending
-    pub Lies : Todo → ℕ → Marks → Type 0
+    pub Lies : Continuation → ℕ → Marks → Type 0
     Lies (Put v k) pc p = IsPut v (height p) (fetch pc) × Near (Lies k) (pc + 1) (mark_of v ∷ p)
     Lies (Get x k) pc p = (fetch pc ≡ Some (get_op params (height p) x)) × IsName x × Near (Lies k) (pc + 1) (None ∷ p)
     Lies (Store x k) pc p = One (λ q. (fetch pc ≡ Some (set_op params (height q) x)) × IsName x × Near (Lies k) (pc + 1) (None ∷ q)) p
@@ -188,4 +188,4 @@ module _ (classes : List ClassEntry) (functions : ℕ) (repeating : ℕ → ℕ)
     Lies (Leave to) pc p = (t : ℕ) × (fetch pc ≡ Some (o.Jump t)) × Lies to t p
     Lies Give pc p = One (λ q. fetch pc ≡ Some (o.Return (height q))) p
     Lies (Round f) pc p = (p ≡ []) × (params ≡ 0) × (locals ≡ 0) × (fetch pc ≡ Some (o.Jump 0)) × HasAt fetch 0 (repeating_ops f)
-    Lies Amiss pc p = Unit {0}
+    Lies Impossible pc p = Unit {0}

@@ -6,7 +6,7 @@ use Rattle.sts_syntax.specs.TypedTrees.{TypedProgram}
 use Rattle.sts_syntax.specs.TypeRules.{entry, IsOneOf}
 use Rattle.sts_syntax.specs.WellTypedPrograms.{is_maker}
 use Rattle.sts_meaning.specs.Values.{Value, Gives}
-use Rattle.sts_meaning.specs.Todo.{Todo}
+use Rattle.sts_meaning.specs.Continuation.{Continuation}
 use Rattle.sts_meaning.specs.Frames.{Names, Frame, Activity, Starts, Runs}
 use Rattle.sts_meaning.specs.Steps as source
 use Rattle.flat_meaning.specs.Frames.{FlatFrame, FlatActivity, Enters, Stands, op_of, words, op_at, result_of, depth_of}
@@ -37,11 +37,11 @@ module _ (P : TypedProgram) (texts : List ByteList) where
   fetched j place = op_of (entry (lowered P).functions j) place
 
   -- what is left to do in function f of the source lies at a place of function j of flat code
-  abbrev pub LiesIn : (f j params locals : ℕ) → Todo → ℕ → Marks → Type 0
+  abbrev pub LiesIn : (f j params locals : ℕ) → Continuation → ℕ → Marks → Type 0
   LiesIn f j params locals k place p =
       Lies P.classes (length P.functions) (repeating P) (repeated_in_program P) params locals (fetched j) (is_maker P.classes f) k place p
 
-  abbrev pub NearIn : (f j params locals : ℕ) → Todo → ℕ → Marks → Type 0
+  abbrev pub NearIn : (f j params locals : ℕ) → Continuation → ℕ → Marks → Type 0
   NearIn f j params locals k place p =
       Near P.classes (length P.functions) (repeating P) (repeated_in_program P) params locals (fetched j) (is_maker P.classes f) (LiesIn f j params locals k) place p
 

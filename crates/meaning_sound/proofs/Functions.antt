@@ -8,7 +8,7 @@ use Rattle.sts_syntax.specs.TypedTrees.{TypedTree, TypedTrees, TypedStatement, T
 use Rattle.sts_syntax.specs.TypeRules.{entry, HasRoutine}
 use Rattle.sts_syntax.specs.WellTyped.{Setting, parameters_of}
 use Rattle.sts_syntax.specs.WellTypedPrograms.{is_maker, base_of_maker, setting, IsBodyOf, IsWellTyped}
-use Rattle.sts_meaning.specs.Todo.{Todo, Drop, evals_each, bare, runs_all}
+use Rattle.sts_meaning.specs.Continuation.{Continuation, Drop, evals_each, bare, runs_all}
 use Rattle.meaning_sound.specs.Sorts.{Of}
 use Rattle.meaning_sound.specs.Fits.{Fits}
 use Rattle.meaning_sound.specs.Kept.{GivesThis}
@@ -85,7 +85,7 @@ module _ (P : TypedProgram) where
       abbrev S : Setting
       S = setting P f r
 
-      abbrev back : Todo
+      abbrev back : Continuation
       back = bare S.maker
 
       pub body_fits : (base : Option ℕ) (all : TypedStatements) → base_of_maker P P.classes f ≡ base → IsBodyOf P base S all → Fits P S (runs_all S.maker all back back back) []
@@ -95,7 +95,7 @@ module _ (P : TypedProgram) where
           let o = makes_of f m.0 m.1 r m.2 has in
           let i = p.4 in
           let fine : Fits P S back [] = bare_fits P S (this_is f r has) in
-          let next : Todo = runs_all S.maker rest back back back in
+          let next : Continuation = runs_all S.maker rest back back back in
           let next_fits : Fits P S next [] = all_run P S (this_is f r has) rest false [] back back back p.7 fine fine fine in
           super_fits P S m.0 i.1 g i.0 p.1 (evals_each args) u (Drop next) [] o.this (suc i.4.0, (m.1, base, m.2.has, m.3, i.4.1)) i.2 i.3 (i.5 ∙ sym p.6)
           (parameters_yield P S p.1 (evals_each args) (each_yields P S [] (parameters_of p.1) args p.5))

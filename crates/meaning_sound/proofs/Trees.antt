@@ -13,7 +13,7 @@ use Rattle.sts_syntax.specs.TypeRules.{entry, IsOne, HasRoutine, IsBelow, GoesTo
 use Rattle.sts_syntax.specs.WellTyped.{type_of, Setting, parameters_of, IsHandler, Has, IsTyped, AreGiven, AreItems, MayTest, MayStep, IsInitial, IsReturned, MayDeclare, AreDeclared, known_with, known_after, known_after_first, IsSound, IsSoundFirst, AreSound}
 use Rattle.sts_meaning.specs.Values.{Value, Whole, Text, default, truth}
 use Rattle.sts_meaning.specs.Heaps.{Heap}
-use Rattle.sts_meaning.specs.Todo.{Todo, Put, Get, Store, Drop, Unary, Apply, Choose, Both, Either, Read, Peek, Write, At, PeekAt, SetAt, Bump, BumpField, BumpAt, by_one, Measure, Push, Pop, Append, New, Build, Invoke, Send, Again, Each, Give, item_of, chained, arguments, appended, calls, evals, evals_each, initial, declares, tests, steps, bare, returns, runs, runs_first, runs_all}
+use Rattle.sts_meaning.specs.Continuation.{Continuation, Put, Get, Store, Drop, Unary, Apply, Choose, Both, Either, Read, Peek, Write, At, PeekAt, SetAt, Bump, BumpField, BumpAt, by_one, Measure, Push, Pop, Append, New, Build, Invoke, Send, Again, Each, Give, item_of, chained, arguments, appended, calls, evals, evals_each, initial, declares, tests, steps, bare, returns, runs, runs_first, runs_all}
 use Rattle.meaning_sound.specs.Sorts.{Sort, Of, Begins, Exactly, of_types, sorts_of, above, IsA}
 use Rattle.meaning_sound.specs.Fits.{Given, IsStored, Fits}
 use Rattle.meaning_sound.specs.Kept.{GivesThis}
@@ -29,19 +29,19 @@ length_types [] = refl
 length_types (u ∷ us) = ap suc (length_types us)
 
 module _ (P : TypedProgram) (S : Setting) where
-  abbrev pub G : Todo → Sort → List Sort → Type 0
+  abbrev pub G : Continuation → Sort → List Sort → Type 0
   G k s ss = Given P (Fits P S k) s ss
 
   -- what gives a value of a sort
-  abbrev pub Yields : Sort → (Todo → Todo) → Type 0
-  Yields s f = (k : Todo) (before : List Sort) → Fits P S k (s ∷ before) → Fits P S (f k) before
+  abbrev pub Yields : Sort → (Continuation → Continuation) → Type 0
+  Yields s f = (k : Continuation) (before : List Sort) → Fits P S k (s ∷ before) → Fits P S (f k) before
 
-  abbrev pub EachYields : List Sort → List (Todo → Todo) → Type 0
+  abbrev pub EachYields : List Sort → List (Continuation → Continuation) → Type 0
   EachYields [] [] = Unit {0}
   EachYields (s ∷ ss) (f ∷ fs) = Yields s f × EachYields ss fs
   EachYields ss fs = ⊥
 
-  abbrev AllYield : Sort → List (Todo → Todo) → Type 0
+  abbrev AllYield : Sort → List (Continuation → Continuation) → Type 0
   AllYield s [] = Unit {0}
   AllYield s (f ∷ fs) = Yields s f × AllYield s fs
 
@@ -50,43 +50,43 @@ module _ (P : TypedProgram) (S : Setting) where
   truth_always false h = tt
 
   -- a value that is of a sort whatever the heap is given
-  put_fits : (v : Value) (s : Sort) (k : Todo) (ss : List Sort) → ((h : Heap) → IsA P h s v) → G k s ss → Fits P S (Put v k) ss
+  put_fits : (v : Value) (s : Sort) (k : Continuation) (ss : List Sort) → ((h : Heap) → IsA P h s v) → G k s ss → Fits P S (Put v k) ss
   put_fits v s k ss p h = (h.0, λ heap. suits_is P heap s h.0 v h.1 (p heap), h.2)
 
   -- a value of a type that is known
-  at_type : (k : Todo) (u v : ValueType) (ss : List Sort) → u ≡ v → Fits P S k (Of v ∷ ss) → G k (Of u) ss
+  at_type : (k : Continuation) (u v : ValueType) (ss : List Sort) → u ≡ v → Fits P S k (Of v ∷ ss) → G k (Of u) ss
   at_type k u v ss e h = (Of v, inl e, h)
 
   -- the sort itself
-  itself : (k : Todo) (s : Sort) (ss : List Sort) → Fits P S k (s ∷ ss) → G k s ss
+  itself : (k : Continuation) (s : Sort) (ss : List Sort) → Fits P S k (s ∷ ss) → G k s ss
   itself k s ss h = (s, same_suits P s, h)
 
   -- a wider type
-  wider : (k : Todo) (u v : ValueType) (ss : List Sort) → GoesTo P u v → G k (Of v) ss → G k (Of u) ss
+  wider : (k : Continuation) (u v : ValueType) (ss : List Sort) → GoesTo P u v → G k (Of v) ss → G k (Of u) ss
   wider k u v ss g h = (h.0, suits_trans P (Of u) (Of v) h.0 g h.1, h.2)
 
-  of_type : (k : Todo) (u v : ValueType) (ss : List Sort) → u ≡ v → G k (Of u) ss → G k (Of v) ss
+  of_type : (k : Continuation) (u v : ValueType) (ss : List Sort) → u ≡ v → G k (Of u) ss → G k (Of v) ss
   of_type k u v ss q h = subst (λ (w : ValueType). G k (Of w) ss) q h
 
   -- `++` and `--`
-  by_one_fits : (by : ℤ) (k : Todo) (ss : List Sort) → IsOne by → Fits P S k ss → Fits P S (by_one by k) ss
+  by_one_fits : (by : ℤ) (k : Continuation) (ss : List Sort) → IsOne by → Fits P S k ss → Fits P S (by_one by k) ss
   by_one_fits by k ss (inl e) h = subst (λ (n : ℤ). Fits P S (by_one n k) ss) (sym e) h
   by_one_fits by k ss (inr e) h = subst (λ (n : ℤ). Fits P S (by_one n k) ss) (sym e) h
 
   -- arguments, one after the other
-  chained_fit : (these : List Sort) (fs : List (Todo → Todo)) (k : Todo) (before : List Sort) → EachYields these fs → Fits P S k (above these before) → Fits P S (chained fs k) before
+  chained_fit : (these : List Sort) (fs : List (Continuation → Continuation)) (k : Continuation) (before : List Sort) → EachYields these fs → Fits P S k (above these before) → Fits P S (chained fs k) before
   chained_fit [] [] k before y h = h
   chained_fit (s ∷ ss) (f ∷ fs) k before y h = y.0 (chained fs k) before (chained_fit ss fs k (s ∷ before) y.1 h)
   chained_fit [] (f ∷ fs) k before y h = absurd y
   chained_fit (s ∷ ss) [] k before y h = absurd y
 
-  each_length : (these : List Sort) (fs : List (Todo → Todo)) → EachYields these fs → length fs ≡ length these
+  each_length : (these : List Sort) (fs : List (Continuation → Continuation)) → EachYields these fs → length fs ≡ length these
   each_length [] [] y = refl
   each_length (s ∷ ss) (f ∷ fs) y = ap suc (each_length ss fs y.1)
   each_length [] (f ∷ fs) y = absurd y
   each_length (s ∷ ss) [] y = absurd y
 
-  placed_yield : (places : List ServicePlace) (these : List Sort) (fs : List (Todo → Todo)) → EachYields these fs → EachYields (placed Exactly places these) (placed (λ n. Put (Whole n)) places fs)
+  placed_yield : (places : List ServicePlace) (these : List Sort) (fs : List (Continuation → Continuation)) → EachYields these fs → EachYields (placed Exactly places these) (placed (λ n. Put (Whole n)) places fs)
   placed_yield [] these fs y = y
   placed_yield (Written ∷ ps) [] [] y = placed_yield ps [] [] y
   placed_yield (Written ∷ ps) (s ∷ ss) (f ∷ fs) y = (y.0, placed_yield ps ss fs y.1)
@@ -94,32 +94,32 @@ module _ (P : TypedProgram) (S : Setting) where
   placed_yield (Written ∷ ps) [] (f ∷ fs) y = absurd y
   placed_yield (Written ∷ ps) (s ∷ ss) [] y = absurd y
 
-  arranged_yield : (action : BoardAction) (these : List Sort) (fs : List (Todo → Todo)) → EachYields these fs → EachYields (arranged Exactly action these) (arranged (λ n. Put (Whole n)) action fs)
+  arranged_yield : (action : BoardAction) (these : List Sort) (fs : List (Continuation → Continuation)) → EachYields these fs → EachYields (arranged Exactly action these) (arranged (λ n. Put (Whole n)) action fs)
   arranged_yield (b.Service number places) these fs y = placed_yield places these fs y
   arranged_yield (b.Library function) these fs y = y
   arranged_yield b.Repeats these fs y = y
 
-  pub parameters_yield : (us : List ValueType) (fs : List (Todo → Todo)) → EachYields (sorts_of (parameters_of us)) fs → EachYields (of_types us) fs
+  pub parameters_yield : (us : List ValueType) (fs : List (Continuation → Continuation)) → EachYields (sorts_of (parameters_of us)) fs → EachYields (of_types us) fs
   parameters_yield us fs y = subst (λ (ss : List Sort). EachYields ss fs) (sorts_parameters us) y
 
-  parameters_length : (us : List ValueType) (fs : List (Todo → Todo)) → EachYields (of_types us) fs → length fs ≡ length us
+  parameters_length : (us : List ValueType) (fs : List (Continuation → Continuation)) → EachYields (of_types us) fs → length fs ≡ length us
   parameters_length us fs y = each_length (of_types us) fs y ∙ length_types us
 
   -- each item goes into the array
-  appended_fit : (u : ValueType) (fs : List (Todo → Todo)) (k : Todo) (ss : List Sort) → AllYield (Of u) fs → G k (Of (t.ListOf u)) ss → G (appended fs k) (Of (t.ListOf u)) ss
+  appended_fit : (u : ValueType) (fs : List (Continuation → Continuation)) (k : Continuation) (ss : List Sort) → AllYield (Of u) fs → G k (Of (t.ListOf u)) ss → G (appended fs k) (Of (t.ListOf u)) ss
   appended_fit u [] k ss y h = h
   appended_fit u (f ∷ fs) k ss y h =
       itself (f (Append (appended fs k))) (Of (t.ListOf u)) ss
       (y.0 (Append (appended fs k)) (Of (t.ListOf u) ∷ ss) (same_goes P u, appended_fit u fs k ss y.1 h))
 
   -- a call of a function
-  invoke_fits : (f : ℕ) (r : TypedRoutine) (fs : List (Todo → Todo)) (u : ValueType) (k : Todo) (ss : List Sort) → HasRoutine P f r → EachYields (of_types r.params) fs → u ≡ r.gives → G k (Of u) ss
+  invoke_fits : (f : ℕ) (r : TypedRoutine) (fs : List (Continuation → Continuation)) (u : ValueType) (k : Continuation) (ss : List Sort) → HasRoutine P f r → EachYields (of_types r.params) fs → u ≡ r.gives → G k (Of u) ss
       → Fits P S (chained fs (Invoke f (length fs) k)) ss
   invoke_fits f r fs u k ss has y q h =
       chained_fit (of_types r.params) fs (Invoke f (length fs) k) ss y (ss, r, has, refl, parameters_length r.params fs y, of_type k u r.gives ss q h)
 
   -- a call through `super`
-  pub super_fits : (d o f : ℕ) (r : TypedRoutine) (params : List ValueType) (fs : List (Todo → Todo)) (u : ValueType) (k : Todo) (ss : List Sort)
+  pub super_fits : (d o f : ℕ) (r : TypedRoutine) (params : List ValueType) (fs : List (Continuation → Continuation)) (u : ValueType) (k : Continuation) (ss : List Sort)
       → entry S.routine.params 0 ≡ Some (t.Object d) → IsBelow P d o → HasRoutine P f r → r.params ≡ t.Object o ∷ params → r.gives ≡ u → EachYields (of_types params) fs → G k (Of u) ss
       → Fits P S (Get (Param 0) (chained fs (Invoke f (suc (length fs)) k))) ss
   super_fits d o f r params fs u k ss this below has ps q y h = (
@@ -180,7 +180,7 @@ module _ (P : TypedProgram) (S : Setting) where
 
     mutual
       -- an expression fits where what comes after it fits above a value of its type
-      pub evals_fit : (a : TypedTree) (k : Todo) (ss : List Sort) → IsTyped P S known a → G k (Of (type_of a)) ss → Fits P S (evals a k) ss
+      pub evals_fit : (a : TypedTree) (k : Continuation) (ss : List Sort) → IsTyped P S known a → G k (Of (type_of a)) ss → Fits P S (evals a k) ss
       evals_fit (e.Num u n) k ss p h = put_fits (Whole n) (Of t.Number) k ss (λ heap. tt) (of_type k u t.Number ss p.0 h)
       evals_fit (e.Text u n) k ss p h = put_fits (Text n) (Of t.Text) k ss (λ heap. tt) (of_type k u t.Text ss p h)
       evals_fit (e.Truth u v) k ss p h = put_fits (truth v) (Of t.Boolean) k ss (truth_always v) (of_type k u t.Boolean ss p h)
@@ -214,14 +214,14 @@ module _ (P : TypedProgram) (S : Setting) where
           (evals_fit i (evals r (SetAt k)) as' p.0.1 (at_type (evals r (SetAt k)) (type_of i) t.Number as' p.0.3
           (evals_fit r (SetAt k) is p.1 (itself (SetAt k) (Of (type_of r)) is (goes_as (type_of r) u v p.2 p.3, of_type k u v ss p.2 h)))))))
       evals_fit (e.Set u (Some op) (e.Name v x) r) k ss p h =
-          (let rest : Todo = Apply op (Store x k) in (
+          (let rest : Continuation = Apply op (Store x k) in (
             v,
             has_stored known x v p.0,
             itself (evals r rest) (Of v) ss (evals_fit r rest (Of v ∷ ss) p.1 (itself rest (Of (type_of r)) (Of v ∷ ss)
                 (v, works_as op u (type_of r) v p.2 p.3, itself (Store x k) (Of v) ss (v, has_stored known x v p.0, same_goes P v, of_type k u v ss p.2 h)))),
           ))
       evals_fit (e.Set u (Some op) (e.Field v a f) r) k ss p h =
-          (let os : List Sort = Of (t.Object p.0.1) ∷ ss in let rest : Todo = Apply op (Write f k) in
+          (let os : List Sort = Of (t.Object p.0.1) ∷ ss in let rest : Continuation = Apply op (Write f k) in
           evals_fit a (Peek f (evals r rest)) ss p.0.0 (at_type (Peek f (evals r rest)) (type_of a) (t.Object p.0.1) ss p.0.2 (
             v,
             p.0.3,
@@ -229,7 +229,7 @@ module _ (P : TypedProgram) (S : Setting) where
                 (v, works_as op u (type_of r) v p.2 p.3, itself (Write f k) (Of v) os (v, p.0.3, same_goes P v, of_type k u v ss p.2 h))),
           )))
       evals_fit (e.Set u (Some op) (e.Item v a i) r) k ss p h =
-          (let as' : List Sort = Of (t.ListOf v) ∷ ss in let is : List Sort = Of t.Number ∷ as' in let rest : Todo = Apply op (SetAt k) in
+          (let as' : List Sort = Of (t.ListOf v) ∷ ss in let is : List Sort = Of t.Number ∷ as' in let rest : Continuation = Apply op (SetAt k) in
           evals_fit a (evals i (PeekAt (evals r rest))) ss p.0.0 (at_type (evals i (PeekAt (evals r rest))) (type_of a) (t.ListOf v) ss p.0.2
           (evals_fit i (PeekAt (evals r rest)) as' p.0.1 (at_type (PeekAt (evals r rest)) (type_of i) t.Number as' p.0.3
           (evals_fit r rest (Of v ∷ is) p.1 (itself rest (Of (type_of r)) (Of v ∷ is)
@@ -256,7 +256,7 @@ module _ (P : TypedProgram) (S : Setting) where
       evals_fit (e.Call u (c.Slot s) e.none) k ss p h = absurd p
       evals_fit (e.Call u (c.Slot s) (e.more a rest)) k ss p h =
           (let y : EachYields (of_types p.1) (evals_each rest) = parameters_yield p.1 (evals_each rest) (each_yields (parameters_of p.1) rest p.5) in
-          let last : Todo = Send s (suc (length (evals_each rest))) k in
+          let last : Continuation = Send s (suc (length (evals_each rest))) k in
           evals_fit a (chained (evals_each rest) last) ss p.2 (at_type (chained (evals_each rest) last) (type_of a) (t.Object p.0) ss p.3
           (chained_fit (of_types p.1) (evals_each rest) last (Of (t.Object p.0) ∷ ss) y (ss, p.0, p.1, u, p.4, refl, ap suc (parameters_length p.1 (evals_each rest) y), h))))
       evals_fit (e.Call u c.Push e.none) k ss p h = absurd p
@@ -271,7 +271,7 @@ module _ (P : TypedProgram) (S : Setting) where
       evals_fit (e.Call u (c.Board call) args) k ss p h =
           (let y = arranged_yield (row_of call).action (sorts_of (row_of call).takes) (evals_each args) (each_yields (row_of call).takes args p.0) in
           let these : List Sort = arranged Exactly (row_of call).action (sorts_of (row_of call).takes) in
-          let all : List (Todo → Todo) = arguments (c.Board call) (evals_each args) in
+          let all : List (Continuation → Continuation) = arguments (c.Board call) (evals_each args) in
           chained_fit these all (calls (c.Board call) (length all) k) ss y
           (asks_fit P S call (length all) k ss p.2 (each_length these all y) (of_type k u (row_of call).gives ss p.1 h)))
       evals_fit (e.SuperCall u f args) k ss p h =
@@ -305,19 +305,19 @@ module _ (P : TypedProgram) (S : Setting) where
       items_yield u e.none p = tt
       items_yield u (e.more a rest) p = ((λ k before h. evals_fit a k before p.0 (Of u, p.1, h)), items_yield u rest p.2)
 
-    tests_fit : (o : Option TypedTree) (y n : Todo) → MayTest P S known o → Fits P S y [] → Fits P S n [] → Fits P S (tests o y n) []
+    tests_fit : (o : Option TypedTree) (y n : Continuation) → MayTest P S known o → Fits P S y [] → Fits P S n [] → Fits P S (tests o y n) []
     tests_fit None y n p hy hn = hy
     tests_fit (Some a) y n p hy hn = evals_fit a (Choose y n) [] p.0 (at_type (Choose y n) (type_of a) t.Boolean [] p.1 (hy, hn))
 
-    steps_fit : (o : Option TypedTree) (k : Todo) → MayStep P S known o → Fits P S k [] → Fits P S (steps o k) []
+    steps_fit : (o : Option TypedTree) (k : Continuation) → MayStep P S known o → Fits P S k [] → Fits P S (steps o k) []
     steps_fit None k p h = h
     steps_fit (Some a) k p h = evals_fit a (Drop k) [] p (itself (Drop k) (Of (type_of a)) [] h)
 
-    initial_fits : (o : Option TypedTree) (x : Spot) (u : ValueType) (k : Todo) → MayDeclare P S x u → IsInitial P S known o u → Fits P S k [] → Fits P S (initial o (Store x (Drop k))) []
+    initial_fits : (o : Option TypedTree) (x : Spot) (u : ValueType) (k : Continuation) → MayDeclare P S x u → IsInitial P S known o u → Fits P S k [] → Fits P S (initial o (Store x (Drop k))) []
     initial_fits None x u k m p h = (Of u, (λ heap. default_is P heap u), (u, may_stored x u m, same_goes P u, itself (Drop k) (Of u) [] h))
     initial_fits (Some a) x u k m p h = evals_fit a (Store x (Drop k)) [] p.0 (itself (Store x (Drop k)) (Of (type_of a)) [] (u, may_stored x u m, p.1, itself (Drop k) (Of u) [] h))
 
-  declares_fit : (known : List ℕ) (each : List TypedDeclaration) (k : Todo) → AreDeclared P S known each → Fits P S k [] → Fits P S (declares each k) []
+  declares_fit : (known : List ℕ) (each : List TypedDeclaration) (k : Continuation) → AreDeclared P S known each → Fits P S k [] → Fits P S (declares each k) []
   declares_fit known [] k p h = h
   declares_fit known (d ∷ rest) k p h = initial_fits known d.first d.name p.0 (declares rest k) p.1 p.2 (declares_fit (known_with d.name known) rest k p.3 h)
 
@@ -331,46 +331,46 @@ module _ (P : TypedProgram) (S : Setting) where
         by_maker false q = (Of S.routine.gives, (λ h. default_is P h S.routine.gives), same_goes P S.routine.gives)
 
     returned_fits : (known : List ℕ) (value : Option TypedTree) (main maker : Bool) → S.maker ≡ maker → Fits P S (bare maker) []
-        → IsReturned P S known value (if main then None else Some (if maker then t.Nothing else S.routine.gives)) → (b d k : Todo) → Fits P S (runs maker (e.Return value) b d k) []
+        → IsReturned P S known value (if main then None else Some (if maker then t.Nothing else S.routine.gives)) → (b d k : Continuation) → Fits P S (runs maker (e.Return value) b d k) []
     returned_fits known value true maker q back p b d k = absurd p
     returned_fits known None false maker q back p b d k = back
     returned_fits known (Some a) false true q back p b d k = evals_fit known a (returns true) [] p.0 (itself (returns true) (Of (type_of a)) [] back)
     returned_fits known (Some a) false false q back p b d k = evals_fit known a Give [] p.0 (itself Give (Of (type_of a)) [] p.1)
 
-    first_run : (known : List ℕ) (o : OptionalTypedStatement) (b d k : Todo) → IsSoundFirst P S o known → Fits P S k [] → Fits P S (runs_first S.maker o b d k) []
+    first_run : (known : List ℕ) (o : OptionalTypedStatement) (b d k : Continuation) → IsSoundFirst P S o known → Fits P S k [] → Fits P S (runs_first S.maker o b d k) []
     first_run known e.omitted b d k p h = h
     first_run known (e.written (e.Let fixed each)) b d k p h = declares_fit known each k p h
     first_run known (e.written (e.Plain a)) b d k p h = evals_fit known a (Drop k) [] p (itself (Drop k) (Of (type_of a)) [] h)
     first_run known (e.written _) b d k p h = absurd p
 
     mutual
-      pub runs_fit : (s : TypedStatement) (looped : Bool) (known : List ℕ) (b d k : Todo) → IsSound P S s looped known → Fits P S b [] → Fits P S d [] → Fits P S k [] → Fits P S (runs S.maker s b d k) []
+      pub runs_fit : (s : TypedStatement) (looped : Bool) (known : List ℕ) (b d k : Continuation) → IsSound P S s looped known → Fits P S b [] → Fits P S d [] → Fits P S k [] → Fits P S (runs S.maker s b d k) []
       runs_fit (e.Block all) l n b d k p hb hd h = all_run all l n b d k p hb hd h
       runs_fit (e.Let fixed each) l n b d k p hb hd h = declares_fit n each k p h
       runs_fit (e.IfOnly test a) l n b d k p hb hd h =
-          (let so : Todo = runs S.maker a b d k in
+          (let so : Continuation = runs S.maker a b d k in
           evals_fit n test (Choose so k) [] p.0.0 (at_type (Choose so k) (type_of test) t.Boolean [] p.0.1 (runs_fit a l n b d k p.1 hb hd h, h)))
       runs_fit (e.IfElse test a o) l n b d k p hb hd h =
-          (let so : Todo = runs S.maker a b d k in let otherwise : Todo = runs S.maker o b d k in
+          (let so : Continuation = runs S.maker a b d k in let otherwise : Continuation = runs S.maker o b d k in
           evals_fit n test (Choose so otherwise) [] p.0.0 (at_type (Choose so otherwise) (type_of test) t.Boolean [] p.0.1 (runs_fit a l n b d k p.1 hb hd h, runs_fit o l n b d k p.2 hb hd h)))
       runs_fit (e.While test a) l n b d k p hb hd h =
-          (let turn : Todo = Again (e.While test a) k in let fine : Fits P S turn [] = (refl, l, n, p, h) in
-          let body : Todo = runs S.maker a k turn turn in
+          (let turn : Continuation = Again (e.While test a) k in let fine : Fits P S turn [] = (refl, l, n, p, h) in
+          let body : Continuation = runs S.maker a k turn turn in
           evals_fit n test (Choose body k) [] p.0.0 (at_type (Choose body k) (type_of test) t.Boolean [] p.0.1 (runs_fit a true n k turn turn p.1 h fine fine, h)))
       runs_fit (e.DoWhile a test) l n b d k p hb hd h =
-          (let turn : Todo = Again (e.DoWhile a test) k in let fine : Fits P S turn [] = (refl, l, n, p, h) in
-          let next : Todo = evals test (Choose turn k) in
+          (let turn : Continuation = Again (e.DoWhile a test) k in let fine : Fits P S turn [] = (refl, l, n, p, h) in
+          let next : Continuation = evals test (Choose turn k) in
           let next_fits : Fits P S next [] = evals_fit n test (Choose turn k) [] p.1.0 (at_type (Choose turn k) (type_of test) t.Boolean [] p.1.1 (fine, h)) in
           runs_fit a true n k next next p.0 h next_fits next_fits)
       runs_fit (e.For first test step a) l n b d k p hb hd h =
           (let inside : List ℕ = known_after_first first n in
-          let turn : Todo = Again (e.For e.omitted test step a) k in let fine : Fits P S turn [] = (refl, l, inside, (tt, p.1, p.2, p.3), h) in
-          let next : Todo = steps step turn in let next_fits : Fits P S next [] = steps_fit inside step turn p.2 fine in
-          let body : Todo = runs S.maker a k next next in
+          let turn : Continuation = Again (e.For e.omitted test step a) k in let fine : Fits P S turn [] = (refl, l, inside, (tt, p.1, p.2, p.3), h) in
+          let next : Continuation = steps step turn in let next_fits : Fits P S next [] = steps_fit inside step turn p.2 fine in
+          let body : Continuation = runs S.maker a k next next in
           first_run n first b d (tests test body k) p.0 (tests_fit inside test body k p.1 (runs_fit a true inside k next next p.3 h next_fits next_fits) h))
       runs_fit (e.ForOf fixed (Local i) list a) l n b d k p hb hd h =
           (let last : Fits P S (Each i a k) [] = (refl, i ∷ n, p.6, h, p.0, p.3, p.4, p.5) in
-          let rest : Todo = Drop (Put default (Store (Local (suc (suc i))) (Drop (Each i a k)))) in
+          let rest : Continuation = Drop (Put default (Store (Local (suc (suc i))) (Drop (Each i a k)))) in
           evals_fit n list (Store (Local (suc i)) rest) [] p.1
           (at_type (Store (Local (suc i)) rest) (type_of list) (t.ListOf p.0) [] p.2 (
             t.ListOf p.0,
@@ -387,7 +387,7 @@ module _ (P : TypedProgram) (S : Setting) where
       runs_fit (e.Plain a) l n b d k p hb hd h = evals_fit n a (Drop k) [] p (itself (Drop k) (Of (type_of a)) [] h)
       runs_fit e.Empty l n b d k p hb hd h = h
 
-      pub all_run : (all : TypedStatements) (looped : Bool) (known : List ℕ) (b d k : Todo) → AreSound P S all looped known → Fits P S b [] → Fits P S d [] → Fits P S k [] → Fits P S (runs_all S.maker all b d k) []
+      pub all_run : (all : TypedStatements) (looped : Bool) (known : List ℕ) (b d k : Continuation) → AreSound P S all looped known → Fits P S b [] → Fits P S d [] → Fits P S k [] → Fits P S (runs_all S.maker all b d k) []
       all_run e.done l n b d k p hb hd h = h
       all_run (e.also a rest) l n b d k p hb hd h =
           runs_fit a l n b d (runs_all S.maker rest b d k) p.0 hb hd (all_run rest l (known_after a n) b d k p.1 hb hd h)

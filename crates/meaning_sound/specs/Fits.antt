@@ -8,7 +8,7 @@ use Rattle.sts_syntax.specs.TypedTrees.{TypedRoutine, ClassEntry, TypedProgram}
 use Rattle.sts_syntax.specs.TypeRules.{entry, Prefixes, HasClass, HasRoutine, IsBelow, Works, HasField, HasMethod, MayBegin}
 use Rattle.sts_syntax.specs.WellTyped.{Setting, IsSound}
 use Rattle.sts_meaning.specs.Heaps.{Heap}
-use Rattle.sts_meaning.specs.Todo.{Todo, Put, Get, Store, Drop, Unary, Apply, Choose, Both, Either, Read, Peek, Write, At, PeekAt, SetAt, Bump, BumpField, BumpAt, Measure, Push, Pop, Open, Append, New, Build, Invoke, Send, Ask, Repeat, Again, Each, Leave, Give, Round}
+use Rattle.sts_meaning.specs.Continuation.{Continuation, Put, Get, Store, Drop, Unary, Apply, Choose, Both, Either, Read, Peek, Write, At, PeekAt, SetAt, Bump, BumpField, BumpAt, Measure, Push, Pop, Open, Append, New, Build, Invoke, Send, Ask, Repeat, Again, Each, Leave, Give, Round}
 use Rattle.meaning_sound.specs.Sorts.{Sort, Of, Begins, of_types, above, IsA, Suits, Asks}
 
 -- what a call of the board gives: a number or truth value, or nothing
@@ -31,7 +31,7 @@ module _ (P : TypedProgram) where
     IsStored (Global g) u = entry P.globals g ≡ Some u
 
     -- what is left to do, above values of these sorts, the latest first
-    abbrev pub Fits : Todo → List Sort → Type 0
+    abbrev pub Fits : Continuation → List Sort → Type 0
     Fits (Put v k) ss = (s : Sort) × ((h : Heap) → IsA P h s v) × Fits k (s ∷ ss)
     Fits (Get x k) ss = (u : ValueType) × IsStored x u × Given (Fits k) (Of u) ss
     Fits (Store x k) (s ∷ ss) = (u : ValueType) × IsStored x u × Suits P s (Of u) × Given (Fits k) (Of u) ss

@@ -9,7 +9,7 @@ use Rattle.sts_syntax.specs.Types.{ValueType}
 use Rattle.sts_syntax.specs.TypeRules.{entry}
 use Rattle.sts_meaning.specs.Values.{Value, Whole, default, Outcome, Gives, Breaks, Stuck, then_gives, there, to_int32, with_entry}
 use Rattle.sts_meaning.specs.Heaps.{Heap, write_global}
-use Rattle.sts_meaning.specs.Todo.{Todo, Put, Drop, Invoke, Ask, Round}
+use Rattle.sts_meaning.specs.Continuation.{Continuation, Put, Drop, Invoke, Ask, Round}
 
 -- a function's names and their values
 pub record Names : Type 0 where
@@ -21,7 +21,7 @@ pub record Frame : Type 0 where
   pub function : ℕ
   pub names : Names
   pub values : List Value
-  pub todo : Todo
+  pub todo : Continuation
 
 -- An activity begins with the call of its function, at a depth in words. Then it is the frame that runs, those that wait for it, the
 -- depth at which it began, and its depth.
@@ -114,5 +114,5 @@ abbrev pub pause_of_forever : ℤ
 pause_of_forever = pos 20
 
 -- A round of a `forever`: its handler is called, the pause passes, and it turns back.
-abbrev pub round : ℕ → Todo
+abbrev pub round : ℕ → Continuation
 round f = Invoke f 0 (Drop (Put (Whole pause_of_forever) (Ask PAUSE 1 false (Drop (Round f)))))

@@ -1,7 +1,7 @@
 pub mod Values
 pub mod Heaps
 pub mod Services
-pub mod Todo
+pub mod Continuation
 pub mod Frames
 pub mod Steps
 pub mod Forms

@@ -18,7 +18,7 @@ use Rattle.sts_syntax.specs.WellTypedPrograms.{is_maker}
 use Rattle.sts_meaning.specs.Values.{Value, Whole, Object, Code, default, Outcome, then_gives, there, applied, negated, bumped, decided, map_of, to_int32}
 use Rattle.sts_meaning.specs.Heaps.{Fields, Items, Heap, with_cell, object_at, read_field, write_field, read_item, write_item, length_at, pushed, popped, next_item}
 use Rattle.sts_meaning.specs.Services.{requested}
-use Rattle.sts_meaning.specs.Todo.{Todo, Put, Get, Store, Drop, Unary, Apply, Choose, Both, Either, Read, Peek, Write, At, PeekAt, SetAt, Bump, BumpField, BumpAt, Measure, Push, Pop, Open, Append, New, Build, Invoke, Send, Ask, Repeat, Again, Each, Leave, Give, Round, Amiss, runs, runs_all, bare}
+use Rattle.sts_meaning.specs.Continuation.{Continuation, Put, Get, Store, Drop, Unary, Apply, Choose, Both, Either, Read, Peek, Write, At, PeekAt, SetAt, Bump, BumpField, BumpAt, Measure, Push, Pop, Open, Append, New, Build, Invoke, Send, Ask, Repeat, Again, Each, Leave, Give, Round, Impossible, runs, runs_all, bare}
 use Rattle.sts_meaning.specs.Frames.{Names, Frame, Activity, Starts, Runs, stuck, after, grown, with_latest, with_two, with_three, taken, named, with_local, stored, defaults, as_many, first, answered, text_of, round}
 
 -- An activity of a program with these texts.
@@ -36,7 +36,7 @@ module _ (P : TypedProgram) (texts : List ByteList) where
   words f = words_in (entry P.functions f)
 
   -- what a function does
-  abbrev pub body_of : ℕ → TypedRoutine → Todo
+  abbrev pub body_of : ℕ → TypedRoutine → Continuation
   body_of f r = (let maker = is_maker P.classes f in runs_all maker r.all (bare maker) (bare maker) (bare maker))
 
   -- a function's frame as it begins, and that of one that `forever` starts
@@ -75,18 +75,18 @@ module _ (P : TypedProgram) (texts : List ByteList) where
   -- a frame that runs: its function and names, those that wait for it, and the depths
   module _ (heap : Heap) (function : ℕ) (names : Names) (callers : List Frame) (base depth : ℕ) where
     -- the frame at other values and another rest
-    abbrev pub at : List Value → Todo → Frame
+    abbrev pub at : List Value → Continuation → Frame
     at vs k = record { function = function; names = names; values = vs; todo = k }
 
-    abbrev pub now : List Value → Todo → Activity
+    abbrev pub now : List Value → Continuation → Activity
     now vs k = Runs (at vs k) callers base depth
 
     -- the same with other names
-    abbrev pub now_with : Names → List Value → Todo → Activity
+    abbrev pub now_with : Names → List Value → Continuation → Activity
     now_with m vs k = Runs (record { function = function; names = m; values = vs; todo = k }) callers base depth
 
     -- Whoever asks the board for something goes on with the answer. Values go into arrays by words of their own.
-    abbrev pub asker : Bool → List Value → Todo → Asker Activity Heap
+    abbrev pub asker : Bool → List Value → Continuation → Asker Activity Heap
     asker answers vs k = record {
       text = text_of texts;
       glyph = glyph_of;
@@ -96,14 +96,14 @@ module _ (P : TypedProgram) (texts : List ByteList) where
       next = λ answer. (now (answered answers answer ∷ vs) k, heap);
     }
 
-    abbrev pub takes_item : ℕ → TypedStatement → List Value → Todo → Option (ℕ × Value) → Turn Activity Heap
+    abbrev pub takes_item : ℕ → TypedStatement → List Value → Continuation → Option (ℕ × Value) → Turn Activity Heap
     takes_item i s vs k None = Goes (now vs k) heap
     takes_item i s vs k (Some x) =
         (let turn = Each i s k in
         Goes (now_with (with_local i x.1 (with_local (suc (suc i)) (Whole (to_int32 (pos x.0 +ℤ pos 1))) names)) vs (runs (is_maker P.classes function) s k turn turn)) heap)
 
     -- one counted step
-    abbrev pub act : Todo → List Value → Turn Activity Heap
+    abbrev pub act : Continuation → List Value → Turn Activity Heap
     act (Put v k) vs = Goes (now (v ∷ vs) k) heap
     act (Get x k) vs = after (named heap names x) (λ v. Goes (now (v ∷ vs) k) heap)
     act (Store x k) vs = with_latest vs (λ v rest. after (stored x v names heap) (λ s. Goes (now_with s.0 vs k) s.1))
@@ -147,7 +147,7 @@ module _ (P : TypedProgram) (texts : List ByteList) where
     act (Leave to) vs = Goes (now vs to) heap
     act Give vs = with_latest vs (λ v rest. ended heap base depth function v callers)
     act (Round g) vs = Goes (now vs (round g)) heap
-    act Amiss vs = stuck
+    act Impossible vs = stuck
 
   abbrev pub step : Activity → Heap → Turn Activity Heap
   step (Starts f base) h = begun h base base f

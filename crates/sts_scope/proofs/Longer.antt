@@ -4,9 +4,9 @@ use Rattle.std.specs.Prelude.{slice_get, is_some}
 use Rattle.std.specs.Ordering.{nat_cmp, is_eq}
 use Rattle.std.proofs.lemmas.Option.{same_Some}
 use Rattle.std.proofs.lemmas.Bool.Decides.{nat_tests}
-use Rattle.made_maps.specs.declared.maps.Node.{Node}
-use Rattle.made_maps.specs.Nodes.{IsWithin, Stays, found}
-use Rattle.made_maps.proofs.Laws.{stays_all, stays_both}
+use Rattle.persistent_maps.specs.declared.maps.Node.{Node}
+use Rattle.persistent_maps.specs.Nodes.{IsWithin, Stays, found}
+use Rattle.persistent_maps.proofs.Laws.{stays_all, stays_both}
 use Rattle.sts_scope.specs.declared.kinds.Kind.{Kind}
 use Rattle.sts_scope.specs.declared.entries.Entry.{Entry}
 use Rattle.sts_scope.specs.declared.entries.ClassHead.{ClassHead}

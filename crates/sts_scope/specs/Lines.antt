@@ -2,8 +2,8 @@
 use Rattle.std.specs.Prelude.{◌≡◌, ℕ, ◌≤◌, ◌++◌, Bool, true, false, Option, Some, None, List, [], ◌∷◌, slice_get, get_or, set, is_some}
 use Rattle.std.specs.Map.{lookup}
 use Rattle.std.specs.Ordering.{nat_cmp, is_eq}
-use Rattle.made_maps.specs.declared.maps.Node.{Node}
-use Rattle.made_maps.specs.Nodes.{IsWithin, Stays, found}
+use Rattle.persistent_maps.specs.declared.maps.Node.{Node}
+use Rattle.persistent_maps.specs.Nodes.{IsWithin, Stays, found}
 use Rattle.sts_scope.specs.declared.kinds.Kind.{Kind}
 use Rattle.sts_scope.specs.declared.entries.Entry.{Entry}
 use Rattle.sts_scope.specs.declared.entries.ClassHead.{ClassHead}

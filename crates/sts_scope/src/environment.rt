@@ -7,7 +7,7 @@ ghost use Rattle.sts_scope.specs.Rules as rule;
 use crate::lines::{Line, has_no_end, is_below, lines_of, member_of, takes_of};
 use crate::lookup::{base_of, is_field, sort_of};
 use crate::{ClassHead, Kind, Known, SymbolTable, Table};
-use made_maps::MadeMaps;
+use persistent_maps::PersistentMaps;
 use std::alloc::Global;
 use std::marker::Model;
 use sts_base::{NoMemory, Seq};
@@ -19,7 +19,7 @@ pub struct Environment {
     classes: Seq<ClassHead>,
     kinds: Table<Option<Kind>>,
     library: usize,
-    maps: MadeMaps,
+    maps: PersistentMaps,
     lines: Table<Option<Line>>,
 }
 
@@ -41,7 +41,7 @@ impl Environment {
         requires few { length known.classes < 2 ^ 32 }
         ensures { IfOk result (λ e. e ≡ known) }
     {
-        let mut maps = MadeMaps::new(alloc);
+        let mut maps = PersistentMaps::new(alloc);
         let lines = lines_of(alloc, &mut maps, &known.entries, known.classes.as_slice())?;
         Ok(Environment {
             entries: known.entries,

@@ -3,7 +3,7 @@ ghost use Rattle.std.specs.Prelude.{◌≡◌, ℕ, ◌+◌, ◌<◌, ◌≤◌,
 ghost use Rattle.std.specs.List.{All};
 ghost use Rattle.std.specs.BTreeMap.{get};
 ghost use Rattle.std.specs.Ordering.{nat_cmp};
-ghost use Rattle.made_maps.specs.Nodes.{IsWithin, Stays, found};
+ghost use Rattle.persistent_maps.specs.Nodes.{IsWithin, Stays, found};
 ghost use Rattle.sts_scope.specs.Values.{or_else};
 ghost use Rattle.sts_scope.specs.Lookup as look;
 ghost use Rattle.sts_scope.specs.Bases.{is_endless};
@@ -13,7 +13,7 @@ ghost use Rattle.sts_scope.specs.Lines.{IsLine, AreLines};
 
 use crate::lookup::{base_of, is_endless, maker_takes, reaches};
 use crate::{ClassHead, Kind, SymbolTable, Table};
-use made_maps::MadeMaps;
+use persistent_maps::PersistentMaps;
 use std::alloc::Global;
 use std::collections::BTreeMap;
 use sts_base::NoMemory;
@@ -33,7 +33,7 @@ pub struct Line {
 
 /// Puts the members of a class over those of its base.
 pub fn put_members(
-    maps: &mut MadeMaps,
+    maps: &mut PersistentMaps,
     own: &BTreeMap<u32, usize>,
     base: Option<usize>,
 ) -> Result<Option<usize>, NoMemory>
@@ -87,7 +87,7 @@ fn nearest_maker(class: &ClassHead, c: u32, above: Option<u32>) -> Option<u32>
 /// The line of the class c, where that of its base is known and leaves a class out.
 #[tactic(auto, using(crate::proofs::Longer::line_longer, crate::proofs::Longer::lines_stay))]
 fn longer(
-    maps: &mut MadeMaps,
+    maps: &mut PersistentMaps,
     entries: &SymbolTable,
     classes: &[ClassHead],
     c: u32,
@@ -114,7 +114,7 @@ fn longer(
 /// Notes the line of the class c, if that of its base is known. One of more classes than there are is none.
 #[tactic(auto, using(crate::proofs::Longer::above_is, crate::proofs::Longer::lines_set, crate::proofs::Longer::lines_stay))]
 fn note_line(
-    maps: &mut MadeMaps,
+    maps: &mut PersistentMaps,
     all: &mut Table<Option<Line>>,
     entries: &SymbolTable,
     classes: &[ClassHead],
@@ -210,7 +210,7 @@ fn none_seen(alloc: Global, count: usize) -> Result<Vec<bool>, NoMemory>
 
 /// Notes the lines of some classes, the last one first.
 fn note_all(
-    maps: &mut MadeMaps,
+    maps: &mut PersistentMaps,
     all: &mut Table<Option<Line>>,
     entries: &SymbolTable,
     classes: &[ClassHead],
@@ -231,7 +231,7 @@ fn note_all(
 #[tactic(auto, using(crate::proofs::Longer::none_known))]
 pub fn lines_of(
     alloc: Global,
-    maps: &mut MadeMaps,
+    maps: &mut PersistentMaps,
     entries: &SymbolTable,
     classes: &[ClassHead],
 ) -> Result<Table<Option<Line>>, NoMemory>
@@ -261,7 +261,7 @@ fn short_line(all: &Table<Option<Line>>, count: usize, c: usize) -> Option<Line>
 /// The member of a name of a class: its own one, else that of the nearest base that has one.
 #[tactic(auto, using(crate::proofs::Longer::member_is))]
 pub fn member_of(
-    maps: &MadeMaps,
+    maps: &PersistentMaps,
     all: &Table<Option<Line>>,
     entries: &SymbolTable,
     classes: &[ClassHead],
@@ -280,7 +280,7 @@ pub fn member_of(
 /// Whether a class is another, or one of its bases is.
 #[tactic(auto, using(crate::proofs::Longer::reached_is))]
 pub fn is_below(
-    maps: &MadeMaps,
+    maps: &PersistentMaps,
     all: &Table<Option<Line>>,
     entries: &SymbolTable,
     classes: &[ClassHead],
@@ -299,7 +299,7 @@ pub fn is_below(
 /// Whether the chain of a class's bases has no end.
 #[tactic(auto, using(crate::proofs::Longer::ends_is))]
 pub fn has_no_end(
-    maps: &MadeMaps,
+    maps: &PersistentMaps,
     all: &Table<Option<Line>>,
     entries: &SymbolTable,
     classes: &[ClassHead],
@@ -333,7 +333,7 @@ fn written_takes(classes: &[ClassHead], maker: Option<u32>) -> &[Kind]
 /// What the nearest written constructor of a class takes.
 #[tactic(auto, using(crate::proofs::Longer::maker_is))]
 pub fn takes_of<'a>(
-    maps: &MadeMaps,
+    maps: &PersistentMaps,
     all: &Table<Option<Line>>,
     entries: &SymbolTable,
     classes: &'a [ClassHead],

@@ -4,13 +4,13 @@ ghost use Rattle.std.specs.BTreeMap.{get};
 ghost use Rattle.std.specs.Ordering.{nat_cmp};
 ghost use Rattle.sts_scope.specs.declared.entries.Owner.{Owner as Belonging};
 ghost use Rattle.sts_scope.specs.Lookup.{same_owner};
-ghost use Rattle.made_maps.specs.Nodes.{IsWithin, Stays, found};
+ghost use Rattle.persistent_maps.specs.Nodes.{IsWithin, Stays, found};
 ghost use Rattle.sts_scope.specs.Values.{or_else};
 ghost use Rattle.sts_scope.specs.Symbols.{Notes, number_at, member_at};
 
 use crate::Owner;
 use crate::lines::put_members;
-use made_maps::MadeMaps;
+use persistent_maps::PersistentMaps;
 use std::alloc::Global;
 use std::collections::BTreeMap;
 use sts_base::NoMemory;
@@ -125,7 +125,7 @@ impl Numbers {
     /// Puts the numbers of the names of the class c over those of another map.
     pub fn put_members(
         &self,
-        maps: &mut MadeMaps,
+        maps: &mut PersistentMaps,
         c: u32,
         base: Option<usize>,
     ) -> Result<Option<usize>, NoMemory>

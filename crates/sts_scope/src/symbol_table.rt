@@ -1,7 +1,7 @@
 // Declarations, which are found by their owners and names.
 ghost use Rattle.std.specs.Prelude.{◌≡◌, ℕ, IfOk, [], ◌∷◌, ◌++◌, ◌<◌, length, slice_get, OnOk, OnErr, OnSome};
 ghost use Rattle.std.specs.Option.{option_copied};
-ghost use Rattle.made_maps.specs.Nodes.{IsWithin, Stays, found};
+ghost use Rattle.persistent_maps.specs.Nodes.{IsWithin, Stays, found};
 ghost use Rattle.sts_scope.specs.declared.entries.Owner.TheVariants as o;
 ghost use Rattle.sts_scope.specs.Values.{or_else};
 ghost use Rattle.sts_scope.specs.Lookup as look;
@@ -9,7 +9,7 @@ ghost use Rattle.sts_scope.specs.Lookup as look;
 use crate::lookup::base_of;
 use crate::numbers::Numbers;
 use crate::{ClassHead, Entry, Owner};
-use made_maps::MadeMaps;
+use persistent_maps::PersistentMaps;
 use std::alloc::Global;
 use std::marker::Model;
 use sts_base::NoMemory;
@@ -110,7 +110,7 @@ impl SymbolTable {
     #[tactic(auto, using(crate::proofs::Longer::own_put))]
     pub fn put_members(
         &self,
-        maps: &mut MadeMaps,
+        maps: &mut PersistentMaps,
         c: u32,
         base: Option<usize>,
     ) -> Result<Option<usize>, NoMemory>

@@ -3,7 +3,7 @@
 use crate::numbers::numbers;
 use crate::refusals::{no_memory, refused};
 use bstr::ByteVec;
-use made_maps::MadeMaps;
+use persistent_maps::PersistentMaps;
 use std::alloc::Global;
 use std::io;
 use sts_base::{Code, NoMemory, Seq, number, place};
@@ -95,8 +95,8 @@ pub fn write_code(text: &mut String, asked: &str) -> io::Result<()> {
 }
 
 /// Maps each of which has one number more than that before it, which the first of these numbers has; a number's value is 100 and how many maps came before.
-fn maps_of(alloc: Global, keys: &[i32]) -> Result<(MadeMaps, Vec<Option<usize>>), NoMemory> {
-    let mut maps = MadeMaps::new(alloc);
+fn maps_of(alloc: Global, keys: &[i32]) -> Result<(PersistentMaps, Vec<Option<usize>>), NoMemory> {
+    let mut maps = PersistentMaps::new(alloc);
     let mut made = Vec::new(alloc);
     let mut last = None;
     for (count, key) in keys.iter().enumerate() {

@@ -25,7 +25,7 @@ pub returns-in-Goes-clause-comes : goal.returns-in-Goes-clause-comes
 returns-in-Goes-clause-comes c =
     let r = some_turning c.args.self.now.runtime.running c.requires.runs in
     step_goes c.args.self.now c.step.new.self c.step.result c.step.ensures.rest c.step.ensures.step c.in-Service.number c.in-Service.is r.0 r.1 c.requires.going c.registers-at.result.pc
-    (ap (λ (x : Registers). x.pc) c.registers-at.ensures) c.in-Goes.sight c.serve.new.self c.in-Goes.ensures.served
+    (ap (λ (x : Registers). x.pc) c.registers-at.ensures) c.in-Goes.output c.serve.new.self c.in-Goes.ensures.served
 
 pub returns-in-Stops-clause-comes : goal.returns-in-Stops-clause-comes
 returns-in-Stops-clause-comes c =

@@ -14,4 +14,4 @@ returns-clause-served c =
     subst (λ (e : Engine). IsServed (λ image. service image c.args.at 10) (Goes c.show_frame.result) c.args.self.now e) (sym c.show_frame.ensures.after)
     (serve_plot c.args.self.now c.plot-frame.result c.word-mode.result c.number.result c.number-2.result c.show_frame.result c.args.at c.number.ensures c.number-2.ensures c.word-mode.ensures c.if-mode-gt2.false
     (c.plot-frame.ensures.value ∙ ap (λ a. plotted a (to_z w32 (of_z w32 c.number.result)) (to_z w32 (of_z w32 c.number-2.result)) c.word-mode.result) c.frame.ensures
-    ∙ ap (λ a. plotted c.args.self.now.display a (to_z w32 (of_z w32 c.number-2.result)) c.word-mode.result) x ∙ ap (λ a. plotted c.args.self.now.display c.number.result a c.word-mode.result) y) c.show_frame.ensures.sight)
+    ∙ ap (λ a. plotted c.args.self.now.display a (to_z w32 (of_z w32 c.number-2.result)) c.word-mode.result) x ∙ ap (λ a. plotted c.args.self.now.display c.number.result a c.word-mode.result) y) c.show_frame.ensures.output)

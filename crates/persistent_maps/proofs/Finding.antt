@@ -3,8 +3,8 @@ use Rattle.std.proofs.Common.{◌≡◌, ℕ, zero, suc, ◌-◌, ◌/◌, ◌%�
 use Rattle.std.specs.Prelude.{slice_get, unwrap_or, nat_lt, not, Result, Ok, Err, IfOk}
 use Rattle.std.proofs.lemmas.Option.{same_Some}
 use Rattle.std.proofs.lemmas.Bool.Decides.{nat_tests}
-use Rattle.made_maps.specs.declared.maps.Node.{Node}
-use Rattle.made_maps.specs.Nodes.{side, find, found, at_node, with_value, with_side, node_at, IsWithin, IsClosed, IsClosedNode, Stays}
+use Rattle.persistent_maps.specs.declared.maps.Node.{Node}
+use Rattle.persistent_maps.specs.Nodes.{side, find, found, at_node, with_value, with_side, node_at, IsWithin, IsClosed, IsClosedNode, Stays}
 
 elim_same : (o : Option Node) (f g : Node → Option ℕ) → ((node : Node) → f node ≡ g node) → ◌≡◌ {A = Option ℕ} (elim o [ None ↦ None | Some node ↦ f node ]) (elim o [ None ↦ None | Some node ↦ g node ])
 elim_same None f g h = refl

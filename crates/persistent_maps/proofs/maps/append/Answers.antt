@@ -1,7 +1,7 @@
 use Rattle.std.proofs.Common.{◌≡◌, ◌∷◌, ◌++◌, [], length, arith}
 use Rattle.std.proofs.lemmas.Grind.{common_steps}
-use Rattle.made_maps.proofs.Finding.{found_pushed}
-use Rattle.made_maps.proofs.maps.append.Goals as goal
+use Rattle.persistent_maps.proofs.Finding.{found_pushed}
+use Rattle.persistent_maps.proofs.maps.append.Goals as goal
 
 pub returns-in-Ok-clause-made : goal.returns-in-Ok-clause-made
 returns-in-Ok-clause-made c =

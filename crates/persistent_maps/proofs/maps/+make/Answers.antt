@@ -1,7 +1,7 @@
 use Rattle.std.proofs.Common.{◌≡◌, ◌∙◌, ◌==◌, ◌-◌, ◌/◌, suc, ℕ, Option, arith, Some, cond, ap, subst}
-use Rattle.made_maps.specs.Nodes.{found, at_node, node_at, side, with_side}
-use Rattle.made_maps.proofs.Finding.{valued, sided, ok_more}
-use Rattle.made_maps.proofs.maps.+make.Goals as goal
+use Rattle.persistent_maps.specs.Nodes.{found, at_node, node_at, side, with_side}
+use Rattle.persistent_maps.proofs.Finding.{valued, sided, ok_more}
+use Rattle.persistent_maps.proofs.maps.+make.Goals as goal
 
 pub returns-then-x-eq0-clause-made : goal.returns-then-x-eq0-clause-made
 returns-then-x-eq0-clause-made t c =

@@ -5,8 +5,8 @@ use Rattle.std.proofs.lemmas.List.{append-nil}
 use Rattle.bank_model.specs.Texts.{text_at}
 use Rattle.board_ports.specs.History.{Word, Follows}
 use Rattle.board_outside.specs.Ports.{bytes_sent, port_moves}
-use Rattle.board_outside.specs.Sights.{moves_of}
-use Rattle.board_outside.proofs.showing.send_sight.Goals as goal
+use Rattle.board_outside.specs.Outputs.{moves_of}
+use Rattle.board_outside.proofs.showing.send_output.Goals as goal
 
 pub returns-in-Frame-clause-sends : goal.returns-in-Frame-clause-sends
 returns-in-Frame-clause-sends g c = λ moves start f.

@@ -1,7 +1,7 @@
 // Maps that are made one from another.
 ghost use Rattle.std.specs.Prelude.{◌≡◌, ℕ, ◌==◌, ◌<◌, [], Some, length, IfOk, if◌then◌else◌};
-ghost use Rattle.made_maps.specs.Nodes as nodes;
-ghost use Rattle.made_maps.specs.Nodes.{IsClosed, IsClosedNode, Stays, found};
+ghost use Rattle.persistent_maps.specs.Nodes as nodes;
+ghost use Rattle.persistent_maps.specs.Nodes.{IsClosed, IsClosedNode, Stays, found};
 
 use std::alloc::Global;
 use std::marker::Model;
@@ -20,14 +20,14 @@ pub struct Node {
 
 /// Maps from numbers to numbers. A map is named by its place, and no place is the empty map.
 #[derive(Drop)]
-pub struct MadeMaps {
+pub struct PersistentMaps {
     nodes: Vec<Node>,
 }
 
-impl Model for MadeMaps {
+impl Model for PersistentMaps {
     ghost use Rattle.std.specs.Prelude.{List};
-    ghost use Rattle.made_maps.specs.declared.maps.Node.{Node};
-    ghost use Rattle.made_maps.specs.Nodes.{IsClosed};
+    ghost use Rattle.persistent_maps.specs.declared.maps.Node.{Node};
+    ghost use Rattle.persistent_maps.specs.Nodes.{IsClosed};
 
     ghost Value = { List Node };
 
@@ -144,12 +144,12 @@ fn make(all: &mut Vec<Node>, map: Option<usize>, x: u32, value: usize) -> Result
     append(all, with_side(node, k, part))
 }
 
-impl MadeMaps {
+impl PersistentMaps {
     /// No map but the empty one.
-    pub fn new(alloc: Global) -> MadeMaps
+    pub fn new(alloc: Global) -> PersistentMaps
         ensures { result ≡ [] }
     {
-        MadeMaps {
+        PersistentMaps {
             nodes: Vec::new(alloc),
         }
     }

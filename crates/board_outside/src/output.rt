@@ -2,7 +2,7 @@
 
 /// What an instruction showed to the outside.
 #[derive(Clone, Copy, Drop)]
-pub enum Sight {
+pub enum Output {
     Nothing,
     /// Another frame.
     Frame(u32),

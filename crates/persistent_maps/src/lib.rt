@@ -3,4 +3,4 @@
 
 mod maps;
 
-pub use maps::{MadeMaps, Node};
+pub use maps::{Node, PersistentMaps};

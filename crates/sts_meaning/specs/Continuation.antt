@@ -13,42 +13,42 @@ use Rattle.sts_meaning.specs.Values.{Value, Whole, Text, Code, default, truth}
 
 -- What is left to do in a frame. Each word is one counted step, but Drop, which belongs to the word behind it. "The latest value" is
 -- the one that was given last; it is taken away unless a word says that it stays.
-pub data Todo : Type 0 where
-  Put : (v : Value) (k : Todo) → Todo  -- a value is given
-  Get : (x : Spot) (k : Todo) → Todo  -- the value of a name is given
-  Store : (x : Spot) (k : Todo) → Todo  -- the latest value is stored under a name, and stays
-  Drop : (k : Todo) → Todo  -- the latest value is let go
-  Unary : (op : ℕ) (k : Todo) → Todo
-  Apply : (op : ℕ) (k : Todo) → Todo  -- an operator on the two latest values
-  Choose : (so otherwise : Todo) → Todo  -- the latest value is a condition, which is decided
-  Both : (so otherwise : Todo) → Todo  -- the same, and a false one stays
-  Either : (so otherwise : Todo) → Todo  -- the same, and a true one stays
-  Read : (f : ℕ) (k : Todo) → Todo  -- a field of the latest value
-  Peek : (f : ℕ) (k : Todo) → Todo  -- the same, and the object stays
-  Write : (f : ℕ) (k : Todo) → Todo  -- the latest value is stored in a field of the object before it, and stays
-  At : (k : Todo) → Todo  -- an item of an array
-  PeekAt : (k : Todo) → Todo  -- the same, and the array and the index stay
-  SetAt : (k : Todo) → Todo
-  Bump : (x : Spot) (by : ℤ) (late : Bool) (k : Todo) → Todo  -- `++` and `--` of a name, a field and an item
-  BumpField : (f : ℕ) (by : ℤ) (late : Bool) (k : Todo) → Todo
-  BumpAt : (by : ℤ) (late : Bool) (k : Todo) → Todo
-  Measure : (k : Todo) → Todo  -- the length of an array
-  Push : (k : Todo) → Todo
-  Pop : (k : Todo) → Todo
-  Open : (item : ValueType) (room : ℕ) (k : Todo) → Todo  -- an array is made, without items
-  Append : (k : Todo) → Todo  -- the latest value goes into the array before it, which stays
-  New : (class : ℕ) (k : Todo) → Todo  -- an object is made
-  Build : (class n : ℕ) (k : Todo) → Todo  -- the class's constructor is called with the new object as `this`, and the n values before it
-  Invoke : (f n : ℕ) (k : Todo) → Todo  -- a function is called with the n latest values
-  Send : (slot n : ℕ) (k : Todo) → Todo  -- a method of the first of the n latest values is called with them
-  Ask : (service n : ℕ) (answers : Bool) (k : Todo) → Todo  -- the board is asked for a service with the n latest values; without an answer the value is 0
-  Repeat : (k : Todo) → Todo  -- an activity begins that calls the latest value, a function, again and again
-  Again : (loop : TypedStatement) (k : Todo) → Todo  -- a loop turns back
-  Each : (i : ℕ) (body : TypedStatement) (k : Todo) → Todo  -- the next item goes into local i and the body is done, or the loop ends
-  Leave : (to : Todo) → Todo  -- `break` and `continue`
-  Give : Todo  -- the latest value is returned
-  Round : (f : ℕ) → Todo  -- the activity of a `forever` turns back
-  Amiss : Todo  -- nothing can be done: no well-typed tree gets here
+pub data Continuation : Type 0 where
+  Put : (v : Value) (k : Continuation) → Continuation  -- a value is given
+  Get : (x : Spot) (k : Continuation) → Continuation  -- the value of a name is given
+  Store : (x : Spot) (k : Continuation) → Continuation  -- the latest value is stored under a name, and stays
+  Drop : (k : Continuation) → Continuation  -- the latest value is let go
+  Unary : (op : ℕ) (k : Continuation) → Continuation
+  Apply : (op : ℕ) (k : Continuation) → Continuation  -- an operator on the two latest values
+  Choose : (so otherwise : Continuation) → Continuation  -- the latest value is a condition, which is decided
+  Both : (so otherwise : Continuation) → Continuation  -- the same, and a false one stays
+  Either : (so otherwise : Continuation) → Continuation  -- the same, and a true one stays
+  Read : (f : ℕ) (k : Continuation) → Continuation  -- a field of the latest value
+  Peek : (f : ℕ) (k : Continuation) → Continuation  -- the same, and the object stays
+  Write : (f : ℕ) (k : Continuation) → Continuation  -- the latest value is stored in a field of the object before it, and stays
+  At : (k : Continuation) → Continuation  -- an item of an array
+  PeekAt : (k : Continuation) → Continuation  -- the same, and the array and the index stay
+  SetAt : (k : Continuation) → Continuation
+  Bump : (x : Spot) (by : ℤ) (late : Bool) (k : Continuation) → Continuation  -- `++` and `--` of a name, a field and an item
+  BumpField : (f : ℕ) (by : ℤ) (late : Bool) (k : Continuation) → Continuation
+  BumpAt : (by : ℤ) (late : Bool) (k : Continuation) → Continuation
+  Measure : (k : Continuation) → Continuation  -- the length of an array
+  Push : (k : Continuation) → Continuation
+  Pop : (k : Continuation) → Continuation
+  Open : (item : ValueType) (room : ℕ) (k : Continuation) → Continuation  -- an array is made, without items
+  Append : (k : Continuation) → Continuation  -- the latest value goes into the array before it, which stays
+  New : (class : ℕ) (k : Continuation) → Continuation  -- an object is made
+  Build : (class n : ℕ) (k : Continuation) → Continuation  -- the class's constructor is called with the new object as `this`, and the n values before it
+  Invoke : (f n : ℕ) (k : Continuation) → Continuation  -- a function is called with the n latest values
+  Send : (slot n : ℕ) (k : Continuation) → Continuation  -- a method of the first of the n latest values is called with them
+  Ask : (service n : ℕ) (answers : Bool) (k : Continuation) → Continuation  -- the board is asked for a service with the n latest values; without an answer the value is 0
+  Repeat : (k : Continuation) → Continuation  -- an activity begins that calls the latest value, a function, again and again
+  Again : (loop : TypedStatement) (k : Continuation) → Continuation  -- a loop turns back
+  Each : (i : ℕ) (body : TypedStatement) (k : Continuation) → Continuation  -- the next item goes into local i and the body is done, or the loop ends
+  Leave : (to : Continuation) → Continuation  -- `break` and `continue`
+  Give : Continuation  -- the latest value is returned
+  Round : (f : ℕ) → Continuation  -- the activity of a `forever` turns back
+  Impossible : Continuation  -- nothing can be done: no well-typed tree gets here
 
 abbrev pub item_of : ValueType → ValueType
 item_of (t.ListOf u) = u
@@ -60,12 +60,12 @@ gives_value t.Nothing = false
 gives_value u = true
 
 -- what a call does, once its arguments are there
-abbrev pub asks : BoardAction → ℕ → Bool → Todo → Todo
+abbrev pub asks : BoardAction → ℕ → Bool → Continuation → Continuation
 asks (Service number places) n answers k = Ask number n answers k
-asks (Library function) n answers k = Amiss
+asks (Library function) n answers k = Impossible
 asks Repeats n answers k = Repeat k
 
-abbrev pub calls : Callee → ℕ → Todo → Todo
+abbrev pub calls : Callee → ℕ → Continuation → Continuation
 calls (c.Function f) n k = Invoke f n k
 calls (c.Slot s) n k = Send s n k
 calls c.Push n k = Push k
@@ -73,12 +73,12 @@ calls c.Pop n k = Pop k
 calls (c.Board call) n k = asks (row_of call).action n (gives_value (row_of call).gives) k
 
 -- one after the other, and then k
-abbrev pub chained : List (Todo → Todo) → Todo → Todo
+abbrev pub chained : List (Continuation → Continuation) → Continuation → Continuation
 chained [] k = k
 chained (a ∷ rest) k = a (chained rest k)
 
 -- the arguments of a call: what a service always has at a place is put there
-abbrev pub arguments : Callee → List (Todo → Todo) → List (Todo → Todo)
+abbrev pub arguments : Callee → List (Continuation → Continuation) → List (Continuation → Continuation)
 arguments (c.Board call) each = arranged (λ n. Put (Whole n)) (row_of call).action each
 arguments (c.Function f) each = each
 arguments (c.Slot s) each = each
@@ -86,19 +86,19 @@ arguments c.Push each = each
 arguments c.Pop each = each
 
 -- `++` adds 1 and `--` -1; there is nothing else of the kind
-abbrev pub by_one : ℤ → Todo → Todo
+abbrev pub by_one : ℤ → Continuation → Continuation
 by_one (pos (suc zero)) k = k
 by_one (negsuc zero) k = k
-by_one n k = Amiss
+by_one n k = Impossible
 
 -- each item goes into the array
-abbrev pub appended : List (Todo → Todo) → Todo → Todo
+abbrev pub appended : List (Continuation → Continuation) → Continuation → Continuation
 appended [] k = k
 appended (a ∷ rest) k = a (Append (appended rest k))
 
 abbrev mutual
   -- an expression, and then k
-  pub evals : TypedTree → Todo → Todo
+  pub evals : TypedTree → Continuation → Continuation
   evals (e.Num u n) k = Put (Whole n) k
   evals (e.Text u n) k = Put (Text n) k
   evals (e.Truth u b) k = Put (truth b) k
@@ -123,42 +123,42 @@ abbrev mutual
   evals (e.Items u items) k = (let all = evals_each items in Open (item_of u) (length all) (appended all k))
   evals (e.Handler u f) k = Put (Code f) k
 
-  pub evals_each : TypedTrees → List (Todo → Todo)
+  pub evals_each : TypedTrees → List (Continuation → Continuation)
   evals_each e.none = []
   evals_each (e.more a rest) = evals a ∷ evals_each rest
 
   -- what is assigned to: a name, a field of an object that is evaluated first, or an item of an array that is evaluated first, with its index
-  pub reaches : TypedTree → (Spot → Todo) → (ℕ → Todo) → Todo → Todo
+  pub reaches : TypedTree → (Spot → Continuation) → (ℕ → Continuation) → Continuation → Continuation
   reaches (e.Name u x) name field item = name x
   reaches (e.Field u a f) name field item = evals a (field f)
   reaches (e.Item u a i) name field item = evals a (evals i item)
-  reaches x name field item = Amiss
+  reaches x name field item = Impossible
 
 -- a declared name is set to the default where it has no initialiser
-abbrev pub initial : Option TypedTree → Todo → Todo
+abbrev pub initial : Option TypedTree → Continuation → Continuation
 initial None k = Put default k
 initial (Some a) k = evals a k
 
-abbrev pub declares : List TypedDeclaration → Todo → Todo
+abbrev pub declares : List TypedDeclaration → Continuation → Continuation
 declares [] k = k
 declares (d ∷ rest) k = initial d.first (Store d.name (Drop (declares rest k)))
 
 -- a test and a step of a `for`, which may be left out
-abbrev pub tests : Option TypedTree → Todo → Todo → Todo
+abbrev pub tests : Option TypedTree → Continuation → Continuation → Continuation
 tests None so otherwise = so
 tests (Some a) so otherwise = evals a (Choose so otherwise)
 
-abbrev pub steps : Option TypedTree → Todo → Todo
+abbrev pub steps : Option TypedTree → Continuation → Continuation
 steps None k = k
 steps (Some a) k = evals a (Drop k)
 
 -- a `return` without a value, and running off the end: the default is given, and by a constructor its object
-abbrev pub bare : Bool → Todo
+abbrev pub bare : Bool → Continuation
 bare true = Get (Param 0) Give
 bare false = Put default Give
 
 -- a `return` with a value, which a constructor lets go
-abbrev pub returns : Bool → Todo
+abbrev pub returns : Bool → Continuation
 returns true = Drop (bare true)
 returns false = Give
 
@@ -166,7 +166,7 @@ returns false = Give
 module _ (maker : Bool) where
   abbrev mutual
     -- A statement, and then k. `break` goes to b and `continue` to c.
-    pub runs : TypedStatement → Todo → Todo → Todo → Todo
+    pub runs : TypedStatement → Continuation → Continuation → Continuation → Continuation
     runs (e.Block all) b c k = runs_all all b c k
     runs (e.Let fixed each) b c k = declares each k
     runs (e.IfOnly test a) b c k = evals test (Choose (runs a b c k) k)
@@ -177,7 +177,7 @@ module _ (maker : Bool) where
         (let turn = steps step (Again (e.For e.omitted test step a) k) in runs_first first b c (tests test (runs a k turn turn) k))
     runs (e.ForOf fixed (Local i) list a) b c k =
         evals list (Store (Local (suc i)) (Drop (Put default (Store (Local (suc (suc i))) (Drop (Each i a k))))))
-    runs (e.ForOf fixed x list a) b c k = Amiss
+    runs (e.ForOf fixed x list a) b c k = Impossible
     runs (e.Return None) b c k = bare maker
     runs (e.Return (Some a)) b c k = evals a (returns maker)
     runs e.Break b c k = Leave b
@@ -185,10 +185,10 @@ module _ (maker : Bool) where
     runs (e.Plain a) b c k = evals a (Drop k)
     runs e.Empty b c k = k
 
-    pub runs_first : OptionalTypedStatement → Todo → Todo → Todo → Todo
+    pub runs_first : OptionalTypedStatement → Continuation → Continuation → Continuation → Continuation
     runs_first e.omitted b c k = k
     runs_first (e.written a) b c k = runs a b c k
 
-    pub runs_all : TypedStatements → Todo → Todo → Todo → Todo
+    pub runs_all : TypedStatements → Continuation → Continuation → Continuation → Continuation
     runs_all e.done b c k = k
     runs_all (e.also a rest) b c k = runs a b c (runs_all rest b c k)

@@ -1,6 +1,6 @@
 -- Maps from numbers to numbers whose parts are shared.
 use Rattle.std.specs.Prelude.{◌≡◌, ℕ, zero, suc, ◌<◌, ◌≤◌, ◌/◌, ◌%◌, ◌==◌, Option, Some, None, List, length, slice_get, unwrap_or, if◌then◌else◌}
-use Rattle.made_maps.specs.declared.maps.Node.{Node}
+use Rattle.persistent_maps.specs.declared.maps.Node.{Node}
 
 -- the smaller map that has the number behind k
 abbrev pub side : Node → ℕ → Option ℕ

@@ -2,9 +2,9 @@ use Rattle.std.proofs.Common.{◌≡◌, ◌∙◌, ◌==◌, ◌-◌, ◌/◌, 
 use Rattle.std.proofs.lemmas.Bool.Decides.{nat_tests}
 use Rattle.std.proofs.lemmas.Option.{slice_get_read}
 use Rattle.std.specs.Prelude.{slice_get}
-use Rattle.made_maps.specs.Nodes.{found}
-use Rattle.made_maps.proofs.Finding.{found_side}
-use Rattle.made_maps.proofs.maps.+find.Goals as goal
+use Rattle.persistent_maps.specs.Nodes.{found}
+use Rattle.persistent_maps.proofs.Finding.{found_side}
+use Rattle.persistent_maps.proofs.maps.+find.Goals as goal
 
 pub returns : goal.returns
 returns t c =
