@@ -17,7 +17,8 @@ fn takes_nothing() -> io::Error
 const TRIES: usize = 1_048_576;
 
 /// Writes a piece, from its front on, and tells how many of its bytes the stream took: all of them, or what it took before an error. A
-/// write that is interrupted is tried again, up to 1,048,576 times for a piece; one that takes nothing is an error.
+/// write that is interrupted is tried again, up to 1,048,576 times for a piece; one that takes nothing is an error, `WriteZero`, and so are
+/// more interruptions than these.
 pub fn write_front<W: Write>(writer: &mut W, piece: &[u8]) -> (usize, io::Result<()>)
     ensures front { Appends (W.contents writer.old) (W.contents writer.new) (take result.0 piece.now) }
     ensures within { result.0 ≤ length piece.now }
