@@ -76,7 +76,7 @@ module _ (e : Engine) where
 
   pub fiber_goes_on : (image : List ℕ) (s' : State) → e.runtime.running ≡ None → e.runtime.raisers ≡ [] → IsSpent e.places → Resumed e.runtime s' → Comes image 0 [] (state_of e) (turned_to s' e.places)
   fiber_goes_on image s' idle alone spent m =
-      let seats : slab_len s'.pool ≡ slab_len e.runtime.pool = ap (λ (x : State). slab_len x.pool) m.rest in
+      let seats : slab_len s'.pool ≡ slab_len e.runtime.pool = ap (λ (x : State). slab_len x.pool) m.next.rest in
       stutters image (state_of e) (turned_to s' e.places) (ap (λ n. record (state_of e).plain { seats = n }) seats)
       (λ w h. subst (λ n. Represents image (record (state_of e) { runtime = s'; plain = record (state_of e).plain { seats = n } }) w) (sym seats) (resumed image (state_of e) w s' h idle alone spent m))
 

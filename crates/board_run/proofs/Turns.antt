@@ -43,7 +43,7 @@ nobody_before image hs stack n (p ∷ (q ∷ ps)) a e = absurd a
 fits_on : (k : Kept) (old new : Machine) (key : ℕ) → Fits k → Holds k old new → Fits (kept_of new (turning_of key k))
 fits_on k old new key f h =
     let e : kept_of new (turning_of key k) ≡ k = same _ _ _ _ _ _ k.value k.listener (ap (λ (m : Machine). m.registers) h.rest) (ap (λ (m : Machine). m.memory.base) h.rest)
-    (ap (λ (m : Machine). words_in new.memory.stack m.registers.sp m.memory.base) h.rest ∙ h.words) in
+    (ap (λ (m : Machine). words_in new.memory.stack m.registers.sp m.memory.base) h.rest ∙ h.put.words) in
     subst Fits (sym e) f
   where
     same : (r r' : Registers) (b b' : ℕ) (w w' : List ℕ) (v : ℤ) (l : Option ℕ) → r ≡ r' → b ≡ b' → w ≡ w'
@@ -57,18 +57,18 @@ resumed image b w new h e f u m =
     let hs = hearings b.bus.listeners in
     let none = λ (stack : List ℕ). ap (λ rs. standing image hs stack rs b.places) f ∙ nobody_before image hs stack (length b.bus.listeners) b.places (subst (λ rs. ArePlaces (length b.bus.listeners) rs b.places) f h.places) u in
     let machine : new.machine ≡ record { registers = m.kept.registers; memory = record b.runtime.machine.memory { base = m.kept.base; stack = new.machine.memory.stack } } = m.holds.rest in
-    let keys : b.runtime.lists.ready ≡ m.key ∷ new.lists.ready = ap (λ (q : ListsOf ℕ). q.ready) m.first in
+    let keys : b.runtime.lists.ready ≡ m.key ∷ new.lists.ready = ap (λ (q : ListsOf ℕ). q.ready) m.next.first in
     let self : fiber_on new.machine ≡ record { registers = m.kept.registers; base = m.kept.base; bank = m.kept.words } =
     same_fiber _ _ _ _ _ _ (ap (λ (x : Machine). x.registers) machine) (ap (λ (x : Machine). x.memory.base) machine)
-    (ap (λ (x : Machine). words_in new.machine.memory.stack x.registers.sp x.memory.base) machine ∙ m.holds.words) in
-    let first : acting (fiber_on new.machine) (turning_of m.key m.kept) false ≡ of_key b.runtime.pool m.key = ap (λ g. acting g (turning_of m.key m.kept) false) self ∙ sym (key_is b.runtime.pool m.key m.kept m.found) in
+    (ap (λ (x : Machine). words_in new.machine.memory.stack x.registers.sp x.memory.base) machine ∙ m.holds.put.words) in
+    let first : acting (fiber_on new.machine) (turning_of m.key m.kept) false ≡ of_key b.runtime.pool m.key = ap (λ g. acting g (turning_of m.key m.kept) false) self ∙ sym (key_is b.runtime.pool m.key m.kept m.next.found) in
     let s : IsSound new = sound_resumed b.runtime new h.sound e f m in
-    subst (λ n. Represents image (record b { runtime = n }) w) (sym m.rest) (record {
-      sound = subst IsSound m.rest s;
+    subst (λ n. Represents image (record b { runtime = n }) w) (sym m.next.rest) (record {
+      sound = subst IsSound m.next.rest s;
       runner = λ _. refl;
       nested = h.nested;
       stands = (fits_on m.kept b.runtime.machine new.machine m.key m.fits m.holds, subst (IsNested new.machine.memory.base) (sym f) tt);
-      stack = m.holds.size ∙ h.stack;
+      stack = m.holds.put.size ∙ h.stack;
       places = h.places;
       flash = ap (λ (x : Machine). x.memory.flash) machine ∙ h.flash;
       globals = h.globals ∙ sym (ap (λ (x : Machine). x.memory.globals) machine);
@@ -80,8 +80,8 @@ resumed image b w new h e f u m =
       mark = false;
       ready =
           h.ready ∙ rw (e, none b.runtime.machine.memory.stack, keys) (sym (rw (none new.machine.memory.stack, first) refl));
-      sleepers = h.sleepers ∙ ap (λ (q : ListsOf ℕ). keyed (of_key b.runtime.pool) q.sleepers) m.first;
-      waiters = h.waiters ∙ ap (λ (q : ListsOf ℕ). keyed (of_key b.runtime.pool) q.waiters) m.first;
+      sleepers = h.sleepers ∙ ap (λ (q : ListsOf ℕ). keyed (of_key b.runtime.pool) q.sleepers) m.next.first;
+      waiters = h.waiters ∙ ap (λ (q : ListsOf ℕ). keyed (of_key b.runtime.pool) q.waiters) m.next.first;
     })
 
 -- The innermost raiser goes on: the world stays. No handler is left at its place.

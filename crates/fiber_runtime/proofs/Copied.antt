@@ -93,9 +93,11 @@ holds_copied k old new r b xs ys a n m f size x y p q c e w z is =
     let news : new.memory.stack ≡ put_mid a (length k.words) stack k.words =
     ap (λ (v : Machine). v.memory.stack) is ∙ ap (λ zs. take 1024 (zs ++ drop (length zs) stack)) same ∙ lent_is stack k.words a size r0 in
     record {
-      words = ap (λ l. words_in l k.registers.sp k.base) news ∙ words_put stack k.words k.registers.sp k.base a size f.span f.inside place_is none;
-      below = ap (take ((k.registers.sp - stack_at) / 4)) news ∙ below_put stack k.words k.registers.sp k.base a size f.span f.inside place_is none;
-      above = λ l. ap (drop ((k.base - stack_at) / 4)) news ∙ above_put stack k.words k.registers.sp k.base a size f.span f.inside place_is none l;
-      size = ap length news ∙ length_put stack k.words a size r0 ∙ sym size;
+      put = record {
+        words = ap (λ l. words_in l k.registers.sp k.base) news ∙ words_put stack k.words k.registers.sp k.base a size f.span f.inside place_is none;
+        below = ap (take ((k.registers.sp - stack_at) / 4)) news ∙ below_put stack k.words k.registers.sp k.base a size f.span f.inside place_is none;
+        above = λ l. ap (drop ((k.base - stack_at) / 4)) news ∙ above_put stack k.words k.registers.sp k.base a size f.span f.inside place_is none l;
+        size = ap length news ∙ length_put stack k.words a size r0 ∙ sym size;
+      };
       rest = is ∙ ap (λ l. moved_in old r b l) (sym (ap (λ (v : Machine). v.memory.stack) is)) ∙ ap (λ s. moved_in old s b new.memory.stack) p ∙ ap (λ c. moved_in old k.registers c new.memory.stack) q;
     }

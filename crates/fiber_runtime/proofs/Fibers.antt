@@ -31,8 +31,8 @@ pub resumed_fiber : (old new : State) (m : Resumed old new) → fiber_on new.mac
 resumed_fiber old new m =
     let machine = m.holds.rest in
     same_fiber _ _ _ _ _ _ (ap (λ (x : Machine). x.registers) machine) (ap (λ (x : Machine). x.memory.base) machine)
-    (ap (λ (x : Machine). words_in new.machine.memory.stack x.registers.sp x.memory.base) machine ∙ m.holds.words)
-    ∙ sym (fiber_found old.pool m.key m.kept m.found)
+    (ap (λ (x : Machine). words_in new.machine.memory.stack x.registers.sp x.memory.base) machine ∙ m.holds.put.words)
+    ∙ sym (fiber_found old.pool m.key m.kept m.next.found)
 
 -- raisers that stand above an address stand above each lower one
 pub nested_lower : (low high : ℕ) (rs : List Raiser) → low ≤ high → IsNested high rs → IsNested low rs

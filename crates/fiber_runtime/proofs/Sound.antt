@@ -202,10 +202,10 @@ sound_resumed old new h e f m =
     let count = count_before old h [] (ap key_running e) in
     let nobody = λ (other : ℕ). ap (λ rs. how_often other (keys_suspended rs)) f in
     let after = λ (other : ℕ). how_often-append other (m.key ∷ []) (keys_suspended old.raisers) in
-    let moved = λ (other : ℕ). (let t : how_often other (listed old.lists) ≡ how_often other (m.key ∷ listed new.lists) = ap (λ q. how_often other (listed q)) m.first in t ∙ how_often-append other (m.key ∷ []) (listed new.lists)) in
-    subst IsSound (sym m.rest) (record {
+    let moved = λ (other : ℕ). (let t : how_often other (listed old.lists) ≡ how_often other (m.key ∷ listed new.lists) = ap (λ q. how_often other (listed q)) m.next.first in t ∙ how_often-append other (m.key ∷ []) (listed new.lists)) in
+    subst IsSound (sym m.next.rest) (record {
       each = λ other. omega (arith, before other, after other, moved other);
-      count = let t : length (listed old.lists) ≡ suc (length (listed new.lists)) = ap (λ q. length (listed q)) m.first in omega (arith, count);
+      count = let t : length (listed old.lists) ≡ suc (length (listed new.lists)) = ap (λ q. length (listed q)) m.next.first in omega (arith, count);
       most = h.most;
       fits = λ other k g. elim (fits_before old h [] (ap key_running e) other k g) [ inl one ↦ absurd (omega (arith, nobody other)) | inr fit ↦ inr fit ];
       suspended = h.suspended;

@@ -31,32 +31,44 @@ pub record Claims (old new : Slab Kept) (key : ℕ) (k : Kept) : Type 0 where
   pub live : slab_len new ≡ slab_len old + 1
   pub room : slab_len old < seat_limit
 
--- The running fiber is copied out: its record holds the registers, the base and the words from SP to the base.
-pub record Blocked (key : ℕ) (t : Turning) (why : Why) (now : ℕ) (old new : State) : Type 0 where
-  pub updates : Updates old.pool new.pool key (Some (kept_of old.machine t))
+-- The running fiber blocks: its record holds the registers, the base and these words, and it waits for why it blocks.
+pub record BlocksWith (words : List ℕ) (key : ℕ) (t : Turning) (why : Why) (now : ℕ) (old new : State) : Type 0 where
+  pub updates : Updates old.pool new.pool key (Some (record (kept_of old.machine t) { words = words }))
   pub live : slab_len new.pool ≡ slab_len old.pool
   pub rest : new ≡ record old { pool = new.pool; running = None; lists = joined why now key old.lists }
 
--- What is kept stands in the machine; its words are those from SP to the base, and all other words stay.
+-- It is copied out: the words are those from SP to the base.
+abbrev pub Blocked : (key : ℕ) (t : Turning) (why : Why) (now : ℕ) (old new : State) → Type 0
+Blocked key t why now old new = BlocksWith (kept_of old.machine t).words key t why now old new
+
+-- The words that are kept stand in the stack region, from SP to the base, and all others stay.
+pub record Put (k : Kept) (old new : List ℕ) : Type 0 where
+  pub words : words_in new k.registers.sp k.base ≡ k.words
+  pub below : take (place stack_at k.registers.sp) new ≡ take (place stack_at k.registers.sp) old
+  pub above : 0 < length k.words → SameFrom k.base old new
+  pub size : length new ≡ length old
+
+-- So does all that is kept in the machine.
 pub record Holds (k : Kept) (old new : Machine) : Type 0 where
-  pub words : words_in new.memory.stack k.registers.sp k.base ≡ k.words
-  pub below : take (place stack_at k.registers.sp) new.memory.stack ≡ take (place stack_at k.registers.sp) old.memory.stack
-  pub above : 0 < length k.words → SameFrom k.base old.memory.stack new.memory.stack
-  pub size : length new.memory.stack ≡ length old.memory.stack
+  pub put : Put k old.memory.stack new.memory.stack
   pub rest : new ≡ record { registers = k.registers; memory = record old.memory { base = k.base; stack = new.memory.stack } }
 
 abbrev pub turning_of : ℕ → Kept → Turning
 turning_of key k = record { key = Some key; value = k.value; listener = k.listener }
 
--- The first ready fiber is copied in.
+-- The first ready fiber, of which this is kept, runs; the machine is told apart.
+pub record RunsNext (key : ℕ) (kept : Kept) (old new : State) : Type 0 where
+  pub first : old.lists ≡ record new.lists { ready = key ∷ new.lists.ready }
+  pub found : get old.pool key ≡ Some kept
+  pub rest : new ≡ record old { machine = new.machine; running = Some (turning_of key kept); lists = new.lists }
+
+-- It is copied in.
 pub record Resumed (old new : State) : Type 0 where
   pub key : ℕ
   pub kept : Kept
-  pub first : old.lists ≡ record new.lists { ready = key ∷ new.lists.ready }
-  pub found : get old.pool key ≡ Some kept
+  pub next : RunsNext key kept old new
   pub fits : Fits kept
   pub holds : Holds kept old.machine new.machine
-  pub rest : new ≡ record old { machine = new.machine; running = Some (turning_of key kept); lists = new.lists }
 
 -- A fiber begins with an empty record, as the last ready one.
 abbrev pub fresh : List ℕ → ℕ → ℕ → Kept

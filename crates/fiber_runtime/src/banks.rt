@@ -14,8 +14,8 @@ ghost use Rattle.bank_model.specs.Standing.{fiber_on, KeepsAbove};
 ghost use Rattle.fiber_runtime.specs.Words.{Fits, kept_of};
 ghost use Rattle.fiber_runtime.specs.State.{State};
 ghost use Rattle.fiber_runtime.specs.Sound.{IsNested, IsStanding};
-ghost use Rattle.fiber_runtime.specs.Moves.{HasMain, Blocked, Resumed, Spawned, Woken, started, restarted, suspended, raiser_of, reinstated};
-ghost use Rattle.fiber_runtime.specs.Copying.{Parked, Taken, Put, HasWords};
+ghost use Rattle.fiber_runtime.specs.Moves.{HasMain, Blocked, Put, Resumed, Spawned, Woken, started, restarted, suspended, raiser_of, reinstated};
+ghost use Rattle.fiber_runtime.specs.Copying.{Parked, Taken, HasWords};
 ghost use Rattle.fiber_runtime.specs.Banks.{fiber_raising, fiber_at};
 
 /// A fiber's registers, base and words stay the same while it goes from the machine to its record or to the raisers, and

@@ -101,7 +101,8 @@ blocked_by d e s new t why now steps h held live is ran' k parked =
     let came : e.runtime.now ≡ two = k.runtime ∙ ap (λ x. put x d.key left) is in
     let p : Parked d.key t why now two new = subst (λ x. Parked d.key t why now x new) came parked in
     let found = words_set one.pool d.key left.words there in
-    let u = p.updates _ found in
+    let b = p _ found in
+    let u = b.updates in
     let first : Updates s.pool one.pool d.key _ = Updates-with_value s.pool d.key (record (kept_at s.pool d.key) { words = ws }) live in
     let second : Updates one.pool two.pool d.key _ = Updates-with_value one.pool d.key (record (kept_at one.pool d.key) { words = left.words }) there in
     let words : words_of d.runtime.now d.key ≡ ws = ap (λ x. words_of x d.key) is ∙ ap (λ o. (or_unused o).words) (words_set s.pool d.key ws live) in
@@ -114,8 +115,8 @@ blocked_by d e s new t why now steps h held live is ran' k parked =
           ∙ (ap (λ v. switched s.machine.registers.sp record_at n (over d.code.now v (words_of d.runtime.now d.key))) (sym stack) ∙ ran'));
       counts = refl;
       updates = record { changed = u.changed; others = λ o x. u.others o x ∙ (second.others o x ∙ first.others o x) };
-      live = p.live ∙ (len_same one.pool d.key (record (kept_at one.pool d.key) { words = left.words }) there ∙ len_same s.pool d.key (record (kept_at s.pool d.key) { words = ws }) live);
-      rest = p.rest;
+      live = b.live ∙ (len_same one.pool d.key (record (kept_at one.pool d.key) { words = left.words }) there ∙ len_same s.pool d.key (record (kept_at s.pool d.key) { words = ws }) live);
+      rest = b.rest;
     }
 
 -- the same in the code's words

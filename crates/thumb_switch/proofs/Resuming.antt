@@ -12,21 +12,22 @@ use Rattle.thumb_switch.specs.Space.{Space, executed, record_at, called, most_in
 use Rattle.thumb_switch.specs.Desk.{words_of, on_desk}
 use Rattle.thumb_switch.specs.Running.{put, IsKnown}
 use Rattle.thumb_switch.specs.Switching.{Held, counted, over, in_by, ResumedBy}
+use Rattle.thumb_code.specs.Machine.{State as Machine}
 use Rattle.thumb_switch.specs.declared.desk.Desk.{Desk}
 use Rattle.thumb_switch.proofs.Blocking.{at_most}
 
 module _ (s one : State) (key : ℕ) (p : Taken s one) (leads : Leads key s.lists.ready) where
   pub key_is : p.key ≡ key
-  key_is = (let e : key ≡ p.key = subst (Leads key) (ap (λ (q : ListsOf ℕ). q.ready) p.first) leads in sym e)
+  key_is = (let e : key ≡ p.key = subst (Leads key) (ap (λ (q : ListsOf ℕ). q.ready) p.next.first) leads in sym e)
 
   pub found : get s.pool key ≡ Some p.kept
-  found = subst (λ j. get s.pool j ≡ Some p.kept) key_is p.found
+  found = subst (λ j. get s.pool j ≡ Some p.kept) key_is p.next.found
 
   pub kept_is : kept_at s.pool key ≡ p.kept
   kept_is = ap or_unused found
 
   pub pool_is : one.pool ≡ s.pool
-  pool_is = ap (λ (x : State). x.pool) p.rest
+  pool_is = ap (λ (x : State). x.pool) p.next.rest
 
   pub taken_live : ContainsKey one.pool key
   taken_live = ap (λ o. is_some o) (ap (λ (o : Slab Kept). get o key) pool_is ∙ found)
@@ -45,15 +46,15 @@ resumed_by d e s h steps words r p leads fits words_is r_is x known held =
     let key : p.key ≡ d.key = key_is s one d.key p leads in
     let kept : kept_at s.pool d.key ≡ k = kept_is s one d.key p leads in
     let ws : words_of one d.key ≡ k.words = words_kept s one d.key p leads in
-    let stack : one.machine.memory.stack ≡ s.machine.memory.stack = ap (λ (q : State). q.machine.memory.stack) p.rest in
-    let sp : one.machine.registers.sp ≡ k.registers.sp = ap (λ (q : State). q.machine.registers.sp) p.rest in
+    let stack : one.machine.memory.stack ≡ s.machine.memory.stack = ap (λ (m : Machine). m.memory.stack) p.machine in
+    let sp : one.machine.registers.sp ≡ k.registers.sp = ap (λ (m : Machine). m.registers.sp) p.machine in
     let n : words ≡ length k.words = words_is ∙ ap (λ (v : List ℕ). length v) ws in
     let lists : e.runtime.now.lists ≡ one.lists = ap (λ (q : State). q.lists) known.runtime in
     let m : ℕ = 8 * words + 40 in
     record {
       key = d.key;
       kept = k;
-      first = p.first ∙ (ap (λ j. record one.lists { ready = j ∷ one.lists.ready }) key ∙ ap (λ (q : ListsOf ℕ). record q { ready = d.key ∷ q.ready }) (sym lists));
+      first = p.next.first ∙ (ap (λ j. record one.lists { ready = j ∷ one.lists.ready }) key ∙ ap (λ (q : ListsOf ℕ). record q { ready = d.key ∷ q.ready }) (sym lists));
       found = found s one d.key p leads;
       fits = subst Fits kept fits;
       steps = steps;
@@ -66,7 +67,7 @@ resumed_by d e s h steps words r p leads fits words_is r_is x known held =
           ∙ (ap (λ v. executed m r (over d.code.now one.machine.memory.stack v)) (sym ws) ∙ x)))));
       counts = refl;
       rest = known.runtime
-          ∙ (ap (λ (q : State). put q d.key left) p.rest
+          ∙ (ap (λ (q : State). put q d.key left) (p.next.rest ∙ ap (λ (m : Machine). record s { machine = m; running = Some (turning_of p.key k); lists = one.lists }) p.machine)
           ∙ (ap (λ (j : ℕ). record s {
             machine = record { registers = k.registers; memory = record s.machine.memory { base = k.base; stack = left.stack } };
             pool = with_value s.pool d.key (record (kept_at s.pool d.key) { words = left.words });

@@ -15,8 +15,8 @@ use Rattle.fiber_runtime.specs.declared.turning.Turning.{Turning}
 use Rattle.fiber_runtime.specs.declared.blocking.Why.{Why}
 use Rattle.fiber_runtime.specs.Words.{Fits, kept_of}
 use Rattle.fiber_runtime.specs.State.{State}
-use Rattle.fiber_runtime.specs.Moves.{Blocked, Resumed, joined, turning_of}
-use Rattle.fiber_runtime.specs.Copying.{Put, Taken}
+use Rattle.fiber_runtime.specs.Moves.{Blocked, Put, Resumed, joined, turning_of}
+use Rattle.fiber_runtime.specs.Copying.{Taken}
 use Rattle.fiber_runtime.proofs.Laws.{taken_is_resumed}
 use Rattle.thumb_switch.specs.Routine.{routine_bytes, routine_steps}
 use Rattle.thumb_switch.specs.Space.{Space, record_at, switched}
@@ -268,17 +268,18 @@ resumed_by_routine h h' old new held size r =
     let left : c.1 ≡ r.left = ap (λ (e : ℕ × Space). e.1) same in
     let l = subst (Left k stack) left c.4 in
     let pool : with_value old.pool r.key (record k { words = r.left.words }) ≡ old.pool = ap (λ ws. with_value old.pool r.key (record k { words = ws })) l.words ∙ kept_there old.pool r.key k r.found in
+    let machine : new.machine ≡ record { registers = k.registers; memory = record old.machine.memory { base = k.base; stack = r.left.stack } } = ap (λ (s : State). s.machine) r.rest in
     let taken : Taken (record old { machine = with_stack old.machine r.left.stack }) new = record {
       key = r.key;
       kept = k;
-      first = r.first;
-      found = r.found;
-      rest = r.rest ∙ ap (λ p. record old {
-        machine = record { registers = k.registers; memory = record old.machine.memory { base = k.base; stack = r.left.stack } };
-        pool = p;
-        running = Some (turning_of r.key k);
-        lists = new.lists;
-      }) pool;
+      next = record {
+        first = r.first;
+        found = r.found;
+        rest = r.rest
+            ∙ (ap (λ p. record old { machine = record { registers = k.registers; memory = record old.machine.memory { base = k.base; stack = r.left.stack } }; pool = p; running = Some (turning_of r.key k); lists = new.lists }) pool
+            ∙ ap (λ (m : Machine). record old { machine = m; running = Some (turning_of r.key k); lists = new.lists }) (sym machine));
+      };
+      machine = machine;
     } in
     taken_is_resumed old new r.left.stack taken r.fits l.put
 

@@ -19,10 +19,12 @@ returns-in-Some-clause-some c =
     (record {
       key = key;
       kept = f.kept;
-      first = c.in-Some.ensures.taken;
-      found = f.found;
+      next = record {
+        first = c.in-Some.ensures.taken;
+        found = f.found;
+        rest = ap (λ x. record s { machine = c.copy_in.new.machine; running = Some (record { key = Some key; value = x; listener = c.listener-listener.result }); lists = c.next.new.self }) (z ∙ v)
+            ∙ ap (λ x. record s { machine = c.copy_in.new.machine; running = Some (record { key = Some key; value = f.kept.value; listener = x }); lists = c.next.new.self }) l;
+      };
       fits = f.fits;
       holds = c.copy_in.ensures f.kept f.found;
-      rest = ap (λ x. record s { machine = c.copy_in.new.machine; running = Some (record { key = Some key; value = x; listener = c.listener-listener.result }); lists = c.next.new.self }) (z ∙ v)
-          ∙ ap (λ x. record s { machine = c.copy_in.new.machine; running = Some (record { key = Some key; value = f.kept.value; listener = x }); lists = c.next.new.self }) l;
     })

@@ -28,9 +28,11 @@ returns-clause-taken c =
     (record {
       key = key;
       kept = f.kept;
-      first = c.in-Some.ensures.taken ∙ ap (λ k. record c.next.new.self { ready = k ∷ c.next.new.self.ready }) (sym same);
-      found = f.found;
-      rest = ap (λ x. record s { machine = c.set_base.new.self; running = Some (record { key = Some key; value = x; listener = c.listener-listener.result }); lists = c.next.new.self }) (z ∙ v)
-          ∙ (ap (λ x. record s { machine = c.set_base.new.self; running = Some (record { key = Some key; value = f.kept.value; listener = x }); lists = c.next.new.self }) l
-          ∙ ap (λ m. record s { machine = m; running = Some (record { key = Some key; value = f.kept.value; listener = f.kept.listener }); lists = c.next.new.self }) machine);
+      next = record {
+        first = c.in-Some.ensures.taken ∙ ap (λ k. record c.next.new.self { ready = k ∷ c.next.new.self.ready }) (sym same);
+        found = f.found;
+        rest = ap (λ x. record s { machine = c.set_base.new.self; running = Some (record { key = Some key; value = x; listener = c.listener-listener.result }); lists = c.next.new.self }) (z ∙ v)
+            ∙ ap (λ x. record s { machine = c.set_base.new.self; running = Some (record { key = Some key; value = f.kept.value; listener = x }); lists = c.next.new.self }) l;
+      };
+      machine = machine;
     })
