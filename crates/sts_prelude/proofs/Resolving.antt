@@ -9,7 +9,7 @@ use Rattle.sts_lexer.specs.declared.token.Token.{Token}
 use Rattle.sts_syntax.specs.declared.board_calls.BoardCall.TheVariants as b
 use Rattle.sts_syntax.specs.LibraryRoutines.{show_leds, show_glyphs, write_line, absolute, one_of_two, library_routines}
 use Rattle.sts_syntax.specs.Types as t
-use Rattle.sts_prelude.specs.Library as l
+use Rattle.sts_prelude.specs.inner.Library as l
 use Rattle.sts_prelude.specs.Resolved.{BecomesFunction, BecomeFunctions}
 use Rattle.sts_prelude.specs.declared.text.TheConstants.{LIBRARY}
 use Rattle.sts_prelude.proofs.Tokens.{own}

@@ -1,3 +1,3 @@
-pub mod Library
+pub mod inner
 pub mod Resolved
 pub mod Spelled

@@ -1,6 +1,6 @@
 // The functions of the library, from the tokens of its text.
 ghost use Rattle.std.specs.Prelude.{◌≡◌, ◌≤◌, ◌<◌, IfOk};
-ghost use Rattle.sts_prelude.specs.Library as l;
+ghost use Rattle.sts_prelude.specs.inner.Library as l;
 ghost use Rattle.sts_syntax.specs.Annotations.{annotation};
 ghost use Rattle.sts_syntax.specs.Programs.{top_level, program};
 ghost use Rattle.sts_syntax.specs.Views.{parameter, parameters, statement, statements, tree};

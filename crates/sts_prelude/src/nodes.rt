@@ -1,6 +1,6 @@
 // The forms of expression and statement that the library's text has, from its tokens.
 ghost use Rattle.std.specs.Prelude.{◌≡◌, ◌<◌, [], ◌∷◌, IfOk};
-ghost use Rattle.sts_prelude.specs.Library as l;
+ghost use Rattle.sts_prelude.specs.inner.Library as l;
 ghost use Rattle.sts_syntax.specs.Views.{tree, trees, statement, statements};
 
 use std::alloc::Global;

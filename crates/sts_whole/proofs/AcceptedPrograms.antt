@@ -12,7 +12,7 @@ use Rattle.sts_scope.specs.declared.kinds.Kind.{Kind}
 use Rattle.type_derive.specs.Accepted.{AreDerived, IsAccepted, typed}
 use Rattle.type_derive.specs.Libraries.{IsLibrary}
 use Rattle.type_derive.specs.Formed.{TextsBelow}
-use Rattle.sts_prelude.specs.Library as l
+use Rattle.sts_prelude.specs.inner.Library as l
 use Rattle.sts_prelude.specs.Spelled.{TextSpellsLibrary}
 use Rattle.sts_prelude.specs.declared.text.TheConstants.{LIBRARY}
 use Rattle.typed_laws.proofs.Laws.{program_formed, program_texts_below, typed_names}

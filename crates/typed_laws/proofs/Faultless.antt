@@ -17,7 +17,7 @@ use Rattle.type_derive.specs.Returns.{within, bound}
 use Rattle.type_derive.specs.Nodes.{statements_fault, statement_fault, fault, own_bound}
 use Rattle.type_derive.specs.Typing.{type_of, types_of, are_given, space_of, space, own_call, board_callee, ◌>>=◌}
 use Rattle.sts_scope.specs.Faults.{◌then◌}
-use Rattle.sts_prelude.specs.Library.{glyph, number as number_at, first_glyph, glyph_loop, show_leds, show_glyphs, write_line, absolute, one_of_two}
+use Rattle.sts_prelude.specs.inner.Library.{glyph, number as number_at, first_glyph, glyph_loop, show_leds, show_glyphs, write_line, absolute, one_of_two}
 use Rattle.sts_prelude.proofs.Laws.{own, own_tokens}
 
 module _ (more rest : List (List ℕ)) (names : Naming) (k : Known) where

@@ -23,7 +23,7 @@ use Rattle.type_derive.specs.Nodes.{statements_fault}
 use Rattle.type_derive.specs.Formed.{IsFormedProgram}
 use Rattle.type_derive.specs.Accepted.{known, AreDerived, all_sources}
 use Rattle.type_derive.specs.Libraries.{library_fault}
-use Rattle.sts_prelude.specs.Library as l
+use Rattle.sts_prelude.specs.inner.Library as l
 use Rattle.sts_prelude.proofs.Laws.{own, own_tokens}
 use Rattle.typed_laws.proofs.Faultless.{leds, numbers, strings, lines, absolutes, least, greatest}
 

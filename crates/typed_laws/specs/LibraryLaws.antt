@@ -11,7 +11,7 @@ use Rattle.sts_scope.specs.declared.kinds.Kind.{Kind}
 use Rattle.type_derive.specs.Accepted.{AreDerived, typed}
 use Rattle.type_derive.specs.Libraries.{IsLibrary}
 use Rattle.sts_grammar.specs.Texts.{no_entries}
-use Rattle.sts_prelude.specs.Library.{library}
+use Rattle.sts_prelude.specs.inner.Library.{library}
 use Rattle.sts_prelude.specs.Spelled as spelled
 use Rattle.sts_prelude.specs.declared.text.TheConstants.{LIBRARY}
 
