@@ -39,13 +39,18 @@ def files_of(name, parts=PARTS):
 
 
 def seconds_known():
-    """Gives the seconds of a processor that docs/GATE.md has for crates, in the column Seconds of its table."""
+    """Gives the seconds of a processor that docs/GATE.md has for crates, in the column Seconds of the table whose first column is Crate."""
+    known, column = {}, None
     try:
         with open(f"{TOP}/docs/GATE.md", encoding="utf-8") as it:
-            rows = [re.split(r"\s*\|\s*", line) for line in it if line.startswith("| `")]
+            for row in (re.split(r"\s*\|\s*", line) for line in it):
+                if len(row) > 1 and not row[1].startswith(("`", "---")):
+                    column = row.index("Seconds") if row[1] == "Crate" and "Seconds" in row else None
+                elif column and len(row) > column and re.fullmatch(r"\d+", row[column]):
+                    known[row[1].strip("`")] = max(1.0, float(row[column]))
     except OSError:
         return {}
-    return {row[1].strip("`"): max(1.0, float(row[8])) for row in rows if len(row) > 8 and re.fullmatch(r"\d+", row[8])}
+    return known
 
 
 def weight(name, known):
