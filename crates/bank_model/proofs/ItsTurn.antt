@@ -19,8 +19,8 @@ stands_inside : (s : State) → Stands s → IsBase s.memory.base → IsInside s
 stands_inside s f b = by_size (length (words_in s.memory.stack s.registers.sp s.memory.base)) refl
   where
     by_size : (n : ℕ) → length (words_in s.memory.stack s.registers.sp s.memory.base) ≡ n → IsInside s.registers.sp s.memory.base
-    by_size zero e = record { sp_aligned = omega (arith, f.span, e, b.aligned); aligned = b.aligned; low = omega (arith, f.span, e, b.low); within = omega (arith, f.span, e); high = b.high }
-    by_size (suc n) e = f.inside (omega (arith, e))
+    by_size zero e = record { sp_aligned = omega (arith, f.spans.span, e, b.aligned); aligned = b.aligned; low = omega (arith, f.spans.span, e, b.low); within = omega (arith, f.spans.span, e); high = b.high }
+    by_size (suc n) e = f.spans.inside (omega (arith, e))
 
 pub stands_agrees : (image : List ℕ) (s : State) → s.memory.flash ≡ image → Stands s → Agrees image s.registers.sp s.memory (bank_on s.memory s.registers.sp)
 stands_agrees image s e f = record {

@@ -43,10 +43,14 @@ fiber_on s = record { registers = s.registers; base = s.memory.base; bank = word
 abbrev pub shared_on : ℕ → Ram → List ℕ → Shared
 shared_on used m free = record { globals = m.globals; arena = m.arena; used = used; free = free }
 
--- Its words reach from SP to the base. Only one without words may stand on a bad base: each of its steps is that fault.
+-- A fiber's words reach from SP to the base. Only one without words may stand on a bad base: each of its steps is that fault.
+pub record Spans (sp : ℕ) (words : List ℕ) (base : ℕ) : Type 0 where
+  pub span : sp + 4 * length words ≡ base
+  pub inside : 0 < length words → IsInside sp base
+
+-- So do the words of the fiber that runs on the machine.
 pub record Stands (s : State) : Type 0 where
-  pub span : s.registers.sp + 4 * length (words_in s.memory.stack s.registers.sp s.memory.base) ≡ s.memory.base
-  pub inside : 0 < length (words_in s.memory.stack s.registers.sp s.memory.base) → IsInside s.registers.sp s.memory.base
+  pub spans : Spans s.registers.sp (words_in s.memory.stack s.registers.sp s.memory.base) s.memory.base
   pub size : length s.memory.stack ≡ 1024
 
 -- The turn that the fiber made by a step of the machine, where these free words are left.

@@ -37,7 +37,7 @@ module _ (image : List ℕ) (b : BoardState) (t : Turning) (runs : b.runtime.run
   its : (w : World Fiber Shared) → Represents image b w → IsItsTurn image b.plain.used b.runtime.machine
   its w h =
       let f = (subst (λ x. IsStanding x b.runtime.machine b.runtime.raisers) runs h.stands).0 in
-      is_its_turn image b.plain.used b.runtime.machine h.flash (record { span = f.span; inside = f.inside; size = h.stack })
+      is_its_turn image b.plain.used b.runtime.machine h.flash (record { spans = f; size = h.stack })
 
   onward : (m : Machine) (x : Stepped Ram) → StepKeepsAbove b.runtime.machine.memory x → StandsAfter x → x ≡ On m.registers m.memory → IsOnward b.runtime.machine m
   onward m x k s e = record { keeps = (subst (StepKeepsAbove b.runtime.machine.memory) e k).0; inside = subst StandsAfter e s }

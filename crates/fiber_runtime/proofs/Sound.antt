@@ -162,7 +162,7 @@ sound_laid key now t why old new x0 h e k i updates live rest =
       count = omega (arith, count_before old h (key ∷ []) runs, length-joined key now why old.lists, live);
       most = omega (arith, h.most, live);
       fits = λ other x f. elim (cases_eq other key) [
-        | inl same ↦ inr (subst Fits (let g : Some x0 ≡ Some x = sym updates.changed ∙ ap (get new.pool) (sym same) ∙ f in cc) i)
+        | inl same ↦ inr (let g : Some x0 ≡ Some x = sym updates.changed ∙ ap (get new.pool) (sym same) ∙ f in let q : x0 ≡ x = cc in subst Fits q i)
         | inr differs ↦ elim (fits_before old h (key ∷ []) runs other x (sym (updates.others other differs) ∙ f)) [
           | inl one ↦ inl (let o = none_at key other differs in omega (arith, o))
           | inr fit ↦ inr fit

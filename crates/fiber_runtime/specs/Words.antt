@@ -1,7 +1,7 @@
 -- Fibers whose words stand in the stack region, as records would keep them.
-use Rattle.std.specs.Prelude.{◌≡◌, ℕ, ◌+◌, ◌*◌, ◌<◌, List, [], ◌∷◌, length, Option, Some, None}
+use Rattle.std.specs.Prelude.{ℕ, List, [], ◌∷◌, Option, Some, None}
 use Rattle.thumb_code.specs.Machine.{State as Machine}
-use Rattle.bank_model.specs.Standing.{words_in, IsInside}
+use Rattle.bank_model.specs.Standing.{words_in, Spans}
 use Rattle.fiber_pool.specs.Kept.{Kept}
 use Rattle.fiber_runtime.specs.declared.turning.Turning.{Turning}
 use Rattle.fiber_runtime.specs.declared.turning.Raiser.{Raiser}
@@ -16,10 +16,9 @@ kept_of m t = record {
   words = words_in m.memory.stack m.registers.sp m.memory.base;
 }
 
--- A fiber's words reach from SP to the base. Only one without words may stand on a bad base: each of its steps is that fault.
-pub record Fits (k : Kept) : Type 0 where
-  pub span : k.registers.sp + 4 * length k.words ≡ k.base
-  pub inside : 0 < length k.words → IsInside k.registers.sp k.base
+-- What is kept reaches from SP to the base.
+abbrev pub Fits : Kept → Type 0
+Fits k = Spans k.registers.sp k.words k.base
 
 -- the innermost raiser's SP
 abbrev pub innermost : List Raiser → Option ℕ

@@ -30,7 +30,8 @@ inverted y = 2 ^ 32 - 1 - y
 abbrev pub sum_of : ℕ → ℕ → ℕ → ℕ
 sum_of x y c = word (x + y + c)
 
--- The sum of two words with signs isn't a word with a sign: both signs are the same, and the sum's is the other.
+-- The sum of two words with signs isn't a word with a sign: both signs are the same, and the sum's is the other. That this is the manual's
+-- overflow of AddWithCarry, SInt(result) other than the sum with signs, is proved (sums_overflow_where_signed_ones_do).
 abbrev pub overflows : ℕ → ℕ → ℕ → Bool
 overflows x y v = sign x == sign y && nat_lt (sign v + sign x) 2 && nat_lt 0 (sign v + sign x)
 

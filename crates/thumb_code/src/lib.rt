@@ -9,6 +9,7 @@ mod decoding;
 mod encoding;
 mod halfwords;
 mod instructions;
+mod overflow;
 mod register_file;
 mod services;
 
@@ -16,5 +17,6 @@ pub use decoding::{decode, is_wide};
 pub use encoding::encode;
 pub use halfwords::Half;
 pub use instructions::Instr;
+pub use overflow::sums_overflow_where_signed_ones_do;
 pub use register_file::Registers;
 pub use services::services_change_pc_alone;
