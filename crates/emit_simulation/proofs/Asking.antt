@@ -30,7 +30,7 @@ use Rattle.sts_syntax.specs.TypeRules.{entry}
 use Rattle.sts_meaning.specs.Values.{Value, Whole, Object, Text, Code, default, Outcome, Gives, then_gives, whole}
 use Rattle.sts_meaning.specs.Services.{requested, text, code, mode, event, listener, with_none, with_one, with_two, with_three, with_four, of_one, of_two, of_event, of_listener}
 use Rattle.sts_meaning.specs.Frames.{after, text_of}
-use Rattle.flat_meaning.specs.Operators.{FlatHeap}
+use Rattle.sts_meaning.specs.Heaps.{FlatHeap}
 use Rattle.flat_meaning.specs.Frames.{FlatFrame, Enters, depth_of}
 use Rattle.flat_meaning.specs.Steps.{FlatTurn, flat_asker}
 use Rattle.thumb_emit.specs.InFlash.{Addresses}

@@ -18,11 +18,11 @@ use Rattle.register_assign.specs.declared.places.Placed.{Placed}
 use Rattle.register_assign.specs.Sound.{place_of}
 use Rattle.sts_syntax.specs.TypeRules.{entry}
 use Rattle.sts_meaning.specs.Values.{Value, default, Outcome, Gives, Breaks, Stuck}
-use Rattle.sts_meaning.specs.Heaps.{pushed}
+use Rattle.sts_meaning.specs.Heaps.{FlatHeap, pushed}
 use Rattle.sts_meaning.specs.Services.{requested}
 use Rattle.sts_meaning.specs.Frames.{after, grown}
 use Rattle.sts_implements.specs.Passes.{trailing_instructions}
-use Rattle.flat_meaning.specs.Operators.{FlatHeap, answers}
+use Rattle.flat_meaning.specs.Operators.{answers}
 use Rattle.flat_meaning.specs.Frames.{FlatFrame, FlatActivity, Stands, given}
 use Rattle.flat_meaning.specs.Steps.{FlatTurn, flat_asker, asks, with_pair}
 use Rattle.thumb_emit.specs.InFlash.{Addresses}

@@ -21,8 +21,8 @@ use Rattle.register_assign.specs.declared.places.Placed.{Placed}
 use Rattle.register_assign.specs.Sound.{place_of}
 use Rattle.register_assign.specs.Unread.{is_unread}
 use Rattle.sts_meaning.specs.Values.{Value, with_entry}
+use Rattle.sts_meaning.specs.Heaps.{FlatHeap}
 use Rattle.sts_implements.specs.Passes.{trailing_instructions}
-use Rattle.flat_meaning.specs.Operators.{FlatHeap}
 use Rattle.flat_meaning.specs.Frames.{FlatFrame, Stands, given}
 use Rattle.thumb_emit.specs.Emit.{function_pieces}
 use Rattle.thumb_emit.specs.Frame.{lands}

@@ -18,9 +18,9 @@ use Rattle.flat_ir.specs.declared.ops.FlatCode.{FlatCode}
 use Rattle.flat_ir.specs.Ops.{reads}
 use Rattle.flat_ir.specs.WellFormed.{temporaries}
 use Rattle.flat_ir.specs.Liveness.{IsLiveAt}
+use Rattle.sts_meaning.specs.Heaps.{FlatHeap}
 use Rattle.register_assign.specs.declared.places.Placed.{Placed}
 use Rattle.register_assign.specs.Sound.{place_of}
-use Rattle.flat_meaning.specs.Operators.{FlatHeap}
 use Rattle.flat_meaning.specs.Frames.{FlatFrame}
 use Rattle.flat_meaning.specs.Steps.{called}
 use Rattle.thumb_emit.specs.Emit.{passes, land, function_pieces}

@@ -20,7 +20,8 @@ use Rattle.register_assign.specs.Sound.{place_of}
 use Rattle.sts_syntax.specs.TypeRules.{entry}
 use Rattle.sts_meaning.specs.Values.{Value, Outcome, Gives, Breaks, Stuck, there, map_of}
 use Rattle.sts_meaning.specs.Frames.{after}
-use Rattle.flat_meaning.specs.Operators.{FlatHeap, exactly}
+use Rattle.sts_meaning.specs.Heaps.{FlatHeap}
+use Rattle.flat_meaning.specs.Operators.{exactly}
 use Rattle.flat_meaning.specs.Frames.{FlatFrame, FlatActivity, Stands, entered, words_of, depth_of}
 use Rattle.flat_meaning.specs.Frames as flat
 use Rattle.flat_meaning.specs.Steps.{called, entering}

@@ -20,7 +20,7 @@ use Rattle.register_assign.specs.declared.places.Placed.{Placed}
 use Rattle.register_assign.specs.Sound.{place_of}
 use Rattle.sts_meaning.specs.Values.{Value, Whole, Object, Text, Code, decided}
 use Rattle.sts_meaning.specs.Frames.{after}
-use Rattle.flat_meaning.specs.Operators.{FlatHeap}
+use Rattle.sts_meaning.specs.Heaps.{FlatHeap}
 use Rattle.flat_meaning.specs.Frames.{FlatFrame, FlatActivity, Stands}
 use Rattle.thumb_emit.specs.Emit.{function_pieces, unequal}
 use Rattle.thumb_emit.specs.Frame.{register_of, brings}

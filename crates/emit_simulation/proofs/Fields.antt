@@ -18,9 +18,8 @@ use Rattle.register_assign.specs.declared.places.Placed.{Placed}
 use Rattle.register_assign.specs.Sound.{place_of, IsWithin}
 use Rattle.register_assign.specs.Unread.{is_unread}
 use Rattle.sts_meaning.specs.Values.{Value, Outcome, Gives, Breaks, Stuck}
-use Rattle.sts_meaning.specs.Heaps.{read_field, write_field}
+use Rattle.sts_meaning.specs.Heaps.{FlatHeap, read_field, write_field}
 use Rattle.sts_meaning.specs.Frames.{after}
-use Rattle.flat_meaning.specs.Operators.{FlatHeap}
 use Rattle.flat_meaning.specs.Frames.{FlatFrame, Stands, given}
 use Rattle.flat_meaning.specs.Frames.{placed as placed_at}
 use Rattle.flat_meaning.specs.Steps.{FlatTurn}

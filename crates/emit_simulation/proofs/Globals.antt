@@ -17,7 +17,7 @@ use Rattle.register_assign.specs.Unread.{is_unread}
 use Rattle.sts_syntax.specs.TypeRules.{entry}
 use Rattle.sts_meaning.specs.Values.{Value, Gives, then_gives, there, changed}
 use Rattle.sts_meaning.specs.Frames.{after}
-use Rattle.flat_meaning.specs.Operators.{FlatHeap}
+use Rattle.sts_meaning.specs.Heaps.{FlatHeap}
 use Rattle.flat_meaning.specs.Frames.{FlatFrame, Stands, given}
 use Rattle.thumb_emit.specs.Emit.{finds_global}
 use Rattle.thumb_emit.specs.Bounds.{op_instructions}

@@ -16,9 +16,8 @@ use Rattle.register_assign.specs.declared.places.Placed.{Placed}
 use Rattle.register_assign.specs.Sound.{place_of}
 use Rattle.register_assign.specs.Unread.{is_unread}
 use Rattle.sts_meaning.specs.Values.{Value, Outcome, Gives, Breaks, Stuck}
-use Rattle.sts_meaning.specs.Heaps.{read_item, write_item, length_at}
+use Rattle.sts_meaning.specs.Heaps.{FlatHeap, read_item, write_item, length_at}
 use Rattle.sts_meaning.specs.Frames.{after}
-use Rattle.flat_meaning.specs.Operators.{FlatHeap}
 use Rattle.flat_meaning.specs.Frames.{FlatFrame, Stands, given}
 use Rattle.flat_meaning.specs.Frames.{placed as placed_at}
 use Rattle.flat_meaning.specs.Steps.{FlatTurn}

@@ -16,7 +16,7 @@ use Rattle.register_assign.specs.Sound.{place_of}
 use Rattle.register_assign.specs.Unread.{is_unread}
 use Rattle.sts_syntax.specs.TypeRules.{entry}
 use Rattle.sts_meaning.specs.Values.{Value}
-use Rattle.flat_meaning.specs.Operators.{FlatHeap}
+use Rattle.sts_meaning.specs.Heaps.{FlatHeap}
 use Rattle.flat_meaning.specs.Frames.{FlatFrame}
 use Rattle.thumb_emit.specs.Emit.{loads, asks}
 use Rattle.thumb_emit.specs.Frame.{from_place, lands}

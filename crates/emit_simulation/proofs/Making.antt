@@ -27,9 +27,9 @@ use Rattle.register_assign.specs.Sound.{place_of}
 use Rattle.sts_syntax.specs.TypeRules.{entry}
 use Rattle.sts_syntax.specs.Measures.{array_words}
 use Rattle.sts_meaning.specs.Values.{Value, Object, default, there}
-use Rattle.sts_meaning.specs.Heaps.{Fields, Items, with_cell}
+use Rattle.sts_meaning.specs.Heaps.{FlatHeap, Fields, Items, with_cell}
 use Rattle.sts_meaning.specs.Frames.{after}
-use Rattle.flat_meaning.specs.Operators.{FlatHeap, zeros}
+use Rattle.flat_meaning.specs.Operators.{zeros}
 use Rattle.flat_meaning.specs.Frames.{FlatFrame, FlatActivity, Stands, given}
 use Rattle.flat_meaning.specs.Steps.{makes}
 use Rattle.thumb_emit.specs.Emit.{counted_word}

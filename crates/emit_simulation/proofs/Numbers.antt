@@ -18,7 +18,8 @@ use Rattle.register_assign.specs.Sound.{place_of}
 use Rattle.register_assign.specs.Unread.{is_unread}
 use Rattle.sts_meaning.specs.Values.{Value, Whole, Outcome, Gives, Breaks, Stuck, then_gives, whole, to_int32, negated, applied}
 use Rattle.sts_meaning.specs.Frames.{after}
-use Rattle.flat_meaning.specs.Operators.{FlatHeap, prefixed_by}
+use Rattle.sts_meaning.specs.Heaps.{FlatHeap}
+use Rattle.flat_meaning.specs.Operators.{prefixed_by}
 use Rattle.flat_meaning.specs.Frames.{FlatFrame, Stands, given}
 use Rattle.thumb_emit.specs.Emit.{op_pieces, function_pieces, unary, binary}
 use Rattle.thumb_emit.specs.Frame.{register_of, brings, keeps, result_in}

@@ -15,7 +15,7 @@ use Rattle.register_assign.specs.declared.places.Placed.{Placed}
 use Rattle.register_assign.specs.Sound.{place_of}
 use Rattle.register_assign.specs.Unread.{is_unread}
 use Rattle.sts_meaning.specs.Values.{Value, with_entry}
-use Rattle.flat_meaning.specs.Operators.{FlatHeap}
+use Rattle.sts_meaning.specs.Heaps.{FlatHeap}
 use Rattle.flat_meaning.specs.Frames.{FlatFrame, FlatActivity, Stands, given}
 use Rattle.arena_values.specs.Lies.{Shows}
 use Rattle.placed_frames.specs.View.{View, with_low, At}

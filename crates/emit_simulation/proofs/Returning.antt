@@ -18,12 +18,12 @@ use Rattle.flat_ir.specs.declared.ops.Function.{Function}
 use Rattle.flat_ir.specs.declared.ops.FlatCode.{FlatCode}
 use Rattle.flat_ir.specs.WellFormed.{temporaries}
 use Rattle.flat_ir.specs.Liveness.{IsLiveAt}
+use Rattle.sts_meaning.specs.Heaps.{FlatHeap}
 use Rattle.register_assign.specs.declared.places.Place.{Place}
 use Rattle.register_assign.specs.declared.places.Placed.{Placed}
 use Rattle.register_assign.specs.Sound.{place_of}
 use Rattle.register_assign.specs.Saving.{saves}
 use Rattle.register_assign.proofs.Laws.{saves_few}
-use Rattle.flat_meaning.specs.Operators.{FlatHeap}
 use Rattle.flat_meaning.specs.Frames.{FlatFrame}
 use Rattle.thumb_emit.specs.Emit.{function_pieces}
 use Rattle.thumb_emit.specs.Frame.{from_place, raises, below_saved, saved_list}

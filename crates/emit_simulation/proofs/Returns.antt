@@ -36,7 +36,7 @@ use Rattle.register_assign.specs.Sound.{place_of}
 use Rattle.register_assign.specs.Unread.{is_unread}
 use Rattle.sts_syntax.specs.TypeRules.{entry}
 use Rattle.sts_meaning.specs.Frames.{after}
-use Rattle.flat_meaning.specs.Operators.{FlatHeap}
+use Rattle.sts_meaning.specs.Heaps.{FlatHeap}
 use Rattle.flat_meaning.specs.Frames.{FlatFrame, Enters, Stands, given, op_of, result_of}
 use Rattle.flat_meaning.specs.Steps.{ended}
 use Rattle.sts_implements.specs.Passes.{trailing_instructions}

@@ -24,8 +24,8 @@ use Rattle.register_assign.specs.Sound.{place_of}
 use Rattle.register_assign.specs.Unread.{is_unread}
 use Rattle.sts_syntax.specs.TypeRules.{entry}
 use Rattle.sts_meaning.specs.Values.{Value, Whole, default, to_int32}
+use Rattle.sts_meaning.specs.Heaps.{FlatHeap}
 use Rattle.sts_implements.specs.Passes.{trailing_instructions}
-use Rattle.flat_meaning.specs.Operators.{FlatHeap}
 use Rattle.flat_meaning.specs.Frames.{FlatFrame, Stands, given, depth_of, words_of}
 use Rattle.flat_meaning.specs.Steps.{FlatTurn, flat}
 use Rattle.thumb_emit.specs.Emit.{loads, answers, asks}

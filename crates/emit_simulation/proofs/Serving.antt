@@ -11,9 +11,9 @@ use Rattle.bank_model.specs.BoardMachine.{fibers, fiber_of, shared_in}
 use Rattle.bank_model.specs.Arrays.{behind_words}
 use Rattle.bank_model.specs.AllServices.{service, word_argument, answered_word}
 use Rattle.flat_ir.specs.declared.ops.FlatCode.{FlatCode}
+use Rattle.sts_meaning.specs.Heaps.{FlatHeap}
 use Rattle.register_assign.specs.declared.places.Placed.{Placed}
 use Rattle.sts_implements.specs.Passes.{trailing_instructions}
-use Rattle.flat_meaning.specs.Operators.{FlatHeap}
 use Rattle.flat_meaning.specs.Frames.{FlatActivity}
 use Rattle.flat_meaning.specs.Steps.{flat}
 use Rattle.thumb_emit.specs.InFlash.{Addresses}

@@ -25,9 +25,8 @@ use Rattle.register_assign.specs.declared.places.Placed.{Placed}
 use Rattle.register_assign.specs.Sound.{place_of}
 use Rattle.sts_syntax.specs.TypeRules.{entry}
 use Rattle.sts_meaning.specs.Values.{Value, Outcome, Gives, Breaks, Stuck, then_gives, there}
-use Rattle.sts_meaning.specs.Heaps.{object_at}
+use Rattle.sts_meaning.specs.Heaps.{FlatHeap, object_at}
 use Rattle.sts_meaning.specs.Frames.{after, first}
-use Rattle.flat_meaning.specs.Operators.{FlatHeap}
 use Rattle.flat_meaning.specs.Frames.{FlatFrame, FlatActivity}
 use Rattle.flat_meaning.specs.Steps.{called}
 use Rattle.thumb_emit.specs.Emit.{passes, land, calls_slot, op_pieces, function_pieces}

@@ -22,8 +22,8 @@ use Rattle.thumb_layout.specs.Pieces.{Places}
 use Rattle.thumb_layout.specs.Holds.{Reaches}
 use Rattle.thumb_layout.proofs.Laws.{silent_add}
 use Rattle.flat_ir.specs.declared.ops.FlatCode.{FlatCode}
+use Rattle.sts_meaning.specs.Heaps.{FlatHeap}
 use Rattle.register_assign.specs.declared.places.Placed.{Placed}
-use Rattle.flat_meaning.specs.Operators.{FlatHeap}
 use Rattle.flat_meaning.specs.Frames.{FlatActivity}
 use Rattle.sts_implements.specs.Passes.{trailing_instructions}
 use Rattle.thumb_emit.specs.InFlash.{Addresses}

@@ -20,13 +20,13 @@ use Rattle.flat_ir.specs.Liveness.{IsLiveAt}
 use Rattle.register_assign.specs.declared.places.Placed.{Placed}
 use Rattle.register_assign.specs.Sound.{place_of}
 use Rattle.register_assign.specs.Unread.{is_unread}
-use Rattle.flat_meaning.specs.Operators.{FlatHeap}
 use Rattle.flat_meaning.specs.Frames.{FlatFrame, Stands, given}
 use Rattle.flat_meaning.specs.Frames.{placed as placed_at}
 use Rattle.flat_ir.specs.Ops.{reads, writes}
 use Rattle.flat_ir.specs.Ops.{goes_on as goes_on_at}
 use Rattle.flat_ir.specs.WellFormed.{temporaries}
 use Rattle.sts_meaning.specs.Values.{Value, with_entry}
+use Rattle.sts_meaning.specs.Heaps.{FlatHeap}
 use Rattle.arena_values.specs.Lies.{Shows}
 use Rattle.thumb_emit.specs.Frame.{register_of, brings, keeps, result_in}
 use Rattle.thumb_emit.proofs.Laws.{brings_still, keeps_still, still_takes}

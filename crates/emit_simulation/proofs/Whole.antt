@@ -16,7 +16,7 @@ use Rattle.flat_ir.specs.declared.ops.Function.{Function}
 use Rattle.flat_ir.specs.declared.ops.FlatCode.{FlatCode}
 use Rattle.register_assign.specs.declared.places.Placed.{Placed}
 use Rattle.sts_syntax.specs.TypeRules.{entry}
-use Rattle.flat_meaning.specs.Operators.{FlatHeap}
+use Rattle.sts_meaning.specs.Heaps.{FlatHeap}
 use Rattle.flat_meaning.specs.Frames.{FlatActivity, Enters, op_of}
 use Rattle.flat_meaning.specs.Steps.{flat, step, act_at, called}
 use Rattle.sts_implements.specs.Passes.{trailing_instructions, Emits}

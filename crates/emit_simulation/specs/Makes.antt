@@ -10,9 +10,9 @@ use Rattle.bank_model.specs.BoardMachine.{fibers}
 use Rattle.flat_ir.specs.declared.ops.Op.{Op}
 use Rattle.flat_ir.specs.declared.ops.FlatCode.{FlatCode}
 use Rattle.flat_ir.specs.Liveness.{IsLiveAt}
+use Rattle.sts_meaning.specs.Heaps.{FlatHeap}
 use Rattle.register_assign.specs.declared.places.Placed.{Placed}
 use Rattle.register_assign.specs.Sound.{place_of}
-use Rattle.flat_meaning.specs.Operators.{FlatHeap}
 use Rattle.flat_meaning.specs.Frames.{FlatFrame, FlatActivity}
 use Rattle.flat_meaning.specs.Steps.{flat, act}
 use Rattle.sts_implements.specs.Passes.{trailing_instructions}

@@ -20,7 +20,7 @@ use Rattle.register_assign.specs.declared.places.Place.TheVariants.{Reg}
 use Rattle.register_assign.specs.declared.places.Placed.{Placed}
 use Rattle.register_assign.specs.Sound.{place_of}
 use Rattle.sts_meaning.specs.Values.{Value}
-use Rattle.flat_meaning.specs.Operators.{FlatHeap}
+use Rattle.sts_meaning.specs.Heaps.{FlatHeap}
 use Rattle.flat_meaning.specs.Frames.{FlatFrame, FlatActivity, Enters, Stands}
 use Rattle.placed_frames.specs.Places.{Store}
 use Rattle.placed_frames.specs.Frames.{Frame, Running}

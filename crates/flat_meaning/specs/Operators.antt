@@ -6,11 +6,6 @@ use Rattle.sts_syntax.specs.BoardTable.{BoardAction, Service, Library, Repeats}
 use Rattle.sts_syntax.specs.Nodes.{is_among}
 use Rattle.sts_meaning.specs.Continuation.{gives_value}
 use Rattle.sts_meaning.specs.Values.{Value, Whole, default, Outcome, Gives, Stuck, then_gives, whole, to_int32, negated}
-use Rattle.sts_meaning.specs.Heaps.{HeapOf}
-
--- of an array's items nothing is noted
-abbrev pub FlatHeap : Type 0
-FlatHeap = HeapOf (Unit {0})
 
 -- The prefix operators of the source by their numbers, and 5 and 6, which give one more and one less than a number, through ToInt32.
 abbrev pub prefixed_by : ℕ → Value → Outcome Value

@@ -17,10 +17,10 @@ use Rattle.flat_ir.specs.declared.ops.FlatCode.{FlatCode}
 use Rattle.sts_syntax.specs.Measures.{array_words}
 use Rattle.sts_syntax.specs.TypeRules.{entry}
 use Rattle.sts_meaning.specs.Values.{Value, Whole, Object, Text, Code, default, Outcome, then_gives, there, applied, decided}
-use Rattle.sts_meaning.specs.Heaps.{Fields, Items, with_cell, write_global, object_at, read_field, write_field, read_item, write_item, length_at, pushed, popped}
+use Rattle.sts_meaning.specs.Heaps.{FlatHeap, Fields, Items, with_cell, write_global, object_at, read_field, write_field, read_item, write_item, length_at, pushed, popped}
 use Rattle.sts_meaning.specs.Services.{requested}
 use Rattle.sts_meaning.specs.Frames.{stuck, after, grown, first, answered, text_of}
-use Rattle.flat_meaning.specs.Operators.{FlatHeap, prefixed_by, answers, zeros, exactly}
+use Rattle.flat_meaning.specs.Operators.{prefixed_by, answers, zeros, exactly}
 use Rattle.flat_meaning.specs.Frames.{FlatFrame, FlatActivity, Enters, Stands, entered, placed, given, result_of, words, op_at, depth_of}
 
 -- the turn of an activity over flat code's heap

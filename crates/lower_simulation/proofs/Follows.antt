@@ -17,12 +17,12 @@ use Rattle.sts_syntax.specs.Measures.{object_words, array_words}
 use Rattle.sts_syntax.specs.TypeRules.{entry, IsOneOf, IsOne}
 use Rattle.sts_syntax.specs.WellTypedPrograms.{is_maker}
 use Rattle.sts_meaning.specs.Values.{Value, Whole, Object, Text, Code, default, Outcome, Gives, Breaks, Stuck, then_gives, there, to_int32, applied, negated, bumped, Bumped, decided, with_entry}
-use Rattle.sts_meaning.specs.Heaps.{Heap, Fields, with_cell, write_global, object_at, read_field, write_field, read_item, write_item, length_at, pushed, popped}
+use Rattle.sts_meaning.specs.Heaps.{FlatHeap, Heap, Fields, with_cell, write_global, object_at, read_field, write_field, read_item, write_item, length_at, pushed, popped}
 use Rattle.sts_meaning.specs.Services.{requested}
 use Rattle.sts_meaning.specs.Continuation.{Continuation, Put, Get, Store, Drop, Unary, Apply, Choose, Both, Either, Read, Peek, Write, At, PeekAt, SetAt, Bump, BumpField, BumpAt, Measure, Push, Pop, Open, Append, New, Build, Invoke, Send, Ask, Repeat, Again, Each, Leave, Give, Round, Impossible, runs}
 use Rattle.sts_meaning.specs.Frames.{Names, Frame, Activity, Starts, Runs, after, grown, taken, named, with_local, with_param, stored, defaults, first, answered, round}
 use Rattle.sts_meaning.specs.Steps as source
-use Rattle.sts_implements.specs.Forgotten.{FlatHeap, forget, Agree}
+use Rattle.sts_implements.specs.Forgotten.{forget, Agree}
 use Rattle.sts_implements.proofs.Laws.{after_matches, agree_then, agree_same, IsForgotten, ArePushed, ArePopped, object_agrees, read_field_agrees, write_field_agrees, read_item_agrees, write_item_agrees, pushed_agrees, popped_agrees, length_agrees, new_agrees, open_agrees, write_global_agrees}
 use Rattle.flat_meaning.specs.Operators.{prefixed_by, answers, zeros}
 use Rattle.flat_meaning.specs.Frames.{FlatFrame, FlatActivity, Enters, Stands, words, result_of, depth_of}
@@ -304,7 +304,7 @@ module _ (P : TypedProgram) (texts : List ByteList) (fine : IsFine P) (weight : 
         made x =
             let e : suc (length x.fields) ≡ object_words x = omega arith in
             let heap : (at : ℕ) → forget (with_cell at (Fields c (defaults x.fields)) h) ≡ with_cell at (Fields c (zeros (length x.fields))) (forget h) =
-            λ at. new_agrees h at c x ∙ ap (λ vs. with_cell at (Fields c vs) (forget h)) (zeros_are (length x.fields)) in
+            λ at. new_agrees h at c (defaults x.fields) ∙ ap (λ vs. with_cell at (Fields c vs) (forget h)) (sym (zeros_are x.fields)) in
             subst (λ m. M used h (Takes (object_words x) (λ at. (now_with n (Object at ∷ vs) k, with_cell at (Fields c (defaults x.fields)) h))) (flat.makes (lowered P) texts (forget h) (fr j pc temps) waiting base (params + locals + length p) c m)) e
             (ap (λ k. min k (suc arena_limit)) (sym e), λ fits. going P texts weight light (used + object_words x) h _ _ _ _ (heap used) (goes_on n (None ∷ p) (Object used ∷ vs) k (pc + 1) (with_entry (params + locals + length p) (Object used) temps) (shows_put params locals n None p (Object used) vs temps tt shows) near))
 

@@ -9,9 +9,9 @@ use Rattle.sts_syntax.specs.Types.{ValueType}
 use Rattle.sts_syntax.specs.TypedTrees.{TypedRoutine, ClassEntry, TypedProgram}
 use Rattle.sts_syntax.specs.TypeRules.{entry, IsOneOf}
 use Rattle.sts_meaning.specs.Values.{Value, Outcome, Gives, Breaks, Stuck, there}
-use Rattle.sts_meaning.specs.Frames.{as_many}
+use Rattle.sts_meaning.specs.Frames.{as_many, defaults}
 use Rattle.sts_meaning.specs.Steps as source
-use Rattle.sts_implements.specs.Forgotten.{Agree, flat_defaults}
+use Rattle.sts_implements.specs.Forgotten.{Agree}
 use Rattle.flat_meaning.specs.Operators.{zeros, exactly}
 use Rattle.flat_meaning.specs.Frames.{op_of, words, words_of}
 use Rattle.sts_lower.specs.Code.{maker_of}
@@ -37,9 +37,9 @@ classes_agree [] c = tt
 classes_agree (x ∷ cs) zero = refl
 classes_agree (x ∷ cs) (suc c) = classes_agree cs c
 
-pub zeros_are : (n : ℕ) → flat_defaults n ≡ zeros n
-zeros_are zero = refl
-zeros_are (suc n) = ap (λ (vs : List Value). Rattle.sts_meaning.specs.Values.default ∷ vs) (zeros_are n)
+pub zeros_are : (us : List ValueType) → zeros (length us) ≡ defaults us
+zeros_are [] = refl
+zeros_are (u ∷ us) = ap (λ (vs : List Value). Rattle.sts_meaning.specs.Values.default ∷ vs) (zeros_are us)
 
 pub as_many_is : (ps : List ValueType) (vs : List Value) → as_many ps vs ≡ exactly (length ps) vs
 as_many_is [] [] = refl

@@ -1,5 +1,5 @@
 -- Flat code implements its source, counted in ops.
-use Rattle.std.proofs.Common.{◌≡◌, ℕ, zero, suc, ◌+◌, ◌*◌, ◌≤◌, List, [], ◌∷◌, length, inl, refl, sym, ap, subst, arith}
+use Rattle.std.proofs.Common.{◌≡◌, ℕ, zero, suc, ◌+◌, ◌*◌, ◌≤◌, List, length, inl, refl, sym, ap, subst, arith}
 use Rattle.board_world.specs.Observations.{ByteList}
 use Rattle.board_world.specs.Kinds.{Kind}
 use Rattle.board_world.specs.Simulation.{Ties, Path, one, always}
@@ -8,21 +8,20 @@ use Rattle.board_world.specs.Implements.{Implements, boards_from}
 use Rattle.board_world.proofs.Laws.{implements}
 use Rattle.flat_ir.specs.declared.ops.Op.{Op}
 use Rattle.flat_ir.specs.declared.ops.Op.TheVariants as o
-use Rattle.sts_syntax.specs.Types.{ValueType}
 use Rattle.sts_syntax.specs.TypedTrees.{TypedProgram}
 use Rattle.sts_syntax.specs.WellTypedPrograms.{IsWellTyped}
-use Rattle.sts_meaning.specs.Values.{Value, default}
-use Rattle.sts_meaning.specs.Frames.{defaults}
+use Rattle.sts_meaning.specs.Values.{Value}
 use Rattle.sts_meaning.specs.Steps.{source, empty}
+use Rattle.sts_meaning.specs.Heaps.{FlatHeap}
 use Rattle.meaning_sound.specs.Kept.{typed}
 use Rattle.meaning_sound.proofs.Laws.{source_sound, empty_is}
-use Rattle.sts_implements.specs.Forgotten.{FlatHeap, forget}
+use Rattle.sts_implements.specs.Forgotten.{forget}
 use Rattle.flat_meaning.specs.Frames.{FlatActivity}
-use Rattle.flat_meaning.specs.Operators.{zeros}
 use Rattle.flat_meaning.specs.Steps.{flat, flat_empty}
 use Rattle.sts_lower.specs.Lowered.{lowered}
 use Rattle.lowered_code.proofs.Laws.{entry_within}
 use Rattle.lower_simulation.specs.Limits.{limit, IsLight, ops_of_a_step}
+use Rattle.lower_simulation.proofs.Functions.{zeros_are}
 use Rattle.lower_simulation.proofs.Turns.{T}
 use Rattle.lower_simulation.proofs.Whole.{lowering_keeps}
 
@@ -76,10 +75,6 @@ module _ {A S : Type 0} (K : Kind A S) (L : Kind FlatActivity FlatHeap) (T : Tie
   }
 
 -- flat code's own start is what lowering ties to the source's
-zeros_are : (us : List ValueType) → zeros (length us) ≡ defaults us
-zeros_are [] = refl
-zeros_are (u ∷ us) = ap (λ (vs : List Value). default ∷ vs) (zeros_are us)
-
 pub starts_empty : (P : TypedProgram) (texts : List ByteList) → flat_empty (lowered P) texts (length P.globals) ≡ forget (empty P texts)
 starts_empty P texts = ap (λ (vs : List Value). record (forget (empty P texts)) { globals = vs }) (zeros_are P.globals)
 

@@ -12,11 +12,11 @@ use Rattle.sts_syntax.specs.TypedTrees.{TypedStatement, TypedProgram}
 use Rattle.sts_syntax.specs.TypeRules.{entry}
 use Rattle.sts_syntax.specs.WellTypedPrograms.{is_maker}
 use Rattle.sts_meaning.specs.Values.{truth, Value, Whole, Object, Text, Code, Outcome, Gives, Breaks, then_gives, to_int32, applied, decided, with_entry}
-use Rattle.sts_meaning.specs.Heaps.{Heap, read_item, length_at, next_item, next_at, array_at, item_at, found, numbered, Row, RowOf}
+use Rattle.sts_meaning.specs.Heaps.{FlatHeap, Heap, read_item, length_at, next_item, next_at, array_at, item_at, found, numbered, Row, RowOf}
 use Rattle.sts_meaning.specs.Continuation.{Continuation, Each, runs}
 use Rattle.sts_meaning.specs.Frames.{Names, Frame, Activity, Runs, after, with_local}
 use Rattle.sts_meaning.specs.Steps as source
-use Rattle.sts_implements.specs.Forgotten.{FlatHeap, forget}
+use Rattle.sts_implements.specs.Forgotten.{forget}
 use Rattle.sts_implements.proofs.Laws.{AreRows, array_agrees}
 use Rattle.flat_meaning.specs.Operators.{prefixed_by}
 use Rattle.flat_meaning.specs.Frames.{FlatFrame, FlatActivity, Stands, words, depth_of}

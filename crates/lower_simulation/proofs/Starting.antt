@@ -11,11 +11,11 @@ use Rattle.sts_syntax.specs.TypedTrees.{TypedRoutine, TypedProgram}
 use Rattle.sts_syntax.specs.TypeRules.{entry, IsOneOf}
 use Rattle.sts_syntax.specs.WellTypedPrograms.{is_maker}
 use Rattle.sts_meaning.specs.Values.{Value, Whole, default, Outcome, Gives, Breaks, Stuck, there, map_of}
-use Rattle.sts_meaning.specs.Heaps.{Heap}
+use Rattle.sts_meaning.specs.Heaps.{FlatHeap, Heap}
 use Rattle.sts_meaning.specs.Continuation.{Put, Drop, Ask, Round}
 use Rattle.sts_meaning.specs.Frames.{Names, Frame, Activity, Runs, after, as_many, round}
 use Rattle.sts_meaning.specs.Steps as source
-use Rattle.sts_implements.specs.Forgotten.{FlatHeap, forget}
+use Rattle.sts_implements.specs.Forgotten.{forget}
 use Rattle.flat_meaning.specs.Operators.{exactly}
 use Rattle.flat_meaning.specs.Frames.{FlatFrame, FlatActivity, Stands, entered, words, depth_of}
 use Rattle.flat_meaning.specs.Steps as flat

@@ -12,11 +12,11 @@ use Rattle.board_world.specs.Sound.{NoFault}
 use Rattle.flat_ir.specs.declared.ops.Op.{Op}
 use Rattle.sts_syntax.specs.TypedTrees.{TypedProgram}
 use Rattle.sts_meaning.specs.Values.{Outcome, Gives, Breaks, Stuck}
-use Rattle.sts_meaning.specs.Heaps.{Heap}
+use Rattle.sts_meaning.specs.Heaps.{FlatHeap, Heap}
 use Rattle.sts_meaning.specs.Frames.{Activity, Starts, Runs, stuck, after, grown, text_of}
 use Rattle.sts_meaning.specs.Steps.{source}
 use Rattle.sts_meaning.specs.Steps as source
-use Rattle.sts_implements.specs.Forgotten.{FlatHeap, forget, Agree}
+use Rattle.sts_implements.specs.Forgotten.{forget, Agree}
 use Rattle.sts_implements.specs.Passes.{lowered as ties_of}
 use Rattle.flat_meaning.specs.Frames.{FlatFrame, FlatActivity, Enters, Stands, op_at, depth_of}
 use Rattle.flat_meaning.specs.Steps as flat

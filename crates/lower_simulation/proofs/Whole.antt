@@ -4,10 +4,10 @@ use Rattle.board_world.specs.Observations.{ByteList}
 use Rattle.board_world.specs.Simulation.{Follows, Matches, always}
 use Rattle.sts_syntax.specs.TypedTrees.{TypedProgram}
 use Rattle.sts_syntax.specs.WellTypedPrograms.{IsWellTyped}
-use Rattle.sts_meaning.specs.Heaps.{Heap}
+use Rattle.sts_meaning.specs.Heaps.{FlatHeap, Heap}
 use Rattle.sts_meaning.specs.Frames.{Activity}
 use Rattle.sts_meaning.specs.Steps.{source, step}
-use Rattle.sts_implements.specs.Forgotten.{FlatHeap, forget}
+use Rattle.sts_implements.specs.Forgotten.{forget}
 use Rattle.sts_implements.specs.Passes.{Lowers}
 use Rattle.flat_meaning.specs.Frames.{FlatActivity}
 use Rattle.flat_meaning.specs.Steps.{flat}

@@ -3,7 +3,7 @@ use Rattle.std.specs.Prelude.{◌≡◌, ℕ, ◌≤◌, List, Some}
 use Rattle.flat_ir.specs.declared.ops.Op.{Op}
 use Rattle.flat_ir.specs.declared.ops.Op.TheVariants.{Const, Copy, Unary, Binary, GlobalGet, GlobalSet, FieldGet, FieldSet, ItemGet, ItemSet, Length, Pop, TextOf, MakeObject, MakeArray, Call, CallSlot, HandlerOf, Ask, Jump, Branch, Return}
 use Rattle.flat_ir.specs.declared.ops.FlatCode.{FlatCode}
-use Rattle.flat_meaning.specs.Operators.{FlatHeap}
+use Rattle.sts_meaning.specs.Heaps.{FlatHeap}
 use Rattle.flat_meaning.specs.Frames.{FlatFrame, FlatActivity, Enters, Stands, op_at}
 
 -- the list of bounds; a call's is with the entry of the function that it calls

@@ -10,10 +10,10 @@ use Rattle.sts_syntax.specs.TypeRules.{entry}
 use Rattle.sts_syntax.specs.Types.{ValueType}
 use Rattle.sts_syntax.specs.TypedTrees.{ClassEntry, TypedProgram}
 use Rattle.sts_meaning.specs.Values.{Value, Whole, Object, Text, Code, default, Outcome, Gives, Breaks, Stuck, then_gives, there, changed, with_entry}
-use Rattle.sts_meaning.specs.Heaps.{CellOf, Fields, Items, Cell, Heap, RowOf, Row, with_cell, write_global, fields_of, object_at, items_of, array_at, number_of, put_fields, put_items, read_field, write_field, item_at, read_item, write_item, length_at, wider, pushed, last, shorter, popped, next_at, next_item}
+use Rattle.sts_meaning.specs.Heaps.{CellOf, Fields, Items, Cell, Heap, FlatHeap, RowOf, Row, with_cell, write_global, fields_of, object_at, items_of, array_at, number_of, put_fields, put_items, read_field, write_field, item_at, read_item, write_item, length_at, wider, pushed, last, shorter, popped, next_at, next_item}
 use Rattle.sts_meaning.specs.Frames.{after, defaults}
 use Rattle.sts_meaning.specs.Steps.{method}
-use Rattle.sts_implements.specs.Forgotten.{Nothing, FlatHeap, forget_cell, forget_at, forget, Agree, FlatClass, flat_class, flat_classes, flat_defaults, flat_method}
+use Rattle.sts_implements.specs.Forgotten.{Nothing, forget_cell, forget_at, forget, Agree}
 
 module _ {A S C D : Type 0} (K : Kind A S) (L : Kind C D) (T : Ties A S C D) where
   -- turns that go on from outcomes that agree match, also where they are stuck
@@ -135,28 +135,12 @@ pub next_item_agrees : (h : Heap) (a i : Value) → Agree (λ x y. x ≡ y) (nex
 next_item_agrees h a i =
     agree_then AreRows (λ x y. x ≡ y) (array_at h a) (array_at (forget h) a) _ _ (array_agrees h a) (λ r q e. same_outcome _ _ (ap (λ (vs : List Value). next_at vs i) e.items))
 
-defaults_agree : (ts : List ValueType) → defaults ts ≡ flat_defaults (length ts)
-defaults_agree [] = refl
-defaults_agree (t ∷ ts) = ap (λ (vs : List Value). default ∷ vs) (defaults_agree ts)
-
--- an object is made: as many words are taken, and the heaps agree behind it
-pub new_agrees : (h : Heap) (at c : ℕ) (class : ClassEntry) → IsForgotten (with_cell at (Fields c (defaults class.fields)) h) (with_cell at (Fields c (flat_defaults (flat_class class).fields)) (forget h))
-new_agrees h at c class = forget_with at (Fields c (defaults class.fields)) h ∙ ap (λ (vs : List Value). with_cell at (Fields c vs) (forget h)) (defaults_agree class.fields)
+-- an object is made: the heaps agree behind it
+pub new_agrees : (h : Heap) (at c : ℕ) (fields : List Value) → IsForgotten (with_cell at (Fields c fields) h) (with_cell at (Fields c fields) (forget h))
+new_agrees h at c fields = forget_with at (Fields c fields) h
 
 pub open_agrees : (h : Heap) (at : ℕ) (u : ValueType) (room : ℕ) → IsForgotten (with_cell at (Items u room []) h) (with_cell at (Items tt room []) (forget h))
 open_agrees h at u room = forget_with at (Items u room []) h
-
-classes_agree : (cs : List ClassEntry) (c : ℕ) → Agree (λ x y. flat_class x ≡ y) (there (entry cs c)) (there (entry (flat_classes cs) c))
-classes_agree [] c = tt
-classes_agree (x ∷ cs) zero = refl
-classes_agree (x ∷ cs) (suc c) = classes_agree cs c
-
-pub method_agrees : (P : TypedProgram) (texts : List ByteList) (h : Heap) (o : Value) (s : ℕ) → Agree (λ x y. x ≡ y) (method P texts h o s) (flat_method (flat_classes P.classes) (forget h) o s)
-method_agrees P texts h o s =
-    agree_then (λ x y. x ≡ y) (λ x y. x ≡ y) (object_at h o) (object_at (forget h) o) _ _ (object_agrees h o)
-    (λ x y e. subst (λ (z : ℕ × List Value). Agree (λ a b. a ≡ b) (then_gives (there (entry P.classes x.0)) (λ class. there (entry class.slots s))) (then_gives (there (entry (flat_classes P.classes) z.0)) (λ class. there (entry class.slots s)))) e
-    (agree_then (λ c d. flat_class c ≡ d) (λ a b. a ≡ b) (there (entry P.classes x.0)) (there (entry (flat_classes P.classes) x.0)) _ _ (classes_agree P.classes x.0)
-    (λ c d q. same_outcome _ _ (ap (λ (k : FlatClass). there (entry k.slots s)) q))))
 
 -- an array without its last item, and that item
 pub record ArePopped (x : Value × Heap) (y : Value × FlatHeap) : Type 0 where

@@ -9,13 +9,13 @@ use Rattle.board_world.specs.Sound.{Typing, Sound}
 use Rattle.board_world.specs.Trailing.{PartialTrailingSimulation}
 use Rattle.board_world.proofs.Laws.{partial_trailing_compose, trailing_implements}
 use Rattle.sts_syntax.specs.TypedTrees.{TypedProgram}
-use Rattle.sts_meaning.specs.Heaps.{Heap}
+use Rattle.sts_meaning.specs.Heaps.{FlatHeap, Heap}
 use Rattle.sts_meaning.specs.Frames.{Activity}
 use Rattle.sts_meaning.specs.Steps.{source, empty}
 use Rattle.bank_model.specs.Fibers.{Fiber, Shared, shared_at_reset}
 use Rattle.bank_model.specs.BoardMachine.{fibers}
 use Rattle.sts_implements.specs.Images.{instructions_of_a_step, ImageImplements}
-use Rattle.sts_implements.specs.Forgotten.{FlatHeap, forget}
+use Rattle.sts_implements.specs.Forgotten.{forget}
 use Rattle.sts_implements.specs.Passes.{Lowers, Emits, trailing_instructions}
 
 module _ (P : TypedProgram) (texts : List ByteList) (image : List ℕ) {B : Type 0} (flat : Kind B FlatHeap) (Act : Heap → Activity → B → Type 0) (Code : ℕ → ℕ → Type 0)

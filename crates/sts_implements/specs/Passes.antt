@@ -7,13 +7,13 @@ use Rattle.board_world.specs.Composed.{seen}
 use Rattle.board_world.specs.Sound.{PartialSimulation}
 use Rattle.board_world.specs.Trailing.{PartialTrailingSimulation}
 use Rattle.sts_syntax.specs.TypedTrees.{TypedProgram}
-use Rattle.sts_meaning.specs.Heaps.{Heap}
+use Rattle.sts_meaning.specs.Heaps.{FlatHeap, Heap}
 use Rattle.sts_meaning.specs.Frames.{Activity}
 use Rattle.sts_meaning.specs.Steps.{source}
 use Rattle.bank_model.specs.Fibers.{Fiber, Shared}
 use Rattle.bank_model.specs.BoardMachine.{fibers}
 use Rattle.sts_implements.specs.Images.{instructions_of_a_step}
-use Rattle.sts_implements.specs.Forgotten.{FlatHeap, forget}
+use Rattle.sts_implements.specs.Forgotten.{forget}
 
 -- The ties of lowering: the heaps are the same but for the types of items. `Act` ties an activity of the source to one of lowered code, and
 -- `Code` a function to its number there.

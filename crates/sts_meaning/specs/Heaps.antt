@@ -23,6 +23,10 @@ Cell = CellOf ValueType
 abbrev pub Heap : Type 0
 Heap = HeapOf ValueType
 
+-- lowered code's, where nothing is noted
+abbrev pub FlatHeap : Type 0
+FlatHeap = HeapOf (Unit {0})
+
 abbrev pub with_cell : {N : Type 0} → ℕ → CellOf N → HeapOf N → HeapOf N
 with_cell n c h = record h { cells = with_entry n (Some c) h.cells }
 

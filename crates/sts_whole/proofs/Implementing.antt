@@ -19,7 +19,6 @@ use Rattle.meaning_sound.proofs.Laws.{source_sound, empty_is}
 use Rattle.sts_implements.specs.Images.{ImageImplements}
 use Rattle.sts_implements.specs.Passes.{Lowers, Emits}
 use Rattle.sts_implements.proofs.Laws.{passes_implement}
-use Rattle.flat_meaning.specs.Operators.{FlatHeap}
 use Rattle.flat_meaning.specs.Frames.{FlatActivity}
 use Rattle.flat_meaning.specs.Steps.{flat}
 use Rattle.lowered_code.proofs.Laws.{entry_within}
@@ -37,6 +36,7 @@ use Rattle.flat_ir.specs.declared.ops.Function.{Function}
 use Rattle.flat_ir.specs.declared.ops.FlatClass.{FlatClass}
 use Rattle.flat_ir.specs.declared.ops.FlatCode.{FlatCode}
 use Rattle.flat_ir.specs.WellFormed.{IsWellFormed, IsFunctionAmong}
+use Rattle.sts_meaning.specs.Heaps.{FlatHeap}
 use Rattle.sts_lower.specs.Lowered.{lowered, flat_class, flat_classes, lowered_routines, repeating_functions, repeated_in_program}
 use Rattle.sts_lower.proofs.Laws.{HasFewFields, few_functions, few_fields}
 use Rattle.lowered_code.specs.Texts.{Has, AllHave, NamesOnly}

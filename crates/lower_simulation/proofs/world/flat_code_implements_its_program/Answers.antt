@@ -1,6 +1,6 @@
 use Rattle.std.proofs.Common.{ap}
 use Rattle.board_world.specs.World.{start}
-use Rattle.sts_implements.specs.Forgotten.{FlatHeap}
+use Rattle.sts_meaning.specs.Heaps.{FlatHeap}
 use Rattle.flat_meaning.specs.Steps.{flat}
 use Rattle.sts_lower.specs.Lowered.{lowered}
 use Rattle.lower_simulation.proofs.Implementing.{flat_implements, starts_empty}
