@@ -1,12 +1,9 @@
 #!/bin/sh
-# Random pairs through the division routine on the machine, beside Python's division: quotient, remainder and instructions. The program is built where it
-# isn't there.
+# Random pairs through the division routine on the machine (tests/thumb_rows, as bin/compile makes it), beside Python's division: quotient, remainder and instructions.
 # usage: bench/divide/run.sh [SEED] [COUNT]
 set -eu
 here=$(cd "$(dirname "$0")" && pwd)
-crate=$here/../../tests/thumb_rows
-program=$crate/out/thumb_rows
-[ -x "$program" ] || (cd "$crate" && rt run -- < /dev/null > /dev/null) || [ -x "$program" ]
+program=$("$here/../../bin/compile" thumb_rows)
 folder=$(mktemp -d)
 trap 'rm -rf "$folder"' EXIT
 python3 "$here/pairs.py" write "${1:-1}" "${2:-1000000}" > "$folder/pairs"

@@ -1,6 +1,6 @@
 """Compares what `input_rows` says of random class files and arrivals with a reading of docs/FORMATS.md written anew, over Python's own JSON.
 
-usage: bench/files/readings.py PROGRAM SEED COUNT      PROGRAM is `input_rows`, as built
+usage: bench/files/readings.py PROGRAM SEED COUNT      PROGRAM is `input_rows`, as bin/compile makes it
 
 Half of the files are changed at a place or two: a byte, a cut, or a number that isn't as it should be. Each row that differs is printed; the last line has how many did, and how many files there were
 of each answer.
