@@ -14,7 +14,7 @@ use Rattle.bank_model.specs.Standing.{fiber_on, shared_on}
 use Rattle.fiber_runtime.specs.declared.turning.Turning.{Turning}
 use Rattle.board_run.specs.Represents.{BoardState, Represents, behind}
 use Rattle.board_outside.specs.Moves.{Move, seen_of, unplugged_of, Meets}
-use Rattle.board_run.proofs.Goes.{current, IsPlain, goes_still}
+use Rattle.board_run.proofs.FiberGoesOn.{current, IsPlain, goes_still}
 use Rattle.board_run.proofs.Course.{same_shared}
 
 -- moves of which none unplugs

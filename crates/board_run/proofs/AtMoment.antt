@@ -23,7 +23,7 @@ use Rattle.board_run.specs.Idling.{IsEmpty}
 use Rattle.board_run.specs.Proceeding.{MakesTo, IsStayed}
 use Rattle.board_run.specs.Going.{entries_left, next_moment}
 use Rattle.board_run.specs.View.{state_of, end_of}
-use Rattle.board_run.proofs.Goes.{first_ready}
+use Rattle.board_run.proofs.FiberGoesOn.{first_ready}
 use Rattle.board_run.proofs.Stepping.{some_turning}
 use Rattle.board_run.proofs.Raises.{nobody_ready}
 use Rattle.board_run.proofs.Course.{busy_to, over_to, shown_reaches}

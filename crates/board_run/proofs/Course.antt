@@ -14,7 +14,7 @@ use Rattle.bank_model.specs.Standing.{fiber_on, shared_on}
 use Rattle.board_run.specs.Represents.{BoardState, Represents, IsShown, behind}
 use Rattle.board_outside.specs.Moves.{Move, HasMet}
 use Rattle.board_run.specs.Run.{idled_to, run_to, Reaches, ComesTo, Comes}
-use Rattle.board_run.proofs.Goes.{current, first_ready}
+use Rattle.board_run.proofs.FiberGoesOn.{current, first_ready}
 
 -- one call behind another
 pub comes_then : (bound : Option ℕ) (image : List ℕ) (n m : ℕ) (first second : List Move) (a b c : BoardState) → ComesTo bound image n first a b → ComesTo bound image m second b c → ComesTo bound image (m + n) (first ++ second) a c

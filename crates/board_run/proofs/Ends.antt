@@ -26,7 +26,7 @@ use Rattle.board_run.specs.Places.{ArePlaces}
 use Rattle.board_run.specs.Shown.{acting, standing}
 use Rattle.board_run.specs.Represents.{BoardState, RunnerRecorded, Represents, behind}
 use Rattle.board_run.proofs.Standing.{standing_heard, keys_same, keyed_same}
-use Rattle.board_run.proofs.Goes.{current, IsPlain, first_ready, below, others_kept}
+use Rattle.board_run.proofs.FiberGoesOn.{current, IsPlain, first_ready, below, others_kept}
 
 -- a listener's function stays when its activities end
 ended_listener : (l : ListenerState) → (ended l).hearing.listener ≡ l.hearing.listener

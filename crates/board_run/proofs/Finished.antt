@@ -35,7 +35,7 @@ use Rattle.board_run.specs.Outside.{Outside, OverSink, around}
 use Rattle.board_run.specs.Advancing.{PortsMeet, Advances, Fails, IsSettled}
 use Rattle.board_run.specs.Ran.{world_after, IsMounted, IsExecuted, HasRun, IsCut, told, answer_of, Finishes, Ran}
 use Rattle.board_run.specs.View.{state_of, end_of}
-use Rattle.board_run.proofs.Goes.{first_ready}
+use Rattle.board_run.proofs.FiberGoesOn.{first_ready}
 use Rattle.board_run.proofs.Stepping.{some_turning}
 
 -- Of at most a budget of instructions some number is executed, and what comes behind them changes nothing.

@@ -22,7 +22,7 @@ use Rattle.board_outside.proofs.Laws.{met_then, meets_nothing}
 use Rattle.board_run.specs.Run.{Comes}
 use Rattle.board_run.specs.Serving.{Acts, StopsAt}
 use Rattle.board_run.proofs.Again.{Alike, Same, Stop, alike}
-use Rattle.board_run.proofs.Goes.{current, IsOnward, goes, first_ready, behind_same}
+use Rattle.board_run.proofs.FiberGoesOn.{current, IsOnward, goes, first_ready, behind_same}
 use Rattle.board_run.proofs.Course.{executes}
 
 -- what is shown may be used to see how far a board comes

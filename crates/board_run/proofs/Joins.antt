@@ -27,7 +27,7 @@ use Rattle.bank_model.specs.Standing.{shared_on}
 use Rattle.board_run.specs.Shown.{acting, of_kept, of_key, standing}
 use Rattle.board_run.specs.Represents.{BoardState, Represents, behind}
 use Rattle.board_run.proofs.Standing.{standing_heard, places_more, keys_same, keyed_same, key_is}
-use Rattle.board_run.proofs.Goes.{current, IsPlain, IsOnward, first_ready, below, behind_same, others_kept}
+use Rattle.board_run.proofs.FiberGoesOn.{current, IsPlain, IsOnward, first_ready, below, behind_same, others_kept}
 
 -- a listener more, behind the others
 handler_more : (hs : List Hearing) (x : Hearing) (i : ℕ) → i < length hs → handler_of i (hs ++ x ∷ []) ≡ handler_of i hs

@@ -6,8 +6,8 @@ pub use Rattle.board_run.proofs.Finished.{settled_stays}
 pub use Rattle.board_run.proofs.Executing.{ports_then, advances_none, into_then}
 -- who is ready in a world that a board shows, and when something comes to it next
 pub use Rattle.board_run.proofs.Raises.{nobody_ready}
-pub use Rattle.board_run.proofs.Goes.{first_ready}
+pub use Rattle.board_run.proofs.FiberGoesOn.{first_ready}
 pub use Rattle.board_run.proofs.Stepping.{some_turning}
-pub use Rattle.board_run.proofs.Passes.{mounted_busy}
+pub use Rattle.board_run.proofs.ThroughFirst.{mounted_busy}
 pub use Rattle.board_run.proofs.AtMoment.{next_shown, none_up_to}
 pub use Rattle.board_run.proofs.Through.{due_rising, rising_left}

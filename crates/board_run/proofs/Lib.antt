@@ -1,30 +1,30 @@
 pub mod Standing
 pub mod Turns
 pub mod Again
-pub mod Goes
+pub mod FiberGoesOn
 pub mod Joins
 pub mod Ends
 pub mod Raises
 pub mod Course
 pub mod Few
 pub mod Further
-pub mod Arrives
+pub mod OutsideActs
 pub mod Mounted
 pub mod Acting
 pub mod Instructs
 pub mod Bits
 pub mod Begins
-pub mod Answering
-pub mod Blocks
+pub mod AskServices
+pub mod FiberBlocks
 pub mod Services
-pub mod Leaving
-pub mod Passing
+pub mod FiberLeaves
+pub mod EndServices
 pub mod FlashTexts
 pub mod ServedAs
 pub mod Stepping
-pub mod Arriving
+pub mod ScriptEntries
 pub mod Dispatching
-pub mod Clocks
+pub mod ClockMoves
 pub mod Settling
 pub mod Executing
 pub mod Finished
@@ -33,11 +33,11 @@ pub mod Parted
 pub mod Laws
 mod Waiting
 mod Proceeding
-mod Going
+mod ClockToEvents
 mod AtMoment
 mod Through
 mod FirstMoment
-mod Passes
-mod Leading
+mod ThroughFirst
+mod LedLines
 mod AtOnce
-mod Answered
+mod BehindClosing

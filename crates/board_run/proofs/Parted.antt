@@ -23,8 +23,8 @@ use Rattle.board_run.specs.Arriving.{unplugs_of, acted_on, Applied}
 use Rattle.board_run.specs.Advancing.{IsWhole, PortsMeet}
 use Rattle.board_run.specs.Parting.{MayArrive, Arrives}
 use Rattle.board_run.specs.View.{state_of, plain_of, end_of}
-use Rattle.board_run.proofs.Goes.{IsPlain}
-use Rattle.board_run.proofs.Arrives.{arrived}
+use Rattle.board_run.proofs.FiberGoesOn.{IsPlain}
+use Rattle.board_run.proofs.OutsideActs.{arrived}
 
 pub none_of : {A : Type 0} (o : Option A) → is_some o ≡ false → o ≡ None
 none_of None e = refl

@@ -35,7 +35,7 @@ use Rattle.bank_model.specs.Standing.{shared_on}
 use Rattle.board_run.specs.Shown.{acting, running_of, of_raiser, of_key, begun_as, unbegun, standing}
 use Rattle.board_run.specs.Represents.{BoardState, RunnerRecorded, Represents, behind}
 use Rattle.board_run.proofs.Standing.{standing_heard, keys_same, keyed_same, keys_woken}
-use Rattle.board_run.proofs.Goes.{current, IsPlain, IsOnward, first_ready, below, behind_same}
+use Rattle.board_run.proofs.FiberGoesOn.{current, IsPlain, IsOnward, first_ready, below, behind_same}
 use Rattle.board_run.proofs.Turns.{nobody_before}
 
 -- what the runtime's wakings are in the lists of the world

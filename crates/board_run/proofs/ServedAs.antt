@@ -15,7 +15,7 @@ use Rattle.board_run.specs.Represents.{behind}
 use Rattle.board_outside.specs.Outputs.{moves_of}
 use Rattle.board_run.specs.Served.{IsServed}
 use Rattle.board_run.specs.View.{state_of, end_of}
-use Rattle.board_run.proofs.Goes.{current}
+use Rattle.board_run.proofs.FiberGoesOn.{current}
 use Rattle.board_run.proofs.Acting.{Leaves}
 
 pub served_as : (T U : List ℕ → Fiber → Shared → Turn Fiber Shared) (r : Served) (old new : Engine) → ((image : List ℕ) (s : Shared) → T image (fiber_on old.runtime.machine) s ≡ U image (fiber_on old.runtime.machine) s)

@@ -34,7 +34,7 @@ use Rattle.board_run.specs.Represents.{Represents, behind}
 use Rattle.board_run.specs.Serving.{turned, StopsAt}
 use Rattle.board_run.specs.Served.{IsServed}
 use Rattle.board_run.specs.View.{state_of}
-use Rattle.board_run.proofs.Goes.{current, IsOnward}
+use Rattle.board_run.proofs.FiberGoesOn.{current, IsOnward}
 use Rattle.board_run.proofs.Joins.{spawns, listens, length_hearings}
 use Rattle.board_run.proofs.Acting.{Leaves, shared_is, goes_leaves, takes_leaves}
 use Rattle.board_outside.proofs.Laws.{meets_nothing}

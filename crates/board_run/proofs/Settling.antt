@@ -11,7 +11,7 @@ use Rattle.board_outside.specs.Ports.{port_moves}
 use Rattle.board_run.specs.Ports.{Idles}
 use Rattle.board_run.specs.View.{state_of}
 use Rattle.board_outside.proofs.Laws.{port_moves-append}
-use Rattle.board_run.proofs.Clocks.{still_idles}
+use Rattle.board_run.proofs.ClockMoves.{still_idles}
 use Rattle.board_run.proofs.Course.{comes_then, comes_shown, stutters}
 use Rattle.board_outside.proofs.Laws.{seen_of-append}
 

@@ -16,7 +16,7 @@ use Rattle.emit_simulation.proofs.Fields.{field_get_makes, field_set_makes}
 use Rattle.emit_simulation.proofs.Items.{item_get_makes, item_set_makes, length_makes}
 use Rattle.emit_simulation.proofs.Popping.{pop_makes}
 use Rattle.emit_simulation.proofs.Making.{object_makes, array_makes}
-use Rattle.emit_simulation.proofs.Calling.{call_makes}
+use Rattle.emit_simulation.proofs.CallTurns.{call_makes}
 use Rattle.emit_simulation.proofs.Slots.{slot_makes}
 use Rattle.emit_simulation.proofs.Returns.{return_makes}
 

@@ -8,7 +8,7 @@ use Rattle.sts_implements.specs.Passes.{Emits}
 use Rattle.thumb_emit.specs.InFlash.{Addresses}
 use Rattle.emit_simulation.specs.Ties.{IsImage, ties}
 use Rattle.emit_simulation.specs.Weights.{weight_of}
-use Rattle.emit_simulation.proofs.Asks.{ask_makes}
+use Rattle.emit_simulation.proofs.AskedServices.{ask_makes}
 use Rattle.emit_simulation.proofs.Every.{every}
 use Rattle.emit_simulation.proofs.Whole.{emits_by}
 

@@ -24,10 +24,10 @@ pub mod Behind
 pub mod Serving
 pub mod Making
 pub mod Entry
-pub mod Calls
+pub mod FunctionEntries
 pub mod Passing
-pub mod Calling
-pub mod Returning
+pub mod CallTurns
+pub mod ReturnedFrames
 pub mod Steady
 pub mod Lagging
 pub mod Returns
@@ -35,7 +35,7 @@ pub mod Whole
 pub mod Slots
 pub mod Loading
 pub mod Services
-pub mod Asking
-pub mod Asks
+pub mod EachService
+pub mod AskedServices
 pub mod Every
 pub mod Laws

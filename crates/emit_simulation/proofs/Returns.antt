@@ -64,7 +64,7 @@ use Rattle.emit_simulation.proofs.Meanings.{small, placed_inside, entry_is}
 use Rattle.emit_simulation.proofs.Turns.{Owed, asks_does, makes_reach, onward, tied_now}
 use Rattle.emit_simulation.proofs.Ops.{here, pc_behind, wider, word, word_means}
 use Rattle.emit_simulation.proofs.Passing.{passes_length}
-use Rattle.emit_simulation.proofs.Returning.{Returned, returns}
+use Rattle.emit_simulation.proofs.ReturnedFrames.{Returned, returns}
 
 -- SVC 0 stands at an address
 pub ends_there : (flash : List ℕ) (base at : ℕ) → is_base base ≡ true → at % 2 ≡ 0 → at < flash_end → flash_half flash at ≡ 0xDF00

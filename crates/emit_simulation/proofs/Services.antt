@@ -47,7 +47,7 @@ use Rattle.emit_simulation.proofs.Behind.{put_behind}
 use Rattle.emit_simulation.proofs.Serving.{serves}
 use Rattle.emit_simulation.proofs.Lagging.{lags, stands_behind_service}
 use Rattle.emit_simulation.proofs.Loading.{Loaded, loaded}
-use Rattle.emit_simulation.proofs.Calls.{frames_fill}
+use Rattle.emit_simulation.proofs.FunctionEntries.{frames_fill}
 use Rattle.emit_simulation.proofs.Meanings.{entry_is}
 
 behind_at : (xs ys : List Piece) (n : ℕ) (y : Piece) → slice_get ys n ≡ Some y → slice_get (xs ++ ys) (length xs + n) ≡ Some y

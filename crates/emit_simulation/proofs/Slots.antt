@@ -51,9 +51,9 @@ use Rattle.emit_simulation.proofs.Meanings.{placed_inside, function_inside, entr
 use Rattle.emit_simulation.proofs.Turns.{Owed}
 use Rattle.emit_simulation.proofs.Ops.{here, word, word_means, word_small, wider}
 use Rattle.emit_simulation.proofs.Walk.{Got, one, not_null, is_null, tested, stands}
-use Rattle.emit_simulation.proofs.Calls.{calls_turn}
+use Rattle.emit_simulation.proofs.FunctionEntries.{calls_turn}
 use Rattle.emit_simulation.proofs.Passing.{passes_length, passes_cost, contained, Passes, Passed, passed, passes_none}
-use Rattle.emit_simulation.proofs.Calling.{calling_by}
+use Rattle.emit_simulation.proofs.CallTurns.{calling_by}
 use Rattle.emit_simulation.proofs.Returns.{behind_pieces}
 
 -- a code address has bit 0 set

@@ -31,7 +31,7 @@ use Rattle.emit_simulation.specs.Weights.{weight_at, weight_of}
 use Rattle.emit_simulation.proofs.Context.{function_at}
 use Rattle.emit_simulation.proofs.Meanings.{function_inside, placed_inside, entry_is}
 use Rattle.emit_simulation.proofs.Turns.{Owed, tied_now}
-use Rattle.emit_simulation.proofs.Calls.{Calling, calls_turn}
+use Rattle.emit_simulation.proofs.FunctionEntries.{Calling, calls_turn}
 
 -- steps behind others
 path_add : {X D : Type 0} (L : Kind X D) (n k m j : ℕ) (b : X) (t : D) (c : X) (u : D) (d : X) (v : D) → Path L one n k b t c u → Path L one m j c u d v

@@ -7,7 +7,7 @@ use Rattle.board_world.specs.Waiting.{chosen, left, least, hears}
 use Rattle.board_world.specs.Rules.{earlier}
 use Rattle.fiber_queues.specs.Lists.{ListsOf, IsFirst, first_chosen, without_first}
 use Rattle.fiber_queues.specs.Calls.{Call, Ready, Sleep, Wait, Next, WakeDue, WakeWaiter, called, after, times, waiter_woken, all_woken, keyed, meant, meant_call}
-use Rattle.fiber_queues.proofs.Keyed.{chosen-keyed, left-keyed, first-keyed, without-keyed}
+use Rattle.fiber_queues.proofs.ChosenKeys.{chosen-keyed, left-keyed, first-keyed, without-keyed}
 use Rattle.fiber_queues.proofs.Chosen.{chosen-split, left-without_first, none-chosen, first-none, without-all, left-all, first-at, without-at, left-moved}
 
 pub same_lists : {Y : Type 0} (r r' : List Y) (s s' : List (ℕ × Y)) (w w' : List (Event × Y)) → r ≡ r' → s ≡ s' → w ≡ w'

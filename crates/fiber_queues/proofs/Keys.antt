@@ -7,7 +7,7 @@ use Rattle.board_world.specs.Waiting.{chosen, left, hears}
 use Rattle.fiber_queues.specs.Lists.{ListsOf}
 use Rattle.fiber_queues.specs.Keys.{listed, how_often, IsOnce}
 use Rattle.fiber_queues.specs.Calls.{keyed, meant, all_woken}
-use Rattle.fiber_queues.proofs.Keyed.{chosen-keyed, left-keyed}
+use Rattle.fiber_queues.proofs.ChosenKeys.{chosen-keyed, left-keyed}
 use Rattle.fiber_queues.proofs.Calls.{same_lists}
 
 pub how_often-append : (key : ℕ) (xs ys : List ℕ) → how_often key (xs ++ ys) ≡ how_often key xs + how_often key ys

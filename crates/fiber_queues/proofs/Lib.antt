@@ -1,5 +1,5 @@
 mod Chosen
-mod Keyed
+mod ChosenKeys
 mod Calls
 mod Keys
 pub mod Laws

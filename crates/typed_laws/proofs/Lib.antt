@@ -26,7 +26,7 @@ pub mod Rounds
 pub mod Accepting
 mod FormedTrees
 mod FormedUnits
-mod Named
+mod TextsKept
 mod NamedPrograms
 mod Faultless
 mod Prelude

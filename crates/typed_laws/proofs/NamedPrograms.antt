@@ -25,7 +25,7 @@ use Rattle.type_derive.specs.Built.{Site, made_first, made_given, made_statement
 use Rattle.type_derive.specs.Programs.{◌before◌, passed_on, site, class_result, function_made, method_made, initial_made, set_field, initials, super_called, made_statements_of, constructor_made, passes_on, unwritten_made, members_made, class_made, global_made, globals_made, main_made, items_made, library_made}
 use Rattle.type_derive.specs.Formed.{BodyHas, DeclarationHas, DeclarationsHave, StatementsHave, MembersHave, ProgramHas, StatementHas, TextsBelow}
 use Rattle.type_derive.specs.Accepted.{known, typed}
-use Rattle.typed_laws.proofs.Named.{AllName, RoutinesName, both, routines_both, Sound, Makes, makes_pure, one_of, two_of, OfTrees, OfOption, OfDeclaration, OfDeclarations, OfStatement, OfStatements, routine_names, Whatever, Below, first, given, statement, statements}
+use Rattle.typed_laws.proofs.TextsKept.{AllName, RoutinesName, both, routines_both, Sound, Makes, makes_pure, one_of, two_of, OfTrees, OfOption, OfDeclaration, OfDeclarations, OfStatement, OfStatements, routine_names, Whatever, Below, first, given, statement, statements}
 
 module _ (n : ℕ) where
   abbrev StatementsName : List TypedStatement → Type 0

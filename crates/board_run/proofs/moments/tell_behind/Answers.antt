@@ -1,5 +1,5 @@
 use Rattle.tool_io.proofs.Laws.{puts-as, puts-then, puts-more}
-use Rattle.board_run.proofs.Leading.{led_told}
+use Rattle.board_run.proofs.LedLines.{led_told}
 use Rattle.board_run.proofs.moments.tell_behind.Goals as goal
 
 pub returns-in-Ok-clause-puts : goal.returns-in-Ok-clause-puts

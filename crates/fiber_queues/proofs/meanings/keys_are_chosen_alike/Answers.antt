@@ -1,4 +1,4 @@
-use Rattle.fiber_queues.proofs.Keyed.{chosen-keyed, left-keyed}
+use Rattle.fiber_queues.proofs.ChosenKeys.{chosen-keyed, left-keyed}
 use Rattle.fiber_queues.proofs.meanings.keys_are_chosen_alike.Goals as goal
 
 pub returns-clause-chosen : goal.returns-clause-chosen

@@ -1,6 +1,6 @@
 use Rattle.std.proofs.Common.{rules}
 use Rattle.board_run.specs.Outside.{over_sink}
-use Rattle.board_run.proofs.Answered.{from_none, went_ended}
+use Rattle.board_run.proofs.BehindClosing.{from_none, went_ended}
 use Rattle.board_run.proofs.board.Board.go_led.Goals as goal
 
 pub returns-in-Some-clause-went : goal.returns-in-Some-clause-went

@@ -5,8 +5,8 @@ use Rattle.board_run.specs.Outside.{over_sink}
 use Rattle.board_run.specs.Going.{IsDueAt, IsResting}
 use Rattle.board_run.specs.Gone.{HasGone, IsPassed, IsCutShort}
 use Rattle.board_run.proofs.Executing.{whole_idle, on_err}
-use Rattle.board_run.proofs.Going.{then_ok, then_err}
-use Rattle.board_run.proofs.Passes.{may_rest, may_begin, first_gone, first_passed, first_cut, then_gone, then_passed, then_cut}
+use Rattle.board_run.proofs.ClockToEvents.{then_ok, then_err}
+use Rattle.board_run.proofs.ThroughFirst.{may_rest, may_begin, first_gone, first_passed, first_cut, then_gone, then_passed, then_cut}
 use Rattle.board_run.proofs.board.Board.pass.Goals as goal
 
 pub through-requires-clause-resting : goal.through-requires-clause-resting

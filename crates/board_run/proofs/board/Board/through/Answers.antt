@@ -4,9 +4,9 @@ use Rattle.board_world.specs.Limits.{end_limit}
 use Rattle.board_run.specs.declared.engine.Engine.{Engine}
 use Rattle.board_run.specs.Outside.{over_sink}
 use Rattle.board_run.specs.Going.{CameTo}
-use Rattle.board_run.proofs.Clocks.{acts_of}
+use Rattle.board_run.proofs.ClockMoves.{acts_of}
 use Rattle.board_run.proofs.Executing.{whole_idle}
-use Rattle.board_run.proofs.Going.{came_shown, came_whole, then_oks, then_err}
+use Rattle.board_run.proofs.ClockToEvents.{came_shown, came_whole, then_oks, then_err}
 use Rattle.board_run.proofs.Through.{due_rising, due_within, through_gone, through_passed, through_cut}
 use Rattle.board_run.proofs.board.Board.through.Goals as goal
 

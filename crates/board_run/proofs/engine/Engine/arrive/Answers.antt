@@ -1,6 +1,6 @@
 use Rattle.std.proofs.Common.{refl, sym, ap, ◌∙◌, arith}
 use Rattle.board_run.specs.declared.engine.Engine.{Engine}
-use Rattle.board_run.proofs.Arriving.{arriving_start, arriving_later, present, later_left, sound_at, kept_on, in_range}
+use Rattle.board_run.proofs.ScriptEntries.{arriving_start, arriving_later, present, later_left, sound_at, kept_on, in_range}
 use Rattle.board_run.proofs.engine.Engine.arrive.Goals as goal
 
 pub loop-self-init : goal.loop-self-init

@@ -1,5 +1,5 @@
 use Rattle.std.proofs.Common.{◌-◌}
-use Rattle.board_run.proofs.Arriving.{Kept}
+use Rattle.board_run.proofs.ScriptEntries.{Kept}
 use Rattle.board_run.proofs.engine.Engine.arrive.Given as goal
 
 abbrev pub invariant-loop-self : goal.invariant-loop-self

@@ -1,5 +1,5 @@
 use Rattle.std.proofs.Common.{sym, ◌∙◌}
-use Rattle.board_run.proofs.Blocks.{on_some, none_of, keyed_serves, fork_serves, forked_key, forked_copied}
+use Rattle.board_run.proofs.FiberBlocks.{on_some, none_of, keyed_serves, fork_serves, forked_key, forked_copied}
 use Rattle.board_run.proofs.engine.Engine.block.Goals as goal
 
 pub returns-then-is_some-clause-served : goal.returns-then-is_some-clause-served

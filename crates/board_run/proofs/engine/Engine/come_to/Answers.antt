@@ -1,4 +1,4 @@
-use Rattle.board_run.proofs.Going.{came_by}
+use Rattle.board_run.proofs.ClockToEvents.{came_by}
 use Rattle.board_run.proofs.engine.Engine.come_to.Goals as goal
 
 pub returns-clause-came : goal.returns-clause-came

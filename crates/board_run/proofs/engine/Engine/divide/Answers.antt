@@ -1,5 +1,5 @@
 use Rattle.bank_model.specs.Division.{quotient}
-use Rattle.board_run.proofs.Answering.{serve_divide, two_args, cast_back}
+use Rattle.board_run.proofs.AskServices.{serve_divide, two_args, cast_back}
 use Rattle.board_run.proofs.engine.Engine.divide.Goals as goal
 
 pub returns-clause-served : goal.returns-clause-served

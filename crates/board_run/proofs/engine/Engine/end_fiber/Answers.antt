@@ -5,7 +5,7 @@ use Rattle.message_bus.specs.Agreement.{hearings}
 use Rattle.message_bus.proofs.Laws.{handler-ended}
 use Rattle.fiber_runtime.specs.Moves.{restarted}
 use Rattle.board_run.proofs.Ends.{length_changed}
-use Rattle.board_run.proofs.Passing.{leave_serves, leave_listener, again_serves, listener_stands}
+use Rattle.board_run.proofs.EndServices.{leave_serves, leave_listener, again_serves, listener_stands}
 use Rattle.board_run.proofs.engine.Engine.end_fiber.Goals as goal
 
 pub again-requires-clause-stands : goal.again-requires-clause-stands

@@ -1,5 +1,5 @@
 use Rattle.board_run.specs.View.{state_of}
-use Rattle.board_run.proofs.Clocks.{still_idles}
+use Rattle.board_run.proofs.ClockMoves.{still_idles}
 use Rattle.board_run.proofs.engine.Engine.idle.Goals as goal
 
 pub returns-else-not-dispatch-clause-idles : goal.returns-else-not-dispatch-clause-idles

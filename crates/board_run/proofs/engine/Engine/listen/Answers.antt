@@ -1,6 +1,6 @@
 use Rattle.std.proofs.Common.{subst, ap, ◌∙◌, refl, ◌%◌, ◌≢◌, ℕ}
 use Rattle.message_bus.specs.BusState.{BusState}
-use Rattle.board_run.proofs.Answering.{back}
+use Rattle.board_run.proofs.AskServices.{back}
 use Rattle.board_run.proofs.Services.{serve_listen, refuse_listen, listener_same, not_below}
 use Rattle.board_run.proofs.engine.Engine.listen.Goals as goal
 

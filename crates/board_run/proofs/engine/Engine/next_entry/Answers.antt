@@ -2,7 +2,7 @@ use Rattle.std.proofs.Common.{List, sym, ap}
 use Rattle.board_world.specs.Board.{next_entry}
 use Rattle.event_script.specs.World.{world_entries}
 use Rattle.event_script.specs.declared.script.Entry.{Entry}
-use Rattle.board_run.proofs.Arriving.{drop_none, next_is}
+use Rattle.board_run.proofs.ScriptEntries.{drop_none, next_is}
 use Rattle.board_run.proofs.engine.Engine.next_entry.Goals as goal
 
 pub returns-in-None : goal.returns-in-None

@@ -3,7 +3,7 @@ use Rattle.board_world.specs.Transcript.{decimal_text}
 use Rattle.bank_model.specs.Texts.{glyph_at}
 use Rattle.bank_model.specs.Standing.{fiber_on}
 use Rattle.bank_model.specs.AllServices.{argument}
-use Rattle.board_run.proofs.Answering.{serve_glyph, back, cast_back}
+use Rattle.board_run.proofs.AskServices.{serve_glyph, back, cast_back}
 use Rattle.board_run.proofs.engine.Engine.number_glyph.Goals as goal
 
 pub returns-clause-served : goal.returns-clause-served

@@ -4,7 +4,7 @@ use Rattle.board_run.specs.declared.engine.Engine.{Engine}
 use Rattle.board_run.specs.Served.{IsServed}
 use Rattle.bank_model.specs.AllServices.{service}
 use Rattle.board_run.specs.declared.engine.Served.TheVariants.{Goes}
-use Rattle.board_run.proofs.Answering.{serve_plot}
+use Rattle.board_run.proofs.AskServices.{serve_plot}
 use Rattle.board_run.proofs.engine.Engine.plot.Goals as goal
 
 pub returns-clause-served : goal.returns-clause-served

@@ -1,7 +1,7 @@
 use Rattle.std.proofs.Common.{subst, ap, ◌∙◌, ◌≡◌, ◌<◌, pos, false, w32, to_z-of_z}
 use lib.Signed.{lt_z}
 use lib.IntN.{nat_abs}
-use Rattle.board_run.proofs.Answering.{serve_pin, level_of}
+use Rattle.board_run.proofs.AskServices.{serve_pin, level_of}
 use Rattle.board_run.proofs.engine.Engine.set_pin.Goals as goal
 
 pub returns : goal.returns

@@ -1,5 +1,5 @@
 use Rattle.bank_model.specs.Division.{remainder}
-use Rattle.board_run.proofs.Answering.{serve_remainder, two_args, cast_back}
+use Rattle.board_run.proofs.AskServices.{serve_remainder, two_args, cast_back}
 use Rattle.board_run.proofs.engine.Engine.take_remainder.Goals as goal
 
 pub returns-clause-served : goal.returns-clause-served

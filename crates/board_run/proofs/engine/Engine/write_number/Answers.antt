@@ -1,7 +1,7 @@
 use Rattle.std.proofs.Common.{◌∙◌, w32, to_z-of_z}
 use Rattle.bank_model.specs.Standing.{fiber_on}
 use Rattle.bank_model.specs.AllServices.{word_argument}
-use Rattle.board_run.proofs.Answering.{serve_number, text_nonempty}
+use Rattle.board_run.proofs.AskServices.{serve_number, text_nonempty}
 use Rattle.board_run.proofs.engine.Engine.write_number.Goals as goal
 
 pub returns : goal.returns

@@ -5,7 +5,7 @@ use Rattle.board_world.specs.Board.{Board}
 use Rattle.board_world.specs.Activities.{World}
 use Rattle.bank_model.specs.Fibers.{Fiber, Shared}
 use Rattle.board_run.specs.Represents.{BoardState, Represents}
-use Rattle.board_run.proofs.Goes.{IsPlain}
+use Rattle.board_run.proofs.FiberGoesOn.{IsPlain}
 use Rattle.message_bus.proofs.Laws.{agrees-along}
 
 -- The plain part of the world changes, and the queue of the bus with it.

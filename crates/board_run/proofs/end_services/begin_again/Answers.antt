@@ -1,7 +1,7 @@
 use Rattle.std.proofs.Common.{◌∙◌, ap}
 use Rattle.fiber_runtime.specs.Moves.{restarted}
 use Rattle.board_run.proofs.Begins.{handler_found}
-use Rattle.board_run.proofs.ending.begin_again.Goals as goal
+use Rattle.board_run.proofs.end_services.begin_again.Goals as goal
 
 pub returns : goal.returns
 returns c = λ t runs.

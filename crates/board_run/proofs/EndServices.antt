@@ -31,7 +31,7 @@ use Rattle.board_outside.specs.Moves.{Meets}
 use Rattle.board_run.specs.Serving.{StopsAt}
 use Rattle.board_run.specs.Served.{IsServed}
 use Rattle.board_run.specs.View.{state_of}
-use Rattle.board_run.proofs.Goes.{current, first_ready}
+use Rattle.board_run.proofs.FiberGoesOn.{current, first_ready}
 use Rattle.board_run.proofs.Ends.{IsSameBus, same_ended, ends_keyed, ends_keyless, begins_anew}
 use Rattle.board_run.proofs.Raises.{raises_now, raises_to_waiters, raises_too_deep, behind_suspended}
 use Rattle.board_run.proofs.Acting.{shared_is}

@@ -28,8 +28,8 @@ use Rattle.class_world.specs.Hearing.{with_heard, raised_at}
 use Rattle.class_world.specs.Keeping.{raised_all, with_kept}
 use Rattle.class_world.proofs.Laws.{kept_arrives}
 use Rattle.board_run.specs.Going.{queued_all, CameTo}
-use Rattle.board_run.proofs.Goes.{IsPlain}
-use Rattle.board_run.proofs.Arrives.{arrived}
+use Rattle.board_run.proofs.FiberGoesOn.{IsPlain}
+use Rattle.board_run.proofs.OutsideActs.{arrived}
 use Rattle.fiber_queues.specs.Calls.{due_woken}
 use Rattle.fiber_runtime.specs.State.{State}
 use Rattle.board_run.proofs.Raises.{jumped}

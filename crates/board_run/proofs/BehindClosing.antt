@@ -18,7 +18,7 @@ use Rattle.board_run.specs.Ran.{answer_of, told}
 use Rattle.board_run.specs.Proceeding.{led_lines, first_sent}
 use Rattle.board_run.specs.Gone.{HasGone, IsPassed, EndsBy, Went}
 use Rattle.board_run.specs.View.{end_of}
-use Rattle.board_run.proofs.Leading.{into_part}
+use Rattle.board_run.proofs.LedLines.{into_part}
 use Rattle.board_ports.specs.Account.{Account}
 
 module _ {B : Type 0} (account : B → Account) (lead : ByteList) (moment budget used : ℕ) (old new : OverSink B) where

@@ -23,7 +23,7 @@ use Rattle.board_run.specs.Served.{IsServed}
 use Rattle.thumb_switch.specs.Switching.{depth as fiber_depth}
 use Rattle.board_run.specs.Blocking.{blocks_for, Rests, copied_behind}
 use Rattle.board_run.specs.View.{state_of}
-use Rattle.board_run.proofs.Goes.{current, asks_to, blocked, forked}
+use Rattle.board_run.proofs.FiberGoesOn.{current, asks_to, blocked, forked}
 use Rattle.board_run.proofs.Acting.{Leaves}
 use Rattle.board_outside.proofs.Laws.{meets_nothing}
 

@@ -1,4 +1,4 @@
-// Services that reckon, and those of the arena.
+// Services on numbers, and those of the arena.
 ghost use Rattle.std.specs.Prelude.{◌≡◌, ◌<◌, ℕ, ℤ, All, length};
 ghost use Rattle.bank_model.specs.Division.{quotient, remainder};
 ghost use Rattle.board_services.specs.declared.numbers.TheConstants.{NUMBER_GLYPH, ALLOCATE, PUSH, DIVIDE, REMAINDER};

@@ -39,7 +39,7 @@ use Rattle.emit_simulation.proofs.Starts.{first_of, rest_of}
 use Rattle.emit_simulation.proofs.Context.{all_at}
 use Rattle.emit_simulation.proofs.Meanings.{placed_inside}
 use Rattle.emit_simulation.proofs.Ops.{here, pc_behind, word, word_means, wider}
-use Rattle.emit_simulation.proofs.Calls.{Calling, calls_turn}
+use Rattle.emit_simulation.proofs.FunctionEntries.{Calling, calls_turn}
 use Rattle.emit_simulation.proofs.Passing.{passes_length, passes_cost, mapped_value, contained, Passes, passed, passes_none}
 
 module _ (C : FlatCode) (placed : List Placed) (flash : List ℕ) (a : Addresses) (texts : List ByteList) (image : IsImage C placed flash a texts) where

@@ -35,7 +35,7 @@ use Rattle.board_run.specs.Gone.{MayGo, HasGone, IsIdle, GoesOnOrIdle, IsPassed,
 use Rattle.board_run.specs.Ran.{IsMounted}
 use Rattle.board_run.specs.View.{state_of, end_of}
 use Rattle.board_run.proofs.Executing.{ports_then, into_then}
-use Rattle.board_run.proofs.Goes.{first_ready}
+use Rattle.board_run.proofs.FiberGoesOn.{first_ready}
 use Rattle.board_run.proofs.Stepping.{some_turning}
 use Rattle.board_run.proofs.Raises.{nobody_ready}
 use Rattle.board_run.proofs.Course.{busy_to, shown_reaches}

@@ -36,9 +36,9 @@ use Rattle.board_run.specs.Run.{ComesTo, Comes}
 use Rattle.board_run.specs.Idling.{IsEmpty, moves_left}
 use Rattle.board_run.specs.Arriving.{acted_on, Arrived}
 use Rattle.board_run.specs.View.{state_of, end_of, plain_of}
-use Rattle.board_run.proofs.Arrives.{arrived}
+use Rattle.board_run.proofs.OutsideActs.{arrived}
 use Rattle.board_run.proofs.Course.{idles}
-use Rattle.board_run.proofs.Goes.{IsPlain}
+use Rattle.board_run.proofs.FiberGoesOn.{IsPlain}
 use Rattle.board_outside.proofs.Laws.{met_then, meets_nothing}
 use Rattle.board_run.proofs.Raises.{nobody_ready, jumped}
 

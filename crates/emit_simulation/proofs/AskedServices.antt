@@ -36,7 +36,7 @@ use Rattle.emit_simulation.specs.Makes.{MakesOp}
 use Rattle.emit_simulation.proofs.Turns.{Owed, going}
 use Rattle.emit_simulation.proofs.Loading.{loaded}
 use Rattle.emit_simulation.proofs.Services.{v, asking_fiber, asking_shared, its_shows, Serves, settled_over, asks_turn}
-use Rattle.emit_simulation.proofs.Asking.{serve_1, serve_2, serve_3, serve_4, serve_5, serve_6, serve_7, serve_8, serve_9, serve_10, serve_11, serve_12, serve_13, serve_14, serve_15, serve_16, serve_17, serve_22, serve_23}
+use Rattle.emit_simulation.proofs.EachService.{serve_1, serve_2, serve_3, serve_4, serve_5, serve_6, serve_7, serve_8, serve_9, serve_10, serve_11, serve_12, serve_13, serve_14, serve_15, serve_16, serve_17, serve_22, serve_23}
 use Rattle.emit_simulation.proofs.Serving.{within, past}
 
 tested : (n k : ℕ) → (n ≡ k) ⊎ (n ≢ k)
