@@ -34,7 +34,7 @@ def deciding(lines, at):
 
 found = []
 for file in sorted(glob.glob("crates/*/src/**/*.rt", recursive=True)):
-    if re.search(r"_rows/|/tests\.rt$", file):
+    if re.search(r"_rows/", file):
         continue
     lines = [it.partition("//")[0].rstrip() for it in open(file, encoding="utf-8").read().split("\n")]
     function, converts = "", False

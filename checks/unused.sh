@@ -1,5 +1,5 @@
 #!/bin/sh
-# Each public item of code (function, struct, enum, trait, constant, type) is used by code that isn't tests or rows, or is a law (a function that takes nothing and gives nothing), or stands in
+# Each public item of code (function, struct, enum, trait, constant, type) is used by code that isn't rows, or is a law (a function that takes nothing and gives nothing), or stands in
 # checks/unused.txt with the reason. An item counts as used where its name stands in code anywhere but where it is defined, brought in or passed on, so of two items of one name neither may be told.
 # usage: checks/unused.sh
 set -eu
@@ -14,7 +14,7 @@ import sys
 ITEM = re.compile(r"^( *)pub (?:const fn|fn|struct|enum|trait|const|type) (\w+)", re.M)
 code = {}
 for file in sorted(glob.glob("crates/*/src/**/*.rt", recursive=True)):
-    if not re.search(r"_rows/|/tests\.rt$", file):
+    if not re.search(r"_rows/", file):
         text = re.sub(r"//[^\n]*", "", open(file, encoding="utf-8").read())
         # what is brought in or passed on isn't used by that
         code[file] = re.sub(r"^\s*(pub |ghost )?use [^;]*;", "", text, flags=re.M)
