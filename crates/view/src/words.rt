@@ -19,21 +19,19 @@ pub struct Asked<'a> {
     pub html: bool,
 }
 
+/// A word that begins with two hyphens.
+fn option<'a>(alloc: Global, name: &'a str, action: ArgAction) -> Arg<'a> {
+    Arg::new(alloc, name).long(name).action(action)
+}
+
 fn command<'a>(alloc: Global) -> Result<Command<'a>, AllocError> {
-    let file = Arg::new(alloc, "file").action(ArgAction::Set);
-    let width = Arg::new(alloc, "width")
-        .long("width")
-        .action(ArgAction::Set);
-    let program = Arg::new(alloc, "program")
-        .long("program")
-        .action(ArgAction::Set);
-    let html = Arg::new(alloc, "html")
-        .long("html")
-        .action(ArgAction::SetTrue);
     let line = Command::new(alloc, "view")
         .no_binary_name(true)
         .disable_help_flag(true);
-    line.arg(file)?.arg(width)?.arg(program)?.arg(html)
+    line.arg(Arg::new(alloc, "file").action(ArgAction::Set))?
+        .arg(option(alloc, "width", ArgAction::Set))?
+        .arg(option(alloc, "program", ArgAction::Set))?
+        .arg(option(alloc, "html", ArgAction::SetTrue))
 }
 
 /// The columns that a word asks for, from 1 on.
