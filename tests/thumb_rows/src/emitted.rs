@@ -1,6 +1,7 @@
 // Functions of flat code: whether a program of one is well formed, and the bytes of the code that it is emitted and laid to.
 
 use crate::functions::{function_of, places_of};
+use crate::lists::one;
 use crate::refusals::{no_memory, refused};
 use flat_ir::{FlatClass, FlatCode, Function, Op, well_formed};
 use register_assign::{Place, Placed, check_places};
@@ -9,13 +10,6 @@ use std::io;
 use sts_base::{NoMemory, Seq};
 use thumb_emit::emit;
 use thumb_layout::{Laid, lay};
-
-/// A list of one.
-fn one<T: Drop>(alloc: Global, item: T) -> Result<Seq<T>, NoMemory> {
-    let mut all = Seq::new(alloc);
-    all.push(item)?;
-    Ok(all)
-}
 
 /// A program of one function, and of one class with one word and that function in its slot.
 fn program(alloc: Global, function: Function) -> Result<FlatCode, NoMemory> {

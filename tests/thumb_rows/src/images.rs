@@ -1,5 +1,6 @@
 // Small images, worked by hand.
 
+use crate::lists::{list, one};
 use crate::refusals::{no_memory, refused};
 use flat_ir::{FlatClass, FlatCode, Function, Op};
 use image_link::{LinkRefused, link};
@@ -11,20 +12,6 @@ use thumb_layout::{Fix, Laid, What};
 
 /// The division routine stands here in the image of `write_small`, behind the image's head and 24 bytes of a function.
 const ROUTINE: usize = 40;
-
-fn seq<T: Copy + Drop>(alloc: Global, items: &[T]) -> Result<Seq<T>, NoMemory> {
-    let mut all = Seq::new(alloc);
-    for item in items {
-        all.push(*item)?;
-    }
-    Ok(all)
-}
-
-fn one<T: Drop>(alloc: Global, item: T) -> Result<Seq<T>, NoMemory> {
-    let mut all = Seq::new(alloc);
-    all.push(item)?;
-    Ok(all)
-}
 
 /// One function that does nothing but return, and one class of three words with it in a slot.
 fn program(alloc: Global) -> Result<FlatCode, NoMemory> {
@@ -60,15 +47,15 @@ fn laid(alloc: Global) -> Result<Laid, NoMemory> {
         fix(20, What::Class(0), false),
     ];
     Ok(Laid {
-        bytes: seq(alloc, &[0; 24])?,
-        fixes: seq(alloc, &fixes)?,
+        bytes: list(alloc, &[0; 24])?,
+        fixes: list(alloc, &fixes)?,
     })
 }
 
 /// The image of that function and the texts `x` and `hi!`.
 fn small(alloc: Global) -> Result<Result<Vec<u8>, LinkRefused>, NoMemory> {
-    let mut texts = one(alloc, seq(alloc, b"x")?)?;
-    texts.push(seq(alloc, b"hi!")?)?;
+    let mut texts = one(alloc, list(alloc, b"x")?)?;
+    texts.push(list(alloc, b"hi!")?)?;
     let tables = Tables {
         names: Seq::new(alloc),
         texts,

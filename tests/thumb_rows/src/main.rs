@@ -7,6 +7,7 @@ mod encodings;
 mod fiber;
 mod functions;
 mod images;
+mod lists;
 mod machines;
 mod names;
 mod places;
