@@ -16,7 +16,7 @@ pub record Grows (f : Fiber) (s : Shared) (words : List ℕ) (used : ℕ) (turn 
   pub goes : next s.used ≡ (f, record s { arena = words; used = used })
 
 -- The turn takes words that don't fit.
-pub record Passes (s : Shared) (turn : Turn Fiber Shared) : Type 0 where
+pub record TakesTooMuch (s : Shared) (turn : Turn Fiber Shared) : Type 0 where
   pub more : ℕ
   pub next : ℕ → Fiber × Shared
   pub takes : turn ≡ Takes more next
@@ -25,5 +25,5 @@ pub record Passes (s : Shared) (turn : Turn Fiber Shared) : Type 0 where
 -- The turn of a fiber that asks for a push at an instruction's address, by what the push comes to.
 abbrev pub IsAsked : ℕ → Fiber → Shared → Pushing → Turn Fiber Shared → Type 0
 IsAsked at f s (Pushes words used) turn = ((turn ≡ Goes f (record s { arena = words })) × (used ≡ s.used)) ⊎ Grows f s words used turn
-IsAsked at f s Overflows turn = Passes s turn
+IsAsked at f s Overflows turn = TakesTooMuch s turn
 IsAsked at f s Refuses turn = turn ≡ Faults bad_service at

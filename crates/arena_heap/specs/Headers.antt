@@ -11,7 +11,7 @@ pub record IsHeader (words : List ℕ) (array : ℕ) (h : Header) : Type 0 where
   pub items : h.items ≡ items_at words array
 
 -- The header and the items are in the arena below an address, and there is room for the items.
-pub record Fits (end array : ℕ) (h : Header) : Type 0 where
+pub record FitsArena (end array : ℕ) (h : Header) : Type 0 where
   pub aligned : array % 4 ≡ 0
   pub low : arena_at ≤ array
   pub high : array + 16 ≤ end

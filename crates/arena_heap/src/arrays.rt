@@ -4,7 +4,7 @@ ghost use Rattle.thumb_code.specs.Map.{stack_at};
 ghost use Rattle.board_world.specs.Limits.{arena_limit};
 ghost use Rattle.bank_model.specs.Arrays.{are_used as in_use, is_array, grown_room as grown, put_words, words_from, stored, moved, behind_words};
 ghost use Rattle.arena_heap.specs.Pushing.{with_arena, IsArenaWord};
-ghost use Rattle.arena_heap.specs.Headers.{IsHeader, Fits};
+ghost use Rattle.arena_heap.specs.Headers.{IsHeader, FitsArena};
 
 use crate::words::{arena_word, put_arena_word};
 use armv6m_machine::Machine;
@@ -33,7 +33,7 @@ fn are_used(used: u32, at: u32, words: u32) -> bool
 pub fn header_at(machine: &Machine, used: u32, array: u32) -> Option<Header>
     requires { used ≤ arena_limit }
     ensures there { IsSome result ↔ IsTrue (is_array machine.now.memory.arena used array) }
-    ensures read { IfSome result (λ h. IsHeader machine.now.memory.arena array h × Fits (behind_words used) array h) }
+    ensures read { IfSome result (λ h. IsHeader machine.now.memory.arena array h × FitsArena (behind_words used) array h) }
 {
     if !are_used(used, array, 4) {
         return None;
@@ -64,7 +64,7 @@ pub fn grown_room(room: u32) -> u32
 /// Puts an item behind the others, where there is room, and then writes the length.
 pub fn store(machine: &mut Machine, array: u32, header: Header, item: u32)
     requires header { IsHeader machine.old.memory.arena array header }
-    requires fits { Fits stack_at array header }
+    requires fits { FitsArena stack_at array header }
     requires room { header.length < header.room }
     ensures { machine.new ≡ with_arena machine.old (stored machine.old.memory.arena array item) }
 {
@@ -90,7 +90,7 @@ fn copy(machine: &mut Machine, from: u32, to: u32, count: u32)
 /// the header.
 pub fn move_array(machine: &mut Machine, array: u32, header: Header, item: u32, to: u32)
     requires header { IsHeader machine.old.memory.arena array header }
-    requires fits { Fits to array header }
+    requires fits { FitsArena to array header }
     requires full { header.length ≡ header.room }
     requires to { IsArenaWord to }
     requires room { to + 4 * grown header.room ≤ stack_at }

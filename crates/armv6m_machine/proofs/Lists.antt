@@ -5,7 +5,7 @@ use Rattle.std.proofs.lemmas.Nat.{ones_le_self}
 use lib.Count.{ones_step, ones as count_ones}
 use Rattle.std.proofs.Math.Nat.{pow-suc}
 use Rattle.thumb_code.specs.RegisterFile.{listed, listed_from, is_odd, word, values, low}
-use Rattle.thumb_code.specs.Forms.{words_from, access, Access, words_to}
+use Rattle.thumb_code.specs.Forms.{word_accesses, access, Access, words_to}
 use Rattle.thumb_code.specs.Memory.{Memory, first_fault, first_of, store_all}
 use Rattle.armv6m_machine.specs.Transfers.{loaded}
 use Rattle.thumb_code.specs.declared.register_file.Registers.{Registers}
@@ -51,19 +51,19 @@ count_bound (suc n) k l = omega (arith, count_more n k l, count_bound n (k + 1) 
 
 -- no fault at the first word leaves those behind it
 pub fault_step : {S : Type 0} (m : Memory S) (t : S) (b : Bool) (at i n : ℕ) → i < n → m.fault t b (access (at + 4 * i) 4) ≡ None
-    → first_fault m t b (words_from (at + 4 * (i + 1)) (n - (i + 1))) ≡ first_fault m t b (words_from (at + 4 * i) (n - i))
+    → first_fault m t b (word_accesses (at + 4 * (i + 1)) (n - (i + 1))) ≡ first_fault m t b (word_accesses (at + 4 * i) (n - i))
 fault_step m t b at i n h e =
     let q : n - i ≡ suc (n - (i + 1)) = omega arith in
     let p : at + 4 * i + 4 ≡ at + 4 * (i + 1) = omega arith in
     rw (q, e, p) refl
 
 pub fault_here : {S : Type 0} (m : Memory S) (t : S) (b : Bool) (at i n k : ℕ) → i < n → m.fault t b (access (at + 4 * i) 4) ≡ Some k
-    → first_fault m t b (words_from (at + 4 * i) (n - i)) ≡ Some k
+    → first_fault m t b (word_accesses (at + 4 * i) (n - i)) ≡ Some k
 fault_here m t b at i n k h e =
     let q : n - i ≡ suc (n - (i + 1)) = omega arith in
     rw (q, e) refl
 
-pub same_words : (n a b : ℕ) → word a ≡ word b → words_from a n ≡ words_from b n
+pub same_words : (n a b : ℕ) → word a ≡ word b → word_accesses a n ≡ word_accesses b n
 same_words zero a b h = refl
 same_words (suc n) a b h =
     let i = same_words n (a + 4) (b + 4) (omega arith) in
@@ -102,28 +102,28 @@ faults_kept m t u b k (a ∷ as') = let e = k a in let i = faults_kept m t u b k
 
 -- the first word of those that are left is no fault, and nor are those behind it once it is loaded
 pub free_odd : {S : Type 0} (m : Memory S) (t : S) (at k l : ℕ) → ((a b : Access) (s : Bool) → m.fault (m.load t a).1 s b ≡ m.fault t s b) → k < 8 → l % 2 ≡ 1
-    → first_fault m t false (words_from at (length (left k l))) ≡ None
-    → (m.fault t false (access at 4) ≡ None) × (first_fault m (m.load t (access at 4)).1 false (words_from (word (at + 4)) (length (left (k + 1) (l / 2)))) ≡ None)
+    → first_fault m t false (word_accesses at (length (left k l))) ≡ None
+    → (m.fault t false (access at 4) ≡ None) × (first_fault m (m.load t (access at 4)).1 false (word_accesses (word (at + 4)) (length (left (k + 1) (l / 2)))) ≡ None)
 free_odd m t at k l keeps h o f =
     let e = left_odd k l h o in
-    let g : first_fault m t false (words_from at (length (k ∷ left (k + 1) (l / 2)))) ≡ None = rw e at f in
+    let g : first_fault m t false (word_accesses at (length (k ∷ left (k + 1) (l / 2)))) ≡ None = rw e at f in
     let p = both_free _ _ g in
     let w = same_words (length (left (k + 1) (l / 2))) (word (at + 4)) (at + 4) (omega arith) in
-    let q = faults_kept m t (m.load t (access at 4)).1 false (λ x. keeps (access at 4) x false) (words_from (at + 4) (length (left (k + 1) (l / 2)))) in
+    let q = faults_kept m t (m.load t (access at 4)).1 false (λ x. keeps (access at 4) x false) (word_accesses (at + 4) (length (left (k + 1) (l / 2)))) in
     (p.0, rw w (q ∙ p.1))
 
 pub step_odd : {S : Type 0} (m : Memory S) (r r' : List ℕ) (t t' : S) (at at' k l v : ℕ) (x : List ℕ × S) → ((a b : Access) (s : Bool) → m.fault (m.load t a).1 s b ≡ m.fault t s b) → k < 8 → l % 2 ≡ 1
-    → loaded m r t at (left k l) ≡ x → first_fault m t false (words_from at (length (left k l))) ≡ None
+    → loaded m r t at (left k l) ≡ x → first_fault m t false (word_accesses at (length (left k l))) ≡ None
     → v ≡ (m.load t (access at 4)).0 → r' ≡ set r k v → t' ≡ (m.load t (access at 4)).1 → at' ≡ word (at + 4)
-    → (loaded m r' t' at' (left (k + 1) (l / 2)) ≡ x) × (first_fault m t' false (words_from at' (length (left (k + 1) (l / 2)))) ≡ None)
+    → (loaded m r' t' at' (left (k + 1) (l / 2)) ≡ x) × (first_fault m t' false (word_accesses at' (length (left (k + 1) (l / 2)))) ≡ None)
 step_odd m r r' t t' at at' k l v x keeps h o s f ev er et ea =
     let e = loaded_odd m r t at k l h o in
     let p = free_odd m t at k l keeps h o f in
     (rw (er, ev, et, ea) (sym e ∙ s), rw (et, ea) p.1)
 
 pub step_even : {S : Type 0} (m : Memory S) (r : List ℕ) (t : S) (at k l : ℕ) (x : List ℕ × S) → k < 8 → l % 2 ≡ 0
-    → loaded m r t at (left k l) ≡ x → first_fault m t false (words_from at (length (left k l))) ≡ None
-    → (loaded m r t at (left (k + 1) (l / 2)) ≡ x) × (first_fault m t false (words_from at (length (left (k + 1) (l / 2)))) ≡ None)
+    → loaded m r t at (left k l) ≡ x → first_fault m t false (word_accesses at (length (left k l))) ≡ None
+    → (loaded m r t at (left (k + 1) (l / 2)) ≡ x) × (first_fault m t false (word_accesses at (length (left (k + 1) (l / 2)))) ≡ None)
 step_even m r t at k l x h o s f = let e = left_even k l h o in (rw (← e) s, rw (← e) f)
 
 pub length_values : (s : Registers) (ks : List ℕ) → length (values s ks) ≡ length ks
@@ -134,20 +134,20 @@ pub same_words_to : (vs : List ℕ) (a b : ℕ) → word a ≡ word b → words_
 same_words_to [] a b h = refl
 same_words_to (v ∷ vs) a b h = let i = same_words_to vs (a + 4) (b + 4) (omega arith) in rw (h, i) refl
 
-pub addresses_to : (vs : List ℕ) (at : ℕ) → map (λ p. p.0) (words_to at vs) ≡ words_from at (length vs)
+pub addresses_to : (vs : List ℕ) (at : ℕ) → map (λ p. p.0) (words_to at vs) ≡ word_accesses at (length vs)
 addresses_to [] at = refl
 addresses_to (v ∷ vs) at = ap (λ as'. access at 4 ∷ as') (addresses_to vs (at + 4))
 
 pub spill_odd : {S : Type 0} (m : Memory S) (s : Registers) (t t' : S) (at at' k l : ℕ) (x : S) → ((a b : Access) (v : ℕ) (w : Bool) → m.fault (m.store t a v) w b ≡ m.fault t w b) → k < 8 → l % 2 ≡ 1
-    → store_all m t (words_to at (values s (left k l))) ≡ x → first_fault m t true (words_from at (length (left k l))) ≡ None
+    → store_all m t (words_to at (values s (left k l))) ≡ x → first_fault m t true (word_accesses at (length (left k l))) ≡ None
     → t' ≡ m.store t (access at 4) (low s k) → at' ≡ word (at + 4)
-    → (m.fault t true (access at 4) ≡ None) × (store_all m t' (words_to at' (values s (left (k + 1) (l / 2)))) ≡ x) × (first_fault m t' true (words_from at' (length (left (k + 1) (l / 2)))) ≡ None)
+    → (m.fault t true (access at 4) ≡ None) × (store_all m t' (words_to at' (values s (left (k + 1) (l / 2)))) ≡ x) × (first_fault m t' true (word_accesses at' (length (left (k + 1) (l / 2)))) ≡ None)
 spill_odd m s t t' at at' k l x keeps h o st f et ea =
     let e = left_odd k l h o in
-    let g : first_fault m t true (words_from at (length (k ∷ left (k + 1) (l / 2)))) ≡ None = rw e at f in
+    let g : first_fault m t true (word_accesses at (length (k ∷ left (k + 1) (l / 2)))) ≡ None = rw e at f in
     let p = both_free _ _ g in
     let w = same_words (length (left (k + 1) (l / 2))) (word (at + 4)) (at + 4) (omega arith) in
     let w' = same_words_to (values s (left (k + 1) (l / 2))) (word (at + 4)) (at + 4) (omega arith) in
-    let q = faults_kept m t (m.store t (access at 4) (low s k)) true (λ y. keeps (access at 4) y (low s k) true) (words_from (at + 4) (length (left (k + 1) (l / 2)))) in
+    let q = faults_kept m t (m.store t (access at 4) (low s k)) true (λ y. keeps (access at 4) y (low s k) true) (word_accesses (at + 4) (length (left (k + 1) (l / 2)))) in
     let st' : store_all m t (words_to at (values s (k ∷ left (k + 1) (l / 2)))) ≡ x = rw e at st in
     (p.0, rw (et, ea, w') st', rw (et, ea, w) (q ∙ p.1))

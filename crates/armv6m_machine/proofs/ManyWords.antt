@@ -3,7 +3,7 @@ use Rattle.std.proofs.Common.{zero, suc, ◌≡◌, ℕ, ◌+◌, ◌-◌, ◌*�
 use Rattle.std.proofs.lemmas.List.{get_or-append_right}
 use Rattle.thumb_code.specs.declared.register_file.Registers.{Registers}
 use Rattle.thumb_code.specs.RegisterFile.{word, low, values, filled, is_odd}
-use Rattle.thumb_code.specs.Forms.{Access, access, words_from, words_to, pushes, pops, stores_many}
+use Rattle.thumb_code.specs.Forms.{Access, access, word_accesses, words_to, pushes, pops, stores_many}
 use Rattle.thumb_code.specs.Memory.{Memory, first_of, first_fault, load_all, store_all}
 use Rattle.armv6m_machine.specs.declared.faults.Fault.{Fault as FaultKind}
 use Rattle.armv6m_machine.specs.declared.faults.Fault.TheVariants.{StackRange, NotThumb}
@@ -15,7 +15,7 @@ use Rattle.armv6m_machine.proofs.Lists.{addresses_to, length_values, both_free}
 use Rattle.armv6m_machine.proofs.Executing.{goes_on, out_of_range, load_fails, store_fails, fails_itself}
 
 -- One word more.
-pub words_from_more : (n at : ℕ) → words_from at (n + 1) ≡ words_from at n ++ access (at + 4 * n) 4 ∷ []
+pub words_from_more : (n at : ℕ) → word_accesses at (n + 1) ≡ word_accesses at n ++ access (at + 4 * n) 4 ∷ []
 words_from_more zero at = let e : at + 4 * 0 ≡ at = omega arith in rw e refl
 words_from_more (suc n) at =
     let e : suc n + 1 ≡ suc (n + 1) = omega arith in
@@ -51,9 +51,9 @@ pub length-load_all : {S : Type 0} (m : Memory S) (xs : List Access) (t : S) →
 length-load_all m [] t = refl
 length-load_all m (x ∷ xs) t = ap suc (length-load_all m xs (m.load t x).1)
 
-pub length-words_from : (n at : ℕ) → length (words_from at n) ≡ n
-length-words_from zero at = refl
-length-words_from (suc n) at = ap suc (length-words_from n (at + 4))
+pub length-word_accesses : (n at : ℕ) → length (word_accesses at n) ≡ n
+length-word_accesses zero at = refl
+length-word_accesses (suc n) at = ap suc (length-word_accesses n (at + 4))
 
 -- Stores and loads change no fault.
 pub stores_keep : {S : Type 0} (m : Memory S) → ((t : S) (a b : Access) (v : ℕ) (w : Bool) → m.fault (m.store t a v) w b ≡ m.fault t w b) → (ps : List (Access × ℕ)) (t : S) (w : Bool) (x : Access)
@@ -67,10 +67,10 @@ loads_keep m keeps [] t w x = refl
 loads_keep m keeps (a ∷ xs) t w x = loads_keep m keeps xs (m.load t a).1 w x ∙ keeps t a x w
 
 -- The first words of one more, and the last, are no faults.
-pub more_free : {S : Type 0} (m : Memory S) (t : S) (b : Bool) (at n : ℕ) → first_fault m t b (words_from at (n + 1)) ≡ None
-    → (first_fault m t b (words_from at n) ≡ None) × (m.fault t b (access (at + 4 * n) 4) ≡ None)
+pub more_free : {S : Type 0} (m : Memory S) (t : S) (b : Bool) (at n : ℕ) → first_fault m t b (word_accesses at (n + 1)) ≡ None
+    → (first_fault m t b (word_accesses at n) ≡ None) × (m.fault t b (access (at + 4 * n) 4) ≡ None)
 more_free m t b at n h =
-    let s : first_of (first_fault m t b (words_from at n)) (first_fault m t b (access (at + 4 * n) 4 ∷ [])) ≡ None = sym (first_fault-append m t b (words_from at n) (access (at + 4 * n) 4 ∷ [])) ∙ ap (λ as'. first_fault m t b as') (sym (words_from_more n at)) ∙ h in
+    let s : first_of (first_fault m t b (word_accesses at n)) (first_fault m t b (access (at + 4 * n) 4 ∷ [])) ≡ None = sym (first_fault-append m t b (word_accesses at n) (access (at + 4 * n) 4 ∷ [])) ∙ ap (λ as'. first_fault m t b as') (sym (words_from_more n at)) ∙ h in
     let p = both_free _ _ s in
     (p.0, (both_free _ _ p.1).0)
 
@@ -83,12 +83,12 @@ pub push_range : {S : Type 0} (m : Memory S) (t : S) (next : ℕ) (s : Registers
 push_range m t next s vs k e h = out_of_range m t (pushes next s vs) s (rw e at h)
 
 pub push_fault : {S : Type 0} (m : Memory S) (t : S) (next : ℕ) (s : Registers) (vs : List ℕ) (k : ℕ) (f : FaultKind) → k ≡ length vs → m.has_sp t (below s k) ≡ true
-    → first_fault m t true (words_from (below s k) k) ≡ Some (number_of f) → Does m t (pushes next s vs) (Fault f s.pc) s s t
+    → first_fault m t true (word_accesses (below s k) k) ≡ Some (number_of f) → Does m t (pushes next s vs) (Fault f s.pc) s s t
 push_fault m t next s vs k f e h ff =
     store_fails m t (pushes next s vs) s f (rw e at h) refl (ap (λ as'. first_fault m t true as') (addresses_to vs (below s (length vs))) ∙ rw e at ff)
 
 pub push_done : {S : Type 0} (m : Memory S) (t : S) (next : ℕ) (s : Registers) (vs : List ℕ) (k : ℕ) (mem : S) → k ≡ length vs → m.has_sp t (below s k) ≡ true
-    → first_fault m t true (words_from (below s k) k) ≡ None → mem ≡ store_all m t (words_to (below s k) vs)
+    → first_fault m t true (word_accesses (below s k) k) ≡ None → mem ≡ store_all m t (words_to (below s k) vs)
     → Does m t (pushes next s vs) Went s (record s { sp = below s k; pc = next }) mem
 push_done m t next s vs k mem e h ff q =
     rw e (goes_on m t (pushes next s vs) s _ _ mem (rw e at h) refl (ap (λ as'. first_fault m t true as') (addresses_to vs (below s (length vs))) ∙ rw e at ff) refl refl (rw e at q))
@@ -105,13 +105,13 @@ more_stored m t u v at w n vs e p q =
 
 -- STM.
 pub stores_fault : {S : Type 0} (m : Memory S) (t : S) (next : ℕ) (s : Registers) (rn : ℕ) (ks : List ℕ) (k : ℕ) (f : FaultKind) → k ≡ length ks → m.has_sp t s.sp ≡ true
-    → first_fault m t true (words_from (low s rn) k) ≡ Some (number_of f) → Does m t (stores_many next s rn ks) (Fault f s.pc) s s t
+    → first_fault m t true (word_accesses (low s rn) k) ≡ Some (number_of f) → Does m t (stores_many next s rn ks) (Fault f s.pc) s s t
 stores_fault m t next s rn ks k f e h ff =
     let n = e ∙ sym (length_values s ks) in
     store_fails m t (stores_many next s rn ks) s f h refl (ap (λ as'. first_fault m t true as') (addresses_to (values s ks) (low s rn)) ∙ rw n at ff)
 
 pub stores_done : {S : Type 0} (m : Memory S) (t : S) (next : ℕ) (s : Registers) (rn : ℕ) (ks : List ℕ) (k : ℕ) (mem : S) → k ≡ length ks → m.has_sp t s.sp ≡ true
-    → first_fault m t true (words_from (low s rn) k) ≡ None → mem ≡ store_all m t (words_to (low s rn) (values s ks))
+    → first_fault m t true (word_accesses (low s rn) k) ≡ None → mem ≡ store_all m t (words_to (low s rn) (values s ks))
     → Does m t (stores_many next s rn ks) Went s (record s { r = slice_set s.r rn (word (low s rn + 4 * k)); pc = next }) mem
 stores_done m t next s rn ks k mem e h ff q =
     let n = e ∙ sym (length_values s ks) in
@@ -134,7 +134,7 @@ pub pop_pc_range : {S : Type 0} (m : Memory S) (t : S) (next : ℕ) (s : Registe
 pop_pc_range m t next s ks k e h = out_of_range m t (pops next s ks true) s (rw e at h)
 
 pub pop_pc_fault : {S : Type 0} (m : Memory S) (t : S) (next : ℕ) (s : Registers) (ks : List ℕ) (k : ℕ) (f : FaultKind) → k ≡ length ks → m.has_sp t (above s (k + 1)) ≡ true
-    → first_fault m t false (words_from s.sp (k + 1)) ≡ Some (number_of f) → Does m t (pops next s ks true) (Fault f s.pc) s s t
+    → first_fault m t false (word_accesses s.sp (k + 1)) ≡ Some (number_of f) → Does m t (pops next s ks true) (Fault f s.pc) s s t
 pop_pc_fault m t next s ks k f e h ff = load_fails m t (pops next s ks true) s f (rw e at h) (rw e at ff)
 
 -- What was loaded: the list's words from SP on, and the word to which PC goes.
@@ -146,32 +146,32 @@ pub record Popped {S : Type 0} (m : Memory S) (t : S) (s : Registers) (ks : List
   pub behind : v ≡ (m.load u (access (s.sp + 4 * k) 4)).1
 
 all_loaded : {S : Type 0} (m : Memory S) (t : S) (s : Registers) (ks : List ℕ) (k : ℕ) (q : Registers) (u : S) (to : ℕ) (v : S) → Popped m t s ks k q u to v
-    → load_all m t (words_from s.sp (length ks + 1)) ≡ ((load_all m t (words_from s.sp (length ks))).0 ++ to ∷ [], v)
+    → load_all m t (word_accesses s.sp (length ks + 1)) ≡ ((load_all m t (word_accesses s.sp (length ks))).0 ++ to ∷ [], v)
 all_loaded m t s ks k q u to v p =
     let e = words_from_more (length ks) s.sp in
-    let a = load_all-append m (words_from s.sp (length ks)) (access (s.sp + 4 * length ks) 4 ∷ []) t in
+    let a = load_all-append m (word_accesses s.sp (length ks)) (access (s.sp + 4 * length ks) 4 ∷ []) t in
     let n = p.count in let b = p.between in
     let w = p.word in let h = p.behind in
     rw (e, a, h, w, n, b) refl
 
 pub pop_pc_not_thumb : {S : Type 0} (m : Memory S) (t : S) (next : ℕ) (s : Registers) (ks : List ℕ) (k : ℕ) (q : Registers) (u : S) (to : ℕ) (v : S) → Popped m t s ks k q u to v
-    → m.has_sp t (above s (k + 1)) ≡ true → first_fault m t false (words_from s.sp (k + 1)) ≡ None → is_odd to ≡ false
+    → m.has_sp t (above s (k + 1)) ≡ true → first_fault m t false (word_accesses s.sp (k + 1)) ≡ None → is_odd to ≡ false
     → Does m t (pops next s ks true) (Fault NotThumb s.pc) s s v
 pop_pc_not_thumb m t next s ks k q u to v p h ff o =
     let e = p.count in
     let a = all_loaded m t s ks k q u to v p in
-    let l = length-load_all m (words_from s.sp (length ks)) t ∙ length-words_from (length ks) s.sp in
-    let w = last_word (load_all m t (words_from s.sp (length ks))).0 to (length ks) l in
+    let l = length-load_all m (word_accesses s.sp (length ks)) t ∙ length-word_accesses (length ks) s.sp in
+    let w = last_word (load_all m t (word_accesses s.sp (length ks))).0 to (length ks) l in
     fails_itself m t (pops next s ks true) s NotThumb v (rw e at h) (rw e at ff) refl (rw (a, w, o) refl) (rw a refl)
 
 pub pop_pc_done : {S : Type 0} (m : Memory S) (t : S) (next : ℕ) (s : Registers) (ks : List ℕ) (k : ℕ) (q : Registers) (u : S) (to : ℕ) (v : S) → Popped m t s ks k q u to v
-    → m.has_sp t (above s (k + 1)) ≡ true → first_fault m t false (words_from s.sp (k + 1)) ≡ None → is_odd to ≡ true
+    → m.has_sp t (above s (k + 1)) ≡ true → first_fault m t false (word_accesses s.sp (k + 1)) ≡ None → is_odd to ≡ true
     → Does m t (pops next s ks true) Went s (record q { sp = above s (k + 1); pc = to - 1 }) v
 pop_pc_done m t next s ks k q u to v p h ff o =
     let e = p.count in
     let a = all_loaded m t s ks k q u to v p in
-    let l = length-load_all m (words_from s.sp (length ks)) t ∙ length-words_from (length ks) s.sp in
-    let w = last_word (load_all m t (words_from s.sp (length ks))).0 to (length ks) l in
-    let f = filled_more ks s.r (load_all m t (words_from s.sp (length ks))).0 to l in
+    let l = length-load_all m (word_accesses s.sp (length ks)) t ∙ length-word_accesses (length ks) s.sp in
+    let w = last_word (load_all m t (word_accesses s.sp (length ks))).0 to (length ks) l in
+    let f = filled_more ks s.r (load_all m t (word_accesses s.sp (length ks))).0 to l in
     let g = p.registers in
     rw (e, g) (goes_on m t (pops next s ks true) s _ (record s { r = (loaded m s.r t s.sp ks).0; sp = above s (length ks + 1); pc = to - 1 }) v (rw e at h) (rw e at ff) refl (rw (a, w, o, f) refl) refl (rw a refl))

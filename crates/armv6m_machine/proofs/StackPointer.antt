@@ -10,7 +10,7 @@ use Rattle.thumb_code.specs.Effect.{effect}
 use Rattle.thumb_code.specs.Map.{is_base, sp_in_range}
 use Rattle.thumb_code.specs.Memory.{Executed, Done, Asked, Stopped, or_else, first_fault, load_all, store_all, finished, accessed, execute}
 use Rattle.thumb_code.specs.Ram.{Ram, ram_memory, ram_store}
-use Rattle.thumb_code.specs.Step.{Fetched, Found, Missed, fetched, ran, placed}
+use Rattle.thumb_code.specs.Step.{Fetched, Found, Missed, fetched, ran, stepped_at}
 use Rattle.thumb_code.specs.Machine.{State, step}
 use Rattle.armv6m_machine.specs.Steps.{OnGoing, IsStackPointer}
 use Rattle.armv6m_machine.specs.RamLaws.{store_keeps_base}
@@ -82,7 +82,7 @@ in_range : (m : Ram) (e : Effect) (b : Bool) → sp_in_range m.base e.sp ≡ b �
 in_range m e true p d = good e.sp m.base (accessed ram_memory m e) p d (accessed_leaves m e)
 in_range m e false p d = tt
 
-placed_good : (pc : ℕ) (x : Executed Ram) → Good x → OnGoing (placed pc x) IsStackPointer
+placed_good : (pc : ℕ) (x : Executed Ram) → Good x → OnGoing (stepped_at pc x) IsStackPointer
 placed_good pc (Done r t) h = h
 placed_good pc (Asked n r t) h = h
 placed_good pc (Stopped k) h = tt

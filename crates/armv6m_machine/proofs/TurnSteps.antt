@@ -4,7 +4,7 @@ use Rattle.thumb_code.specs.declared.register_file.Registers.{Registers}
 use Rattle.thumb_code.specs.Forms.{Access, Effect}
 use Rattle.thumb_code.specs.Memory.{Executed, Done, Asked, Stopped, execute, load_all}
 use Rattle.thumb_code.specs.Ram.{Ram, ram_memory}
-use Rattle.thumb_code.specs.Step.{Stepped, On, Served, Faulted, placed, behind, fetched, Found}
+use Rattle.thumb_code.specs.Step.{Stepped, On, Served, Faulted, stepped_at, behind, fetched, Found}
 use Rattle.thumb_code.specs.Effect.{effect}
 use Rattle.thumb_code.specs.declared.instructions.Instr.{Instr}
 use Rattle.thumb_code.specs.Machine.{State, step}
@@ -25,7 +25,7 @@ read_same e t mem (inr p) = p ∙ loads_leave e.loads t
 state : (r q : Registers) (t m : Ram) → r ≡ q → m ≡ t → let a : State = record { registers = r; memory = m } in a ≡ record { registers = q; memory = t }
 state r q t m e f = rw (e, f) refl
 
-turn_step : (t : Executed Ram) (e : Effect) (turn : Turn) (old new : State) → AnswersTurn t turn old.registers new.registers new.memory (HasRead ram_memory old.memory e new.memory) → IsStep (placed old.registers.pc t) turn old new
+turn_step : (t : Executed Ram) (e : Effect) (turn : Turn) (old new : State) → AnswersTurn t turn old.registers new.registers new.memory (HasRead ram_memory old.memory e new.memory) → IsStep (stepped_at old.registers.pc t) turn old new
 turn_step (Done r m) e turn old new h = (h.0, state _ _ _ _ h.1 h.2)
 turn_step (Asked n r m) e turn old new h = (h.0, state _ _ _ _ h.1 h.2)
 turn_step (Stopped k) e (Fault f a) old new h = (h.0, h.1, state _ _ _ _ h.2 (read_same e old.memory new.memory h.3))
@@ -33,7 +33,7 @@ turn_step (Stopped k) e Went old new h = h
 turn_step (Stopped k) e (Service n) old new h = h
 
 -- An instruction that is done over RAM is the step.
-does_step : (e : Effect) (turn : Turn) (old new : State) → Does ram_memory old.memory e turn old.registers new.registers new.memory → IsStep (placed old.registers.pc (execute ram_memory old.memory e)) turn old new
+does_step : (e : Effect) (turn : Turn) (old new : State) → Does ram_memory old.memory e turn old.registers new.registers new.memory → IsStep (stepped_at old.registers.pc (execute ram_memory old.memory e)) turn old new
 does_step e turn old new h = turn_step (execute ram_memory old.memory e) e turn old new h
 
 -- What was fetched, executed over RAM, is the step.

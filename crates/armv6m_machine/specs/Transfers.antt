@@ -3,7 +3,7 @@ use Rattle.std.specs.Prelude.{ℕ, ◌*◌, ◌%◌, ◌^◌, List, [], ◌∷�
 use Rattle.thumb_code.specs.declared.register_file.Registers.{Registers}
 use Rattle.thumb_code.specs.RegisterFile.{low, filled}
 use Rattle.thumb_code.specs.Memory.{Memory, load_all}
-use Rattle.thumb_code.specs.Forms.{Effect, Access, Goes, first_word, words_from}
+use Rattle.thumb_code.specs.Forms.{Effect, Access, Goes, first_word, word_accesses}
 
 -- What stands there goes into a low register, through f.
 abbrev pub load_from : ℕ → Registers → ℕ → (ℕ → ℕ) → Access → Effect
@@ -15,4 +15,4 @@ store_to next s rt a = record { sp = s.sp; loads = []; stores = (a, low s rt % 2
 
 -- The registers with the words from an address on loaded into these, and the memory behind the loads.
 abbrev pub loaded : {S : Type 0} → Memory S → List ℕ → S → ℕ → List ℕ → List ℕ × S
-loaded m r t at ks = let q = load_all m t (words_from at (length ks)) in (filled r ks q.0, q.1)
+loaded m r t at ks = let q = load_all m t (word_accesses at (length ks)) in (filled r ks q.0, q.1)

@@ -3,7 +3,7 @@ ghost use Rattle.std.specs.Prelude.{◌≡◌, ◌+◌, ◌≤◌, ◌<◌, ◌�
 ghost use Rattle.thumb_code.specs.RegisterFile.{listed, values};
 ghost use Rattle.thumb_code.specs.Memory.{first_fault, store_all};
 ghost use Rattle.thumb_code.specs.Effect.{effect};
-ghost use Rattle.thumb_code.specs.Forms.{words_from, words_to};
+ghost use Rattle.thumb_code.specs.Forms.{word_accesses, words_to};
 ghost use Rattle.thumb_code.specs.declared.instructions.Instr.TheVariants.{Ldm, Stm, Push, Pop};
 ghost use Rattle.armv6m_machine.specs.Answers.{IsCheck};
 ghost use Rattle.armv6m_machine.specs.Transfers.{loaded};
@@ -16,7 +16,7 @@ use thumb_code::Registers;
 /// The first fault of so many words from an address on.
 pub fn check_words<M: Memory>(memory: &M, at: u32, count: u32, store: bool) -> Option<Fault>
     requires { count ≤ 9 }
-    ensures { IsCheck result (first_fault M.memory memory.now store (words_from at count)) }
+    ensures { IsCheck result (first_fault M.memory memory.now store (word_accesses at count)) }
 {
     for i in 0..count {
         if let Some(fault) = memory.check(at.wrapping_add(4 * i), 4, store) {
@@ -36,7 +36,7 @@ pub fn count(list: u8) -> u32
 
 /// Loads the registers of a list from an address on.
 pub fn fill<M: Memory>(memory: &mut M, registers: &mut Registers, list: u8, from: u32)
-    requires { first_fault M.memory memory.old false (words_from from (length (listed list))) ≡ None }
+    requires { first_fault M.memory memory.old false (word_accesses from (length (listed list))) ≡ None }
     ensures registers { registers.new ≡ record registers.old { r = (loaded M.memory registers.old.r memory.old from (listed list)).0 } }
     ensures memory { memory.new ≡ (loaded M.memory registers.old.r memory.old from (listed list)).1 }
 {
@@ -53,7 +53,7 @@ pub fn fill<M: Memory>(memory: &mut M, registers: &mut Registers, list: u8, from
 
 /// Stores the registers of a list from an address on.
 pub fn spill<M: Memory>(memory: &mut M, registers: &Registers, list: u8, from: u32)
-    requires { first_fault M.memory memory.old true (words_from from (length (listed list))) ≡ None }
+    requires { first_fault M.memory memory.old true (word_accesses from (length (listed list))) ≡ None }
     ensures { memory.new ≡ store_all M.memory memory.old (words_to from (values registers.now (listed list))) }
 {
     let mut at = from;

@@ -1,8 +1,8 @@
 -- The words of a text, as a reader sees them: names, numbers, texts in quotes, comments, runs of signs, and single brackets and marks.
 use Rattle.std.specs.Prelude.{◌≡◌, ℕ, ◌-◌, ◌==◌, ◌&&◌, ◌||◌, nat_le, not, Bool, false, List, [], ◌∷◌, length, take, if◌then◌else◌}
 use Rattle.std.specs.Char.{is_ascii_alphanumeric}
-use Rattle.around_place.specs.declared.words.Kind.{Kind}
-use Rattle.around_place.specs.declared.words.Kind.TheVariants.{Blank, Name, Foreign, Sign, Unbroken}
+use Rattle.around_place.specs.declared.words.WordKind.{WordKind}
+use Rattle.around_place.specs.declared.words.WordKind.TheVariants.{Blank, Name, Foreign, Sign, Unbroken}
 
 -- a line ends with LF or CR
 abbrev pub breaks_line : ℕ → Bool
@@ -16,7 +16,7 @@ is_sign byte =
     || ((byte == 38) || ((byte == 124) || ((byte == 63) || (byte == 58)))))
 
 -- the kinds of bytes that stand in runs: what stands between words; letters, digits, `_` and `$`; what is beyond ASCII; signs; all but line breaks
-abbrev pub in_kind : Kind → ℕ → Bool
+abbrev pub in_kind : WordKind → ℕ → Bool
 in_kind Blank byte = (byte == 32) || ((byte == 9) || breaks_line byte)
 in_kind Name byte = is_ascii_alphanumeric byte || ((byte == 95) || (byte == 36))
 in_kind Foreign byte = nat_le 128 byte

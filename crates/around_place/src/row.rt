@@ -4,7 +4,7 @@ ghost use Rattle.std.specs.Option.{option_map};
 ghost use Rattle.around_place.specs.Rows as spec;
 ghost use Rattle.around_place.specs.Words.{AreItsWords};
 
-use crate::words::{Kind, is_blank, is_in, next_word, opens_text};
+use crate::words::{WordKind, is_blank, is_in, next_word, opens_text};
 
 /// What is asked of a word.
 #[derive(Clone, Copy, Drop)]
@@ -113,12 +113,12 @@ fn holds(test: Test, word: &[u8]) -> bool
     match test {
         Test::Is(wanted) => word == wanted.as_bytes(),
         Test::Like(wanted) => word.eq_ignore_ascii_case(wanted.as_bytes()),
-        Test::Name => is_in(first, Kind::Name) && !first.is_ascii_digit(),
+        Test::Name => is_in(first, WordKind::Name) && !first.is_ascii_digit(),
         Test::Number => first.is_ascii_digit(),
         Test::Text => opens_text(first),
         Test::Open => is_open(word),
-        Test::Sign => is_in(first, Kind::Sign),
-        Test::Foreign => is_in(first, Kind::Foreign),
+        Test::Sign => is_in(first, WordKind::Sign),
+        Test::Foreign => is_in(first, WordKind::Foreign),
         Test::With(byte) => word.contains(&byte),
         Test::Any => true,
     }

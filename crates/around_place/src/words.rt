@@ -4,7 +4,7 @@ ghost use Rattle.around_place.specs.Words as spec;
 
 /// A kind of byte that stands in runs.
 #[derive(Clone, Copy, Drop)]
-pub enum Kind {
+pub enum WordKind {
     /// What stands between words.
     Blank,
     /// Letters, digits, `_` and `$`.
@@ -35,15 +35,15 @@ fn is_sign(byte: u8) -> bool
 }
 
 /// Whether a byte is of a kind.
-pub fn is_in(byte: u8, kind: Kind) -> bool
+pub fn is_in(byte: u8, kind: WordKind) -> bool
     ensures { result ≡ spec.in_kind kind byte }
 {
     match kind {
-        Kind::Blank => byte == b' ' || (byte == b'\t' || is_break(byte)),
-        Kind::Name => byte.is_ascii_alphanumeric() || (byte == b'_' || byte == b'$'),
-        Kind::Foreign => 128 <= byte,
-        Kind::Sign => is_sign(byte),
-        Kind::Unbroken => !is_break(byte),
+        WordKind::Blank => byte == b' ' || (byte == b'\t' || is_break(byte)),
+        WordKind::Name => byte.is_ascii_alphanumeric() || (byte == b'_' || byte == b'$'),
+        WordKind::Foreign => 128 <= byte,
+        WordKind::Sign => is_sign(byte),
+        WordKind::Unbroken => !is_break(byte),
     }
 }
 
@@ -56,7 +56,7 @@ pub fn opens_text(byte: u8) -> bool
 
 /// What stands behind the bytes of a kind with which a text begins.
 #[tactic(auto, unfolding(crate::specs::Words::behind_run))]
-fn behind_run<'t>(text: &'t [u8], kind: Kind) -> &'t [u8]
+fn behind_run<'t>(text: &'t [u8], kind: WordKind) -> &'t [u8]
     ensures behind { result.now ≡ spec.behind_run (spec.in_kind kind) text.now }
     ensures within { length result.now ≤ length text.now }
 {
@@ -115,7 +115,7 @@ fn behind_slash<'t>(text: &'t [u8]) -> &'t [u8]
     ensures within { length result.now ≤ length text.now }
 {
     match text {
-        [b'/', ..] => behind_run(text, Kind::Unbroken),
+        [b'/', ..] => behind_run(text, WordKind::Unbroken),
         [b'*', after @ ..] => behind_comment(after),
         _ => text,
     }
@@ -127,12 +127,12 @@ fn behind_word<'t>(first: u8, text: &'t [u8]) -> &'t [u8]
     ensures behind { result.now ≡ spec.behind_word first text.now }
     ensures within { length result.now ≤ length text.now }
 {
-    if is_in(first, Kind::Name) {
-        behind_run(text, Kind::Name)
-    } else if is_in(first, Kind::Foreign) {
-        behind_run(text, Kind::Foreign)
-    } else if is_in(first, Kind::Sign) {
-        behind_run(text, Kind::Sign)
+    if is_in(first, WordKind::Name) {
+        behind_run(text, WordKind::Name)
+    } else if is_in(first, WordKind::Foreign) {
+        behind_run(text, WordKind::Foreign)
+    } else if is_in(first, WordKind::Sign) {
+        behind_run(text, WordKind::Sign)
     } else if opens_text(first) {
         behind_text(first, text)
     } else if first == b'/' {
@@ -147,7 +147,7 @@ pub fn from_word<'t>(text: &'t [u8]) -> &'t [u8]
     ensures from { result.now ≡ spec.from_word text.now }
     ensures within { length result.now ≤ length text.now }
 {
-    behind_run(text, Kind::Blank)
+    behind_run(text, WordKind::Blank)
 }
 
 /// Whether no word stands in a text.

@@ -8,7 +8,7 @@ use Rattle.thumb_code.specs.Memory.{Executed, Done, Asked, Stopped, or_else, fir
 use Rattle.thumb_code.specs.Faults.{above_base, out_of_map, unaligned}
 use Rattle.thumb_code.specs.Map.{stack_at, arena_at, globals_at, ram_end, access_fault, merged, in_ram, is_base}
 use Rattle.thumb_code.specs.Ram.{Ram, ram_memory, ram_store}
-use Rattle.thumb_code.specs.Step.{Fetched, Found, Missed, fetched, placed, ran}
+use Rattle.thumb_code.specs.Step.{Fetched, Found, Missed, fetched, stepped_at, ran}
 use Rattle.thumb_code.specs.Machine.{State, step}
 use Rattle.bank_model.specs.Standing.{IsBase, KeepsAbove, StepKeepsAbove}
 
@@ -86,7 +86,7 @@ module _ (m : Ram) (b : IsBase m.base) where
       finish_above (store_all ram_memory (load_all ram_memory m e.loads).1 e.stores) e.sp (e.after (load_all ram_memory m e.loads).0)
       (let l = loads_above e.loads m in rw l (stores_above e.stores m none (record { flash = refl; base = refl; size = refl; above = refl }))))))
 
-placed_keeps : (m : Ram) (b : IsBase m.base) (at : ℕ) (x : Executed Ram) → ExecutedKeeps m b x → StepKeepsAbove m (placed at x)
+placed_keeps : (m : Ram) (b : IsBase m.base) (at : ℕ) (x : Executed Ram) → ExecutedKeeps m b x → StepKeepsAbove m (stepped_at at x)
 placed_keeps m b at (Done r t) h = (h, b)
 placed_keeps m b at (Asked n r t) h = (h, b)
 placed_keeps m b at (Stopped k) h = tt

@@ -5,7 +5,7 @@ use Rattle.thumb_code.specs.RegisterFile.{is_odd}
 use Rattle.thumb_code.specs.Refines.{over_moving}
 use Rattle.thumb_code.specs.Map.{is_base}
 use Rattle.thumb_code.specs.Machine.{base_of}
-use Rattle.thumb_code.specs.Step.{Fetched, Found, Missed, fetched, ran, placed}
+use Rattle.thumb_code.specs.Step.{Fetched, Found, Missed, fetched, ran, stepped_at}
 use Rattle.board_world.specs.declared.events.Event.{Event}
 use Rattle.board_world.specs.declared.events.Listener.{Listener}
 use Rattle.board_world.specs.Modes.{queues_if_busy}
@@ -148,7 +148,7 @@ module _ (flash : List ℕ) where
   held r b free h = record { span = h.span; inside = λ e. h.inside }
 
   placed_twins : (s₀ t₀ : Shared) (used at : ℕ) (base : ℕ) (out : Steady) (x y : List ℕ) → HoldsAfter base out
-      → Twins used s₀ t₀ (turn_of flash used at (placed at (with_free x out))) (turn_of flash used at (placed at (with_free y out)))
+      → Twins used s₀ t₀ (turn_of flash used at (stepped_at at (with_free x out))) (turn_of flash used at (stepped_at at (with_free y out)))
   placed_twins s₀ t₀ used at base (Went r b) x y h = going used s₀ t₀ (shared_in used (b, x)) y (fiber_of r (b, x)) (held r b x h.0) refl
   placed_twins s₀ t₀ used at base (Asked_for n r b) x y h = serviced s₀ t₀ at (fiber_of r (b, x)) (shared_in used (b, x)) y (held r b x h.0) n
   placed_twins s₀ t₀ used at base (Failed k) x y h = (refl, refl)

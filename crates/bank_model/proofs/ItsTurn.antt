@@ -6,7 +6,7 @@ use Rattle.thumb_code.specs.Ram.{Ram}
 use Rattle.thumb_code.specs.Step.{Stepped, On, Served, Faulted}
 use Rattle.thumb_code.specs.Machine.{State, step}
 use Rattle.bank_model.specs.Bank.{Bank}
-use Rattle.bank_model.specs.Shows.{Agrees}
+use Rattle.bank_model.specs.Shows.{AgreesWithBank}
 use Rattle.bank_model.specs.Steps.{bank_step, FollowsStep}
 use Rattle.bank_model.specs.BoardMachine.{turn_of}
 use Rattle.bank_model.specs.Standing.{words_in, IsBase, IsInside, Stands, bank_on, turn_from, StepKeepsAbove, StandsAfter, IsItsTurn}
@@ -22,7 +22,7 @@ stands_inside s f b = by_size (length (words_in s.memory.stack s.registers.sp s.
     by_size zero e = record { sp_aligned = omega (arith, f.spans.span, e, b.aligned); aligned = b.aligned; low = omega (arith, f.spans.span, e, b.low); within = omega (arith, f.spans.span, e); high = b.high }
     by_size (suc n) e = f.spans.inside (omega (arith, e))
 
-pub stands_agrees : (image : List ℕ) (s : State) → s.memory.flash ≡ image → Stands s → Agrees image s.registers.sp s.memory (bank_on s.memory s.registers.sp)
+pub stands_agrees : (image : List ℕ) (s : State) → s.memory.flash ≡ image → Stands s → AgreesWithBank image s.registers.sp s.memory (bank_on s.memory s.registers.sp)
 stands_agrees image s e f = record {
   flash = e;
   bank_flash = e;
@@ -31,13 +31,13 @@ stands_agrees image s e f = record {
 }
 
 module _ (image : List ℕ) (used : ℕ) (s : State) where
-  shown : (r : Registers) (u : Ram) (v : Bank) → StepKeepsAbove s.memory (On r u) → Agrees image r.sp u v → (v ≡ bank_on u r.sp) × IsInside r.sp u.base
+  shown : (r : Registers) (u : Ram) (v : Bank) → StepKeepsAbove s.memory (On r u) → AgreesWithBank image r.sp u v → (v ≡ bank_on u r.sp) × IsInside r.sp u.base
   shown r u v k a =
       let base : is_base u.base ≡ true = ap is_base k.0.base ∙ good_base s.memory.base k.1 in
       let h = a.shows base in
       (shown_bank u r.sp v h, shown_inside u r.sp v h)
 
-  by_step : (x : Stepped Ram) (g : List ℕ → Stepped (Bank × List ℕ)) → StepKeepsAbove s.memory x → FollowsStep (Agrees image) x g
+  by_step : (x : Stepped Ram) (g : List ℕ → Stepped (Bank × List ℕ)) → StepKeepsAbove s.memory x → FollowsStep (AgreesWithBank image) x g
       → ((rest : List ℕ) → turn_of image used s.registers.pc (g rest) ≡ turn_from image used s.registers.pc x rest) × StandsAfter x
   by_step (On r u) g k (v, a, q) =
       let h = shown r u v k a in

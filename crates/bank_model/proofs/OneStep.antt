@@ -5,28 +5,28 @@ use Rattle.thumb_code.specs.Effect.{effect}
 use Rattle.thumb_code.specs.Memory.{Executed, Done, Asked, Stopped, execute}
 use Rattle.thumb_code.specs.Map.{arena_words, is_base}
 use Rattle.thumb_code.specs.Ram.{Ram, ram_memory}
-use Rattle.thumb_code.specs.Refines.{Follows, over_moving}
-use Rattle.thumb_code.specs.Step.{Fetched, Found, Missed, fetched, placed, ran}
+use Rattle.thumb_code.specs.Refines.{DoesTheSame, over_moving}
+use Rattle.thumb_code.specs.Step.{Fetched, Found, Missed, fetched, stepped_at, ran}
 use Rattle.thumb_code.specs.Machine.{State, step, reset, base_of}
 use Rattle.bank_model.specs.Bank.{Bank, bank_memory, bank_move}
-use Rattle.bank_model.specs.Shows.{Shows, Agrees}
+use Rattle.bank_model.specs.Shows.{Shows, AgreesWithBank}
 use Rattle.bank_model.specs.Steps.{bank_step, FollowsStep}
 use Rattle.bank_model.specs.Standing.{IsBase}
 use Rattle.bank_model.proofs.AboveBase.{base_good}
 use Rattle.bank_model.proofs.RamSteps.{Leaves, execute_leaves}
 use Rattle.bank_model.proofs.FollowsRam.{bank_follows_instruction}
 
-placed_follows : (image : List ℕ) (at : ℕ) (m : Ram) (x : Executed Ram) (f : List ℕ → Executed (Bank × List ℕ)) → m.flash ≡ image → Leaves m x → Follows Shows x f
-    → FollowsStep (Agrees image) (placed at x) (λ rest. placed at (f rest))
+placed_follows : (image : List ℕ) (at : ℕ) (m : Ram) (x : Executed Ram) (f : List ℕ → Executed (Bank × List ℕ)) → m.flash ≡ image → Leaves m x → DoesTheSame Shows x f
+    → FollowsStep (AgreesWithBank image) (stepped_at at x) (λ rest. stepped_at at (f rest))
 placed_follows image at m (Done r t) f e l p =
-    (p.0, record { flash = l.flash ∙ e; bank_flash = p.1.flash ∙ (l.flash ∙ e); base = p.1.base; shows = λ b. p.1 }, λ rest. ap (placed at) (p.2 rest))
+    (p.0, record { flash = l.flash ∙ e; bank_flash = p.1.flash ∙ (l.flash ∙ e); base = p.1.base; shows = λ b. p.1 }, λ rest. ap (stepped_at at) (p.2 rest))
 placed_follows image at m (Asked n r t) f e l p =
-    (p.0, record { flash = l.flash ∙ e; bank_flash = p.1.flash ∙ (l.flash ∙ e); base = p.1.base; shows = λ b. p.1 }, λ rest. ap (placed at) (p.2 rest))
-placed_follows image at m (Stopped k) f e l p = λ rest. ap (placed at) (p rest)
+    (p.0, record { flash = l.flash ∙ e; bank_flash = p.1.flash ∙ (l.flash ∙ e); base = p.1.base; shows = λ b. p.1 }, λ rest. ap (stepped_at at) (p.2 rest))
+placed_follows image at m (Stopped k) f e l p = λ rest. ap (stepped_at at) (p rest)
 
 abbrev Steps : List ℕ → Registers → Ram → Bank → Fetched → Fetched → Type 0
 Steps image r m b x y =
-    (used : List ℕ) × FollowsStep (Agrees image) (ran (execute ram_memory m) r x) (λ rest. ran (over_moving bank_memory bank_move r (b, used ++ rest)) r y)
+    (used : List ℕ) × FollowsStep (AgreesWithBank image) (ran (execute ram_memory m) r x) (λ rest. ran (over_moving bank_memory bank_move r (b, used ++ rest)) r y)
 
 found_follows : (image : List ℕ) (r : Registers) (m : Ram) (b : Bank) → m.flash ≡ image → Shows r.sp m b → (x : Fetched) → Steps image r m b x x
 found_follows image r m b e h (Found i next) =
@@ -40,14 +40,14 @@ same_fetched image r m b x y e h = subst (λ z. Steps image r m b x z) e h
 fetched_as : (f g : List ℕ) (b c pc : ℕ) → f ≡ g → b ≡ c → fetched f b pc ≡ fetched g c pc
 fetched_as f g b c pc p q = ap (λ x. fetched x b pc) p ∙ ap (λ x. fetched g x pc) q
 
-at_base : (image : List ℕ) (r : Registers) (m : Ram) (b : Bank) → Agrees image r.sp m b → (t : Bool) → is_base m.base ≡ t
+at_base : (image : List ℕ) (r : Registers) (m : Ram) (b : Bank) → AgreesWithBank image r.sp m b → (t : Bool) → is_base m.base ≡ t
     → Steps image r m b (fetched m.flash m.base r.pc) (fetched m.flash m.base r.pc)
 at_base image r m b h true e = found_follows image r m b h.flash (h.shows e) (fetched m.flash m.base r.pc)
 at_base image r m b h false e = rw e ([], λ rest. refl)
 
 -- One step over one RAM and over a bank that agrees.
-pub step_follows : (image : List ℕ) (s : State) (b : Bank) → Agrees image s.registers.sp s.memory b
-    → (used : List ℕ) × FollowsStep (Agrees image) (step s) (λ rest. bank_step s.registers (b, used ++ rest))
+pub step_follows : (image : List ℕ) (s : State) (b : Bank) → AgreesWithBank image s.registers.sp s.memory b
+    → (used : List ℕ) × FollowsStep (AgreesWithBank image) (step s) (λ rest. bank_step s.registers (b, used ++ rest))
 step_follows image s b h =
     same_fetched image s.registers s.memory b _ _ (fetched_as s.memory.flash b.flash s.memory.base b.base s.registers.pc (h.flash ∙ sym h.bank_flash) (sym h.base))
     (at_base image s.registers s.memory b h (is_base s.memory.base) refl)
@@ -71,7 +71,7 @@ first_shows image h = record {
 }
 
 -- The RAM at reset and main's fiber.
-pub reset_agrees : (image : List ℕ) → Agrees image (base_of image) (reset image).memory (first_bank image)
+pub reset_agrees : (image : List ℕ) → AgreesWithBank image (base_of image) (reset image).memory (first_bank image)
 reset_agrees image = record {
   flash = refl;
   bank_flash = refl;

@@ -6,7 +6,7 @@ use Rattle.thumb_code.specs.Effect.{effect}
 use Rattle.thumb_code.specs.Map.{arena_at, stack_at}
 use Rattle.thumb_code.specs.Memory.{Executed, Done, Asked, Stopped, or_else, first_fault, load_all, store_all, finished, execute}
 use Rattle.thumb_code.specs.Ram.{Ram, ram_memory, ram_store}
-use Rattle.thumb_code.specs.Step.{Fetched, Found, Missed, fetched, ran, placed}
+use Rattle.thumb_code.specs.Step.{Fetched, Found, Missed, fetched, ran, stepped_at}
 use Rattle.thumb_code.specs.Machine.{State}
 use Rattle.thumb_code.specs.Run.{runs, from_step}
 use Rattle.thumb_code.specs.Refines.{over}
@@ -59,7 +59,7 @@ execute_leaves m e =
     (let l = loads_leave e.loads m in rw l (stores_leave e.stores m m (record { flash = refl; base = refl }))))))
 
 after_turn : (n pc : ℕ) (m : Ram) (f : ℕ → Fetched) → ((r : Registers) (t : Ram) → SameMap m t → ram_steps n (record { registers = r; memory = t }) ≡ runs (over ram_memory) f n r t)
-    → (y : Executed Ram) → Leaves m y → from_step (λ r t. ram_steps n (record { registers = r; memory = t })) n (placed pc y) ≡ from_step (runs (over ram_memory) f n) n (placed pc y)
+    → (y : Executed Ram) → Leaves m y → from_step (λ r t. ram_steps n (record { registers = r; memory = t })) n (stepped_at pc y) ≡ from_step (runs (over ram_memory) f n) n (stepped_at pc y)
 after_turn n pc m f go (Done r t) h = go r t h
 after_turn n pc m f go (Asked k r t) h = refl
 after_turn n pc m f go (Stopped k) h = refl

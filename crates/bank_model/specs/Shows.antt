@@ -25,7 +25,7 @@ pub record Shows (sp : ℕ) (m : Ram) (b : Bank) : Type 0 where
 
 -- The image is in flash, the base is the same, and the RAM shows the bank where the base is one; where it isn't, every step is that
 -- fault.
-pub record Agrees (image : List ℕ) (sp : ℕ) (m : Ram) (b : Bank) : Type 0 where
+pub record AgreesWithBank (image : List ℕ) (sp : ℕ) (m : Ram) (b : Bank) : Type 0 where
   pub flash : m.flash ≡ image
   pub bank_flash : b.flash ≡ image
   pub base : b.base ≡ m.base

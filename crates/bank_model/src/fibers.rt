@@ -4,7 +4,7 @@ ghost use Rattle.board_world.specs.Observations.{Observation, Serial, Quietly, P
 ghost use Rattle.board_world.specs.Kinds.{Goes, Asks, Ends, Panics, Faults, Writes};
 ghost use Rattle.board_world.specs.World.{tick};
 ghost use Rattle.thumb_code.specs.Machine.{State, reset, main_of};
-ghost use Rattle.bank_model.specs.Shows.{Agrees};
+ghost use Rattle.bank_model.specs.Shows.{AgreesWithBank};
 ghost use Rattle.bank_model.specs.Fibers.{Fiber, Shared, begins, shared_at_reset};
 ghost use Rattle.bank_model.specs.BoardMachine.{memory_of, fibers, fiber_turn, bank_start};
 ghost use Rattle.bank_model.specs.SingleFiber.{single, ended};
@@ -12,7 +12,7 @@ ghost use Rattle.bank_model.specs.SingleFiber.{single, ended};
 /// Main's fiber begins with the registers of the machine at reset, and its bank agrees with the RAM there.
 pub fn main_begins_at_reset()
     ensures registers { (image : List ℕ) → (begins image (main_of image)).registers ≡ (reset image).registers }
-    ensures agrees { (image free : List ℕ) → Agrees image (reset image).registers.sp (reset image).memory (memory_of image (begins image (main_of image)) (shared_at_reset free)).0 }
+    ensures agrees { (image free : List ℕ) → AgreesWithBank image (reset image).registers.sp (reset image).memory (memory_of image (begins image (main_of image)) (shared_at_reset free)).0 }
 {}
 
 /// While main's fiber is the only one, a step of the world is a turn of that fiber; where it ends, the run ends quiet.

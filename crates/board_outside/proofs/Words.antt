@@ -4,7 +4,7 @@ use Rattle.std.proofs.lemmas.List.{append-nil}
 use Rattle.thumb_code.specs.Map.{flash_byte}
 use Rattle.bank_model.specs.Texts.{flash_bytes}
 use Rattle.board_ports.specs.Account.{Account}
-use Rattle.board_ports.specs.History.{PortMove, Word, words_sent, Follows}
+use Rattle.board_ports.specs.History.{PortMove, Word, words_sent, FollowsMoves}
 use Rattle.board_ports.specs.Plugged.{Plugged}
 use Rattle.board_outside.specs.Ports.{bytes_sent, serial_port}
 use Rattle.board_outside.proofs.Texts.{bytes-one-more, bytes-parts}
@@ -37,5 +37,5 @@ sent-flash-more moves now flash at i =
     ∙ ap (λ x. moves ++ x) (sym (bytes_sent-append now (flash_bytes flash i at) _) ∙ ap (bytes_sent now) (sym (bytes-one-more flash at i)))
 
 module _ {B : Type 0} (account : B → Account) where
-  pub none-sent : (moves : List PortMove) (start : List (Option B)) (now : Plugged B) → Follows account moves start now → Follows account (moves ++ []) start now
-  none-sent moves start now f = subst (λ ms. Follows account ms start now) (sym (append-nil moves)) f
+  pub none-sent : (moves : List PortMove) (start : List (Option B)) (now : Plugged B) → FollowsMoves account moves start now → FollowsMoves account (moves ++ []) start now
+  none-sent moves start now f = subst (λ ms. FollowsMoves account ms start now) (sym (append-nil moves)) f

@@ -3,7 +3,7 @@ ghost use Rattle.std.specs.Prelude.{◌≡◌, ◌<◌, ◌≤◌, ◌+◌, ◌*
 ghost use Rattle.std.specs.declared.option.Option.{Option};
 ghost use Rattle.std.specs.Int.{cast_unsigned, w32};
 ghost use Rattle.bank_model.specs.Texts.{flash_bytes, text_at};
-ghost use Rattle.board_ports.specs.History.{PortMove, Word, Follows};
+ghost use Rattle.board_ports.specs.History.{PortMove, Word, FollowsMoves};
 ghost use Rattle.board_outside.specs.Ports.{serial_port, bytes_sent};
 ghost use Rattle.board_ports.specs.Plugged.{SettledAt};
 
@@ -17,8 +17,8 @@ const SERIAL: usize = 1;
 /// Sends bytes to the serial port, a word for each, and lets the device there settle.
 pub fn send_bytes<D: Device>(plugs: &mut Plugs<D>, now: u32, bytes: &[u8])
     ensures settled { SettledAt D.settled serial_port plugs.new }
-    ensures sends { (moves : List PortMove) (start : List (Option D)) → Follows D.account moves start plugs.old
-        → Follows D.account (moves ++ bytes_sent now bytes.now) start plugs.new }
+    ensures sends { (moves : List PortMove) (start : List (Option D)) → FollowsMoves D.account moves start plugs.old
+        → FollowsMoves D.account (moves ++ bytes_sent now bytes.now) start plugs.new }
 {
     plugs.send_bytes(SERIAL, now, bytes);
     plugs.settle(SERIAL);
@@ -27,8 +27,8 @@ pub fn send_bytes<D: Device>(plugs: &mut Plugs<D>, now: u32, bytes: &[u8])
 /// Sends bytes of flash to the serial port, from an address on, one by one.
 fn send_each<D: Device>(plugs: &mut Plugs<D>, now: u32, machine: &Machine, at: u64, count: u32)
     requires small { at < 2 ^ 34 }
-    ensures { (moves : List PortMove) (start : List (Option D)) → Follows D.account moves start plugs.old
-        → Follows D.account (moves ++ bytes_sent now (flash_bytes machine.now.memory.flash count at)) start plugs.new }
+    ensures { (moves : List PortMove) (start : List (Option D)) → FollowsMoves D.account moves start plugs.old
+        → FollowsMoves D.account (moves ++ bytes_sent now (flash_bytes machine.now.memory.flash count at)) start plugs.new }
 {
     for i in 0..count {
         let byte = flash_byte(machine, at + u64::from(i));
@@ -41,8 +41,8 @@ fn send_each<D: Device>(plugs: &mut Plugs<D>, now: u32, machine: &Machine, at: u
 fn send_flash<D: Device>(plugs: &mut Plugs<D>, now: u32, machine: &Machine, at: u64, count: u32)
     requires small { at < 2 ^ 33 }
     ensures settled { SettledAt D.settled serial_port plugs.new }
-    ensures sends { (moves : List PortMove) (start : List (Option D)) → Follows D.account moves start plugs.old
-        → Follows D.account (moves ++ bytes_sent now (flash_bytes machine.now.memory.flash count at)) start plugs.new }
+    ensures sends { (moves : List PortMove) (start : List (Option D)) → FollowsMoves D.account moves start plugs.old
+        → FollowsMoves D.account (moves ++ bytes_sent now (flash_bytes machine.now.memory.flash count at)) start plugs.new }
 {
     let bytes = image_bytes(machine, at, count);
     plugs.send_bytes(SERIAL, now, bytes);
@@ -60,8 +60,8 @@ fn send_flash<D: Device>(plugs: &mut Plugs<D>, now: u32, machine: &Machine, at: 
 pub fn send_word<D: Device>(plugs: &mut Plugs<D>, port: usize, now: u32, word: u32)
     requires { port < 4 }
     ensures settled { SettledAt D.settled port plugs.new }
-    ensures sends { (moves : List PortMove) (start : List (Option D)) → Follows D.account moves start plugs.old
-        → Follows D.account (moves ++ Word port now word ∷ []) start plugs.new }
+    ensures sends { (moves : List PortMove) (start : List (Option D)) → FollowsMoves D.account moves start plugs.old
+        → FollowsMoves D.account (moves ++ Word port now word ∷ []) start plugs.new }
 {
     let _ = plugs.send(port, now, word);
     plugs.settle(port);
@@ -70,8 +70,8 @@ pub fn send_word<D: Device>(plugs: &mut Plugs<D>, port: usize, now: u32, word: u
 /// Sends the text at an address of flash to the serial port.
 pub fn send_text<D: Device>(plugs: &mut Plugs<D>, now: u32, machine: &Machine, address: u32)
     ensures settled { SettledAt D.settled serial_port plugs.new }
-    ensures sends { (moves : List PortMove) (start : List (Option D)) → Follows D.account moves start plugs.old
-        → Follows D.account (moves ++ bytes_sent now (text_at machine.now.memory.flash address)) start plugs.new }
+    ensures sends { (moves : List PortMove) (start : List (Option D)) → FollowsMoves D.account moves start plugs.old
+        → FollowsMoves D.account (moves ++ bytes_sent now (text_at machine.now.memory.flash address)) start plugs.new }
 {
     let count = flash_number(machine, u64::from(address));
     send_flash(plugs, now, machine, u64::from(address) + 4, count);

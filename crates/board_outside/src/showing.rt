@@ -5,7 +5,7 @@ ghost use Rattle.tool_io.specs.Putting.{Puts};
 ghost use Rattle.board_world.specs.Transcript.{decimal_text, lines};
 ghost use Rattle.std.specs.Int.{cast_unsigned, w32};
 ghost use Rattle.board_world.specs.Observations.{Serial, Radio};
-ghost use Rattle.board_ports.specs.History.{PortMove, Word, Follows};
+ghost use Rattle.board_ports.specs.History.{PortMove, Word, FollowsMoves};
 ghost use Rattle.board_outside.specs.Moves.{seen_of};
 ghost use Rattle.board_outside.specs.Ports.{serial_port, radio_port, bytes_sent, port_moves};
 ghost use Rattle.board_ports.specs.Plugged.{SettledAt};
@@ -60,8 +60,8 @@ fn put_output<K: Sink>(
 /// Sends the bytes of a number's decimal text.
 fn send_number<D: Device>(now: u32, number: i32, plugs: &mut Plugs<D>)
     ensures settled { SettledAt D.settled serial_port plugs.new }
-    ensures sends { (moves : List PortMove) (start : List (Option D)) → Follows D.account moves start plugs.old
-        → Follows D.account (moves ++ (bytes_sent now (decimal_text number) ++ [])) start plugs.new }
+    ensures sends { (moves : List PortMove) (start : List (Option D)) → FollowsMoves D.account moves start plugs.old
+        → FollowsMoves D.account (moves ++ (bytes_sent now (decimal_text number) ++ [])) start plugs.new }
 {
     let mut buffer = Buffer::new();
     send_bytes(plugs, now, buffer.format(number).as_bytes());
@@ -70,8 +70,8 @@ fn send_number<D: Device>(now: u32, number: i32, plugs: &mut Plugs<D>)
 /// Sends a number's word by radio.
 fn send_radio<D: Device>(now: u32, number: i32, plugs: &mut Plugs<D>)
     ensures settled { SettledAt D.settled radio_port plugs.new }
-    ensures sends { (moves : List PortMove) (start : List (Option D)) → Follows D.account moves start plugs.old
-        → Follows D.account (moves ++ Word radio_port now (cast_unsigned w32 number) ∷ []) start plugs.new }
+    ensures sends { (moves : List PortMove) (start : List (Option D)) → FollowsMoves D.account moves start plugs.old
+        → FollowsMoves D.account (moves ++ Word radio_port now (cast_unsigned w32 number) ∷ []) start plugs.new }
 {
     send_word(plugs, 3, now, number.cast_unsigned());
 }
@@ -79,8 +79,8 @@ fn send_radio<D: Device>(now: u32, number: i32, plugs: &mut Plugs<D>)
 /// Sends the words of what was seen at a moment, and lets the device that they go to settle.
 fn send_output<D: Device>(output: Output, now: u32, machine: &Machine, plugs: &mut Plugs<D>)
     ensures settled { HasSettled D.settled output plugs.new }
-    ensures sends { (moves : List PortMove) (start : List (Option D)) → Follows D.account moves start plugs.old
-        → Follows D.account (moves ++ port_moves (moves_of machine.now.memory.flash now output)) start plugs.new }
+    ensures sends { (moves : List PortMove) (start : List (Option D)) → FollowsMoves D.account moves start plugs.old
+        → FollowsMoves D.account (moves ++ port_moves (moves_of machine.now.memory.flash now output)) start plugs.new }
 {
     match output {
         Output::Nothing => {}
@@ -104,8 +104,8 @@ pub fn show<K: Sink, D: Device>(
 ) -> Result<(), PutFailed>
     ensures puts { Puts (K.taken out.old) (K.taken out.new) (K.faults out.old) (K.faults out.new)
         (lines (seen_of (moves_of machine.now.memory.flash now output))) result }
-    ensures sends { OnOk result ((moves : List PortMove) (start : List (Option D)) → Follows D.account moves start plugs.old
-        → Follows D.account (moves ++ port_moves (moves_of machine.now.memory.flash now output)) start plugs.new) }
+    ensures sends { OnOk result ((moves : List PortMove) (start : List (Option D)) → FollowsMoves D.account moves start plugs.old
+        → FollowsMoves D.account (moves ++ port_moves (moves_of machine.now.memory.flash now output)) start plugs.new) }
     ensures settled { OnOk result (HasSettled D.settled output plugs.new) }
     ensures stays { OnErr result (plugs.new ≡ plugs.old) }
     ensures seen { OnErr result (IsSeen machine.now.memory.flash now output) }

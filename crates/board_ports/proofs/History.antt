@@ -6,12 +6,12 @@ use Rattle.std.proofs.lemmas.Grind.{flat_map-append}
 use Rattle.std.proofs.lemmas.List.Folds.{list_any-append}
 use Rattle.std.proofs.lemmas.Bool.Decides.{Decides-eqb}
 use Rattle.std.proofs.Math.Bool.{or-false, or-true}
-use Rattle.sts_base.specs.Faults.{Rose}
+use Rattle.sts_base.specs.Faults.{Rose, one_more}
 use Rattle.board_ports.specs.Account.{Account, Received, FailedAmong, Failed}
-use Rattle.board_ports.specs.Counts.{one_more, some_more}
+use Rattle.board_ports.specs.Counts.{some_more}
 use Rattle.board_ports.specs.Logs.{Logs, at_moment}
 use Rattle.board_ports.specs.Plugged.{Plugged, device_at, mark_at, OthersStay, Sends, SendsAt, SendsAll, SendsAllAt, Settles, SettlesAt, SettledAt}
-use Rattle.board_ports.specs.History.{PortMove, Word, Unplug, words_sent, entries_of, unplugs, entries_at, unplugged_at, Served, PlaceAfter, PlacesAfter, Taking, PlaceFollows, Follows}
+use Rattle.board_ports.specs.History.{PortMove, Word, Unplug, words_sent, entries_of, unplugs, entries_at, unplugged_at, Served, PlaceAfter, PlacesAfter, Taking, PlaceFollows, FollowsMoves}
 use Rattle.board_ports.proofs.Writes.{some_more_sum, some_more_within}
 use Rattle.board_ports.specs.declared.sent.Sent.{Sent}
 use Rattle.board_ports.specs.declared.sent.Sent.TheVariants.{Went, Nobody, Lost}
@@ -248,8 +248,8 @@ module _ {B : Type 0} (account : B → Account) where
 
   -- a word more was sent
   pub follows_word : (moves : List PortMove) (start : List (Option B)) (old new : Plugged B) (port at word : ℕ) (sent : Sent)
-      → port < 4 → SendsAt account (at, word) port old new sent → OthersStay port old new → Follows account moves start old
-      → Follows account (moves ++ Word port at word ∷ []) start new
+      → port < 4 → SendsAt account (at, word) port old new sent → OthersStay port old new → FollowsMoves account moves start old
+      → FollowsMoves account (moves ++ Word port at word ∷ []) start new
   follows_word moves start old new port at word sent small s others f =
       let more = moves ++ Word port at word ∷ [] in
       record {
@@ -263,8 +263,8 @@ module _ {B : Type 0} (account : B → Account) where
 
   -- a word for each byte was sent
   pub follows_bytes : (moves : List PortMove) (start : List (Option B)) (old new : Plugged B) (port now : ℕ) (bytes : List ℕ)
-      → port < 4 → SendsAllAt account (at_moment now bytes) port old new → OthersStay port old new → Follows account moves start old
-      → Follows account (moves ++ words_sent port now bytes) start new
+      → port < 4 → SendsAllAt account (at_moment now bytes) port old new → OthersStay port old new → FollowsMoves account moves start old
+      → FollowsMoves account (moves ++ words_sent port now bytes) start new
   follows_bytes moves start old new port now bytes small s others f =
       let more = moves ++ words_sent port now bytes in
       record {
@@ -278,7 +278,7 @@ module _ {B : Type 0} (account : B → Account) where
 
   -- a port's device has settled
   pub follows_settle : (settled : B → Type 0) (moves : List PortMove) (start : List (Option B)) (old new : Plugged B) (port : ℕ)
-      → port < 4 → SettlesAt settled account port old new → OthersStay port old new → Follows account moves start old → Follows account moves start new
+      → port < 4 → SettlesAt settled account port old new → OthersStay port old new → FollowsMoves account moves start old → FollowsMoves account moves start new
   follows_settle settled moves start old new port small s others f =
       record {
         same_length = others.same_length ∙ f.same_length;
@@ -302,8 +302,8 @@ module _ {B : Type 0} (account : B → Account) where
 
   -- a port was unplugged
   pub follows_unplug : (moves : List PortMove) (start : List (Option B)) (old new : Plugged B) (port : ℕ)
-      → port < 4 → device_at new.places port ≡ None → OthersStay port old new → Follows account moves start old
-      → Follows account (moves ++ Unplug port ∷ []) start new
+      → port < 4 → device_at new.places port ≡ None → OthersStay port old new → FollowsMoves account moves start old
+      → FollowsMoves account (moves ++ Unplug port ∷ []) start new
   follows_unplug moves start old new port small gone others f =
       let more = moves ++ Unplug port ∷ [] in
       record {
@@ -321,7 +321,7 @@ module _ {B : Type 0} (account : B → Account) where
       subst (λ m. PlaceFollows account [] false m (Some b) (Some b)) (sym e) (refl, record { logged = λ had h. h ∙ ap Some (sym (append-nil had)); kept = refl; once = refl })
 
   -- before any move
-  pub follows_first : (now : Plugged B) → ((k : ℕ) → mark_at now.marks k ≡ false) → Follows account [] now.places now
+  pub follows_first : (now : Plugged B) → ((k : ℕ) → mark_at now.marks k ≡ false) → FollowsMoves account [] now.places now
   follows_first now unmarked = record { same_length = refl; above = λ k h. refl; ports = λ k h. at_first _ _ (unmarked k) }
 
   served : (entries : List (ℕ × ℕ)) (mark : Bool) (old new : B) → Taking account entries mark old new → Served account entries old new
@@ -334,7 +334,7 @@ module _ {B : Type 0} (account : B → Account) where
   place_after entries u mark (Some old) (Some new) k = (k.0, served entries mark old new k.1)
 
   -- what the moves leave, without the marks
-  pub places_after : (moves : List PortMove) (start : List (Option B)) (now : Plugged B) → Follows account moves start now
+  pub places_after : (moves : List PortMove) (start : List (Option B)) (now : Plugged B) → FollowsMoves account moves start now
       → PlacesAfter account (entries_at moves) (unplugged_at moves) start now.places
   places_after moves start now f =
       record { same_length = f.same_length; above = f.above; ports = λ k h. place_after _ _ _ _ _ (f.ports k h) }

@@ -4,9 +4,9 @@ use Rattle.std.specs.Prelude.{Option, Some}
 use Rattle.std.specs.Bool.{OnTrue, OnFalse}
 use Rattle.std.proofs.Math.Seq.{take-suc}
 use Rattle.std.proofs.lemmas.List.{map-append, take-append-drop, length-map}
-use Rattle.sts_base.specs.Faults.{Rose}
+use Rattle.sts_base.specs.Faults.{Rose, one_more}
 use Rattle.board_ports.specs.Account.{Account}
-use Rattle.board_ports.specs.Counts.{one_more, some_more}
+use Rattle.board_ports.specs.Counts.{some_more}
 use Rattle.board_ports.specs.Logs.{Logs, LogsFirst, at_moment}
 use Rattle.board_ports.specs.Plugged.{SendsAll}
 

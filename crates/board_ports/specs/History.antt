@@ -61,7 +61,7 @@ PlaceFollows account entries unplugged mark (Some old) None = unplugged ≡ true
 PlaceFollows account entries unplugged mark (Some old) (Some new) = (unplugged ≡ false) × Taking account entries mark old new
 
 -- What is plugged in now follows by these moves from the places at the start.
-pub record Follows {B : Type 0} (account : B → Account) (moves : List PortMove) (start : List (Option B)) (now : Plugged B) : Type 0 where
+pub record FollowsMoves {B : Type 0} (account : B → Account) (moves : List PortMove) (start : List (Option B)) (now : Plugged B) : Type 0 where
   pub same_length : length now.places ≡ length start
   pub above : (k : ℕ) → 4 ≤ k → device_at now.places k ≡ device_at start k
   pub ports : (k : ℕ) → k < 4 → PlaceFollows account (entries_at moves k) (unplugged_at moves k) (mark_at now.marks k) (device_at start k) (device_at now.places k)

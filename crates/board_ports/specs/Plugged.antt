@@ -2,7 +2,8 @@
 use Rattle.std.specs.Prelude.{◌≡◌, ◌≢◌, ◌≤◌, ◌∷◌, [], ◌⊎◌, ℕ, List, length, Bool, true, false, Option, Some, None, slice_index_or, refl}
 use Rattle.std.specs.Coded.{Coded, code_by, coded×, coded_list, coded_option, coded_bool}
 use Rattle.board_ports.specs.Account.{Account, Received, FailedAmong, Failed}
-use Rattle.board_ports.specs.Counts.{one_more, some_more}
+use Rattle.board_ports.specs.Counts.{some_more}
+use Rattle.sts_base.specs.Faults.{one_more}
 use Rattle.board_ports.specs.declared.sent.Sent.{Sent}
 use Rattle.board_ports.specs.declared.sent.Sent.TheVariants.{Went, Nobody, Lost}
 

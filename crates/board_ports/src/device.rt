@@ -2,9 +2,9 @@
 ghost use Rattle.std.specs.Prelude.{◌≡◌, ◌≤◌, ◌∷◌, [], None, length, slice_get};
 ghost use Rattle.std.specs.Bool.{OnTrue, OnFalse};
 ghost use Rattle.std.specs.Option.{ForSome};
-ghost use Rattle.sts_base.specs.Faults.{Rose};
+ghost use Rattle.sts_base.specs.Faults.{Rose, one_more};
 ghost use Rattle.board_ports.specs.Account.{Account};
-ghost use Rattle.board_ports.specs.Counts.{one_more, some_more};
+ghost use Rattle.board_ports.specs.Counts.{some_more};
 ghost use Rattle.board_ports.specs.Logs.{Logs, LogsFirst, at_moment};
 
 /// A device that words are written to. Moments are in milliseconds.

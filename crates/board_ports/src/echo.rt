@@ -2,8 +2,8 @@
 ghost use Rattle.std.specs.Prelude.{◌≡◌, ◌≤◌, ◌∷◌, [], ◌↔◌, ◌%◌, None, true, IsOk, OnOk, OnErr, IfOk, length};
 ghost use Rattle.std.specs.Bool.{OnTrue, OnFalse};
 ghost use Rattle.std.specs.Io.KnownBytes.{Appends, Keeps, append_known};
-ghost use Rattle.sts_base.specs.Faults.{Rose};
-ghost use Rattle.board_ports.specs.Counts.{one_more, some_more};
+ghost use Rattle.sts_base.specs.Faults.{Rose, one_more};
+ghost use Rattle.board_ports.specs.Counts.{some_more};
 ghost use Rattle.buffered_stream.specs.Pieces.{AppendsFront};
 
 use crate::Device;

@@ -1,8 +1,7 @@
 // A device in memory, which fails at the calls that it is told to and past its room.
 ghost use Rattle.std.specs.Prelude.{◌≡◌, ◌≤◌, ◌<◌, ◌∷◌, [], ◌↔◌, Some, IfOk, Contains, length, vec_capacity, slice_get, IsTrue, true};
 ghost use Rattle.std.specs.Bool.{OnTrue, OnFalse};
-ghost use Rattle.sts_base.specs.Faults.{Rose};
-ghost use Rattle.board_ports.specs.Counts.{one_more};
+ghost use Rattle.sts_base.specs.Faults.{Rose, one_more};
 ghost use Rattle.board_ports.specs.Logs.{Logs};
 
 use crate::Device;

@@ -68,13 +68,13 @@ fn settle_place<D: Device>(place: &mut Option<D>, mark: &mut bool)
 impl<D: Device> Plugs<D> {
     ghost use Rattle.board_ports.specs.Logs.{at_moment};
     ghost use Rattle.board_ports.specs.Plugged.{OthersStay, SendsAt, SendsAllAt, SettlesAt, SettledAt, device_at, mark_at};
-    ghost use Rattle.board_ports.specs.History.{PortMove, Word, Unplug, words_sent, Follows, PlacesAfter, entries_at, unplugged_at};
+    ghost use Rattle.board_ports.specs.History.{PortMove, Word, Unplug, words_sent, FollowsMoves, PlacesAfter, entries_at, unplugged_at};
 
     /// These places, and no mark. It is what no move has changed yet.
     pub fn new(places: Vec<Option<D>>) -> Plugs<D>
         ensures places { result.places ≡ places.items }
         ensures unmarked { (k : ℕ) → mark_at result.marks k ≡ false }
-        ensures begins { Follows D.account [] places.items result }
+        ensures begins { FollowsMoves D.account [] places.items result }
     {
         Plugs {
             places,
@@ -86,7 +86,7 @@ impl<D: Device> Plugs<D> {
     pub fn into_places(self) -> Vec<Option<D>>
         ensures places { result.items ≡ self.places }
         ensures after { (moves : List PortMove) (start : List (Option D))
-            → Follows D.account moves start self
+            → FollowsMoves D.account moves start self
             → PlacesAfter D.account (entries_at moves) (unplugged_at moves) start result.items }
     {
         let Plugs { places, marks: _ } = self;
@@ -103,8 +103,8 @@ impl<D: Device> Plugs<D> {
             ↔ ((device_at self.old.places port ≡ None) ⊎ (mark_at self.old.marks port ≡ true)) }
         ensures others { OthersStay port self.old self.new }
         ensures follows { (moves : List PortMove) (start : List (Option D))
-            → Follows D.account moves start self.old
-            → Follows D.account (moves ++ Word port now word ∷ []) start self.new }
+            → FollowsMoves D.account moves start self.old
+            → FollowsMoves D.account (moves ++ Word port now word ∷ []) start self.new }
     {
         if port >= self.places.len() {
             return Sent::Nobody;
@@ -119,8 +119,8 @@ impl<D: Device> Plugs<D> {
         ensures sends { SendsAllAt D.account (at_moment now bytes.now) port self.old self.new }
         ensures others { OthersStay port self.old self.new }
         ensures follows { (moves : List PortMove) (start : List (Option D))
-            → Follows D.account moves start self.old
-            → Follows D.account (moves ++ words_sent port now bytes.now) start self.new }
+            → FollowsMoves D.account moves start self.old
+            → FollowsMoves D.account (moves ++ words_sent port now bytes.now) start self.new }
     {
         if port >= self.places.len() {
             return;
@@ -136,8 +136,8 @@ impl<D: Device> Plugs<D> {
         ensures settled { SettledAt D.settled port self.new }
         ensures others { OthersStay port self.old self.new }
         ensures follows { (moves : List PortMove) (start : List (Option D))
-            → Follows D.account moves start self.old
-            → Follows D.account moves start self.new }
+            → FollowsMoves D.account moves start self.old
+            → FollowsMoves D.account moves start self.new }
     {
         if port >= self.places.len() {
             return;
@@ -152,8 +152,8 @@ impl<D: Device> Plugs<D> {
         ensures marks { self.new.marks ≡ self.old.marks }
         ensures others { OthersStay port self.old self.new }
         ensures follows { (moves : List PortMove) (start : List (Option D))
-            → Follows D.account moves start self.old
-            → Follows D.account (moves ++ Unplug port ∷ []) start self.new }
+            → FollowsMoves D.account moves start self.old
+            → FollowsMoves D.account (moves ++ Unplug port ∷ []) start self.new }
     {
         if port < self.places.len() {
             self.places[port] = None;

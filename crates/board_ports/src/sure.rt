@@ -1,6 +1,7 @@
 // A device that never fails.
 ghost use Rattle.std.specs.Prelude.{◌≡◌, None, true, length};
-ghost use Rattle.board_ports.specs.Counts.{one_more, some_more};
+ghost use Rattle.board_ports.specs.Counts.{some_more};
+ghost use Rattle.sts_base.specs.Faults.{one_more};
 
 use crate::Device;
 

@@ -7,7 +7,7 @@ use Rattle.board_world.specs.declared.clock.Idle.TheVariants.{Jump, Script}
 use Rattle.board_world.specs.Rules.{earlier, up_to}
 use Rattle.board_world.specs.Board.{Entry, Raise, next_entry}
 use Rattle.board_world.specs.Waiting.{least}
-use Rattle.class_world.specs.Hearing.{placed, with_heard, raised_at}
+use Rattle.class_world.specs.Hearing.{inserted, with_heard, raised_at}
 use Rattle.board_run.specs.declared.engine.Engine.{Engine}
 use Rattle.board_run.specs.Idling.{IsEmpty}
 use Rattle.board_run.specs.Proceeding.{IsStayed}
@@ -32,14 +32,14 @@ earlier_now (Some a) = by_first (nat_lt 0 a) refl
     by_first true q = refl
     by_first false q = (let none : a ≡ 0 = grind (arith, nat_tests) in ap Some none)
 
-placed_now : (e : Event) (own : List Entry) → (let x : Entry = record { at = 0; act = Raise e } in next_entry (placed x own) ≡ Some 0)
+placed_now : (e : Event) (own : List Entry) → (let x : Entry = record { at = 0; act = Raise e } in next_entry (inserted x own) ≡ Some 0)
 placed_now e [] = refl
 placed_now e (y ∷ ys) = by_test (nat_le y.at 0) refl
   where
     k : Entry
     k = record { at = 0; act = Raise e }
 
-    by_test : (c : Bool) → nat_le y.at 0 ≡ c → next_entry (if c then y ∷ placed k ys else k ∷ (y ∷ ys)) ≡ Some 0
+    by_test : (c : Bool) → nat_le y.at 0 ≡ c → next_entry (if c then y ∷ inserted k ys else k ∷ (y ∷ ys)) ≡ Some 0
     by_test true q = (let none : y.at ≡ 0 = grind (arith, nat_tests) in ap Some none)
     by_test false q = refl
 

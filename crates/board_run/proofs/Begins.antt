@@ -16,7 +16,7 @@ use Rattle.fiber_runtime.specs.State.{State}
 use Rattle.fiber_runtime.specs.Moves.{Resumed, Reinstated, started, reinstated}
 use Rattle.fork_on_block.specs.Handlers.{base_for, invoked as invoked_state}
 use Rattle.board_run.specs.declared.engine.Engine.{Engine}
-use Rattle.board_run.specs.Places.{Place, ArePlaces, IsSpent, Takes}
+use Rattle.board_run.specs.Places.{PendingDispatch, ArePlaces, IsSpent, Takes}
 use Rattle.board_run.specs.Blocking.{copied_behind, IsFromRecord, IsCopiedIn}
 use Rattle.board_run.specs.Shown.{handler_turning}
 use Rattle.board_run.specs.Represents.{BoardState, Represents}
@@ -26,46 +26,46 @@ use Rattle.board_run.proofs.Turns.{resumed, reinstates, invoked, next_stands}
 use Rattle.board_run.proofs.Course.{stutters}
 
 module _ (e : Engine) where
-  abbrev pub turned_to : State → List Place → BoardState
+  abbrev pub turned_to : State → List PendingDispatch → BoardState
   turned_to s places = state_of (record e { runtime = s; places = places })
 
-  pub begins_handler : (image : List ℕ) (s' : State) (places' : List Place) (x : Event) (at : ℕ) → e.runtime.running ≡ None → Takes x at e.places places'
+  pub begins_handler : (image : List ℕ) (s' : State) (places' : List PendingDispatch) (x : Event) (at : ℕ) → e.runtime.running ≡ None → Takes x at e.places places'
       → s' ≡ started (handler_of at (hearings e.bus.listeners)) (base_for e.runtime.machine.memory.flash e.runtime.raisers) (handler_turning x at) e.runtime → Comes image 0 [] (state_of e) (turned_to s' places')
   begins_handler image s' places' x at idle k is =
       let hs = hearings e.bus.listeners in
       let new : List ℕ → State = λ flash. started (handler_of at hs) (base_for flash e.runtime.raisers) (handler_turning x at) e.runtime in
-      let p : Place = record { event = x; left = at ∷ k.rest } in
-      let p' : Place = record { event = x; left = k.rest } in
+      let p : PendingDispatch = record { event = x; left = at ∷ k.rest } in
+      let p' : PendingDispatch = record { event = x; left = k.rest } in
       subst (λ y. Comes image 0 [] (state_of e) (turned_to y places')) (sym is)
       (subst (λ l. Comes image 0 [] (state_of e) (turned_to (new e.runtime.machine.memory.flash) l)) (sym k.now)
       (stutters image (state_of e) (turned_to (new e.runtime.machine.memory.flash) (p' ∷ k.outer)) refl (λ w h.
       subst (λ f. Represents image (turned_to (new f) (p' ∷ k.outer)) w) (sym h.flash) (invoked image (state_of e) w p k.outer at k.rest h idle k.was refl))))
 
-  pub listener_stands : (places' : List Place) (x : Event) (at : ℕ) → ArePlaces (length e.bus.listeners) e.runtime.raisers e.places → Takes x at e.places places' → at < length e.bus.listeners
+  pub listener_stands : (places' : List PendingDispatch) (x : Event) (at : ℕ) → ArePlaces (length e.bus.listeners) e.runtime.raisers e.places → Takes x at e.places places' → at < length e.bus.listeners
   listener_stands places' x at a k = next_stands (length e.bus.listeners) e.runtime.raisers _ k.outer at k.rest (subst (ArePlaces (length e.bus.listeners) e.runtime.raisers) k.was a) refl
 
   -- a raiser has its place and one behind it
   pub record TwoPlaces (rs : List Raiser) : Type 0 where
-    pub inner : Place
-    pub next : Place
-    pub outer : List Place
+    pub inner : PendingDispatch
+    pub next : PendingDispatch
+    pub outer : List PendingDispatch
     pub was : e.places ≡ inner ∷ (next ∷ outer)
     pub rest : ArePlaces (length e.bus.listeners) rs (next ∷ outer)
 
   pub two_places : (r : Raiser) (rs : List Raiser) → ArePlaces (length e.bus.listeners) e.runtime.raisers e.places → e.runtime.raisers ≡ r ∷ rs → TwoPlaces rs
   two_places r rs a f = by_places e.places refl (subst (λ x. ArePlaces (length e.bus.listeners) x e.places) f a)
     where
-      by_rest : (p : Place) (ps : List Place) (rs : List Raiser) → e.places ≡ p ∷ ps → ArePlaces (length e.bus.listeners) rs ps → TwoPlaces rs
+      by_rest : (p : PendingDispatch) (ps : List PendingDispatch) (rs : List Raiser) → e.places ≡ p ∷ ps → ArePlaces (length e.bus.listeners) rs ps → TwoPlaces rs
       by_rest p [] [] f b = absurd b
       by_rest p [] (x ∷ xs) f b = absurd b
       by_rest p (q ∷ qs) xs f b = record { inner = p; next = q; outer = qs; was = f; rest = b }
 
-      by_places : (ps : List Place) → e.places ≡ ps → ArePlaces (length e.bus.listeners) (r ∷ rs) ps → TwoPlaces rs
+      by_places : (ps : List PendingDispatch) → e.places ≡ ps → ArePlaces (length e.bus.listeners) (r ∷ rs) ps → TwoPlaces rs
       by_places [] f b = absurd b
       by_places (p ∷ ps) f b = by_rest p ps rs f b.1
 
-  pub raiser_goes_on : (image : List ℕ) (s' : State) (places' : List Place) → e.runtime.running ≡ None → ArePlaces (length e.bus.listeners) e.runtime.raisers e.places → IsSpent e.places → Reinstated e.runtime s'
-      → ((p q : Place) (ps : List Place) → e.places ≡ p ∷ (q ∷ ps) → places' ≡ q ∷ ps) → Comes image 0 [] (state_of e) (turned_to s' places')
+  pub raiser_goes_on : (image : List ℕ) (s' : State) (places' : List PendingDispatch) → e.runtime.running ≡ None → ArePlaces (length e.bus.listeners) e.runtime.raisers e.places → IsSpent e.places → Reinstated e.runtime s'
+      → ((p q : PendingDispatch) (ps : List PendingDispatch) → e.places ≡ p ∷ (q ∷ ps) → places' ≡ q ∷ ps) → Comes image 0 [] (state_of e) (turned_to s' places')
   raiser_goes_on image s' places' idle a spent k pop =
       let two = two_places k.first k.others a k.was in
       let popped = pop two.inner two.next two.outer two.was in
@@ -80,11 +80,11 @@ module _ (e : Engine) where
       stutters image (state_of e) (turned_to s' e.places) (ap (λ n. record (state_of e).plain { seats = n }) seats)
       (λ w h. subst (λ n. Represents image (record (state_of e) { runtime = s'; plain = record (state_of e).plain { seats = n } }) w) (sym seats) (resumed image (state_of e) w s' h idle alone spent m))
 
-  pub stays_put : (image : List ℕ) (s' : State) (places' : List Place) → s' ≡ e.runtime → places' ≡ e.places → Comes image 0 [] (state_of e) (turned_to s' places')
+  pub stays_put : (image : List ℕ) (s' : State) (places' : List PendingDispatch) → s' ≡ e.runtime → places' ≡ e.places → Comes image 0 [] (state_of e) (turned_to s' places')
   stays_put image s' places' p q =
       subst (λ x. Comes image 0 [] (state_of e) (turned_to x places')) (sym p) (subst (λ l. Comes image 0 [] (state_of e) (turned_to e.runtime l)) (sym q) (stutters image (state_of e) (state_of e) refl (λ w h. h)))
 
-  pub may_resume : (image : List ℕ) (s1 s2 : State) (places' : List Place) → e.runtime.running ≡ None → e.runtime.raisers ≡ [] → s1 ≡ e.runtime → IsSpent e.places → places' ≡ e.places
+  pub may_resume : (image : List ℕ) (s1 s2 : State) (places' : List PendingDispatch) → e.runtime.running ≡ None → e.runtime.raisers ≡ [] → s1 ≡ e.runtime → IsSpent e.places → places' ≡ e.places
       → (found : Bool) → OnFalse found (s2 ≡ s1) → OnTrue found (Resumed s1 s2) → Comes image 0 [] (state_of e) (turned_to s2 places')
   may_resume image s1 s2 places' idle alone same spent p true none some =
       subst (λ l. Comes image 0 [] (state_of e) (turned_to s2 l)) (sym p) (fiber_goes_on image s2 idle alone spent (subst (λ x. Resumed x s2) same some))
@@ -105,14 +105,14 @@ begun_is old mid new entry entry' at e s n p =
     ∙ ap (λ x. started x (base_for old.machine.memory.flash old.raisers) (handler_turning e at) old) p
 
 -- who is copied in by the switch
-none_spent : (x : Event) (at : ℕ) (old new : List Place) → Takes x at old new → IsSpent old → ⊥
+none_spent : (x : Event) (at : ℕ) (old new : List PendingDispatch) → Takes x at old new → IsSpent old → ⊥
 none_spent x at old new k h = (let z : at ∷ k.rest ≡ [] = subst IsSpent k.was h in absurd (cc))
 
 on_true : (b : Bool) (P : Type 0) → P → OnTrue b P
 on_true true P h = h
 on_true false P h = tt
 
-pub handler_stands : (e new : Engine) (x : Event) (at : ℕ) (places : List Place) → Takes x at e.places places → new.switch ≡ e.switch → IsCopiedIn e new
+pub handler_stands : (e new : Engine) (x : Event) (at : ℕ) (places : List PendingDispatch) → Takes x at e.places places → new.switch ≡ e.switch → IsCopiedIn e new
 handler_stands e new x at places k same = record { copied = λ key from leads. absurd (none_spent x at e.places places k from.0); stands = λ h. same }
 
 pub raiser_stands : (e new : Engine) (s : State) → Reinstated e.runtime s → new.switch ≡ e.switch → IsCopiedIn e new

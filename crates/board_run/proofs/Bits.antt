@@ -2,7 +2,7 @@
 use Rattle.std.proofs.Common.{◌≡◌, ℕ, zero, suc, ◌+◌, ◌-◌, ◌/◌, ◌%◌, ◌<◌, ◌≤◌, ◌==◌, true, false, List, [], ◌∷◌, refl, sym, ap, ◌∙◌, arith}
 use Rattle.std.proofs.lemmas.Bool.Decides.{nat_tests}
 use Rattle.board_world.specs.declared.events.Event.{Event}
-use Rattle.board_run.specs.Places.{Place, Takes, left_of}
+use Rattle.board_run.specs.Places.{PendingDispatch, Takes, left_of}
 use Rattle.message_bus.specs.Numbers.{numbers}
 
 one_more : (n : ℕ) → n < 32 → 32 - n ≡ suc (32 - (n + 1))
@@ -26,13 +26,13 @@ left_odd n bits l e =
 pub left_none : (n bits : ℕ) → 32 ≤ n → left_of n bits ≡ []
 left_none n bits l = (let z : 32 - n ≡ zero = omega (arith, l) in ap (λ j. numbers j n bits) z)
 
-pub same_place : (p : Place) (e : Event) (l : List ℕ) → p.event ≡ e → p.left ≡ l → p ≡ record { event = e; left = l }
+pub same_place : (p : PendingDispatch) (e : Event) (l : List ℕ) → p.event ≡ e → p.left ≡ l → p ≡ record { event = e; left = l }
 same_place p e l a b = same p.event e p.left l a b
   where
-    same : (e e' : Event) (l l' : List ℕ) → e ≡ e' → l ≡ l' → (let x : Place = record { event = e; left = l } in let y : Place = record { event = e'; left = l' } in x ≡ y)
+    same : (e e' : Event) (l l' : List ℕ) → e ≡ e' → l ≡ l' → (let x : PendingDispatch = record { event = e; left = l } in let y : PendingDispatch = record { event = e'; left = l' } in x ≡ y)
     same e e' l l' p q = rw (p, q) refl
 
-pub takes_of : (top new : Place) (outer was now : List Place) (e : Event) (at : ℕ) → (top ∷ outer) ≡ was → now ≡ new ∷ outer → e ≡ top.event → new.event ≡ top.event → top.left ≡ at ∷ new.left → Takes e at was now
+pub takes_of : (top new : PendingDispatch) (outer was now : List PendingDispatch) (e : Event) (at : ℕ) → (top ∷ outer) ≡ was → now ≡ new ∷ outer → e ≡ top.event → new.event ≡ top.event → top.left ≡ at ∷ new.left → Takes e at was now
 takes_of top new outer was now e at v n p q l = record {
   rest = new.left;
   outer = outer;

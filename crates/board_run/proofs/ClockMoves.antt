@@ -24,7 +24,7 @@ use Rattle.event_script.specs.World.{world_act, world_entries}
 use Rattle.event_script.specs.declared.script.Entry.{Entry}
 use Rattle.board_ports.specs.Account.{Account}
 use Rattle.board_ports.specs.Plugged.{Plugged}
-use Rattle.board_ports.specs.History.{Follows}
+use Rattle.board_ports.specs.History.{FollowsMoves}
 use Rattle.board_run.specs.Ports.{Idles}
 use Rattle.board_run.specs.declared.end.Stop.{Stop}
 use Rattle.board_run.specs.declared.end.Stop.TheVariants.{Quiet as StopQuiet, Script as StopScript}
@@ -147,11 +147,11 @@ pub says_so : (e : Engine) (move : Idle) (a b : Option ℕ) → move ≡ clock_m
 says_so e move a b m p q = sym (m ∙ ap (λ x. clock_move x b e.script.end) p ∙ ap (λ x. clock_move (least e.runtime.lists.sleepers) x e.script.end) q)
 
 pub still_idles : {B : Type 0} (account : B → Account) (old new : BoardState) (p : Plugged B) → ((image : List ℕ) → Comes image 0 [] old new) → Idles account old new p p
-still_idles account old new p comes = record { moves = []; silent = refl; comes = λ image. comes image None; ports = λ before start f. subst (λ l. Follows account l start p) (sym (append-nil before)) f }
+still_idles account old new p comes = record { moves = []; silent = refl; comes = λ image. comes image None; ports = λ before start f. subst (λ l. FollowsMoves account l start p) (sym (append-nil before)) f }
 
 -- the clock ends the run, and no device is touched
 pub ended_idles : {B : Type 0} (account : B → Account) (old new : BoardState) (p : Plugged B) → ((image : List ℕ) → ComesTo None image 0 [] old new) → Idles account old new p p
-ended_idles account old new p comes = record { moves = []; silent = refl; comes = comes; ports = λ before start f. subst (λ l. Follows account l start p) (sym (append-nil before)) f }
+ended_idles account old new p comes = record { moves = []; silent = refl; comes = comes; ports = λ before start f. subst (λ l. FollowsMoves account l start p) (sym (append-nil before)) f }
 
 pub jump_idles : {B : Type 0} (account : B → Account) (e : Engine) (empty : IsEmpty (state_of e)) (going : e.end ≡ None) (quiet : e.bus.queue ≡ []) (p p' : Plugged B) (t : ℕ) (says : clock_says e ≡ Jump t) (within : e.next ≤ length e.script.entries)
     (r : State) (woke : r ≡ record e.runtime { lists = due_woken t e.runtime.lists }) (new : Engine) → new ≡ record e { clock = t; runtime = r; bus = new.bus; buttons = new.buttons; next = new.next }

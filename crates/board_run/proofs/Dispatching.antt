@@ -13,7 +13,7 @@ use Rattle.fiber_runtime.specs.State.{State}
 use Rattle.fiber_runtime.specs.Moves.{Woken}
 use Rattle.board_run.specs.declared.end.Stop.{Stop}
 use Rattle.board_run.specs.declared.engine.Engine.{Engine}
-use Rattle.board_run.specs.Places.{Place, ArePlaces, place_for}
+use Rattle.board_run.specs.Places.{PendingDispatch, ArePlaces, place_for}
 use Rattle.board_run.specs.Represents.{Represents}
 use Rattle.board_outside.specs.Moves.{HasMet}
 use Rattle.board_run.specs.Run.{Comes}
@@ -24,13 +24,13 @@ use Rattle.board_outside.proofs.Laws.{met_then, meets_nothing}
 use Rattle.board_run.proofs.Raises.{nobody_ready, dispatched}
 use Rattle.std.specs.Option.{option_map}
 
-one_place : (n : ℕ) (ps : List Place) → ArePlaces n [] ps → (p : Place) × (ps ≡ p ∷ [])
+one_place : (n : ℕ) (ps : List PendingDispatch) → ArePlaces n [] ps → (p : PendingDispatch) × (ps ≡ p ∷ [])
 one_place n [] h = absurd h
 one_place n (p ∷ []) h = (p, refl)
 one_place n (p ∷ (q ∷ ps)) h = absurd h
 
 module _ (e : Engine) (empty : IsEmpty (state_of e)) (event : Event) (mid bus : BusState) (taken : e.bus ≡ record mid { queue = event ∷ mid.queue }) (hear : bus ≡ record mid { listeners = map (heard event) mid.listeners })
-    (new : State) (woken : Woken event e.runtime new) (place : Place) (is : place ≡ place_for event mid.listeners) (places : List Place) (renewed : (p : Place) (ps : List Place) → e.places ≡ p ∷ ps → places ≡ place ∷ ps) where
+    (new : State) (woken : Woken event e.runtime new) (place : PendingDispatch) (is : place ≡ place_for event mid.listeners) (places : List PendingDispatch) (renewed : (p : PendingDispatch) (ps : List PendingDispatch) → e.places ≡ p ∷ ps → places ≡ place ∷ ps) where
   -- the engine behind the dispatch
   abbrev pub behind_dispatch : Engine
   behind_dispatch = record e { runtime = new; bus = bus; places = places }
@@ -41,7 +41,7 @@ module _ (e : Engine) (empty : IsEmpty (state_of e)) (event : Event) (mid bus : 
   same_places : (image : List ℕ) (w : World Fiber Shared) → Represents image (state_of e) w → place_for event e.bus.listeners ∷ [] ≡ places
   same_places image w h =
       let p = one_place (length e.bus.listeners) e.places (subst (λ rs. ArePlaces (length e.bus.listeners) rs e.places) empty.raisers h.places) in
-      ap (λ (x : BusState). place_for event x.listeners ∷ []) taken ∙ ap (λ (x : Place). x ∷ []) (sym is) ∙ sym (renewed p.0 [] p.1)
+      ap (λ (x : BusState). place_for event x.listeners ∷ []) taken ∙ ap (λ (x : PendingDispatch). x ∷ []) (sym is) ∙ sym (renewed p.0 [] p.1)
 
   shows : (image : List ℕ) (w : World Fiber Shared) (h : Represents image (state_of e) w) → Represents image (state_of behind_dispatch) (dispatch (fibers image) event mid.queue w)
   shows image w h =
@@ -51,7 +51,7 @@ module _ (e : Engine) (empty : IsEmpty (state_of e)) (event : Event) (mid bus : 
       let v = dispatch (fibers image) event mid.queue w in
       let second = subst (λ (s : ℕ). Represents image (record b { runtime = new; bus = record { listeners = map (heard event) e.bus.listeners; queue = mid.queue }; places = place_for event e.bus.listeners ∷ []; plain = record b.plain { queue = mid.queue; seats = s } }) v) (sym woken.live) first in
       let third = subst (λ (x : BusState). Represents image (record b { runtime = new; bus = x; places = place_for event e.bus.listeners ∷ []; plain = record b.plain { queue = x.queue; seats = slab_len new.pool } }) v) same_bus second in
-      subst (λ (x : List Place). Represents image (record b { runtime = new; bus = bus; places = x; plain = record b.plain { queue = bus.queue; seats = slab_len new.pool } }) v) (same_places image w h) third
+      subst (λ (x : List PendingDispatch). Represents image (record b { runtime = new; bus = bus; places = x; plain = record b.plain { queue = bus.queue; seats = slab_len new.pool } }) v) (same_places image w h) third
 
   pub dispatch_comes : e.end ≡ None → (image : List ℕ) → Comes image 0 [] (state_of e) (state_of behind_dispatch)
   dispatch_comes going image bound =

@@ -25,7 +25,7 @@ use Rattle.fiber_runtime.specs.Moves.{Ended, Woken, restarted, suspended}
 use Rattle.board_run.specs.declared.engine.Engine.{Engine}
 use Rattle.board_outside.specs.declared.output.Output.TheVariants.{Nothing}
 use Rattle.board_run.specs.declared.engine.Served.TheVariants.{Goes}
-use Rattle.board_run.specs.Places.{Place, ArePlaces, place_for}
+use Rattle.board_run.specs.Places.{PendingDispatch, ArePlaces, place_for}
 use Rattle.board_run.specs.Represents.{Represents, IsShown, behind}
 use Rattle.board_outside.specs.Moves.{Meets}
 use Rattle.board_run.specs.Serving.{StopsAt}
@@ -156,7 +156,7 @@ module _ (e : Engine) (inside : IsInside e.runtime.machine.registers.sp e.runtim
   abbrev bus_heard : BusState
   bus_heard = record e.bus { listeners = map (heard x) e.bus.listeners }
 
-  pub nest_serves : (s1 s2 : State) (bus' : BusState) (places' : List Place) → true ≡ some_of (begins_new x) e.bus.listeners → length e.runtime.raisers < raiser_limit
+  pub nest_serves : (s1 s2 : State) (bus' : BusState) (places' : List PendingDispatch) → true ≡ some_of (begins_new x) e.bus.listeners → length e.runtime.raisers < raiser_limit
       → ((t : Turning) → e.runtime.running ≡ Some t → s1 ≡ suspended t e.runtime) → Woken x s1 s2 → bus' ≡ bus_heard → places' ≡ place_for x e.bus.listeners ∷ e.places
       → (at : ℕ) → IsServed (λ image. service image at 23) (Goes Nothing) e (record e { runtime = s2; bus = bus'; places = places' })
   nest_serves s1 s2 bus' places' some room nests k ib ip at = λ image t runs w h.
@@ -169,7 +169,7 @@ module _ (e : Engine) (inside : IsInside e.runtime.machine.registers.sp e.runtim
       let V : Event → Shared → World Fiber Shared = λ z s. acted (fibers image) (current b t h.mark) (behind image b) w (RaisesNow z (begins_on image m.registers.sp) (fiber_on m) s) in
       let y = subst (λ n. Represents image (record b { runtime = s2; bus = bus_heard; places = place_for x e.bus.listeners ∷ e.places; plain = record b.plain { seats = n } }) (V x (shared_on e.arena m.memory w.shared.free))) (sym k'.live) y0 in
       let P = λ (v : World Fiber Shared). Represents image (state_of (record e { runtime = s2; bus = bus'; places = places' })) v × (v.board.end ≡ w.board.end) × (v.shared.free ≡ w.shared.free) × Meets [] w.board v.board in
-      let y1 = subst (λ (l : List Place). Represents image (state_of (record e { runtime = s2; bus = bus_heard; places = l })) (V x (shared_on e.arena m.memory w.shared.free))) (sym ip) y in
+      let y1 = subst (λ (l : List PendingDispatch). Represents image (state_of (record e { runtime = s2; bus = bus_heard; places = l })) (V x (shared_on e.arena m.memory w.shared.free))) (sym ip) y in
       let y2 = subst (λ (u : BusState). Represents image (state_of (record e { runtime = s2; bus = u; places = places' })) (V x (shared_on e.arena m.memory w.shared.free))) (sym ib) y1 in
       let all : P (V x (shared_on e.arena m.memory w.shared.free)) = (y2, rw (any, few) refl, rw (any, few) refl, rw (any, few) (meets_nothing w.board _ refl refl)) in
       subst (λ z. P (V z w.shared)) is_event (subst (λ s. P (V x s)) (sym (shared_is image b t runs w h)) all)
@@ -196,7 +196,7 @@ module _ (e : Engine) (inside : IsInside e.runtime.machine.registers.sp e.runtim
       subst (λ z. acted (fibers image) (current b t h.mark) (behind image b) w (RaisesNow z (begins_on image m.registers.sp) (fiber_on m) w.shared) ≡ stops (Panicked raiser_panic) w) is_event
       (raises_too_deep image b w h t runs x (fiber_on m) w.shared (begins_on image m.registers.sp) deep any)
 
-pub places_few : (n : ℕ) (rs : List Raiser) (ps : List Place) → ArePlaces n rs ps → length ps ≡ suc (length rs)
+pub places_few : (n : ℕ) (rs : List Raiser) (ps : List PendingDispatch) → ArePlaces n rs ps → length ps ≡ suc (length rs)
 places_few n [] [] a = absurd a
 places_few n [] (p ∷ []) a = refl
 places_few n [] (p ∷ (q ∷ ps)) a = absurd a

@@ -19,7 +19,7 @@ use Rattle.fiber_runtime.specs.declared.turning.Raiser.{Raiser}
 use Rattle.bank_model.specs.Standing.{words_in, fiber_on}
 use Rattle.fiber_runtime.specs.State.{State, key_of, key_running}
 use Rattle.fiber_runtime.specs.Sound.{IsSound, IsNested}
-use Rattle.fiber_runtime.specs.Moves.{Ended, placed}
+use Rattle.fiber_runtime.specs.Moves.{Ended, machine_started}
 use Rattle.fiber_queues.proofs.Laws.{how_often-listed}
 use Rattle.fiber_runtime.proofs.Laws.{sound_ended, sound_keyless, sound_named, own_key_once, no_words}
 use Rattle.board_run.specs.Places.{ArePlaces}
@@ -136,7 +136,7 @@ module _ (image : List ℕ) (b : BoardState) (w : World Fiber Shared) (h : Repre
       → (let base = b.runtime.machine.memory.base in
       let bus : BusState = record b.bus { listeners = changed ended i b.bus.listeners } in
       let again : ℕ → Fiber = begins_again image (fiber_on b.runtime.machine) in
-      let runtime : State = record b.runtime { machine = placed (handler_of i (hearings b.bus.listeners)) base b.runtime.machine; running = Some (record t { value = e.value }) } in
+      let runtime : State = record b.runtime { machine = machine_started (handler_of i (hearings b.bus.listeners)) base b.runtime.machine; running = Some (record t { value = e.value }) } in
       Represents image (record b { runtime = runtime; bus = bus }) (acted (fibers image) (current b t h.mark) (behind image b) w (Ends again shared)))
   begins_anew i e rest shared l held g a u =
       let base = b.runtime.machine.memory.base in
@@ -149,16 +149,16 @@ module _ (image : List ℕ) (b : BoardState) (w : World Fiber Shared) (h : Repre
       let agrees = ends-agrees (current b t h.mark) (behind image b) again shared i b.bus w h.hears (first_ready image b w h t runs) l in
       let empty : words_in stack base base ≡ [] = no_words stack base in
       let listeners : handler_of i w.listeners ≡ handler_of i hs = ap (handler_of i) h.hears.listeners in
-      let first : acting (fiber_on (placed (handler_of i hs) base b.runtime.machine)) t' false ≡ acting (begins_on image base (handler_of i w.listeners)) t' false =
+      let first : acting (fiber_on (machine_started (handler_of i hs) base b.runtime.machine)) t' false ≡ acting (begins_on image base (handler_of i w.listeners)) t' false =
       ap (λ ws. acting (record { registers = begun base (return_of b.runtime.machine.memory.flash) (handler_of i hs); base = base; bank = ws }) t' false) empty
       ∙ ap (λ f. acting (record { registers = begun base (return_of f) (handler_of i hs); base = base; bank = [] }) t' false) h.flash
       ∙ ap (λ c. acting (begins_on image base c) t' false) (sym listeners) in
       let v : World Fiber Shared = ends_with (e ∷ rest) i (current b t h.mark) (behind image b) again shared w in
       let agrees' : Agrees bus v = subst (λ es. Agrees bus (ends_with es i (current b t h.mark) (behind image b) again shared w)) held agrees in
-      let runtime : State = record b.runtime { machine = placed (handler_of i hs) base b.runtime.machine; running = Some t' } in
+      let runtime : State = record b.runtime { machine = machine_started (handler_of i hs) base b.runtime.machine; running = Some t' } in
       let turn : acted (fibers image) (current b t h.mark) (behind image b) w (Ends again shared) ≡ v = rw (l, held) refl in
       subst (Represents image (record b { runtime = runtime; bus = bus })) (sym turn) (record {
-        sound = sound_named t t' b.runtime (placed (handler_of i hs) base b.runtime.machine) h.sound runs refl;
+        sound = sound_named t t' b.runtime (machine_started (handler_of i hs) base b.runtime.machine) h.sound runs refl;
         stands = (record { span = rw empty (omega arith); inside = λ some. absurd (let z : length (words_in stack base base) ≡ 0 = ap length empty in omega (arith, some, z)) }, (below image b w h t runs).1);
         runner = subst RunnerRecorded runs h.runner;
         nested = h.nested;

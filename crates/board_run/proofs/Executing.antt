@@ -11,7 +11,7 @@ use Rattle.tool_io.specs.Putting.{Took, TookPart}
 use Rattle.tool_io.proofs.Laws.{took-nothing, took-then}
 use Rattle.board_ports.specs.Account.{Account}
 use Rattle.board_ports.specs.Plugged.{Plugged}
-use Rattle.board_ports.specs.History.{Follows}
+use Rattle.board_ports.specs.History.{FollowsMoves}
 use Rattle.board_outside.specs.declared.output.Output.{Output}
 use Rattle.board_outside.specs.Moves.{Move, Seen, seen_of}
 use Rattle.board_outside.specs.Outputs.{moves_of, IsSeen}
@@ -47,7 +47,7 @@ none_yet o e = ap (option_map end_of) e
 module _ {B : Type 0} (account : B → Account) where
   pub ports_then : (ms ns : List Move) (p q r : Plugged B) → PortsMeet account ms p q → PortsMeet account ns q r → PortsMeet account (ms ++ ns) p r
   ports_then ms ns p q r f g before start h =
-      subst (λ l. Follows account l start r) (append_assoc before (port_moves ms) (port_moves ns) ∙ ap (λ l. before ++ l) (sym (port_moves-append ms ns)))
+      subst (λ l. FollowsMoves account l start r) (append_assoc before (port_moves ms) (port_moves ns) ∙ ap (λ l. before ++ l) (sym (port_moves-append ms ns)))
       (g (before ++ port_moves ms) start (f before start h))
 
   pub advances_then : (n m : ℕ) (a b c : OverSink B) → Advances account n a b → Advances account m b c → Advances account (m + n) a c
@@ -84,7 +84,7 @@ module _ {B : Type 0} (account : B → Account) where
     executes = λ image start n used met r.
         (let count : n ≡ 0 + n = omega arith in
         ([], subst (λ k. Reaches None image start k (used ++ []) (met ++ []) (state_of b.board.engine)) count (subst (λ us. Reaches None image start n us (met ++ []) (state_of b.board.engine)) (sym (append-nil used)) (subst (λ ms. Reaches None image start n used ms (state_of b.board.engine)) (sym (append-nil met)) r)), λ rest j l h. absurd (omega (arith, l, h))));
-    ports = λ before start f. subst (λ ms. Follows account ms start b.board.plugs) (sym (append-nil before)) f;
+    ports = λ before start f. subst (λ ms. FollowsMoves account ms start b.board.plugs) (sym (append-nil before)) f;
     written = took-nothing b.taken;
   }
 
@@ -120,7 +120,7 @@ module _ {B : Type 0} (account : B → Account) where
         last = o;
         at = state_of b;
         executes = λ image. executes_one image (Seen o ∷ []) (state_of a.board.engine) (state_of b) (none_yet a.board.engine.end going) runs (subst (λ ms. ComesTo None image 1 ms (state_of a.board.engine) (state_of b)) seen.1 (comes image None));
-        ports = λ before start f. subst (λ ms. Follows account ms start c.board.plugs) (sym (append-nil before)) (subst (λ x. Follows account before start x) (sym same) f);
+        ports = λ before start f. subst (λ ms. FollowsMoves account ms start c.board.plugs) (sym (append-nil before)) (subst (λ x. FollowsMoves account before start x) (sym same) f);
         written = record { told = λ had e. (let l : TookPart a.taken c.taken (line o ++ []) = subst (λ ms. TookPart a.taken c.taken (lines (seen_of ms))) seen.1 part in let r = l.told had e in (r.0, subst (IsPrefix r.0) (append-nil (line o)) r.1, r.2)) };
       }
 

@@ -13,7 +13,7 @@ use Rattle.message_bus.specs.Agreement.{hearings, living}
 use Rattle.message_bus.proofs.Laws.{many-append}
 use Rattle.fiber_runtime.specs.declared.turning.Turning.{Turning}
 use Rattle.fiber_runtime.specs.declared.turning.Raiser.{Raiser}
-use Rattle.board_run.specs.Places.{Place, ArePlaces}
+use Rattle.board_run.specs.Places.{PendingDispatch, ArePlaces}
 use Rattle.message_bus.specs.Numbers.{IsRising}
 use Rattle.board_run.specs.Shown.{running_of, of_raiser, of_key, begun_as, unbegun, standing}
 use Rattle.board_run.specs.Represents.{BoardState, Represents}
@@ -41,7 +41,7 @@ module _ (image : List ℕ) (i : ℕ) where
       by_test true e1 g = (let l : i < suc j = grind (arith, nat_tests, e1) in let z = none_behind base e hs (suc j) n is l h.2 in omega (arith, z))
       by_test false e1 g = g
 
-  standing_few : (hs : List Hearing) (stack : List ℕ) (n : ℕ) (rs : List Raiser) (ps : List Place) → ArePlaces n rs ps → how_many (is_of i) (standing image hs stack rs ps) ≤ 2 * length rs + 1
+  standing_few : (hs : List Hearing) (stack : List ℕ) (n : ℕ) (rs : List Raiser) (ps : List PendingDispatch) → ArePlaces n rs ps → how_many (is_of i) (standing image hs stack rs ps) ≤ 2 * length rs + 1
   standing_few hs stack n [] [] a = absurd a
   standing_few hs stack n [] (p ∷ []) a = one_of (base_of image) p.event hs 0 n p.left a
   standing_few hs stack n [] (p ∷ (q ∷ ps)) a = absurd a

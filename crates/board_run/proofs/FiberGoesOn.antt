@@ -20,7 +20,7 @@ use Rattle.fiber_runtime.specs.declared.turning.Raiser.{Raiser}
 use Rattle.fiber_runtime.specs.declared.blocking.Why.{Why}
 use Rattle.fiber_runtime.specs.declared.blocking.Why.TheVariants.{Pause, Wait}
 use Rattle.bank_model.specs.Standing.{words_in, IsInside, fiber_on}
-use Rattle.fiber_runtime.specs.Words.{Fits, kept_of}
+use Rattle.fiber_runtime.specs.Words.{ReachesBase, kept_of}
 use Rattle.fiber_runtime.specs.State.{State}
 use Rattle.fiber_queues.specs.Keys.{listed, how_often}
 use Rattle.fiber_runtime.specs.Sound.{IsSound, IsNested, IsStanding}
@@ -92,7 +92,7 @@ module _ (image : List ℕ) (b : BoardState) (w : World Fiber Shared) (h : Repre
       (goes_on (current b t h.mark) (behind image b) (fiber_on m, shared_on plain.used m.memory free) board w))
   goes_still rs arena free board plain p seats =
       let m : Machine = record { registers = record b.runtime.machine.registers { r = rs }; memory = record b.runtime.machine.memory { arena = arena } } in
-      let fits : Fits (kept_of m t) = record { span = below.0.span; inside = below.0.inside } in
+      let fits : ReachesBase (kept_of m t) = record { span = below.0.span; inside = below.0.inside } in
       record {
         sound = sound_machine b.runtime m h.sound;
         stands = subst (λ x. IsStanding x m b.runtime.raisers) (sym runs) (fits, below.1);
@@ -232,7 +232,7 @@ module _ (image : List ℕ) (b : BoardState) (w : World Fiber Shared) (h : Repre
   forked why key mid new shared k i c m g a u =
       let t' : Turning = record t { key = Some key } in
       let s0 = sound_adopted key t b.runtime mid h.sound runs k c in
-      let fit : Fits (kept_of mid.machine t') = subst (λ (y : State). Fits (kept_of y.machine t')) (sym c.rest) (inside_fits b.runtime.machine t' i h.stack) in
+      let fit : ReachesBase (kept_of mid.machine t') = subst (λ (y : State). ReachesBase (kept_of y.machine t')) (sym c.rest) (inside_fits b.runtime.machine t' i h.stack) in
       let running : mid.running ≡ Some t' = ap (λ (y : State). y.running) c.rest in
       let s = sound_blocked key b.plain.clock t' why mid new s0 running refl fit m in
       let z = free_key_nowhere b.runtime key h.sound c.claims.free in

@@ -18,7 +18,7 @@ use Rattle.tool_io.specs.declared.sink.PutFailed.{PutFailed}
 use Rattle.tool_io.proofs.Laws.{took-then, rose-before}
 use Rattle.board_ports.specs.Account.{Account}
 use Rattle.board_ports.specs.Plugged.{Plugged}
-use Rattle.board_ports.specs.History.{Follows}
+use Rattle.board_ports.specs.History.{FollowsMoves}
 use Rattle.board_ports.proofs.Laws.{places_after}
 use Rattle.event_script.specs.World.{world_entries}
 use Rattle.event_script.specs.declared.script.Script.{Script}
@@ -86,7 +86,7 @@ settled_stays image e w s h = by_end e.end refl
     by_end (Some stop) q = over_stays K (idle_bound w.board) w.ready w (ap (λ (p : Board). is_some p.end) h.board ∙ ap (λ (o : Option Stop). is_some (option_map end_of o)) q)
 
 module _ {B : Type 0} (account : B → Account) (image : List ℕ) (script : Script) (budget : ℕ) (first : OverSink B) (m : IsMounted image script first.board.engine)
-    (places : List (Option B)) (f : Follows account [] places first.board.plugs) where
+    (places : List (Option B)) (f : FollowsMoves account [] places first.board.plugs) where
   abbrev begin : List ℕ → World Fiber Shared
   begin free = bank_start image script.end (world_entries script.entries) free
 

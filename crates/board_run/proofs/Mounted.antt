@@ -16,11 +16,11 @@ use Rattle.fiber_pool.specs.Kept.{Kept}
 use Rattle.fiber_runtime.specs.State.{State}
 use Rattle.fiber_runtime.specs.Sound.{once}
 use Rattle.fiber_queues.specs.Keys.{how_often}
-use Rattle.fiber_runtime.specs.Words.{Fits}
+use Rattle.fiber_runtime.specs.Words.{ReachesBase}
 use Rattle.fiber_runtime.specs.Moves.{HasMain, fresh}
 use Rattle.fiber_queues.proofs.Laws.{how_often-same, how_often-other}
 use Rattle.board_run.specs.declared.engine.Engine.{Engine}
-use Rattle.board_run.specs.Places.{Place, at_first}
+use Rattle.board_run.specs.Places.{PendingDispatch, at_first}
 use Rattle.board_run.specs.Represents.{BoardState, Represents}
 use Rattle.board_run.specs.Ran.{IsMounted}
 use Rattle.board_run.specs.View.{state_of}
@@ -46,7 +46,7 @@ mounts_main image until script pool key free main others live = record {
     most = omega (arith, live);
     fits = λ other k f. elim (cases_eq other key) [
       | inl same ↦ inr (let g : Some (fresh image (base_of image) (main_of image)) ≡ Some k = sym main ∙ ap (get pool) (sym same) ∙ f in
-          let q : fresh image (base_of image) (main_of image) ≡ k = cc in subst Fits q (record { span = omega arith; inside = λ some. absurd (omega (arith, some)) }))
+          let q : fresh image (base_of image) (main_of image) ≡ k = cc in subst ReachesBase q (record { span = omega arith; inside = λ some. absurd (omega (arith, some)) }))
       | inr differs ↦ absurd (let g : ◌≡◌ {A = Option Kept} None (Some k) = sym (others other differs) ∙ f in cc)
     ];
     suspended = omega arith;
@@ -121,7 +121,7 @@ is_mounted image script switch s m sound size bytes =
       begins = shows;
     }
 
-pub mounted_as : (image : List ℕ) (script : Script) (machine : Machine) (s : State) (switch : ℕ) (bus : BusState) (places : List Place) (buttons : Since) (display arena : ℕ) → machine ≡ reset image → HasMain machine s
+pub mounted_as : (image : List ℕ) (script : Script) (machine : Machine) (s : State) (switch : ℕ) (bus : BusState) (places : List PendingDispatch) (buttons : Since) (display arena : ℕ) → machine ≡ reset image → HasMain machine s
     → (let none : BusState = record { listeners = []; queue = [] } in bus ≡ none) → places ≡ at_first → buttons ≡ all_up → display ≡ 0 → arena ≡ 0 → IsSound script → length image ≤ flash_end → All (λ b. b < 256) image
     → IsMounted image script (record { runtime = s; switch = switch; bus = bus; places = places; buttons = buttons; display = display; arena = arena; script = script; next = 0; clock = 0; counts = record { spawned = 1; blocked = 0; words = 0; most = 1 }; end = None })
 mounted_as image script machine s switch bus places buttons display arena mi m b p u d a sound size bytes =

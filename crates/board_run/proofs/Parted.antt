@@ -15,7 +15,7 @@ use Rattle.event_script.specs.declared.script.Act.{Act}
 use Rattle.event_script.specs.declared.script.Act.TheVariants.{Down, Up, Raise, Unplug}
 use Rattle.board_ports.specs.Account.{Account}
 use Rattle.board_ports.specs.Plugged.{Plugged}
-use Rattle.board_ports.specs.History.{Follows}
+use Rattle.board_ports.specs.History.{FollowsMoves}
 use Rattle.board_outside.specs.Ports.{port_moves}
 use Rattle.board_run.specs.declared.engine.Engine.{Engine}
 use Rattle.board_run.specs.Represents.{Represents}
@@ -39,7 +39,7 @@ no_unplug (Unplug port) m = absurd m
 pub ports_arrived : {B : Type 0} (account : B → Account) (act : Act) (now : ℕ) (since since' : Since) (bus bus' : BusState) (plugged plugged' : Plugged B)
     → MayArrive (world_act act) → Applied account act now since since' bus bus' plugged plugged' → PortsMeet account [] plugged plugged'
 ports_arrived account act now since since' bus bus' plugged plugged' m a before start f =
-    subst (λ ms. Follows account (before ++ port_moves ms) start plugged') (no_unplug act m) (a.ports before start f)
+    subst (λ ms. FollowsMoves account (before ++ port_moves ms) start plugged') (no_unplug act m) (a.ports before start f)
 
 pub whole_arrived : (old new : Engine) (n : ℕ) (act : Act) → IsWhole old n → new ≡ record old { bus = new.bus; buttons = new.buttons } → Arrives (world_act act) (state_of old) (state_of new) → IsWhole new n
 whole_arrived old new n act w e a =

@@ -8,7 +8,7 @@ use Rattle.board_world.specs.Transcript.{line}
 use Rattle.tool_io.specs.Putting.{Took, TookPart}
 use Rattle.tool_io.proofs.Laws.{took-then, took-nothing}
 use Rattle.board_ports.specs.Account.{Account}
-use Rattle.board_ports.specs.History.{Follows}
+use Rattle.board_ports.specs.History.{FollowsMoves}
 use Rattle.board_outside.specs.declared.output.Output.{Output}
 use Rattle.board_outside.specs.Moves.{Seen, seen_of}
 use Rattle.board_outside.specs.Outputs.{moves_of, IsSeen}
@@ -62,7 +62,7 @@ module _ {B : Type 0} (account : B → Account) (lead : ByteList) where
       record {
         moves = [];
         makes = λ image bound. through_none IsBusy bound image [] here here (stutters image here here refl (λ w h. h) bound);
-        ports = λ before start f. subst (λ ms. Follows account ms start b.board.plugs) (sym (append-nil before)) f;
+        ports = λ before start f. subst (λ ms. FollowsMoves account ms start b.board.plugs) (sym (append-nil before)) f;
         sent = refl;
         written = took-nothing b.taken;
       }
@@ -130,7 +130,7 @@ module _ {B : Type 0} (account : B → Account) (lead : ByteList) where
           last = o;
           at = state_of mid;
           makes = λ image bound. through_one bound image (Seen o ∷ []) (state_of a) (state_of mid) (none_yet a.end going) runs (subst (λ ms. ComesTo bound image 1 ms (state_of a) (state_of mid)) seen'.1 (comes image bound));
-          ports = λ before start f. subst (λ ms. Follows account ms start new.board.plugs) (sym (append-nil before)) (subst (λ x. Follows account before start x) (sym same) f);
+          ports = λ before start f. subst (λ ms. FollowsMoves account ms start new.board.plugs) (sym (append-nil before)) (subst (λ x. FollowsMoves account before start x) (sym same) f);
           written = record {
             told = λ had e.
                 (let l : TookPart old.taken new.taken ((lead ++ line o) ++ []) = subst (λ ms. TookPart old.taken new.taken (led_lines lead (seen_of ms))) seen'.1 part' in

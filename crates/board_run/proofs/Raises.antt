@@ -29,7 +29,7 @@ use Rattle.fiber_runtime.specs.State.{State}
 use Rattle.fiber_queues.specs.Keys.{how_often}
 use Rattle.fiber_runtime.specs.Sound.{IsSound, IsNested, IsStanding, once}
 use Rattle.fiber_runtime.specs.Moves.{Woken, suspended}
-use Rattle.board_run.specs.Places.{Place, ArePlaces, IsSpent, place_for}
+use Rattle.board_run.specs.Places.{PendingDispatch, ArePlaces, IsSpent, place_for}
 use Rattle.message_bus.specs.Numbers.{IsRising, beginning}
 use Rattle.bank_model.specs.Standing.{shared_on}
 use Rattle.board_run.specs.Shown.{acting, running_of, of_raiser, of_key, begun_as, unbegun, standing}
@@ -82,7 +82,7 @@ none_kept : (pool : Slab Kept) (keys : List ℕ) → how_many (λ (c : Activity 
 none_kept pool [] = refl
 none_kept pool (k ∷ ks) = none_kept pool ks
 
-raisers_suspended : (image : List ℕ) (hs : List Hearing) (stack : List ℕ) (n : ℕ) (rs : List Raiser) (ps : List Place) → ArePlaces n rs ps → how_many (λ (c : Activity Fiber). c.suspended) (standing image hs stack rs ps) ≡ length rs
+raisers_suspended : (image : List ℕ) (hs : List Hearing) (stack : List ℕ) (n : ℕ) (rs : List Raiser) (ps : List PendingDispatch) → ArePlaces n rs ps → how_many (λ (c : Activity Fiber). c.suspended) (standing image hs stack rs ps) ≡ length rs
 raisers_suspended image hs stack n [] [] a = absurd a
 raisers_suspended image hs stack n [] (p ∷ []) a = none_begun image (base_of image) p.event hs p.left
 raisers_suspended image hs stack n [] (p ∷ (q ∷ ps)) a = absurd a

@@ -12,7 +12,7 @@ use Rattle.event_script.specs.declared.script.Act.TheVariants.{Down, Up, Raise, 
 use Rattle.event_script.specs.declared.script.Entry.{Entry}
 use Rattle.board_ports.specs.Account.{Account}
 use Rattle.board_ports.specs.Plugged.{Plugged}
-use Rattle.board_ports.specs.History.{PortMove, Follows}
+use Rattle.board_ports.specs.History.{PortMove, FollowsMoves}
 use Rattle.board_run.specs.declared.engine.Engine.{Engine}
 use Rattle.board_outside.specs.Moves.{Move, seen_of, unplugged_of}
 use Rattle.board_outside.specs.Ports.{port_moves}
@@ -51,7 +51,7 @@ module _ {B : Type 0} (account : B → Account) (old : Engine) (plugged : Plugge
     pub board : (b : Board) → HasButtons old.clock old.buttons old.bus b
         → arrive_all old.clock (world_entries (drop old.next old.script.entries)) b ≡ arrive_all old.clock (world_entries (drop mid.next old.script.entries)) (acted_on mid.bus mid.buttons moves b)
     pub listeners : mid.bus.listeners ≡ old.bus.listeners
-    pub ports : (before : List PortMove) (start : List (Option B)) → Follows account before start plugged → Follows account (before ++ port_moves moves) start plugged'
+    pub ports : (before : List PortMove) (start : List (Option B)) → FollowsMoves account before start plugged → FollowsMoves account (before ++ port_moves moves) start plugged'
 
   pub arriving_start : Arriving old plugged
   arriving_start = record {
@@ -59,7 +59,7 @@ module _ {B : Type 0} (account : B → Account) (old : Engine) (plugged : Plugge
     silent = refl;
     board = λ b h. ap (λ (x : Board). arrive_all old.clock (world_entries (drop old.next old.script.entries)) x) (untouched b h);
     listeners = refl;
-    ports = λ before start f. subst (λ l. Follows account l start plugged) (sym (append-nil before)) f;
+    ports = λ before start f. subst (λ l. FollowsMoves account l start plugged) (sym (append-nil before)) f;
   }
     where
       untouched : (b : Board) → HasButtons old.clock old.buttons old.bus b → b ≡ acted_on old.bus old.buttons [] b
@@ -83,7 +83,7 @@ module _ {B : Type 0} (account : B → Account) (old : Engine) (plugged : Plugge
         ∙ ap (λ z. arrive_all old.clock (world_entries (drop (suc mid.next) old.script.entries)) z) (applied.board y has ∙ acted_twice mid.bus new.bus mid.buttons new.buttons h.moves (unplugs_of e.act) b h.silent)
         ∙ ap (λ k. arrive_all old.clock (world_entries (drop k old.script.entries)) (acted_on new.bus new.buttons (h.moves ++ unplugs_of e.act) b)) (sym next);
     listeners = applied.listeners ∙ h.listeners;
-    ports = λ before start f. subst (λ l. Follows account l start plugged'') (append_assoc before (port_moves h.moves) (port_moves (unplugs_of e.act)) ∙ ap (λ l. before ++ l) (sym (port_moves-append h.moves (unplugs_of e.act))))
+    ports = λ before start f. subst (λ l. FollowsMoves account l start plugged'') (append_assoc before (port_moves h.moves) (port_moves (unplugs_of e.act)) ∙ ap (λ l. before ++ l) (sym (port_moves-append h.moves (unplugs_of e.act))))
         (applied.ports (before ++ port_moves h.moves) start (h.ports before start f));
   }
 

@@ -3,7 +3,7 @@ use Rattle.std.proofs.Common.{◌≡◌, ℕ, ◌≤◌, List, [], ◌++◌, len
 use Rattle.board_world.specs.Limits.{end_limit}
 use Rattle.board_ports.specs.Account.{Account}
 use Rattle.board_ports.specs.Plugged.{Plugged}
-use Rattle.board_ports.specs.History.{Follows}
+use Rattle.board_ports.specs.History.{FollowsMoves}
 use Rattle.board_run.specs.declared.engine.Engine.{Engine}
 use Rattle.board_run.specs.Represents.{BoardState, IsShown}
 use Rattle.board_run.specs.Run.{Comes}
@@ -21,7 +21,7 @@ module _ {B : Type 0} (account : B → Account) where
     moves = x.moves ++ y.moves;
     silent = seen_of-append x.moves y.moves ∙ rw (x.silent, y.silent) refl;
     comes = λ image. comes_then None image 0 0 x.moves y.moves a b c (x.comes image) (y.comes image);
-    ports = λ before start f. subst (λ l. Follows account l start r) (append_assoc before (port_moves x.moves) (port_moves y.moves) ∙ ap (λ l. before ++ l) (sym (port_moves-append x.moves y.moves)))
+    ports = λ before start f. subst (λ l. FollowsMoves account l start r) (append_assoc before (port_moves x.moves) (port_moves y.moves) ∙ ap (λ l. before ++ l) (sym (port_moves-append x.moves y.moves)))
         (y.ports (before ++ port_moves x.moves) start (x.ports before start f));
   }
 

@@ -12,7 +12,7 @@ use Rattle.fiber_runtime.specs.Sound.{IsNested}
 use Rattle.fiber_queues.specs.Keys.{how_often}
 use Rattle.bank_model.proofs.Laws.{same_words, same_above}
 use Rattle.fiber_queues.proofs.Laws.{how_often-append, how_often-same}
-use Rattle.board_run.specs.Places.{Place, ArePlaces}
+use Rattle.board_run.specs.Places.{PendingDispatch, ArePlaces}
 use Rattle.message_bus.specs.Numbers.{IsRising}
 use Rattle.board_run.specs.Shown.{acting, of_raiser, of_kept, of_key, begun_as, standing}
 
@@ -21,7 +21,7 @@ pub same_raiser : (at : ℕ) (old new : List ℕ) (r : Raiser) → SameFrom at o
 same_raiser at old new r h l = ap (λ ws. acting (record { registers = r.registers; base = r.base; bank = ws }) r.turning true) (same_words at r.registers.sp r.base old new h l)
 
 -- The raisers' words stand above an address at which the stack regions agree: so all who stand behind are the same.
-pub standing_same : (image : List ℕ) (hs : List Hearing) (at : ℕ) (old new : List ℕ) (rs : List Raiser) (ps : List Place) → IsNested at rs → SameFrom at old new
+pub standing_same : (image : List ℕ) (hs : List Hearing) (at : ℕ) (old new : List ℕ) (rs : List Raiser) (ps : List PendingDispatch) → IsNested at rs → SameFrom at old new
     → standing image hs new rs ps ≡ standing image hs old rs ps
 standing_same image hs at old new rs [] n h = refl
 standing_same image hs at old new [] (p ∷ ps) n h = refl
@@ -37,7 +37,7 @@ pub unbegun_same : (image : List ℕ) (base : ℕ) (e : Event) (hs hs' : List He
 unbegun_same image base e hs hs' n k [] h r = refl
 unbegun_same image base e hs hs' n k (i ∷ is) h r = rw (h i r.1, unbegun_same image base e hs hs' n (suc i) is h r.2) refl
 
-pub standing_heard : (image : List ℕ) (stack : List ℕ) (hs hs' : List Hearing) (n : ℕ) (rs : List Raiser) (ps : List Place) → ((i : ℕ) → i < n → handler_of i hs' ≡ handler_of i hs) → ArePlaces n rs ps
+pub standing_heard : (image : List ℕ) (stack : List ℕ) (hs hs' : List Hearing) (n : ℕ) (rs : List Raiser) (ps : List PendingDispatch) → ((i : ℕ) → i < n → handler_of i hs' ≡ handler_of i hs) → ArePlaces n rs ps
     → standing image hs' stack rs ps ≡ standing image hs stack rs ps
 standing_heard image stack hs hs' n rs [] h a = refl
 standing_heard image stack hs hs' n [] (p ∷ []) h a = unbegun_same image _ p.event hs hs' n zero p.left h a
@@ -52,7 +52,7 @@ pub rising_from : (k j : ℕ) (is : List ℕ) (n : ℕ) → j ≤ k → IsRising
 rising_from k j [] n l h = tt
 rising_from k j (i ∷ is) n l h = (omega (arith, h.0), h.1, h.2)
 
-pub places_more : (n m : ℕ) (rs : List Raiser) (ps : List Place) → n ≤ m → ArePlaces n rs ps → ArePlaces m rs ps
+pub places_more : (n m : ℕ) (rs : List Raiser) (ps : List PendingDispatch) → n ≤ m → ArePlaces n rs ps → ArePlaces m rs ps
 places_more n m [] [] l h = h
 places_more n m [] (p ∷ []) l h = rising_more zero p.left n m l h
 places_more n m [] (p ∷ (q ∷ ps)) l h = h

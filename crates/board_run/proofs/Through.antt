@@ -15,7 +15,7 @@ use Rattle.board_world.specs.Activities.{World}
 use Rattle.board_world.specs.World.{jump, moved, idle_bound, clock_moves}
 use Rattle.board_world.specs.Before.{IsRisingFrom, is_by_clock, idled_before, run_before, moves_before, is_jump_before}
 use Rattle.board_world.proofs.Laws.{first_before, jump_soonest, rises_in_order}
-use Rattle.class_world.specs.Hearing.{placed, with_heard, raised_at}
+use Rattle.class_world.specs.Hearing.{inserted, with_heard, raised_at}
 use Rattle.class_world.specs.Keeping.{with_kept, moment_run}
 use Rattle.class_world.proofs.Laws.{seen_idle_before, rising_kept, standing_jump, jump_rising}
 use Rattle.bank_model.specs.Fibers.{Fiber, Shared}
@@ -119,12 +119,12 @@ module _ (image : List ℕ) (t : ℕ) (events : List Event) (old there : Engine)
 heard_first : (t : ℕ) (events : List Event) (own : List Entry) → IfSome (next_entry (with_heard (raised_at t events) own)) (λ m. t ≤ m) → IfSome (next_entry own) (λ m. t ≤ m)
 heard_first t [] own h = h
 heard_first t (e ∷ es) [] h = tt
-heard_first t (e ∷ es) (x ∷ xs) h = by_test (nat_le x.at t) refl (heard_first t es (placed k (x ∷ xs)) h)
+heard_first t (e ∷ es) (x ∷ xs) h = by_test (nat_le x.at t) refl (heard_first t es (inserted k (x ∷ xs)) h)
   where
     k : Entry
     k = record { at = t; act = Raise e }
 
-    by_test : (b : Bool) → nat_le x.at t ≡ b → IfSome (next_entry (if b then x ∷ placed k xs else k ∷ (x ∷ xs))) (λ m. t ≤ m) → t ≤ x.at
+    by_test : (b : Bool) → nat_le x.at t ≡ b → IfSome (next_entry (if b then x ∷ inserted k xs else k ∷ (x ∷ xs))) (λ m. t ≤ m) → t ≤ x.at
     by_test true q g = g
     by_test false q g = (let above : t < x.at = grind (arith, nat_tests) in omega (arith, above))
 

@@ -12,12 +12,12 @@ use Rattle.fiber_queues.specs.Calls.{keyed}
 use Rattle.fiber_runtime.specs.declared.turning.Turning.{Turning}
 use Rattle.fiber_runtime.specs.declared.turning.Raiser.{Raiser}
 use Rattle.bank_model.specs.Standing.{words_in, fiber_on}
-use Rattle.fiber_runtime.specs.Words.{Fits, kept_of}
+use Rattle.fiber_runtime.specs.Words.{ReachesBase, kept_of}
 use Rattle.fiber_runtime.specs.State.{State}
 use Rattle.fiber_runtime.specs.Sound.{IsSound, IsNested, IsStanding}
-use Rattle.fiber_runtime.specs.Moves.{Resumed, Holds, started, placed, reinstated, turning_of}
+use Rattle.fiber_runtime.specs.Moves.{Resumed, Holds, started, machine_started, reinstated, turning_of}
 use Rattle.fiber_runtime.proofs.Laws.{sound_resumed, sound_started, sound_reinstated, no_words, inside_fits}
-use Rattle.board_run.specs.Places.{Place, ArePlaces, IsSpent}
+use Rattle.board_run.specs.Places.{PendingDispatch, ArePlaces, IsSpent}
 use Rattle.message_bus.specs.Numbers.{IsRising}
 use Rattle.board_run.specs.Shown.{acting, of_key, begun_as, standing}
 use Rattle.fork_on_block.specs.Handlers.{base_for}
@@ -34,17 +34,17 @@ pub same_fiber : (r r' : Registers) (b b' : ℕ) (w w' : List ℕ) → r ≡ r' 
 same_fiber r r' b b' w w' p q s = rw (p, q, s) refl
 
 -- where no raiser stands and no handler is left, nobody stands before the ready keys
-pub nobody_before : (image : List ℕ) (hs : List Hearing) (stack : List ℕ) (n : ℕ) (ps : List Place) → ArePlaces n [] ps → IsSpent ps → standing image hs stack [] ps ≡ []
+pub nobody_before : (image : List ℕ) (hs : List Hearing) (stack : List ℕ) (n : ℕ) (ps : List PendingDispatch) → ArePlaces n [] ps → IsSpent ps → standing image hs stack [] ps ≡ []
 nobody_before image hs stack n [] a e = absurd a
 nobody_before image hs stack n (p ∷ []) a e = ap (map (begun_as image (base_of image) p.event hs)) e
 nobody_before image hs stack n (p ∷ (q ∷ ps)) a e = absurd a
 
 -- what a fiber that fits into its place keeps when it stands in the machine
-fits_on : (k : Kept) (old new : Machine) (key : ℕ) → Fits k → Holds k old new → Fits (kept_of new (turning_of key k))
+fits_on : (k : Kept) (old new : Machine) (key : ℕ) → ReachesBase k → Holds k old new → ReachesBase (kept_of new (turning_of key k))
 fits_on k old new key f h =
     let e : kept_of new (turning_of key k) ≡ k = same _ _ _ _ _ _ k.value k.listener (ap (λ (m : Machine). m.registers) h.rest) (ap (λ (m : Machine). m.memory.base) h.rest)
     (ap (λ (m : Machine). words_in new.memory.stack m.registers.sp m.memory.base) h.rest ∙ h.put.words) in
-    subst Fits (sym e) f
+    subst ReachesBase (sym e) f
   where
     same : (r r' : Registers) (b b' : ℕ) (w w' : List ℕ) (v : ℤ) (l : Option ℕ) → r ≡ r' → b ≡ b' → w ≡ w'
         → (let x : Kept = record { registers = r; base = b; value = v; listener = l; words = w } in let y : Kept = record { registers = r'; base = b'; value = v; listener = l; words = w' } in x ≡ y)
@@ -85,7 +85,7 @@ resumed image b w new h e f u m =
     })
 
 -- The innermost raiser goes on: the world stays. No handler is left at its place.
-pub reinstates : (image : List ℕ) (b : BoardState) (w : World Fiber Shared) (r : Raiser) (rs : List Raiser) (p : Place) (ps : List Place) (h : Represents image b w) → b.runtime.running ≡ None
+pub reinstates : (image : List ℕ) (b : BoardState) (w : World Fiber Shared) (r : Raiser) (rs : List Raiser) (p : PendingDispatch) (ps : List PendingDispatch) (h : Represents image b w) → b.runtime.running ≡ None
     → b.runtime.raisers ≡ r ∷ rs → b.places ≡ p ∷ ps → p.left ≡ []
     → Represents image (record b { runtime = reinstated r rs b.runtime; places = ps }) w
 reinstates image b w r rs p ps h e f g u =
@@ -114,12 +114,12 @@ reinstates image b w r rs p ps h e f g u =
     }
 
 -- the first handler of the innermost place stands first
-pub first_standing : (image : List ℕ) (hs : List Hearing) (stack : List ℕ) (n : ℕ) (rs : List Raiser) (p : Place) (ps : List Place) (i : ℕ) (is : List ℕ) → ArePlaces n rs (p ∷ ps) → p.left ≡ i ∷ is
+pub first_standing : (image : List ℕ) (hs : List Hearing) (stack : List ℕ) (n : ℕ) (rs : List Raiser) (p : PendingDispatch) (ps : List PendingDispatch) (i : ℕ) (is : List ℕ) → ArePlaces n rs (p ∷ ps) → p.left ≡ i ∷ is
     → standing image hs stack rs (p ∷ ps) ≡ begun_as image (base_for image rs) p.event hs i ∷ standing image hs stack rs (record p { left = is } ∷ ps)
 first_standing image hs stack n [] p ps i is a e = ap (map (begun_as image (base_of image) p.event hs)) e
 first_standing image hs stack n (r ∷ rs) p ps i is a e = rw e refl
 
-pub fewer_places : (n : ℕ) (rs : List Raiser) (p : Place) (ps : List Place) (i : ℕ) (is : List ℕ) → ArePlaces n rs (p ∷ ps) → p.left ≡ i ∷ is → ArePlaces n rs (record p { left = is } ∷ ps)
+pub fewer_places : (n : ℕ) (rs : List Raiser) (p : PendingDispatch) (ps : List PendingDispatch) (i : ℕ) (is : List ℕ) → ArePlaces n rs (p ∷ ps) → p.left ≡ i ∷ is → ArePlaces n rs (record p { left = is } ∷ ps)
 fewer_places n [] p [] i is a e = let r : IsRising 0 (i ∷ is) n = subst (λ l. IsRising 0 l n) e a in rising_from (suc i) 0 is n (omega arith) r.2
 fewer_places n [] p (q ∷ ps) i is a e = absurd a
 fewer_places n (r ∷ rs) p ps i is a e = let r : IsRising 0 (i ∷ is) n = subst (λ l. IsRising 0 l n) e a.0 in (rising_from (suc i) 0 is n (omega arith) r.2, a.1)
@@ -129,7 +129,7 @@ nested_at image [] h = tt
 nested_at image (r ∷ rs) h = (omega arith, h.1, h.2)
 
 -- The next handler begins in the machine: the world, which has it since the dispatch, stays.
-pub invoked : (image : List ℕ) (b : BoardState) (w : World Fiber Shared) (p : Place) (ps : List Place) (i : ℕ) (is : List ℕ) (h : Represents image b w) → b.runtime.running ≡ None
+pub invoked : (image : List ℕ) (b : BoardState) (w : World Fiber Shared) (p : PendingDispatch) (ps : List PendingDispatch) (i : ℕ) (is : List ℕ) (h : Represents image b w) → b.runtime.running ≡ None
     → b.places ≡ p ∷ ps → p.left ≡ i ∷ is
     → (let hs = hearings b.bus.listeners in let t : Turning = record { key = None; value = p.event.value; listener = Some i } in
     Represents image (record b { runtime = started (handler_of i hs) (base_for image b.runtime.raisers) t b.runtime; places = record p { left = is } ∷ ps }) w)
@@ -142,7 +142,7 @@ invoked image b w p ps i is h e g u =
     let nested : IsNested 0 rs = subst (λ x. IsStanding x b.runtime.machine rs) e h.stands in
     let places : ArePlaces (length b.bus.listeners) rs (p ∷ ps) = subst (λ x. ArePlaces (length b.bus.listeners) rs x) g h.places in
     let empty : words_in stack base base ≡ [] = no_words stack base in
-    let first : acting (fiber_on (placed (handler_of i hs) base b.runtime.machine)) t false ≡ begun_as image base p.event hs i =
+    let first : acting (fiber_on (machine_started (handler_of i hs) base b.runtime.machine)) t false ≡ begun_as image base p.event hs i =
     ap (λ ws. acting (record { registers = begun base (return_of b.runtime.machine.memory.flash) (handler_of i hs); base = base; bank = ws }) t false) empty
     ∙ ap (λ f. acting (record { registers = begun base (return_of f) (handler_of i hs); base = base; bank = [] }) t false) h.flash in
     record {
@@ -166,7 +166,7 @@ invoked image b w p ps i is h e g u =
     }
 
 -- the listener of the next handler stands
-pub next_stands : (n : ℕ) (rs : List Raiser) (p : Place) (ps : List Place) (i : ℕ) (is : List ℕ) → ArePlaces n rs (p ∷ ps) → p.left ≡ i ∷ is → i < n
+pub next_stands : (n : ℕ) (rs : List Raiser) (p : PendingDispatch) (ps : List PendingDispatch) (i : ℕ) (is : List ℕ) → ArePlaces n rs (p ∷ ps) → p.left ≡ i ∷ is → i < n
 next_stands n [] p [] i is a e = (let r : IsRising 0 (i ∷ is) n = subst (λ l. IsRising 0 l n) e a in r.1)
 next_stands n [] p (q ∷ ps) i is a e = absurd a
 next_stands n (r ∷ rs) p ps i is a e = (let s : IsRising 0 (i ∷ is) n = subst (λ l. IsRising 0 l n) e a.0 in s.1)

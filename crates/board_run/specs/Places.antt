@@ -5,12 +5,12 @@ use Rattle.message_bus.specs.ListenerState.{ListenerState}
 use Rattle.message_bus.specs.Numbers.{numbers, beginning, IsRising}
 use Rattle.fiber_runtime.specs.declared.turning.Raiser.{Raiser}
 
-pub record Place : Type 0 where
+pub record PendingDispatch : Type 0 where
   pub event : Event
   pub left : List ℕ  -- the numbers of these listeners, ascending
 
 -- One place for each raiser, the innermost first, and one behind them; so many listeners stand.
-abbrev pub ArePlaces : ℕ → List Raiser → List Place → Type 0
+abbrev pub ArePlaces : ℕ → List Raiser → List PendingDispatch → Type 0
 ArePlaces n [] [] = ⊥
 ArePlaces n [] (p ∷ []) = IsRising 0 p.left n
 ArePlaces n [] (p ∷ (q ∷ ps)) = ⊥
@@ -18,11 +18,11 @@ ArePlaces n (r ∷ rs) [] = ⊥
 ArePlaces n (r ∷ rs) (p ∷ ps) = IsRising 0 p.left n × ArePlaces n rs ps
 
 -- the places as a run begins: one, at which no handler is left
-abbrev pub at_first : List Place
+abbrev pub at_first : List PendingDispatch
 at_first = record { event = record { source = pos 0; value = pos 0 }; left = [] } ∷ []
 
 -- the dispatch place of an event
-abbrev pub place_for : Event → List ListenerState → Place
+abbrev pub place_for : Event → List ListenerState → PendingDispatch
 place_for e ls = record { event = e; left = beginning e 0 ls }
 
 -- the numbers that are left of a set of 32 bits, of which those below a number are gone
@@ -30,13 +30,13 @@ abbrev pub left_of : ℕ → ℕ → List ℕ
 left_of next bits = numbers (32 - next) next bits
 
 -- The first handler of the innermost place is taken.
-pub record Takes (event : Event) (at : ℕ) (old new : List Place) : Type 0 where
+pub record Takes (event : Event) (at : ℕ) (old new : List PendingDispatch) : Type 0 where
   pub rest : List ℕ
-  pub outer : List Place
+  pub outer : List PendingDispatch
   pub was : old ≡ record { event = event; left = at ∷ rest } ∷ outer
   pub now : new ≡ record { event = event; left = rest } ∷ outer
 
 -- No handler is left at the innermost place.
-abbrev pub IsSpent : List Place → Type 0
+abbrev pub IsSpent : List PendingDispatch → Type 0
 IsSpent [] = ⊥
 IsSpent (p ∷ ps) = p.left ≡ []

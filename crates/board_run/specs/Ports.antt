@@ -2,7 +2,7 @@
 use Rattle.std.specs.Prelude.{◌≡◌, ℕ, List, [], ◌++◌, Option, None}
 use Rattle.board_ports.specs.Account.{Account}
 use Rattle.board_ports.specs.Plugged.{Plugged}
-use Rattle.board_ports.specs.History.{PortMove, Follows}
+use Rattle.board_ports.specs.History.{PortMove, FollowsMoves}
 use Rattle.board_outside.specs.Moves.{Move, seen_of}
 use Rattle.board_outside.specs.Ports.{port_moves}
 use Rattle.board_run.specs.Represents.{BoardState}
@@ -13,4 +13,4 @@ pub record Idles {B : Type 0} (account : B → Account) (old new : BoardState) (
   pub moves : List Move
   pub silent : seen_of moves ≡ []
   pub comes : (image : List ℕ) → ComesTo None image 0 moves old new
-  pub ports : (before : List PortMove) (start : List (Option B)) → Follows account before start plugged → Follows account (before ++ port_moves moves) start plugged'
+  pub ports : (before : List PortMove) (start : List (Option B)) → FollowsMoves account before start plugged → FollowsMoves account (before ++ port_moves moves) start plugged'

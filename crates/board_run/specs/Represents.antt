@@ -11,14 +11,14 @@ use Rattle.fiber_runtime.specs.declared.turning.Turning.{Turning}
 use Rattle.fiber_runtime.specs.declared.turning.Raiser.{Raiser}
 use Rattle.fiber_runtime.specs.State.{State}
 use Rattle.fiber_runtime.specs.Sound.{IsSound, IsStanding}
-use Rattle.board_run.specs.Places.{Place, ArePlaces}
+use Rattle.board_run.specs.Places.{PendingDispatch, ArePlaces}
 use Rattle.board_run.specs.Shown.{running_of, of_key, standing}
 
 -- What a contract sees of a board. What was seen and unplugged stands in the sink and at the ports, so the plain part has none of it.
 pub record BoardState : Type 0 where
   pub runtime : State
   pub bus : BusState
-  pub places : List Place  -- the innermost first
+  pub places : List PendingDispatch  -- the innermost first
   pub plain : Board
 
 -- who is no handler has a record

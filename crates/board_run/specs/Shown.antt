@@ -12,7 +12,7 @@ use Rattle.fiber_pool.specs.Kept.{Kept, kept_at}
 use Rattle.fiber_runtime.specs.declared.turning.Turning.{Turning}
 use Rattle.fiber_runtime.specs.declared.turning.Raiser.{Raiser}
 use Rattle.fiber_runtime.specs.Banks.{fiber_raising, fiber_kept}
-use Rattle.board_run.specs.Places.{Place}
+use Rattle.board_run.specs.Places.{PendingDispatch}
 
 -- Who runs or is suspended: it has a seat where it has a record.
 abbrev pub acting : Fiber → Turning → Bool → Activity Fiber
@@ -37,12 +37,12 @@ of_key pool key = of_kept (kept_at pool key)
 abbrev pub begun_as : List ℕ → ℕ → Event → List Hearing → ℕ → Activity Fiber
 begun_as image base e hs i = handler_activity (begins_on image base (handler_of i hs)) e i
 
-abbrev pub unbegun : List ℕ → ℕ → List Hearing → Place → List (Activity Fiber)
+abbrev pub unbegun : List ℕ → ℕ → List Hearing → PendingDispatch → List (Activity Fiber)
 unbegun image base hs p = map (begun_as image base p.event hs) p.left
 
 -- From the innermost place outward its handlers, on its raiser's SP, and then its raiser. The outermost place has no raiser, and its
 -- handlers stand on word 0 of flash.
-abbrev pub standing : List ℕ → List Hearing → List ℕ → List Raiser → List Place → List (Activity Fiber)
+abbrev pub standing : List ℕ → List Hearing → List ℕ → List Raiser → List PendingDispatch → List (Activity Fiber)
 standing image hs stack rs [] = []
 standing image hs stack [] (p ∷ ps) = unbegun image (base_of image) hs p
 standing image hs stack (r ∷ rs) (p ∷ ps) = unbegun image r.registers.sp hs p ++ (of_raiser stack r ∷ standing image hs stack rs ps)

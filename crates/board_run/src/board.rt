@@ -5,7 +5,7 @@ ghost use Rattle.sts_base.specs.Faults.{Rose};
 ghost use Rattle.thumb_code.specs.Map.{flash_end};
 ghost use Rattle.tool_io.specs.Putting.{PutsTo};
 ghost use Rattle.board_world.specs.Transcript.{lines};
-ghost use Rattle.board_ports.specs.History.{Follows};
+ghost use Rattle.board_ports.specs.History.{FollowsMoves};
 ghost use Rattle.event_script.specs.Sound.{IsSound};
 ghost use Rattle.board_outside.specs.Moves.{seen_of};
 ghost use Rattle.board_outside.specs.Ports.{port_moves};
@@ -153,7 +153,7 @@ impl<D: Device> Board<D> {
         requires size { vec_len image ≤ flash_end }
         requires script { IsSound script }
         ensures mounted { IfOk result (λ board. IsMounted image.items script board.engine) }
-        ensures plugged { IfOk result (λ board. (board.plugs.places ≡ places.items) × Follows D.account [] places.items board.plugs) }
+        ensures plugged { IfOk result (λ board. (board.plugs.places ≡ places.items) × FollowsMoves D.account [] places.items board.plugs) }
         ensures counted { IfOk result (λ board. board.instructions ≡ 0) }
         ensures switched { IfOk result (λ board. board.engine.switch ≡ 0) }
         ensures none { IfOk result (λ board. (board.kept ≡ []) × (board.sent ≡ [])) }
@@ -242,7 +242,7 @@ impl<D: Device> Board<D> {
         requires counted { self.old.instructions ≡ 0 }
         requires least { 1 ≤ budget }
         requires most { budget ≤ 2147483648 }
-        ensures ran { (image : List ℕ) (script : EventScript) (places : List (Option D)) → IsMounted image script self.old.engine → Follows D.account [] places self.old.plugs
+        ensures ran { (image : List ℕ) (script : EventScript) (places : List (Option D)) → IsMounted image script self.old.engine → FollowsMoves D.account [] places self.old.plugs
             → Ran D.account image (world_after image script) budget (outside_of K.taken K.faults out.old places) (over_sink K.taken K.faults self.new out.new) result }
         ensures counted { self.new.instructions ≤ budget }
         ensures later { K.faults out.old ≤ K.faults out.new }

@@ -27,7 +27,7 @@ pub use board::{Board, NotMounted, Stats};
 pub use end::{Counts, End, Stop};
 pub use engine::{Engine, Served};
 pub use moments::Gone;
-pub use place::Place;
+pub use place::PendingDispatch;
 pub use places::Places;
 pub use slots::Slots;
 pub use staying::others_keep_their_banks;

@@ -11,15 +11,15 @@ use std::marker::Model;
 
 /// An event, and the set of the listeners that `Bus::dispatch` gave for it and whose handlers haven't begun.
 #[derive(Drop)]
-pub struct Place {
+pub struct PendingDispatch {
     event: Event,
     next: u32,
     bits: u32,
 }
 
-impl Model for Place {
+impl Model for PendingDispatch {
     ghost use Rattle.std.specs.Prelude.{◌≤◌};
-    ghost use Rattle.board_run.specs.Places.{Place as PlaceState, left_of};
+    ghost use Rattle.board_run.specs.Places.{PendingDispatch as PlaceState, left_of};
 
     ghost Value = { PlaceState };
 
@@ -28,12 +28,12 @@ impl Model for Place {
     ghost invariant = { λ p. p.next ≤ 32 };
 }
 
-impl Place {
+impl PendingDispatch {
     /// The place of an event, with these listeners.
-    pub fn new(event: Event, bits: u32) -> Place
+    pub fn new(event: Event, bits: u32) -> PendingDispatch
         ensures { result ≡ record { event = event; left = numbers 32 0 bits } }
     {
-        Place {
+        PendingDispatch {
             event,
             next: 0,
             bits,
@@ -82,7 +82,7 @@ fn first_set(next: u32, bits: u32) -> (u32, u32)
 }
 
 /// The listeners hear an event: the place of those that begin a handler for it.
-pub fn place_for(bus: &mut Bus, event: Event) -> Place
+pub fn place_for(bus: &mut Bus, event: Event) -> PendingDispatch
     requires { All (λ l. l.alive < 1000) bus.old.listeners }
     ensures place { result ≡ place_for event bus.old.listeners }
     ensures bus { bus.new ≡ record bus.old { listeners = map (heard event) bus.old.listeners } }
@@ -90,5 +90,5 @@ pub fn place_for(bus: &mut Bus, event: Event) -> Place
     // There are at most as many listeners as bits.
     let _ = bus.count();
     let bits = bus.dispatch(event);
-    Place::new(event, bits)
+    PendingDispatch::new(event, bits)
 }

@@ -1,8 +1,8 @@
 // The dispatch places, the innermost first.
 ghost use Rattle.std.specs.Prelude.{◌≡◌, ◌∷◌, ◌<◌, ◌≤◌, [], length, IfSome, IfNone, IfOk, OnSome, vec_len, List, ℕ};
-ghost use Rattle.board_run.specs.Places.{Place as PlaceState, Takes, IsSpent, at_first};
+ghost use Rattle.board_run.specs.Places.{PendingDispatch as PlaceState, Takes, IsSpent, at_first};
 
-use crate::place::Place;
+use crate::place::PendingDispatch;
 use board_world::Event;
 use std::alloc::Global;
 use std::marker::Model;
@@ -12,13 +12,13 @@ use sts_base::NoMemory;
 /// One place for each raiser, and one behind them.
 #[derive(Drop)]
 pub struct Places {
-    top: Place,
-    below: Vec<Place>,
+    top: PendingDispatch,
+    below: Vec<PendingDispatch>,
 }
 
 impl Model for Places {
     ghost use Rattle.std.specs.Prelude.{List, reverse, ◌∷◌, ◌≤◌, vec_len, vec_capacity};
-    ghost use Rattle.board_run.specs.Places.{Place as PlaceState};
+    ghost use Rattle.board_run.specs.Places.{PendingDispatch as PlaceState};
 
     ghost Value = { List PlaceState };
 
@@ -34,7 +34,7 @@ impl Places {
     {
         match Vec::with_capacity(alloc, 32) {
             Ok(below) => Ok(Places {
-                top: Place::new(
+                top: PendingDispatch::new(
                     Event {
                         source: 0,
                         value: 0,
@@ -60,7 +60,7 @@ impl Places {
     }
 
     /// Puts a place in front.
-    pub fn push(&mut self, place: Place)
+    pub fn push(&mut self, place: PendingDispatch)
         requires { length self.old ≤ 32 }
         ensures { self.new ≡ place ∷ self.old }
     {
@@ -72,7 +72,7 @@ impl Places {
     }
 
     /// Another place stands in place of the innermost.
-    pub fn renew(&mut self, place: Place)
+    pub fn renew(&mut self, place: PendingDispatch)
         ensures { (p : PlaceState) (ps : List PlaceState) → self.old ≡ p ∷ ps → self.new ≡ place ∷ ps }
     {
         self.top = place;

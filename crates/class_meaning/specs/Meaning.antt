@@ -1,7 +1,7 @@
 -- What a class writes, told by the class of other boards that its boards implement.
 use Rattle.std.specs.Prelude.{◌≡◌, ℕ, ◌*◌, ◌≤◌, List, ◌∷◌, ◌++◌, length}
 use Rattle.board_world.specs.Observations.{ByteList}
-use Rattle.class_world.specs.Classes.{Member, Class, Played, IsCut, world_of}
+use Rattle.class_world.specs.Classes.{Member, Class, Played, IsRunUpTo, world_of}
 use Rattle.class_world.specs.Implementing.{class_of}
 use Rattle.class_world.specs.Lines.{cut_text}
 use Rattle.class_steps.specs.Texts.{boards_now, HasWholeText}
@@ -11,7 +11,7 @@ pub record HasTextCutWithin {A S : Type 0} (C : Class A S) (bound budget : ℕ) 
   pub below : List (Played A S)
   pub here : Played A S
   pub above : List (Played A S)
-  pub cut : IsCut C below here above
+  pub cut : IsRunUpTo C below here above
   pub at_most : here.steps ≤ budget
   pub at_least : (n : ℕ) → bound * n ≤ budget → n ≤ here.steps
   pub is : text ≡ cut_text (length below) (world_of C.until here).board (boards_now C.until below) (boards_now C.until (below ++ here ∷ above))

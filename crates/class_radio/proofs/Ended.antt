@@ -15,7 +15,7 @@ use Rattle.event_script.specs.World.{world_entries}
 use Rattle.tool_io.specs.Putting.{Took, TookPart}
 use Rattle.tool_io.proofs.Laws.{took-then, part-then, part-more, rose-before}
 use Rattle.class_world.specs.Hearing.{moment_of, before}
-use Rattle.class_world.specs.Classes.{Class, Played, starting, world_of, world_before, seen_by, Hear, AreInOrder, IsCut}
+use Rattle.class_world.specs.Classes.{Class, Played, starting, world_of, world_before, seen_by, Hear, AreInOrder, IsRunUpTo}
 use Rattle.class_world.specs.Lines.{numbered, seen_at, is_stopped, stopped_at, lines_at, moment_lines, lines_before, cut_text, WroteSame}
 use Rattle.class_world.proofs.Laws.{lines_same}
 use Rattle.class_steps.specs.Texts.{Reached}
@@ -242,7 +242,7 @@ module _ (plan : ClassPlan) (sound : IsSoundPlan plan) (began : Option (List ℕ
                 ap (λ (x : List Observation). x ∷ map (before t) (map (seen_by plan.until) (ps ++ one ∷ above))) (sym (before_sooner t (seen_by plan.until p)) ∙ ap (before t) h.0.wrote.seen ∙ before_sooner t b.seen)
                 ∙ ap (λ (l : List (List Observation)). before t b.seen ∷ l) (from_below ps bs h.1)
 
-        pub cut : IsCut C below one above
+        pub cut : IsRunUpTo C below one above
         cut = is_cut C t below above one (shown_boards gone first) (shown_boards still rest) P (length gone) boards hear e_runs passed came goes some clock
 
         text : cut_text (length gone) (world_of plan.until one).board (boards_of plan.until below) (boards_of plan.until (below ++ one ∷ above))

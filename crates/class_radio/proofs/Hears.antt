@@ -5,7 +5,7 @@ use Rattle.board_world.specs.declared.events.Event.{Event}
 use Rattle.board_world.specs.Observations.{Observation}
 use Rattle.board_world.specs.Board.{Entry, Raise}
 use Rattle.board_world.specs.Before.{IsRisingFrom, is_by_clock}
-use Rattle.class_world.specs.Hearing.{placed, with_heard, raised_at, heard_events}
+use Rattle.class_world.specs.Hearing.{inserted, with_heard, raised_at, heard_events}
 use Rattle.class_world.specs.Classes.{world_before}
 use Rattle.class_world.specs.Keeping.{with_kept}
 use Rattle.class_world.proofs.Laws.{given_so_far}
@@ -23,7 +23,7 @@ use Rattle.class_radio.specs.Playing.{Setup, member_of, run_given, standing_of, 
 
 raised_two : (t : ℕ) (xs ys : List Event) (own : List Entry) → with_heard (raised_at t ys) (with_heard (raised_at t xs) own) ≡ with_heard (raised_at t (xs ++ ys)) own
 raised_two t [] ys own = refl
-raised_two t (x ∷ xs) ys own = raised_two t xs ys (placed (record { at = t; act = Raise x }) own)
+raised_two t (x ∷ xs) ys own = raised_two t xs ys (inserted (record { at = t; act = Raise x }) own)
 
 queued_two : (xs ys q : List Event) → queued_all ys (queued_all xs q) ≡ queued_all (xs ++ ys) q
 queued_two [] ys q = refl

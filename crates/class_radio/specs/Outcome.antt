@@ -8,7 +8,7 @@ use Rattle.board_world.specs.Observations.{ByteList, End, Quietly, By_script, Pa
 use Rattle.board_world.specs.Board.{Board}
 use Rattle.bank_model.specs.Fibers.{Fiber, Shared}
 use Rattle.tool_io.specs.Putting.{Took, TookPart}
-use Rattle.class_world.specs.Classes.{Member, Class, Played, world_of, IsWhole, IsCut}
+use Rattle.class_world.specs.Classes.{Member, Class, Played, world_of, IsWhole, IsRunUpTo}
 use Rattle.event_script.specs.declared.script.Script.{Script}
 use Rattle.class_world.specs.Lines.{whole_text, cut_text}
 use Rattle.class_steps.specs.Texts.{IsTextOf}
@@ -72,7 +72,7 @@ module _ (parts : List Setup) (losses : List Loss) (until budget : ℕ) where
     pub below : List (Played Fiber Shared)
     pub here : Played Fiber Shared
     pub above : List (Played Fiber Shared)
-    pub cut : IsCut (class_of_parts parts losses until frees) below here above
+    pub cut : IsRunUpTo (class_of_parts parts losses until frees) below here above
     pub at : length below ≡ number
     pub steps : here.steps ≡ budget
     pub written : Took taken taken' (cut_text number (world_of until here).board (boards_of until below) (boards_of until (below ++ here ∷ above)))

@@ -11,7 +11,7 @@ use Rattle.board_world.specs.Simulation.{Paired}
 use Rattle.board_world.specs.Before.{IsRisingFrom, is_by_clock}
 use Rattle.board_world.proofs.Laws.{run_settled, run_same}
 use Rattle.class_world.specs.Hearing.{moment_of, before, heard_of, with_heard}
-use Rattle.class_world.specs.Classes.{Class, Played, starting, world_of, world_before, seen_by, Passes, Hear, IsRunTo, IsCut}
+use Rattle.class_world.specs.Classes.{Class, Played, starting, world_of, world_before, seen_by, Passes, Hear, IsRunTo, IsRunUpTo}
 use Rattle.class_world.specs.Lines.{numbered, seen_at, is_stopped, stopped_at, moment_lines, lines_before, cut_text, WroteSame}
 use Rattle.class_world.proofs.Laws.{begins_timely, one_passes, heard_of_before, lines_same}
 use Rattle.class_steps.specs.Outlook.{Outlook, IsSeenAs}
@@ -180,7 +180,7 @@ module _ {A S : Type 0} (C : Class A S) (t : ℕ) where
     all_reached : Paired (Reached C.until t) (below ++ here ∷ above) (bs ++ v.board ∷ cs)
     all_reached = pairs t below above here bs cs v.board (sooner_all below bs passed) mine came
 
-    pub is_cut : IsCut C below here above
+    pub is_cut : IsRunUpTo C below here above
     is_cut = record {
       runs = subst (λ (u : ℕ). IsRunTo C u (below ++ here ∷ above)) (sym clock_is) (runs_to (below ++ here ∷ above) (bs ++ v.board ∷ cs) seens boards hear e all_reached);
       passed = subst (λ (u : ℕ). AllByRecursion (λ (p : Played A S). Passes (suc u) (world_of C.until p)) below) (sym clock_is) (pass_all (suc t) below bs passed);

@@ -12,7 +12,7 @@ use Rattle.board_world.specs.Activities.{World}
 use Rattle.board_world.specs.Simulation.{IsSettled}
 use Rattle.board_world.specs.Before.{IsRisingFrom, is_jump_before, moves_before, run_before}
 use Rattle.board_world.proofs.Laws.{run_alike}
-use Rattle.class_world.specs.Hearing.{before, placed, with_heard, raised_at}
+use Rattle.class_world.specs.Hearing.{before, inserted, with_heard, raised_at}
 use Rattle.class_world.specs.Classes.{Played, starting, world_before, IsAtRest}
 use Rattle.class_world.specs.Keeping.{with_kept}
 use Rattle.class_world.proofs.Laws.{waits_on, settled_later, given_so_far, early_run, begins_early}
@@ -28,14 +28,14 @@ none_sooner u until (Some m) h = by_end (nat_lt until m)
     by_end false = (let late : u ≤ m = h in grind (arith, nat_tests))
 
 -- with events of a moment that isn't past, that moment comes next
-placed_next : (t : ℕ) (e : Event) (es : List Entry) → IfSome (next_entry es) (λ m. t ≤ m) → (let x : Entry = record { at = t; act = Raise e } in next_entry (placed x es) ≡ Some t)
+placed_next : (t : ℕ) (e : Event) (es : List Entry) → IfSome (next_entry es) (λ m. t ≤ m) → (let x : Entry = record { at = t; act = Raise e } in next_entry (inserted x es) ≡ Some t)
 placed_next t e [] h = refl
 placed_next t e (y ∷ ys) h = by_test (nat_le y.at t) refl
   where
     k : Entry
     k = record { at = t; act = Raise e }
 
-    by_test : (c : Bool) → nat_le y.at t ≡ c → next_entry (if c then y ∷ placed k ys else k ∷ (y ∷ ys)) ≡ Some t
+    by_test : (c : Bool) → nat_le y.at t ≡ c → next_entry (if c then y ∷ inserted k ys else k ∷ (y ∷ ys)) ≡ Some t
     by_test true q = (let late : t ≤ y.at = h in let same : y.at ≡ t = grind (arith, nat_tests) in ap Some same)
     by_test false q = refl
 

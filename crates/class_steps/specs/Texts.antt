@@ -3,7 +3,7 @@ use Rattle.std.specs.Prelude.{◌≡◌, ℕ, ◌≤◌, ◌⊎◌, List, ◌∷
 use Rattle.std.specs.List.{AllByRecursion}
 use Rattle.board_world.specs.Observations.{ByteList}
 use Rattle.board_world.specs.Board.{Board}
-use Rattle.class_world.specs.Classes.{Class, Played, Passes, IsWhole, IsCut, world_of}
+use Rattle.class_world.specs.Classes.{Class, Played, Passes, IsWhole, IsRunUpTo, world_of}
 use Rattle.class_world.specs.Lines.{WroteSame, whole_text, cut_text}
 
 -- A run has come to a moment: it has passed every moment before, and wrote before it what this board has written.
@@ -27,7 +27,7 @@ pub record HasCutText {A S : Type 0} (C : Class A S) (budget : ℕ) (text : Byte
   pub below : List (Played A S)
   pub here : Played A S
   pub above : List (Played A S)
-  pub cut : IsCut C below here above
+  pub cut : IsRunUpTo C below here above
   pub steps : here.steps ≡ budget
   pub is : text ≡ cut_text (length below) (world_of C.until here).board (boards_now C.until below) (boards_now C.until (below ++ here ∷ above))
 

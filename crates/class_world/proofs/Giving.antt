@@ -8,7 +8,7 @@ use Rattle.board_world.specs.Activities.{World}
 use Rattle.board_world.specs.Simulation.{IsSettled}
 use Rattle.board_world.specs.Before.{IsFrom, IsRisingFrom, then_later, idled_before, run_before}
 use Rattle.board_world.proofs.Laws.{run_then, run_alike, run_on_to}
-use Rattle.class_world.specs.Hearing.{placed, with_heard, raised_at}
+use Rattle.class_world.specs.Hearing.{inserted, with_heard, raised_at}
 use Rattle.class_world.specs.Keeping.{with_kept, moment_run}
 use Rattle.class_world.proofs.Moments.{Each, left_run}
 use Rattle.class_world.proofs.Scripts.{rising_placed}
@@ -21,7 +21,7 @@ from_rising t c (e ∷ es) l h = (let first : c ≤ e.at = h.0 in All-cons (λ (
 -- events of a moment behind entries that rise from it on
 pub rising_kept : (t : ℕ) (events : List Event) (es : List Entry) → IsRisingFrom t es → IsRisingFrom t (with_heard (raised_at t events) es)
 rising_kept t [] es h = h
-rising_kept t (e ∷ rest) es h = (let x : Entry = record { at = t; act = Raise e } in rising_kept t rest (placed x es) (rising_placed t x es (omega arith) h))
+rising_kept t (e ∷ rest) es h = (let x : Entry = record { at = t; act = Raise e } in rising_kept t rest (inserted x es) (rising_placed t x es (omega arith) h))
 
 none_left : (es : List Entry) → Each (λ e. ⊥) es → es ≡ []
 none_left [] h = refl

@@ -4,13 +4,13 @@ use Rattle.std.proofs.lemmas.Bool.Decides.{nat_tests}
 use Rattle.board_world.specs.declared.events.Event.{Event}
 use Rattle.board_world.specs.Observations.{Observation, Show, Serial, Pin, Radio}
 use Rattle.board_world.specs.Board.{Entry, Raise}
-use Rattle.class_world.specs.Hearing.{before, heard_at, heard, heard_of, placed, with_heard, raised_at, sent_at, heard_events, heard_behind}
+use Rattle.class_world.specs.Hearing.{before, heard_at, heard, heard_of, inserted, with_heard, raised_at, sent_at, heard_events, heard_behind}
 use Rattle.class_world.proofs.Moments.{Each}
 use Rattle.class_world.proofs.Scripts.{early, late, late_append, heard_of_early, heard_of_before}
 use Rattle.class_world.proofs.Kept.{each_early}
 
--- entries of different moments are placed in any order
-placed_apart : (x e : Entry) (own : List Entry) → x.at < e.at → placed x (placed e own) ≡ placed e (placed x own)
+-- entries of different moments are inserted in any order
+placed_apart : (x e : Entry) (own : List Entry) → x.at < e.at → inserted x (inserted e own) ≡ inserted e (inserted x own)
 placed_apart x e [] l = (let one : nat_le e.at x.at ≡ false = grind (arith, nat_tests) in let two : nat_le x.at e.at ≡ true = grind (arith, nat_tests) in rw (one, two) refl)
 placed_apart x e (y ∷ ys) l = by_tests (nat_le y.at e.at) refl (nat_le y.at x.at) refl (placed_apart x e ys l)
   where
@@ -20,24 +20,24 @@ placed_apart x e (y ∷ ys) l = by_tests (nat_le y.at e.at) refl (nat_le y.at x.
     two : nat_le x.at e.at ≡ true
     two = grind (arith, nat_tests)
 
-    by_tests : (c : Bool) → nat_le y.at e.at ≡ c → (d : Bool) → nat_le y.at x.at ≡ d → placed x (placed e ys) ≡ placed e (placed x ys)
-        → placed x (if c then y ∷ placed e ys else e ∷ (y ∷ ys)) ≡ placed e (if d then y ∷ placed x ys else x ∷ (y ∷ ys))
+    by_tests : (c : Bool) → nat_le y.at e.at ≡ c → (d : Bool) → nat_le y.at x.at ≡ d → inserted x (inserted e ys) ≡ inserted e (inserted x ys)
+        → inserted x (if c then y ∷ inserted e ys else e ∷ (y ∷ ys)) ≡ inserted e (if d then y ∷ inserted x ys else x ∷ (y ∷ ys))
     by_tests true p true q ih = rw (p, q) (ap (λ (l' : List Entry). y ∷ l') ih)
     by_tests true p false q ih = rw (q, two, p) refl
     by_tests false p true q ih = absurd (let a : y.at ≤ x.at = grind (arith, nat_tests) in let b : e.at < y.at = grind (arith, nat_tests) in omega (arith, a, b, l))
     by_tests false p false q ih = rw (one, two, p) refl
 
-placed_past : (t : ℕ) (e : Entry) (xs own : List Entry) → t ≤ e.at → Each (λ x. x.at < t) xs → with_heard xs (placed e own) ≡ placed e (with_heard xs own)
+placed_past : (t : ℕ) (e : Entry) (xs own : List Entry) → t ≤ e.at → Each (λ x. x.at < t) xs → with_heard xs (inserted e own) ≡ inserted e (with_heard xs own)
 placed_past t e [] own l h = refl
-placed_past t e (x ∷ xs) own l h = (let first : x.at < t = h.0 in ap (with_heard xs) (placed_apart x e own (omega (arith, first, l))) ∙ placed_past t e xs (placed x own) l h.1)
+placed_past t e (x ∷ xs) own l h = (let first : x.at < t = h.0 in ap (with_heard xs) (placed_apart x e own (omega (arith, first, l))) ∙ placed_past t e xs (inserted x own) l h.1)
 
 -- those before a moment first, and then the others
 pub heard_apart : (t : ℕ) (es own : List Entry) → with_heard es own ≡ with_heard (late t es) (with_heard (early t es) own)
 heard_apart t [] own = refl
-heard_apart t (e ∷ es) own = by_test (nat_lt e.at t) refl (heard_apart t es (placed e own))
+heard_apart t (e ∷ es) own = by_test (nat_lt e.at t) refl (heard_apart t es (inserted e own))
   where
-    by_test : (c : Bool) → nat_lt e.at t ≡ c → with_heard es (placed e own) ≡ with_heard (late t es) (with_heard (early t es) (placed e own))
-        → with_heard es (placed e own) ≡ with_heard (if c then late t es else e ∷ late t es) (with_heard (if c then e ∷ early t es else early t es) own)
+    by_test : (c : Bool) → nat_lt e.at t ≡ c → with_heard es (inserted e own) ≡ with_heard (late t es) (with_heard (early t es) (inserted e own))
+        → with_heard es (inserted e own) ≡ with_heard (if c then late t es else e ∷ late t es) (with_heard (if c then e ∷ early t es else early t es) own)
     by_test true q ih = ih
     by_test false q ih = ih ∙ ap (with_heard (late t es)) (placed_past t e (early t es) own (grind (arith, nat_tests)) (each_early t es))
 

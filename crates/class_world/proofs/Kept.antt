@@ -9,7 +9,7 @@ use Rattle.board_world.specs.World.{start, moved, idle_bound}
 use Rattle.board_world.specs.Simulation.{IsSettled}
 use Rattle.board_world.specs.Before.{IsRisingFrom, then_later, idled_before, tick_before, run_before, moves_before, idle_before}
 use Rattle.board_world.proofs.Laws.{run_alike, run_on_to}
-use Rattle.class_world.specs.Hearing.{placed, with_heard, raised_at}
+use Rattle.class_world.specs.Hearing.{inserted, with_heard, raised_at}
 use Rattle.class_world.specs.Keeping.{with_kept, moment_run}
 use Rattle.class_world.proofs.Moments.{Each, left_run}
 use Rattle.class_world.proofs.Scripts.{early, late, rising_heard, early_heard, late_placed}
@@ -24,10 +24,10 @@ pub late_raised : (t : ℕ) (es : List Event) (own : List Entry) → IsRisingFro
 late_raised t [] own h = refl
 late_raised t (e ∷ es) own h =
     (let x : Entry = record { at = t; act = Raise e } in
-    late_raised t es (placed x own) (rising_heard (x ∷ []) own h) ∙ ap (with_heard (raised_at t es)) (late_placed t x own (omega arith)))
+    late_raised t es (inserted x own) (rising_heard (x ∷ []) own h) ∙ ap (with_heard (raised_at t es)) (late_placed t x own (omega arith)))
 
 -- they stand behind all that comes before
-placed_behind : (t : ℕ) (x : Entry) (xs ys : List Entry) → t ≤ x.at → Each (λ e. e.at < t) xs → placed x (xs ++ ys) ≡ xs ++ placed x ys
+placed_behind : (t : ℕ) (x : Entry) (xs ys : List Entry) → t ≤ x.at → Each (λ e. e.at < t) xs → inserted x (xs ++ ys) ≡ xs ++ inserted x ys
 placed_behind t x [] ys l h = refl
 placed_behind t x (e ∷ es) ys l h =
     (let first : e.at < t = h.0 in
@@ -38,7 +38,7 @@ pub raised_behind : (t : ℕ) (es : List Event) (xs ys : List Entry) → Each (�
 raised_behind t [] xs ys h = refl
 raised_behind t (e ∷ es) xs ys h =
     (let x : Entry = record { at = t; act = Raise e } in
-    ap (with_heard (raised_at t es)) (placed_behind t x xs ys (omega arith) h) ∙ raised_behind t es xs (placed x ys) h)
+    ap (with_heard (raised_at t es)) (placed_behind t x xs ys (omega arith) h) ∙ raised_behind t es xs (inserted x ys) h)
 
 pub each_early : (t : ℕ) (es : List Entry) → Each (λ e. e.at < t) (early t es)
 each_early t [] = tt

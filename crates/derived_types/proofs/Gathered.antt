@@ -6,7 +6,7 @@ use Rattle.sts_syntax.specs.declared.trees.Binding.{Binding}
 use Rattle.sts_syntax.specs.declared.trees.Param.{Param}
 use Rattle.sts_syntax.specs.Programs.{Program}
 use Rattle.sts_syntax.specs.Views.{declaration, declarations, parameters, optional_annotation}
-use Rattle.sts_scope.specs.declared.kinds.Kind.{Kind}
+use Rattle.sts_scope.specs.declared.kinds.StaticType.{StaticType}
 use Rattle.sts_scope.specs.declared.known.Local.{Local}
 use Rattle.sts_scope.specs.declared.known.This.TheVariants as this
 use Rattle.sts_scope.specs.Entries.{Naming, class_names, item_class, written_kind}
@@ -52,7 +52,7 @@ source_at [] d o lt is = absurd (omega arith)
 source_at (x ∷ xs) zero o lt is = ap (λ y. Some (source y)) (sym is)
 source_at (x ∷ xs) (suc d) o lt is = source_at xs d o (omega arith) is
 
-pub locals_step : (f : Naming) (ps : List Param) (i : ℕ) (p : Param) (ls new : List Local) (kind : Option Kind) (all : List Local) → i < length ps → p ≡ get_or ps i p →
+pub locals_step : (f : Naming) (ps : List Param) (i : ℕ) (p : Param) (ls new : List Local) (kind : Option StaticType) (all : List Local) → i < length ps → p ≡ get_or ps i p →
     kind ≡ written_kind f (optional_annotation p.shape) → new ≡ ls ++ local p.name kind false ∷ [] → ls ++ parameter_locals f (parameters (drop i ps)) ≡ all →
     new ++ parameter_locals f (parameters (drop (i + 1) ps)) ≡ all
 locals_step f ps i p ls new kind all lt is hk hn h =

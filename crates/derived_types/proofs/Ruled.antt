@@ -2,7 +2,7 @@
 use Rattle.std.proofs.Common.{◌≡◌, ℕ, zero, suc, ◌<◌, ◌≤◌, List, [], ◌∷◌, length, get_or, refl, sym, ap, ◌∙◌, Option, Some, None}
 use Rattle.std.specs.Prelude.{nat_lt, slice_get}
 use Rattle.sts_base.specs.declared.tables.Tables.{Tables}
-use Rattle.sts_scope.specs.declared.kinds.Kind.{Kind}
+use Rattle.sts_scope.specs.declared.kinds.StaticType.{StaticType}
 use Rattle.sts_scope.specs.declared.known.Known.{Known}
 use Rattle.sts_scope.specs.Entries.{Naming}
 use Rattle.sts_scope.specs.Rules.{kind_at}
@@ -16,7 +16,7 @@ use Rattle.derived_types.specs.Underway.{IsMonotone, Keeps}
 use Rattle.derived_types.proofs.Gathered.{source_none, source_at}
 use Rattle.type_derive.proofs.Laws.{rule_grows}
 
-abbrev pub ruled : Tables → Naming → Known → ℕ → Option Source → Option Kind
+abbrev pub ruled : Tables → Naming → Known → ℕ → Option Source → Option StaticType
 ruled t f k d o = elim o [ None ↦ None | Some s ↦ follows f t k (nat_lt d k.library) s ]
 
 pub rule_none : (t : Tables) (f : Naming) (k : Known) (xs : List Origin) (d : ℕ) → length xs ≤ d → None ≡ rule t f k (sources xs) k.kinds d
@@ -29,7 +29,7 @@ rule_some t f k xs d o lt is = sym (ap (ruled t f k d) (source_at xs d o lt is))
 pub monotone : (t : Tables) (f : Naming) (k : Known) (s : List Source) → IsMonotone (rule t f k s)
 monotone t f k s = λ xs ys w d. rule_grows t f k s xs ys w d
 
-kept_at : (xs : List (Option Kind)) (d : ℕ) → (elim (slice_get xs d) as (λ x. Option Kind) [ None ↦ None | Some kind ↦ kind ]) ≡ at xs d
+kept_at : (xs : List (Option StaticType)) (d : ℕ) → (elim (slice_get xs d) as (λ x. Option StaticType) [ None ↦ None | Some kind ↦ kind ]) ≡ at xs d
 kept_at [] zero = refl
 kept_at [] (suc d) = refl
 kept_at (x ∷ xs) zero = refl

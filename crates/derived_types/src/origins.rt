@@ -10,14 +10,14 @@ ghost use Rattle.derived_types.specs.Origins.{source, sources};
 
 use std::alloc::Global;
 use sts_base::NoMemory;
-use sts_scope::{ByNumber, Kind, This, kind_of};
+use sts_scope::{ByNumber, StaticType, This, kind_of};
 use sts_syntax::{Binding, Body, Expr, Form, Item, Member, Param, Stmt, Unit};
 
 /// How the type of a declaration follows.
 #[derive(Drop)]
 pub enum Origin<'a> {
     /// It is written, or it is none.
-    Stated(Option<Kind>),
+    Stated(Option<StaticType>),
     /// It is an initialiser's, where `this` is this.
     Initial(This, &'a Option<Expr>),
     /// It is that of the first value that is returned, of a function with these parameters and statements.

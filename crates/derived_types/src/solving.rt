@@ -18,7 +18,9 @@ use crate::origins::{Origin, origins_of};
 use crate::work::Work;
 use std::alloc::Global;
 use sts_base::{NoMemory, Tables};
-use sts_scope::{Base, ByNumber, Declared, Environment, Kind, Table, This, flat, written_kind};
+use sts_scope::{
+    Base, ByNumber, Declared, Environment, StaticType, Table, This, flat, written_kind,
+};
 use sts_syntax::{Param, Unit};
 use type_derive::{Locals, Scope, Wanted, bound, declare, kind_at, returned_in_block};
 
@@ -54,7 +56,7 @@ fn within<'a>(
 }
 
 /// The result of a function by the first value that it returns: nothing where none is.
-fn answered(returned: Option<Option<Kind>>) -> Option<Kind>
+fn answered(returned: Option<Option<StaticType>>) -> Option<StaticType>
     ensures { (tables : _) → (names : _) → (known : _) → result ≡ given.answered tables names known returned }
 {
     match returned {
@@ -72,7 +74,7 @@ fn follow(
     known: &Environment,
     library: bool,
     origin: &Origin,
-) -> Result<Option<Kind>, NoMemory>
+) -> Result<Option<StaticType>, NoMemory>
     ensures { IfOk result (λ kind. kind ≡ derived.follows (value_at classes.now.values.items) tables.now known.now library (source origin.now)) }
 {
     match origin {
@@ -98,7 +100,7 @@ fn derive(
     known: &Environment,
     origins: &[Origin],
     d: usize,
-) -> Result<Option<Kind>, NoMemory>
+) -> Result<Option<StaticType>, NoMemory>
     ensures { IfOk result (λ kind. kind ≡ derived.rule tables.now (value_at classes.now.values.items) known.now (sources origins.now) known.now.kinds d) }
 {
     if d < origins.len() {
@@ -301,7 +303,7 @@ fn in_order(
 }
 
 /// So many declarations without a type.
-fn blank(alloc: Global, count: usize) -> Result<Table<Option<Kind>>, NoMemory>
+fn blank(alloc: Global, count: usize) -> Result<Table<Option<StaticType>>, NoMemory>
     ensures none { IfOk result (λ kinds. (d : ℕ) → derived.at kinds d ≡ None) }
     ensures len { IfOk result (λ kinds. length kinds ≡ count) }
 {

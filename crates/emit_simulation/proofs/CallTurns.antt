@@ -10,7 +10,7 @@ use Rattle.bank_model.specs.Fibers.{Fiber, Shared}
 use Rattle.bank_model.specs.BoardMachine.{memory_of}
 use Rattle.thumb_layout.specs.declared.pieces.Piece.TheVariants.{CallTo}
 use Rattle.thumb_layout.specs.Pieces.{Places}
-use Rattle.thumb_layout.specs.Holds.{Reaches}
+use Rattle.thumb_layout.specs.Holds.{ComesSilently}
 use Rattle.thumb_layout.proofs.Laws.{reaches_add}
 use Rattle.flat_ir.specs.declared.ops.Op.{Op}
 use Rattle.flat_ir.specs.declared.ops.Op.TheVariants.{Call}
@@ -60,7 +60,7 @@ module _ (C : FlatCode) (placed : List Placed) (flash : List ℕ) (a : Addresses
         → ((j i : ℕ) → slice_get args j ≡ Some i → slice_index v.words j ≡ word C placed flash a texts image p f callers base c used h t op e x sh i)
         → ((j i : ℕ) → slice_get args j ≡ Some i → i < temporaries p.function)
         → (lr : ℕ) → lr ≡ pl.behind (begin + calls_at op) + 1 → lr < 2 ^ 32
-        → Reaches over (fetched flash c.base) 0 most (record c.registers { pc = pl.at begin }) (memory_of flash c t)
+        → ComesSilently over (fetched flash c.base) 0 most (record c.registers { pc = pl.at begin }) (memory_of flash c t)
         (registers_of v (a.function g) (record c.registers { lr = lr })) (bank_of v (bank_in flash c t), t.free)
         → Calling C placed flash a c t g pg (map f.temps args) (f ∷ callers) base most
     calling_by g pg args v most there re room y argument below lr le lf r =
@@ -75,10 +75,10 @@ module _ (C : FlatCode) (placed : List Placed) (flash : List ℕ) (a : Addresses
           s = record c.registers { lr = lr };
           free = t.free;
           there = there;
-          reach = subst (λ n. Reaches over (fetched flash c.base) 0 most (record c.registers { pc = n }) (memory_of flash c t)
+          reach = subst (λ n. ComesSilently over (fetched flash c.base) 0 most (record c.registers { pc = n }) (memory_of flash c t)
               (registers_of v ((spots C placed flash a g pg).at 0) (record c.registers { lr = lr })) (bank_of v (bank_in flash c t), t.free))
               (sym (pc_behind C placed flash a texts image p f callers base c used h t op e x sh))
-              (subst (λ n. Reaches over (fetched flash c.base) 0 most (record c.registers { pc = pl.at begin }) (memory_of flash c t)
+              (subst (λ n. ComesSilently over (fetched flash c.base) 0 most (record c.registers { pc = pl.at begin }) (memory_of flash c t)
               (registers_of v n (record c.registers { lr = lr })) (bank_of v (bank_in flash c t), t.free)) zero_at r);
           at = at_view flash c.registers.sp v (bank_in flash c t) y.long fw.at;
           low = y.low;

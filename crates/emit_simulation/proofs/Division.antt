@@ -10,7 +10,7 @@ use Rattle.bank_model.specs.Division.{quotient, remainder}
 use Rattle.thumb_layout.specs.declared.pieces.Piece.{Piece}
 use Rattle.thumb_layout.specs.declared.pieces.Piece.TheVariants.{CallTo}
 use Rattle.thumb_layout.specs.Pieces.{Places}
-use Rattle.thumb_layout.specs.Holds.{cost, Reaches}
+use Rattle.thumb_layout.specs.Holds.{cost, ComesSilently}
 use Rattle.thumb_layout.proofs.Laws.{reaches_add}
 use Rattle.thumb_divide.specs.Routine.{HasRoutine, most_instructions}
 use Rattle.thumb_divide.proofs.Laws.{divides_on_a_bank, within_reaches}
@@ -80,7 +80,7 @@ module _ (flash : List ℕ) (base : ℕ) (p : Places) (pieces : List Piece) (lai
             ap (λ n. cast_unsigned w32 (remainder (cast_signed w32 w1) (cast_signed w32 n))) r1);
         globals = refl;
         arena = refl;
-        comes = record { link = q.lr; long = l; reach = subst (λ y. Reaches over fetch 1 282 s0 t y t) same m2 };
+        comes = record { link = q.lr; long = l; reach = subst (λ y. ComesSilently over fetch 1 282 s0 t y t) same m2 };
       }
 
 -- THE QUOTIENT, or the remainder, of the words in two registers

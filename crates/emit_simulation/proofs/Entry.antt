@@ -10,7 +10,7 @@ use Rattle.bank_model.specs.Bank.{Bank}
 use Rattle.thumb_layout.specs.declared.pieces.Piece.{Piece}
 use Rattle.thumb_layout.specs.declared.pieces.Piece.TheVariants.{Plain, Label, Go, Number}
 use Rattle.thumb_layout.specs.Pieces.{Places}
-use Rattle.thumb_layout.specs.Holds.{Reaches}
+use Rattle.thumb_layout.specs.Holds.{ComesSilently}
 use Rattle.thumb_layout.proofs.Laws.{reaches_add}
 use Rattle.flat_ir.specs.declared.ops.Function.{Function}
 use Rattle.flat_ir.specs.Liveness.{IsLiveAt}
@@ -132,8 +132,8 @@ moves_cost f place t zero = omega arith
 moves_cost f place t (suc n) = let h = moves_cost f place (t + 1) n in let m = move_cost f place (place t) t in let e = total_append
     (move_pieces f place (place t) t) (moves_pieces f place (t + 1) n) in omega arith
 
-pub relaxed : (fetch : ℕ → Fetched) (l h l' h' : ℕ) (s : Registers) (t : Fm) (q : Registers) (t' : Fm) → l' ≤ l → h ≤ h' → Reaches over fetch l h s t q t'
-    → Reaches over fetch l' h' s t q t'
+pub relaxed : (fetch : ℕ → Fetched) (l h l' h' : ℕ) (s : Registers) (t : Fm) (q : Registers) (t' : Fm) → l' ≤ l → h ≤ h' → ComesSilently over fetch l h s t q t'
+    → ComesSilently over fetch l' h' s t q t'
 relaxed fetch l h l' h' s t q t' a b r = let x = r.some in let y = r.few in record { count = r.count; some = omega arith; few = omega arith; silent = r.silent }
 
 eight : (n : ℕ) → 8 ≤ 5 + (1 + (1 + (1 + n)))
@@ -220,7 +220,7 @@ module _ (fetch : ℕ → Fetched) (flash : List ℕ) (p : Places) (pieces : Lis
       pub seen : View
       pub link : ℕ
       pub free' : List ℕ
-      pub reach : Reaches over fetch 8 (21 + 4 * gn.params) (registers_of v (p.at 0) s) (bank_of v b, free)
+      pub reach : ComesSilently over fetch 8 (21 + 4 * gn.params) (registers_of v (p.at 0) s) (bank_of v b, free)
           (record (registers_of seen (p.at (length (entry_pieces gn place))) s) { sp = s.sp - 4 * words gn; lr = link }) (bank_of seen b, free')
       pub at : At flash (s.sp - 4 * words gn) (bank_of seen b)
       pub runs : Running Is code places return_to gn place (λ t. IsLiveAt gn.ops t 0) args fs (store_of seen)
@@ -263,7 +263,7 @@ module _ (fetch : ℕ → Fetched) (flash : List ℕ) (p : Places) (pieces : Lis
         (rw x3 (quiet_does flash b4 free q8 at4)) in
         let p8 = laid.next 8 (Plain (MovHigh 14 3)) (at_head 8 (omega arith)) refl in
         let r9 = registers_of v4 (p.at 9) s in
-        let m8' = subst (λ j. Reaches over fetch 1 2 r8 (b4, free) (registers_of v4 j s) (b4, free)) p8 m8 in
+        let m8' = subst (λ j. ComesSilently over fetch 1 2 r8 (b4, free) (registers_of v4 j s) (b4, free)) p8 m8 in
         let l4 = slice_index v4.low 4 in let l5 = slice_index v4.low 5 in let l6 = slice_index v4.low 6 in let l7 = slice_index v4.low 7 in
         let small : (j : ℕ) → slice_index (store_of v4).kept j < 2 ^ 32 = λ j. subst (λ (q : Store). slice_index q.kept j < 2 ^ 32) (sym k4) (aw j) in
         let n = saves gn place in
@@ -282,7 +282,7 @@ module _ (fetch : ℕ → Fetched) (flash : List ℕ) (p : Places) (pieces : Lis
         does in
         let p9 = laid.next 9 (Plain (Push list true)) (at_head 9 (omega arith)) refl in
         let r10 : Registers = record r9 { sp = sp9; pc = p.at 10 } in
-        let m9' = subst (λ j. Reaches over fetch 1 2 r9 (b4, free) (record r9 { sp = sp9; pc = j }) (b9, pu.0)) p9 m9 in
+        let m9' = subst (λ j. ComesSilently over fetch 1 2 r9 (b4, free) (record r9 { sp = sp9; pc = j }) (b9, pu.0)) p9 m9 in
         let st10 = rest_of pieces 0 (head gn place) (lowers (below_saved gn place) ++ ms) st in
         let lw = lowered_by fetch flash p pieces laid 10 (below_saved gn place) r10 b9 pu.0 (first_of pieces 10 (lowers (below_saved gn place)) ms st10) pu.2
         (omega arith) in
@@ -325,7 +325,7 @@ module _ (fetch : ℕ → Fetched) (flash : List ℕ) (p : Places) (pieces : Lis
           seen = mv.v';
           link = cm.link;
           free' = lw.free';
-          reach = subst (λ (q : Registers). Reaches over fetch 8 (21 + 4 * gn.params) (registers_of v (p.at 0) s) (bank_of v b, free) q
+          reach = subst (λ (q : Registers). ComesSilently over fetch 8 (21 + 4 * gn.params) (registers_of v (p.at 0) s) (bank_of v b, free) q
               (bank_of mv.v' b, lw.free'))
               (λ k. record (registers_of mv.v' (p.at (sym ln k)) s) { sp = zp k; lr = cm.link })
               (relaxed fetch _ _ 8 (21 + 4 * gn.params) (registers_of v (p.at 0) s) (bank_of v b, free) end (bank_of mv.v' b, lw.free') (eight (steps_of ms))

@@ -21,7 +21,7 @@ use Rattle.sts_meaning.specs.Values.{Value, Outcome, Gives, Breaks, Stuck}
 use Rattle.sts_meaning.specs.Heaps.{FlatHeap, read_field, write_field}
 use Rattle.sts_meaning.specs.Frames.{after}
 use Rattle.flat_meaning.specs.Frames.{FlatFrame, Stands, given}
-use Rattle.flat_meaning.specs.Frames.{placed as placed_at}
+use Rattle.flat_meaning.specs.Frames.{going_on_at as placed_at}
 use Rattle.flat_meaning.specs.Steps.{FlatTurn}
 use Rattle.thumb_emit.specs.Emit.{op_pieces, tests_null, field_offset}
 use Rattle.thumb_emit.specs.Frame.{register_of, brings, keeps, result_in}

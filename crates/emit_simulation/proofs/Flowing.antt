@@ -3,13 +3,13 @@ use Rattle.std.proofs.Common.{suc, ◌≡◌, ℕ, ◌+◌, ◌<◌, List, [], �
 use Rattle.thumb_code.specs.declared.register_file.Registers.{Registers}
 use Rattle.thumb_code.specs.Effect.{ends, Goes}
 use Rattle.thumb_code.specs.Memory.{Done}
-use Rattle.thumb_code.specs.Step.{Fetched, placed}
+use Rattle.thumb_code.specs.Step.{Fetched, stepped_at}
 use Rattle.thumb_code.specs.Run.{Still}
 use Rattle.bank_model.specs.Bank.{Bank}
 use Rattle.thumb_layout.specs.declared.pieces.Piece.{Piece}
 use Rattle.thumb_layout.specs.declared.pieces.Piece.TheVariants.{Plain, Label, Go, Number, Address}
 use Rattle.thumb_layout.specs.Pieces.{Places, piece_effect, goes_on, is_taken}
-use Rattle.thumb_layout.specs.Holds.{cost, Means, Reaches}
+use Rattle.thumb_layout.specs.Holds.{cost, Means, ComesSilently}
 use Rattle.thumb_layout.proofs.Laws.{silent_add, silent_one, reaches_add}
 use Rattle.thumb_emit.specs.Bounds.{total_cost}
 use Rattle.placed_frames.specs.View.{View, registers_of, bank_of, At}
@@ -18,14 +18,14 @@ use Rattle.emit_simulation.specs.Laid.{Fm, over, Laid, Flows, OfInstr, OfLabel, 
 
 -- a piece whose effect goes on is gone through
 pub means_goes : (fetch : ℕ → Fetched) (p : Places) (i : ℕ) (x : Piece) (s : Registers) (t : Fm) (q : Registers) (t' : Fm) → Means over fetch p i x s t
-    → over s t (piece_effect p i s x) ≡ Done q t' → Reaches over fetch 1 (cost x) s t q t'
+    → over s t (piece_effect p i s x) ≡ Done q t' → ComesSilently over fetch 1 (cost x) s t q t'
 means_goes fetch p i x s t q t' m e =
     let k = m.few in
     record {
       count = m.before + 1;
       some = omega arith;
       few = omega arith;
-      silent = silent_add over fetch m.before 1 s t m.last t q t' m.silent (silent_one over fetch m.last t q t' (m.does ∙ ap (placed m.last.pc) e));
+      silent = silent_add over fetch m.before 1 s t m.last t q t' m.silent (silent_one over fetch m.last t q t' (m.does ∙ ap (stepped_at m.last.pc) e));
     }
 
 module _ (fetch : ℕ → Fetched) (flash : List ℕ) (p : Places) (pieces : List Piece) (laid : Laid fetch flash p pieces) where
@@ -33,7 +33,7 @@ module _ (fetch : ℕ → Fetched) (flash : List ℕ) (p : Places) (pieces : Lis
   To least most i j v v' s b free = Comes fetch p least most i j v v' s b free
 
   pub each_goes : (i : ℕ) (x : Piece) → slice_get pieces i ≡ Some x → 0 < cost x → (s : Registers) (t : Fm) (q : Registers) (t' : Fm) → s.pc ≡ p.at i
-      → At flash s.sp t.0 → over s t (piece_effect p i s x) ≡ Done q t' → Reaches over fetch 1 (cost x) s t q t'
+      → At flash s.sp t.0 → over s t (piece_effect p i s x) ≡ Done q t' → ComesSilently over fetch 1 (cost x) s t q t'
   each_goes i x g c s t q t' e h d = means_goes fetch p i x s t q t' (laid.each i x g c s t e h) d
 
   -- one behind the other
@@ -54,7 +54,7 @@ module _ (fetch : ℕ → Fetched) (flash : List ℕ) (p : Places) (pieces : Lis
   goes_next i x v v' s b free g c o h l l' e = record {
     link = s.lr;
     long = l';
-    reach = subst (λ a. Reaches over fetch 1 (cost x) (registers_of v (p.at i) s) (bank_of v b, free) (registers_of v' a s) (bank_of v' b, free))
+    reach = subst (λ a. ComesSilently over fetch 1 (cost x) (registers_of v (p.at i) s) (bank_of v b, free) (registers_of v' a s) (bank_of v' b, free))
         (laid.next i x g o)
         (each_goes i x g c (registers_of v (p.at i) s) (bank_of v b, free) (registers_of v' (p.behind i) s) (bank_of v' b, free) refl
         (at_view flash s.sp v b l h) e);

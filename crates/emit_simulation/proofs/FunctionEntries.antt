@@ -11,7 +11,7 @@ use Rattle.board_world.specs.Sound.{NoFault}
 use Rattle.bank_model.specs.Bank.{Bank}
 use Rattle.bank_model.specs.Fibers.{Fiber, Shared}
 use Rattle.bank_model.specs.BoardMachine.{memory_of, fiber_of}
-use Rattle.thumb_layout.specs.Holds.{Reaches}
+use Rattle.thumb_layout.specs.Holds.{ComesSilently}
 use Rattle.thumb_layout.proofs.Laws.{reaches_add}
 use Rattle.flat_ir.specs.declared.ops.Function.{Function}
 use Rattle.flat_ir.specs.declared.ops.FlatCode.{FlatCode}
@@ -91,7 +91,7 @@ module _ (C : FlatCode) (placed : List Placed) (flash : List ℕ) (a : Addresses
     pub s : Registers
     pub free : List ℕ
     pub there : slice_get placed g ≡ Some pg
-    pub reach : Reaches over (fetched flash c.base) 0 most c.registers (memory_of flash c t) (registers_of v ((spots C placed flash a g pg).at 0) s)
+    pub reach : ComesSilently over (fetched flash c.base) 0 most c.registers (memory_of flash c t) (registers_of v ((spots C placed flash a g pg).at 0) s)
         (bank_of v (bank_in flash c t), free)
     pub at : At flash s.sp (bank_of v (bank_in flash c t))
     pub low : length v.low ≡ 13

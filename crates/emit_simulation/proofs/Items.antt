@@ -19,7 +19,7 @@ use Rattle.sts_meaning.specs.Values.{Value, Outcome, Gives, Breaks, Stuck}
 use Rattle.sts_meaning.specs.Heaps.{FlatHeap, read_item, write_item, length_at}
 use Rattle.sts_meaning.specs.Frames.{after}
 use Rattle.flat_meaning.specs.Frames.{FlatFrame, Stands, given}
-use Rattle.flat_meaning.specs.Frames.{placed as placed_at}
+use Rattle.flat_meaning.specs.Frames.{going_on_at as placed_at}
 use Rattle.flat_meaning.specs.Steps.{FlatTurn}
 use Rattle.thumb_emit.specs.Frame.{register_of, brings, result_in}
 use Rattle.thumb_emit.proofs.Laws.{brings_still, still_takes}

@@ -9,7 +9,7 @@ use Rattle.bank_model.specs.Bank.{Bank}
 use Rattle.thumb_layout.specs.declared.pieces.Piece.{Piece}
 use Rattle.thumb_layout.specs.declared.pieces.Piece.TheVariants.{Plain}
 use Rattle.thumb_layout.specs.Pieces.{Places}
-use Rattle.thumb_layout.specs.Holds.{Reaches}
+use Rattle.thumb_layout.specs.Holds.{ComesSilently}
 use Rattle.thumb_layout.proofs.Laws.{reaches_add}
 use Rattle.thumb_emit.specs.Frame.{raises, lowers}
 use Rattle.placed_frames.specs.View.{At}
@@ -24,12 +24,12 @@ module _ (fetch : ℕ → Fetched) (flash : List ℕ) (p : Places) (pieces : Lis
     pub free' : List ℕ
     pub new : List ℕ
     pub long : length new ≡ n
-    pub reach : Reaches over fetch 1 4 (record s { pc = p.at i }) (b, free) (record s { sp = s.sp - 4 * n; pc = p.at j })
+    pub reach : ComesSilently over fetch 1 4 (record s { pc = p.at i }) (b, free) (record s { sp = s.sp - 4 * n; pc = p.at j })
         (record b { words = new ++ b.words }, free')
     pub at : At flash (s.sp - 4 * n) (record b { words = new ++ b.words })
 
   lower_one : (i n : ℕ) (s : Registers) (b : Bank) (free : List ℕ) → slice_get pieces i ≡ Some (Plain (SubSpImm n)) → At flash s.sp b → 4 * n + stack_at ≤ s.sp
-      → (d : Down flash s.sp n b free) × Reaches over fetch 1 2 (record s { pc = p.at i }) (b, free) (record s { sp = s.sp - 4 * n; pc = p.at (i + 1) })
+      → (d : Down flash s.sp n b free) × ComesSilently over fetch 1 2 (record s { pc = p.at i }) (b, free) (record s { sp = s.sp - 4 * n; pc = p.at (i + 1) })
       (record b { words = d.new ++ b.words }, d.free')
   lower_one i n s b free g h l =
       let d = move_down flash s.sp n b free h l in
@@ -38,7 +38,7 @@ module _ (fetch : ℕ → Fetched) (flash : List ℕ) (p : Places) (pieces : Lis
       let m = each_goes fetch flash p pieces laid i (Plain (SubSpImm n)) g (omega arith) s0 (b, free) q (record b { words = d.new ++ b.words }, d.free') refl h
       (sub_sp flash (p.behind i) n s0 b free h l d) in (
         d,
-        subst (λ k. Reaches over fetch 1 2 s0 (b, free) (record s { sp = s.sp - 4 * n; pc = k }) (record b { words = d.new ++ b.words }, d.free'))
+        subst (λ k. ComesSilently over fetch 1 2 s0 (b, free) (record s { sp = s.sp - 4 * n; pc = k }) (record b { words = d.new ++ b.words }, d.free'))
             (laid.next i (Plain (SubSpImm n)) g refl) m,
       )
 
@@ -59,7 +59,7 @@ module _ (fetch : ℕ → Fetched) (flash : List ℕ) (p : Places) (pieces : Lis
             free' = d.free';
             new = d.new;
             long = d.long;
-            reach = subst (λ j. Reaches over fetch 1 4 (record s { pc = p.at i }) (b, free) (record s { sp = s.sp - 4 * n; pc = p.at j })
+            reach = subst (λ j. ComesSilently over fetch 1 4 (record s { pc = p.at i }) (b, free) (record s { sp = s.sp - 4 * n; pc = p.at j })
                 (record b { words = d.new ++ b.words }, d.free')) z
                 (record { count = m.count; some = m.some; few = omega arith; silent = m.silent });
             at = d.at;
@@ -86,11 +86,11 @@ module _ (fetch : ℕ → Fetched) (flash : List ℕ) (p : Places) (pieces : Lis
             free' = d2.free';
             new = d2.new ++ d.new;
             long = length-append d2.new d.new ∙ omega arith;
-            reach = subst (λ j. Reaches over fetch 1 4 (record s { pc = p.at i }) (b, free) (record s { sp = s.sp - 4 * n; pc = p.at j })
+            reach = subst (λ j. ComesSilently over fetch 1 4 (record s { pc = p.at i }) (b, free) (record s { sp = s.sp - 4 * n; pc = p.at j })
                 (record b { words = (d2.new ++ d.new) ++ b.words }, d2.free')) z
-                (subst (λ ws. Reaches over fetch 1 4 (record s { pc = p.at i }) (b, free) (record s { sp = s.sp - 4 * n; pc = p.at (i + 1 + 1) })
+                (subst (λ ws. ComesSilently over fetch 1 4 (record s { pc = p.at i }) (b, free) (record s { sp = s.sp - 4 * n; pc = p.at (i + 1 + 1) })
                 (record b { words = ws }, d2.free')) zw
-                (subst (λ y. Reaches over fetch 1 4 (record s { pc = p.at i }) (b, free) (record s { sp = y; pc = p.at (i + 1 + 1) })
+                (subst (λ y. ComesSilently over fetch 1 4 (record s { pc = p.at i }) (b, free) (record s { sp = y; pc = p.at (i + 1 + 1) })
                 (record b { words = d2.new ++ (d.new ++ b.words) }, d2.free')) zp
                 (record { count = m.count; some = omega arith; few = omega arith; silent = m.silent })));
             at = subst (λ y. At flash y (record b { words = (d2.new ++ d.new) ++ b.words })) zp
@@ -99,19 +99,19 @@ module _ (fetch : ℕ → Fetched) (flash : List ℕ) (p : Places) (pieces : Lis
 
   -- and n words higher
   pub record Raise (i j n : ℕ) (s : Registers) (b : Bank) (free : List ℕ) : Type 0 where
-    pub reach : Reaches over fetch 1 4 (record s { pc = p.at i }) (b, free) (record s { sp = s.sp + 4 * n; pc = p.at j })
+    pub reach : ComesSilently over fetch 1 4 (record s { pc = p.at i }) (b, free) (record s { sp = s.sp + 4 * n; pc = p.at j })
         (record b { words = drop n b.words }, free)
     pub at : At flash (s.sp + 4 * n) (record b { words = drop n b.words })
 
   raise_one : (i n : ℕ) (s : Registers) (b : Bank) (free : List ℕ) → slice_get pieces i ≡ Some (Plain (AddSpImm n)) → At flash s.sp b → n ≤ length b.words
-      → Reaches over fetch 1 2 (record s { pc = p.at i }) (b, free) (record s { sp = s.sp + 4 * n; pc = p.at (i + 1) })
+      → ComesSilently over fetch 1 2 (record s { pc = p.at i }) (b, free) (record s { sp = s.sp + 4 * n; pc = p.at (i + 1) })
       (record b { words = drop n b.words }, free)
   raise_one i n s b free g h l =
       let s0 : Registers = record s { pc = p.at i } in
       let q : Registers = record s { sp = s.sp + 4 * n; pc = p.behind i } in
       let m = each_goes fetch flash p pieces laid i (Plain (AddSpImm n)) g (omega arith) s0 (b, free) q (record b { words = drop n b.words }, free) refl h
       (add_sp flash (p.behind i) n s0 b free h l) in
-      subst (λ k. Reaches over fetch 1 2 s0 (b, free) (record s { sp = s.sp + 4 * n; pc = k }) (record b { words = drop n b.words }, free))
+      subst (λ k. ComesSilently over fetch 1 2 s0 (b, free) (record s { sp = s.sp + 4 * n; pc = k }) (record b { words = drop n b.words }, free))
       (laid.next i (Plain (AddSpImm n)) g refl) m
 
   drop_none : (k : ℕ) → ◌≡◌ {A = List ℕ} (drop k []) []
@@ -135,7 +135,7 @@ module _ (fetch : ℕ → Fetched) (flash : List ℕ) (p : Places) (pieces : Lis
           let z : i + 1 ≡ i + length (raises n) = ap (λ (xs : List Piece). i + length xs) (sym eq) in
           let c = m.few in
           record {
-            reach = subst (λ j. Reaches over fetch 1 4 (record s { pc = p.at i }) (b, free) (record s { sp = s.sp + 4 * n; pc = p.at j })
+            reach = subst (λ j. ComesSilently over fetch 1 4 (record s { pc = p.at i }) (b, free) (record s { sp = s.sp + 4 * n; pc = p.at j })
                 (record b { words = drop n b.words }, free)) z
                 (record { count = m.count; some = m.some; few = omega arith; silent = m.silent });
             at = (move_up flash s.sp n b free h l).1;
@@ -159,11 +159,11 @@ module _ (fetch : ℕ → Fetched) (flash : List ℕ) (p : Places) (pieces : Lis
           (record s { sp = s.sp + 4 * 127 + 4 * (n - 127); pc = p.at (i + 1 + 1) }) (record b { words = drop (n - 127) (drop 127 b.words) }, free) m1 m2 in
           let c = m.few in let c' = m.some in
           record {
-            reach = subst (λ j. Reaches over fetch 1 4 (record s { pc = p.at i }) (b, free) (record s { sp = s.sp + 4 * n; pc = p.at j })
+            reach = subst (λ j. ComesSilently over fetch 1 4 (record s { pc = p.at i }) (b, free) (record s { sp = s.sp + 4 * n; pc = p.at j })
                 (record b { words = drop n b.words }, free)) z
-                (subst (λ ws. Reaches over fetch 1 4 (record s { pc = p.at i }) (b, free) (record s { sp = s.sp + 4 * n; pc = p.at (i + 1 + 1) })
+                (subst (λ ws. ComesSilently over fetch 1 4 (record s { pc = p.at i }) (b, free) (record s { sp = s.sp + 4 * n; pc = p.at (i + 1 + 1) })
                 (record b { words = ws }, free)) zw
-                (subst (λ y. Reaches over fetch 1 4 (record s { pc = p.at i }) (b, free) (record s { sp = y; pc = p.at (i + 1 + 1) })
+                (subst (λ y. ComesSilently over fetch 1 4 (record s { pc = p.at i }) (b, free) (record s { sp = y; pc = p.at (i + 1 + 1) })
                 (record b { words = drop (n - 127) (drop 127 b.words) }, free)) zp
                 (record { count = m.count; some = omega arith; few = omega arith; silent = m.silent })));
             at = subst (λ y. At flash y (record b { words = drop n b.words })) zp (subst

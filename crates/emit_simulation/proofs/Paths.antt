@@ -4,7 +4,7 @@ use Rattle.board_world.specs.Simulation.{Path, one}
 use Rattle.thumb_code.specs.declared.register_file.Registers.{Registers}
 use Rattle.thumb_code.specs.Forms.{Access, Effect, Outcome, Goes as GoesOn, Asks, Stops}
 use Rattle.thumb_code.specs.Memory.{Executed, Done, Asked, Stopped, load_all, store_all, first_fault, finished, or_else, accessed, after_move}
-use Rattle.thumb_code.specs.Step.{Fetched, Found, Missed, Stepped, On, Served, Faulted, fetched, placed, ran}
+use Rattle.thumb_code.specs.Step.{Fetched, Found, Missed, Stepped, On, Served, Faulted, fetched, stepped_at, ran}
 use Rattle.thumb_code.specs.Run.{runs, Ran, Still, from_step}
 use Rattle.thumb_code.specs.Map.{sp_in_range, globals_at, arena_at, stack_at, part, flash_word, word_in, changed}
 use Rattle.thumb_code.specs.RegisterFile.{aligned}
@@ -115,7 +115,7 @@ abbrev KeepsS : Fm → Stepped Fm → Type 0
 KeepsS t (On r u) = Keeps t u
 KeepsS t _ = Unit {0}
 
-placed_keeps : (t : Fm) (at : ℕ) (x : Executed Fm) → KeepsX t x → KeepsS t (placed at x)
+placed_keeps : (t : Fm) (at : ℕ) (x : Executed Fm) → KeepsX t x → KeepsS t (stepped_at at x)
 placed_keeps t at (Done r u) k = k
 placed_keeps t at (Asked n r u) k = tt
 placed_keeps t at (Stopped n) k = tt

@@ -4,7 +4,7 @@ use Rattle.std.proofs.lemmas.List.{length-set}
 use Rattle.std.proofs.lemmas.Bool.{cases_eq}
 use Rattle.std.proofs.lemmas.Bool.Decides.{nat_tests}
 use Rattle.thumb_code.specs.declared.instructions.Instr.TheVariants.{MovHigh, LdrSp, StrSp}
-use Rattle.placed_frames.specs.View.{View, with_low, Does, Quiet, GetOwn, PutOwn}
+use Rattle.placed_frames.specs.View.{View, with_low, Alters, Quiet, GetOwn, PutOwn}
 use Rattle.flat_ir.specs.declared.ops.Function.{Function}
 use Rattle.register_assign.specs.declared.places.Place.{Place}
 use Rattle.register_assign.specs.declared.places.Place.TheVariants.{Reg, Slot, Incoming}
@@ -24,7 +24,7 @@ store_low k w v l = ap (λ q. record { kept = q; words = v.words })
     (four _ _ _ _ _ _ _ _ (get_or-set_other v.low k 4 w 0 (omega arith)) (get_or-set_other v.low k 5 w 0 (omega arith))
     (get_or-set_other v.low k 6 w 0 (omega arith)) (get_or-set_other v.low k 7 w 0 (omega arith)))
 
-pub moves : (flash : List ℕ) (rd rm : ℕ) (v : View) → rd < 13 → rm < 13 → Does flash (MovHigh rd rm) v (with_low rd (slice_index v.low rm) v)
+pub moves : (flash : List ℕ) (rd rm : ℕ) (v : View) → rd < 13 → rm < 13 → Alters flash (MovHigh rd rm) v (with_low rd (slice_index v.low rm) v)
 moves flash rd rm v l m =
     let a : nat_lt rd 13 ≡ true = grind arith in
     let b : nat_lt rm 13 ≡ true = grind arith in

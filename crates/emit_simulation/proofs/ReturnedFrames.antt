@@ -11,7 +11,7 @@ use Rattle.bank_model.specs.Bank.{Bank}
 use Rattle.bank_model.specs.Fibers.{Fiber, Shared}
 use Rattle.bank_model.specs.BoardMachine.{memory_of}
 use Rattle.thumb_layout.specs.declared.pieces.Piece.TheVariants.{Plain}
-use Rattle.thumb_layout.specs.Holds.{Reaches}
+use Rattle.thumb_layout.specs.Holds.{ComesSilently}
 use Rattle.thumb_layout.proofs.Laws.{reaches_add}
 use Rattle.flat_ir.specs.declared.ops.Op.TheVariants.{Return}
 use Rattle.flat_ir.specs.declared.ops.Function.{Function}
@@ -117,7 +117,7 @@ module _ (C : FlatCode) (placed : List Placed) (flash : List ℕ) (a : Addresses
       pub seen : View
       pub link : ℕ
       pub sp : ℕ
-      pub reach : Reaches over (fetched flash c.base) 3 8 (record c.registers
+      pub reach : ComesSilently over (fetched flash c.base) 3 8 (record c.registers
           { pc = (spots C placed flash a f.function p).at (start p.function (place_of p.places) f.place + 1) }) (memory_of flash c t)
           (record (registers_of seen at c.registers) { sp = sp; lr = link }) (bank_of seen (bank_in flash c t), t.free)
       pub bank : At flash sp (bank_of seen (bank_in flash c t))

@@ -10,7 +10,7 @@ use Rattle.thumb_code.specs.declared.register_file.Registers.{Registers}
 use Rattle.thumb_code.specs.RegisterFile.{is_odd}
 use Rattle.thumb_code.specs.Map.{is_base, flash_end, flash_half, in_flash}
 use Rattle.thumb_code.specs.Machine.{return_of}
-use Rattle.thumb_code.specs.Step.{Found, fetched, behind, ran, placed as step_at}
+use Rattle.thumb_code.specs.Step.{Found, fetched, behind, ran, stepped_at as step_at}
 use Rattle.board_world.specs.Observations.{ByteList}
 use Rattle.board_world.specs.Kinds.{Turn, Goes, Ends}
 use Rattle.board_world.specs.Simulation.{one}
@@ -21,7 +21,7 @@ use Rattle.bank_model.specs.BoardMachine.{fibers, memory_of, fiber_of, shared_in
 use Rattle.thumb_layout.specs.declared.pieces.Piece.{Piece}
 use Rattle.thumb_layout.specs.declared.pieces.Piece.TheVariants.{Plain, CallTo, Label}
 use Rattle.thumb_layout.specs.Pieces.{Places, goes_on as piece_goes_on}
-use Rattle.thumb_layout.specs.Holds.{cost, Reaches}
+use Rattle.thumb_layout.specs.Holds.{cost, ComesSilently}
 use Rattle.thumb_layout.proofs.Laws.{reaches_add}
 use Rattle.flat_ir.specs.declared.ops.Op.{Op}
 use Rattle.flat_ir.specs.declared.ops.Op.TheVariants.{Return, Call, CallSlot}
@@ -157,8 +157,8 @@ module _ (C : FlatCode) (placed : List Placed) (flash : List ℕ) (a : Addresses
     back_memory at y = (bank_of y.seen (bank_in flash c t), t.free)
 
     -- from where the op begins
-    back_reach : (at : ℕ) (y : Back at) → Reaches over (fetched flash c.base) 3 8 c.registers (memory_of flash c t) (back_registers at y) (back_memory at y)
-    back_reach at y = subst (λ n. Reaches over (fetched flash c.base) 3 8 (record c.registers { pc = n }) (memory_of flash c t) (back_registers at y)
+    back_reach : (at : ℕ) (y : Back at) → ComesSilently over (fetched flash c.base) 3 8 c.registers (memory_of flash c t) (back_registers at y) (back_memory at y)
+    back_reach at y = subst (λ n. ComesSilently over (fetched flash c.base) 3 8 (record c.registers { pc = n }) (memory_of flash c t) (back_registers at y)
         (back_memory at y)) (sym (pc_behind C placed flash a texts image p f callers base c used h t (Return from) e x sh)) y.reach
 
     shared_back : (at : ℕ) (y : Back at) → IsShared C placed flash a used h (shared_in used (back_memory at y))
@@ -287,7 +287,7 @@ module _ (C : FlatCode) (placed : List Placed) (flash : List ℕ) (a : Addresses
         let c3 = flows_one fetch flash pl pieces laid (ci + 1) (lands fn b3 (place to)) v v' c2.registers b2 t2.free gp fw.at refl put in
         let q3 = registers_of v' (pl.at (ci + 1 + 1)) (record c2.registers { lr = c3.link }) in
         let m3 : Fm = (bank_of v' b2, t2.free) in
-        let step2 = subst (λ n. Reaches over fetch (step_of (lands fn b3 (place to))) (cost (lands fn b3 (place to))) (record q { pc = n }) m q3 m3) (sym (laid.next ci cs.piece gc cs.goes)) c3.reach in
+        let step2 = subst (λ n. ComesSilently over fetch (step_of (lands fn b3 (place to))) (cost (lands fn b3 (place to))) (record q { pc = n }) m q3 m3) (sym (laid.next ci cs.piece gc cs.goes)) c3.reach in
         let whole = reaches_add over fetch 3 8 (step_of (lands fn b3 (place to))) (cost (lands fn b3 (place to))) c.registers (memory_of flash c t) q m q3 m3 (back_reach at y) step2 in
         let z : suc fr.place ≡ fr.place + 1 = omega arith in
         let nx = k2.next in

@@ -4,7 +4,7 @@ use Rattle.thumb_code.specs.declared.instructions.Instr.{Instr}
 use Rattle.thumb_code.specs.declared.register_file.Registers.{Registers}
 use Rattle.thumb_code.specs.Effect.{go}
 use Rattle.thumb_code.specs.Map.{stack_at, ram_end}
-use Rattle.thumb_code.specs.Step.{Fetched, Found, fetched, placed as placed_step, ran}
+use Rattle.thumb_code.specs.Step.{Fetched, Found, fetched, stepped_at as placed_step, ran}
 use Rattle.board_world.specs.Observations.{ByteList}
 use Rattle.bank_model.specs.Bank.{Bank}
 use Rattle.thumb_layout.specs.declared.pieces.Piece.{Piece}
@@ -17,7 +17,7 @@ use Rattle.register_assign.specs.declared.places.Placed.{Placed}
 use Rattle.thumb_emit.specs.Emit.{function_pieces}
 use Rattle.thumb_emit.specs.InFlash.{Addresses, callee_at, word_for}
 use Rattle.thumb_emit.proofs.Laws.{function_sound, function_words}
-use Rattle.placed_frames.specs.View.{View, Does, registers_of, bank_of, At}
+use Rattle.placed_frames.specs.View.{View, Alters, registers_of, bank_of, At}
 use Rattle.placed_frames.proofs.Laws.{does, quiet_does, at_view}
 use Rattle.emit_simulation.specs.Laid.{over, Flows, OfInstr, OfLabel, OfNumber, OfAddress}
 use Rattle.emit_simulation.specs.Ties.{IsImage, spots}
@@ -25,7 +25,7 @@ use Rattle.emit_simulation.proofs.Context.{base_fits, mapped_at}
 
 -- what a plain piece does
 abbrev IsDoes : List ℕ → Piece → View → View → Type 0
-IsDoes flash (Plain y) v v' = Does flash y v v'
+IsDoes flash (Plain y) v v' = Alters flash y v v'
 IsDoes flash _ v v' = Unit {0}
 
 does_any : (flash : List ℕ) (p : Places) (x : Piece) (v v' : View) → Flows flash p x v v' → IsDoes flash x v v'
@@ -34,7 +34,7 @@ does_any flash p x v v' (OfLabel l u) = tt
 does_any flash p x v v' (OfNumber rd n u) = tt
 does_any flash p x v v' (OfAddress rd w u) = tt
 
-pub does_of : (flash : List ℕ) (p : Places) (y : Instr) (v v' : View) → Flows flash p (Plain y) v v' → Does flash y v v'
+pub does_of : (flash : List ℕ) (p : Places) (y : Instr) (v v' : View) → Flows flash p (Plain y) v v' → Alters flash y v v'
 does_of flash p y v v' f = does_any flash p (Plain y) v v' f
 
 module _ (flash : List ℕ) (base : ℕ) where
@@ -43,7 +43,7 @@ module _ (flash : List ℕ) (base : ℕ) where
 
   -- an instruction that stands at an address
   once : (at next : ℕ) (y : Instr) (v v' : View) (s : Registers) (b : Bank) (free : List ℕ) → fetch at ≡ Found y next → At flash s.sp b
-      → length v.words ≡ length b.words → Does flash y v v'
+      → length v.words ≡ length b.words → Alters flash y v v'
       → Silent over fetch 1 (registers_of v at s) (bank_of v b, free) (registers_of v' next s) (bank_of v' b, free)
   once at next y v v' s b free e h l d =
       let r = registers_of v at s in
@@ -53,13 +53,13 @@ module _ (flash : List ℕ) (base : ℕ) where
 
   -- a plain piece takes as many steps, whatever the memory is
   pub plain_steps : (p : Places) (pieces : List Piece) → Holds fetch flash p pieces → (i : ℕ) (y : Instr) → slice_get pieces i ≡ Some (Plain y)
-      → (k : ℕ) × (k ≤ 1) × ((v v' : View) (s : Registers) (b : Bank) (free : List ℕ) → At flash s.sp b → length v.words ≡ length b.words → Does flash y v v'
+      → (k : ℕ) × (k ≤ 1) × ((v v' : View) (s : Registers) (b : Bank) (free : List ℕ) → At flash s.sp b → length v.words ≡ length b.words → Alters flash y v v'
       → Silent over fetch (k + 1) (registers_of v (p.at i) s) (bank_of v b, free) (registers_of v' (p.behind i) s) (bank_of v' b, free))
   plain_steps p pieces hold i y g = let d = hold.each i (Plain y) g in by d.0 d.1 d.2
     where
       by : (body : ℕ) → Enters fetch (p.at i) body → fetch body ≡ Found y (p.behind i)
           → (k : ℕ) × (k ≤ 1) × ((v v' : View) (s : Registers) (b : Bank) (free : List ℕ) → At flash s.sp b → length v.words ≡ length b.words
-          → Does flash y v v'
+          → Alters flash y v v'
           → Silent over fetch (k + 1) (registers_of v (p.at i) s) (bank_of v b, free) (registers_of v' (p.behind i) s) (bank_of v' b, free))
       by body (AtOnce e) st = (0, omega arith, λ v v' s b free h l f. once (p.at i) (p.behind i) y v v' s b free (ap fetch e ∙ st) h l f)
       by body (Over o n at mv) st = (

@@ -4,7 +4,7 @@ use Rattle.thumb_code.specs.declared.instructions.Instr.TheVariants.{Svc}
 use Rattle.thumb_code.specs.declared.register_file.Registers.{Registers}
 use Rattle.thumb_code.specs.Effect.{ends, Asks as AsksFor}
 use Rattle.thumb_code.specs.Memory.{Asked}
-use Rattle.thumb_code.specs.Step.{fetched, placed as step_at, Stepped, ran}
+use Rattle.thumb_code.specs.Step.{fetched, stepped_at as step_at, Stepped, ran}
 use Rattle.thumb_code.specs.Run.{Still, runs}
 use Rattle.board_world.specs.Observations.{ByteList}
 use Rattle.board_world.specs.Kinds.{Kind, Turn, Goes, Panics}
@@ -19,7 +19,7 @@ use Rattle.thumb_code.specs.RegisterFile.{low}
 use Rattle.thumb_layout.specs.declared.pieces.Piece.{Piece}
 use Rattle.thumb_layout.specs.declared.pieces.Piece.TheVariants.{Plain}
 use Rattle.thumb_layout.specs.Pieces.{Places}
-use Rattle.thumb_layout.specs.Holds.{Reaches}
+use Rattle.thumb_layout.specs.Holds.{ComesSilently}
 use Rattle.thumb_layout.proofs.Laws.{silent_add}
 use Rattle.flat_ir.specs.declared.ops.FlatCode.{FlatCode}
 use Rattle.sts_meaning.specs.Heaps.{FlatHeap}
@@ -70,7 +70,7 @@ pub record Asking (flash : List ℕ) (most used number : ℕ) (c : Fiber) (t : S
 pub asking : (flash : List ℕ) (p : Places) (pieces : List Piece) (c : Fiber) (t : Shared) (used : ℕ) → Laid (fetched flash c.base) flash p pieces
     → (i number least most : ℕ) (s : Registers) (m : Fm)
     → slice_get pieces i ≡ Some (Plain (Svc number)) → s.pc ≡ p.at i → At flash s.sp m.0 → m.0.base ≡ c.base → t.used ≡ used
-    → Reaches over (fetched flash c.base) least most c.registers (memory_of flash c t) s m
+    → ComesSilently over (fetched flash c.base) least most c.registers (memory_of flash c t) s m
     → Asking flash (most + 2) used number c t (record s { pc = p.behind i }) m
 asking flash p pieces c t used laid i number least most s m g e h b u r =
     let fetch = fetched flash c.base in
@@ -117,7 +117,7 @@ module _ (C : FlatCode) (placed : List Placed) (flash : List ℕ) (a : Addresses
 
   -- A TURN THAT GOES ON, made by silent instructions
   pub makes_reach : (used least most : ℕ) (h h' : FlatHeap) (before : Shared) (c : Fiber) (t : Shared) (q : Registers) (m : Fm) (x : FlatActivity) → 0 < least
-      → t.used ≡ used → Reaches over (fetched flash c.base) least most c.registers (memory_of flash c t) q m
+      → t.used ≡ used → ComesSilently over (fetched flash c.base) least most c.registers (memory_of flash c t) q m
       → Tied x (fiber_of q m) → IsShared C placed flash a used h' (shared_in used m) → Owed most used h before (Goes x h') c t
   makes_reach used least most h h' before c t q m x l u r k s = by_count r.count (omega (arith, r.some)) r.few r.silent where
     by_count : (n : ℕ) → 0 < n → n ≤ most → runs over (fetched flash c.base) n c.registers (memory_of flash c t) ≡ Still q m → Owed most used h before
@@ -147,7 +147,7 @@ module _ (C : FlatCode) (placed : List Placed) (flash : List ℕ) (a : Addresses
   makes_goes p used least most i j h h' before c t v x l u e y k s =
       let r = y.reach in
       makes_reach used least most h h' before c t (registers_of v (p.at j) (record c.registers { lr = y.link })) (bank_of v (bank_in flash c t), t.free) x l u
-      (subst (λ n. Reaches over (fetched flash c.base) least most (record c.registers { pc = n }) (memory_of flash c t)
+      (subst (λ n. ComesSilently over (fetched flash c.base) least most (record c.registers { pc = n }) (memory_of flash c t)
       (registers_of v (p.at j) (record c.registers { lr = y.link })) (bank_of v (bank_in flash c t), t.free)) (sym e) r) k s
 
   -- A PANIC, made by silent instructions up to SVC 1

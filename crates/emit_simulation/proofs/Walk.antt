@@ -13,7 +13,7 @@ use Rattle.thumb_layout.specs.declared.pieces.Piece.{Piece}
 use Rattle.thumb_layout.specs.declared.pieces.Piece.TheVariants.{Plain, Label, Go}
 use Rattle.thumb_layout.specs.Pieces.{Places, is_taken, goes_on, goes_on_instr}
 use Rattle.thumb_code.specs.Effect.{effect, ends, Goes}
-use Rattle.thumb_layout.specs.Holds.{cost, Reaches}
+use Rattle.thumb_layout.specs.Holds.{cost, ComesSilently}
 use Rattle.flat_ir.specs.declared.ops.Op.{Op}
 use Rattle.flat_ir.specs.declared.ops.FlatCode.{FlatCode}
 use Rattle.flat_ir.specs.Liveness.{IsLiveAt}
@@ -21,7 +21,7 @@ use Rattle.register_assign.specs.declared.places.Placed.{Placed}
 use Rattle.register_assign.specs.Sound.{place_of}
 use Rattle.register_assign.specs.Unread.{is_unread}
 use Rattle.flat_meaning.specs.Frames.{FlatFrame, Stands, given}
-use Rattle.flat_meaning.specs.Frames.{placed as placed_at}
+use Rattle.flat_meaning.specs.Frames.{going_on_at as placed_at}
 use Rattle.flat_ir.specs.Ops.{reads, writes}
 use Rattle.flat_ir.specs.Ops.{goes_on as goes_on_at}
 use Rattle.flat_ir.specs.WellFormed.{temporaries}
@@ -159,7 +159,7 @@ module _ (C : FlatCode) (placed : List Placed) (flash : List ℕ) (a : Addresses
       let s = registers_of v (spot.at (first + i)) (record c.registers { lr = g.comes.link }) in
       asking flash spot (function_pieces p) c t used w.laid (first + i) number g.least most s (bank_of v b, t.free) (stands i _ q) refl
       (at_view flash c.registers.sp v b g.comes.long w.at) refl sh.0
-      (subst (λ n. Reaches over (fetched flash c.base) g.least most (record c.registers { pc = n }) (memory_of flash c t) s (bank_of v b, t.free))
+      (subst (λ n. ComesSilently over (fetched flash c.base) g.least most (record c.registers { pc = n }) (memory_of flash c t) s (bank_of v b, t.free))
       (sym (pc_behind C placed flash a texts image p f callers base c used h t op e x sh)) g.comes.reach)
 
   -- behind an SVC is the next piece

@@ -9,7 +9,7 @@ use Rattle.board_world.specs.Simulation.{Path, one}
 use Rattle.board_world.specs.Sound.{NoFault}
 use Rattle.bank_model.specs.Fibers.{Fiber, Shared, begins, begins_on}
 use Rattle.bank_model.specs.BoardMachine.{fibers, memory_of}
-use Rattle.thumb_layout.specs.Holds.{Reaches}
+use Rattle.thumb_layout.specs.Holds.{ComesSilently}
 use Rattle.thumb_layout.proofs.Laws.{reaches_none}
 use Rattle.flat_ir.specs.declared.ops.Op.{Op}
 use Rattle.flat_ir.specs.declared.ops.Function.{Function}
@@ -74,7 +74,7 @@ module _ (C : FlatCode) (placed : List Placed) (flash : List ℕ) (a : Addresses
         s = c.registers;
         free = t.free;
         there = there;
-        reach = subst (λ n. Reaches over (fetched flash c.base) 0 0 c.registers (memory_of flash c t) (record c.registers { pc = n }) (memory_of flash c t)) pc
+        reach = subst (λ n. ComesSilently over (fetched flash c.base) 0 0 c.registers (memory_of flash c t) (record c.registers { pc = n }) (memory_of flash c t)) pc
             (reaches_none over (fetched flash c.base) c.registers (memory_of flash c t));
         at = record { sp_is = omega arith; flash_is = refl; aligned = omega arith; low = omega arith; high = omega arith };
         low = refl;

@@ -23,7 +23,7 @@ use Rattle.thumb_emit.specs.Emit.{beside, decides, compares, combines, shifts, d
 use Rattle.thumb_layout.specs.Holds.{cost}
 use Rattle.thumb_emit.specs.Bounds.{total_cost}
 use Rattle.arena_values.specs.Operators.{compared, shifted_by, operated, prefix_word}
-use Rattle.placed_frames.specs.View.{View, with_low, Does, Quiet}
+use Rattle.placed_frames.specs.View.{View, with_low, Alters, Quiet}
 use Rattle.emit_simulation.specs.Laid.{Laid, Flows, OfInstr, OfLabel, AllFlow, Comes, steps_of}
 use Rattle.emit_simulation.specs.Leaving.{AllLeave, StandsIn}
 use Rattle.emit_simulation.proofs.Flowing.{flows, branches, passes_by, then}
@@ -122,7 +122,7 @@ module _ (fetch : ℕ → Fetched) (flash : List ℕ) (p : Places) (pieces : Lis
     }
 
     -- one instruction that changes the register and flags
-    pub leaves_one : (x : Instr) (w fl : ℕ) → Does flash x v (record v { low = slice_set v.low d w; flags = fl }) → goes_on_instr x ≡ true
+    pub leaves_one : (x : Instr) (w fl : ℕ) → Alters flash x v (record v { low = slice_set v.low d w; flags = fl }) → goes_on_instr x ≡ true
         → Leaves (Plain x ∷ []) d w 2
     leaves_one x w fl q g =
         let u : View = record v { low = slice_set v.low d w; flags = fl } in
@@ -130,7 +130,7 @@ module _ (fetch : ℕ → Fetched) (flash : List ℕ) (p : Places) (pieces : Lis
 
     -- A TEST: the register becomes 1 where a condition holds behind a comparison, by way of itself or of a scratch register
     pub leaves_test : (r c label fl : ℕ) (x : Instr) → r < 8 → ((r < 4) ⊎ (r ≡ d)) → (c == 14) ≡ false → goes_on_instr x ≡ true
-        → ((m : View) → m.low ≡ slice_set v.low r 1 → Does flash x m (record m { flags = fl }))
+        → ((m : View) → m.low ≡ slice_set v.low r 1 → Alters flash x m (record m { flags = fl }))
         → (t : Bool) → holds fl c ≡ t
         → Leaves (decides fn d r x c label) d (bit_of t) 11
     leaves_test r c label fl x lr kind nc gx does true ht i s st h l =
@@ -285,12 +285,12 @@ module _ (fetch : ℕ → Fetched) (flash : List ℕ) (p : Places) (pieces : Lis
           rw k0 (rw k1 refl))))
           (holds (sum_flags w1 (inverted w2) 1) c) refl)
 
-      one : (x : Instr) (w fl : ℕ) → Does flash x v (record v { low = slice_set v.low d w; flags = fl }) → goes_on_instr x ≡ true → Of (Plain x ∷ []) w
+      one : (x : Instr) (w fl : ℕ) → Alters flash x v (record v { low = slice_set v.low d w; flags = fl }) → goes_on_instr x ≡ true → Of (Plain x ∷ []) w
       one x w fl q g = leaves_more _ d _ 2 291 (omega arith) (leaves_one x w fl q g)
 
       -- an instruction whose target is its first operand
       combined_leaves : (x : ℕ → ℕ → Instr) (w : ℕ) → ((a k : ℕ) → goes_on_instr (x a k) ≡ true)
-          → ((m : View) (a : ℕ) → slice_index m.low a ≡ w1 → slice_index m.low right ≡ w2 → (fl : ℕ) × Does flash (x a right) m (record m { low = slice_set m.low a w; flags = fl }))
+          → ((m : View) (a : ℕ) → slice_index m.low a ≡ w1 → slice_index m.low right ≡ w2 → (fl : ℕ) × Alters flash (x a right) m (record m { low = slice_set m.low a w; flags = fl }))
           → Of (combines fn d left right x) w
       combined_leaves x w g does =
           let t = beside 2 d right in
@@ -321,7 +321,7 @@ module _ (fetch : ℕ → Fetched) (flash : List ℕ) (p : Places) (pieces : Lis
 
       shifted_leaves : (x : ℕ → ℕ → Instr) (f : ℕ → ℕ → ℕ × ℕ) → goes_on_instr (x d 2) ≡ true
           → ((m : View) → slice_index m.low d ≡ w1 → slice_index m.low 2 ≡ bit_and w2 31 → m.flags ≡ shift_flags
-          → Does flash (x d 2) m (record m {
+          → Alters flash (x d 2) m (record m {
             low = slice_set m.low d (shifted_by shift_flags f w1 w2);
             flags = (shifted shift_flags f w1 (bit_and w2 31 % 256)).1;
           }))
@@ -341,7 +341,7 @@ module _ (fetch : ℕ → Fetched) (flash : List ℕ) (p : Places) (pieces : Lis
           let l0 : slice_index u2.low left ≡ w1 = get_or-set_other u1.low 2 left n 0 (λ z. nl (sym z)) ∙ (get_or-set_other v.low 2 left 31 0 (λ z. nl (sym z)) ∙ r0) in
           let m0 : slice_index u3.low d ≡ w1 = moved_word d left w1 u2.low (omega arith) l0 in
           let m2 : slice_index u3.low 2 ≡ n = moved_other d left w1 2 u2.low nd ∙ get_or-set_same u1.low 2 n 0 (omega arith) in
-          let and : Does flash (And 2 right) u1 u2 = subst (λ q. Does flash (And 2 right) u1 (record u1 { low = slice_set u1.low 2 q; flags = nz u1.flags q })) (and_comm 31 w2)
+          let and : Alters flash (And 2 right) u1 u2 = subst (λ q. Alters flash (And 2 right) u1 (record u1 { low = slice_set u1.low 2 q; flags = nz u1.flags q })) (and_comm 31 w2)
           (Quiet (And 2 right) u1 (slice_set u1.low 2 (bit_and 31 w2)) (nz u1.flags (bit_and 31 w2)) (λ next pc s. rw k1 (rw k2 refl))) in
           let xs = shifts fn d left right x in
           let ta = moves_takes fn d left in

@@ -11,10 +11,10 @@ use Rattle.thumb_layout.specs.declared.pieces.What.{What}
 use Rattle.thumb_layout.specs.declared.pieces.Piece.{Piece}
 use Rattle.thumb_layout.specs.declared.pieces.Piece.TheVariants.{Plain, Label, Go, CallTo, Number, Address}
 use Rattle.thumb_layout.specs.Pieces.{Places, is_small, goes_on, goes_on_instr}
-use Rattle.thumb_layout.specs.Holds.{cost, Means, Reaches}
+use Rattle.thumb_layout.specs.Holds.{cost, Means, ComesSilently}
 use Rattle.thumb_code.specs.Arithmetic.{nz}
 use Rattle.placed_frames.specs.Places.{Store}
-use Rattle.placed_frames.specs.View.{View, with_low, registers_of, bank_of, Does, At}
+use Rattle.placed_frames.specs.View.{View, with_low, registers_of, bank_of, Alters, At}
 
 -- a fiber's memory: its bank, and the free words
 abbrev pub Fm : Type 0
@@ -48,7 +48,7 @@ pub record Laid (fetch : ℕ → Fetched) (flash : List ℕ) (p : Places) (piece
 
 -- what a straight piece does
 pub data Flows (flash : List ℕ) (p : Places) : Piece → View → View → Type 0 where
-  OfInstr : (x : Instr) (v v' : View) → goes_on_instr x ≡ true → Does flash x v v' → Flows flash p (Plain x) v v'
+  OfInstr : (x : Instr) (v v' : View) → goes_on_instr x ≡ true → Alters flash x v v' → Flows flash p (Plain x) v v'
   OfLabel : (l : ℕ) (v : View) → Flows flash p (Label l) v v
   OfNumber : (rd n : ℕ) (v : View) → Flows flash p (Number rd n) v (record v { low = slice_set v.low rd n; flags = loaded_flags v.flags n })
   OfAddress : (rd : ℕ) (w : What) (v : View) → Flows flash p (Address rd w) v (with_low rd (p.word_of w) v)
@@ -73,5 +73,5 @@ store_of v = record { kept = slice_index v.low 4 ∷ (slice_index v.low 5 ∷ (s
 pub record Comes (fetch : ℕ → Fetched) (p : Places) (least most i j : ℕ) (v v' : View) (s : Registers) (b : Bank) (free : List ℕ) : Type 0 where
   pub link : ℕ
   pub long : length v'.words ≡ length b.words
-  pub reach : Reaches over fetch least most (registers_of v (p.at i) s) (bank_of v b, free) (registers_of v' (p.at j) (record s { lr = link }))
+  pub reach : ComesSilently over fetch least most (registers_of v (p.at i) s) (bank_of v b, free) (registers_of v' (p.at j) (record s { lr = link }))
       (bank_of v' b, free)

@@ -8,7 +8,7 @@ use Rattle.thumb_code.specs.Map.{stack_at}
 use Rattle.thumb_code.specs.Machine.{State as Machine}
 use Rattle.fiber_pool.specs.Kept.{Kept}
 use Rattle.bank_model.specs.Standing.{words_in, IsInside}
-use Rattle.fiber_runtime.specs.Words.{Fits}
+use Rattle.fiber_runtime.specs.Words.{ReachesBase}
 use Rattle.fiber_runtime.specs.Moves.{Holds}
 
 -- the stack region behind the loan, where words were put in at a place
@@ -80,7 +80,7 @@ module _ (stack ys : List ℕ) (sp base at : ℕ) (size : length stack ≡ 1024)
 abbrev pub moved_in : Machine → Registers → ℕ → List ℕ → Machine
 moved_in old r b stack = record { registers = r; memory = record old.memory { stack = stack; base = b } }
 
-pub holds_copied : (k : Kept) (old new : Machine) (r : Registers) (b : ℕ) (xs ys : List ℕ) (a n m : ℕ) → Fits k → length old.memory.stack ≡ 1024 → xs ≡ old.memory.stack → ys ≡ k.words → r ≡ k.registers → b ≡ k.base
+pub holds_copied : (k : Kept) (old new : Machine) (r : Registers) (b : ℕ) (xs ys : List ℕ) (a n m : ℕ) → ReachesBase k → length old.memory.stack ≡ 1024 → xs ≡ old.memory.stack → ys ≡ k.words → r ≡ k.registers → b ≡ k.base
     → n ≡ length k.words → m ≡ n → (0 < n → a ≡ (k.registers.sp - stack_at) / 4) → (n ≡ 0 → a ≡ 0)
     → new ≡ moved_in old r b (let zs = put_mid a m xs ys in take 1024 (zs ++ drop (length zs) old.memory.stack)) → Holds k old new
 holds_copied k old new r b xs ys a n m f size x y p q c e w z is =

@@ -9,7 +9,7 @@ use Rattle.fiber_runtime.specs.declared.turning.Raiser.{Raiser}
 use Rattle.bank_model.specs.Standing.{fiber_on, words_in, SameFrom}
 use Rattle.fiber_runtime.specs.State.{State}
 use Rattle.fiber_runtime.specs.Sound.{IsNested}
-use Rattle.fiber_runtime.specs.Moves.{placed, Resumed}
+use Rattle.fiber_runtime.specs.Moves.{machine_started, Resumed}
 use Rattle.fiber_runtime.specs.Banks.{fiber_raising, fiber_kept, fiber_at}
 use Rattle.fiber_runtime.proofs.Stack.{no_words}
 use Rattle.bank_model.proofs.Laws.{same_words}
@@ -23,7 +23,7 @@ pub fiber_found : (pool : Slab Kept) (key : ℕ) (k : Kept) → get pool key ≡
 fiber_found pool key k g = ap (λ o. fiber_kept (or_unused o)) g
 
 -- who begins has no words
-pub placed_begins : (entry base : ℕ) (m : Machine) → fiber_on (placed entry base m) ≡ begins_on m.memory.flash base entry
+pub placed_begins : (entry base : ℕ) (m : Machine) → fiber_on (machine_started entry base m) ≡ begins_on m.memory.flash base entry
 placed_begins entry base m = same_fiber _ _ _ _ _ _ refl refl (no_words m.memory.stack base)
 
 -- who is copied in is who was kept

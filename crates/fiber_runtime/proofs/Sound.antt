@@ -14,7 +14,7 @@ use Rattle.fiber_runtime.specs.declared.turning.Turning.{Turning}
 use Rattle.fiber_runtime.specs.declared.turning.Raiser.{Raiser}
 use Rattle.fiber_runtime.specs.declared.blocking.Why.{Why}
 use Rattle.fiber_runtime.specs.declared.blocking.Why.TheVariants.{Pause, Wait}
-use Rattle.fiber_runtime.specs.Words.{Fits, kept_of}
+use Rattle.fiber_runtime.specs.Words.{ReachesBase, kept_of}
 use Rattle.fiber_runtime.specs.State.{State, key_of, key_running, keys_suspended, keys_on}
 use Rattle.fiber_runtime.specs.Sound.{IsSound, once}
 use Rattle.fiber_queues.specs.Keys.{listed, how_often}
@@ -85,7 +85,7 @@ module _ (old : State) (h : IsSound old) (keys : List ℕ) (runs : key_running o
   count_before : length keys + length (keys_suspended old.raisers) + length (listed old.lists) ≡ slab_len old.pool
   count_before = let a = length-on old in let b : length (key_running old.running) ≡ length keys = ap length runs in omega (arith, h.count, a, b)
 
-  fits_before : (key : ℕ) (k : Kept) → get old.pool key ≡ Some k → (1 ≤ how_often key keys + how_often key (keys_suspended old.raisers)) ⊎ Fits k
+  fits_before : (key : ℕ) (k : Kept) → get old.pool key ≡ Some k → (1 ≤ how_often key keys + how_often key (keys_suspended old.raisers)) ⊎ ReachesBase k
   fits_before key k f = elim (h.fits key k f) [ inl one ↦ inl (let a = how_often-on key old in let b = ap (how_often key) runs in omega (arith, a, b)) | inr fit ↦ inr fit ]
 
   -- A state with the same keys on RAM and in lists, over the same records. This is a state in which another one runs, or in which a
@@ -147,7 +147,7 @@ pub sound_machine : (old : State) (machine : Machine) → IsSound old → IsSoun
 sound_machine old machine h = record { each = h.each; count = h.count; most = h.most; fits = h.fits; suspended = h.suspended }
 
 -- the running fiber's record holds what fits, and it joins a list
-pub sound_laid : (key now : ℕ) (t : Turning) (why : Why) (old new : State) (x : Kept) → IsSound old → old.running ≡ Some t → t.key ≡ Some key → Fits x → Updates old.pool new.pool key (Some x) → slab_len new.pool ≡ slab_len old.pool
+pub sound_laid : (key now : ℕ) (t : Turning) (why : Why) (old new : State) (x : Kept) → IsSound old → old.running ≡ Some t → t.key ≡ Some key → ReachesBase x → Updates old.pool new.pool key (Some x) → slab_len new.pool ≡ slab_len old.pool
     → new ≡ record old { pool = new.pool; running = None; lists = joined why now key old.lists } → IsSound new
 sound_laid key now t why old new x0 h e k i updates live rest =
     let runs = runs_at old t (Some key) e k in
@@ -162,7 +162,7 @@ sound_laid key now t why old new x0 h e k i updates live rest =
       count = omega (arith, count_before old h (key ∷ []) runs, length-joined key now why old.lists, live);
       most = omega (arith, h.most, live);
       fits = λ other x f. elim (cases_eq other key) [
-        | inl same ↦ inr (let g : Some x0 ≡ Some x = sym updates.changed ∙ ap (get new.pool) (sym same) ∙ f in let q : x0 ≡ x = cc in subst Fits q i)
+        | inl same ↦ inr (let g : Some x0 ≡ Some x = sym updates.changed ∙ ap (get new.pool) (sym same) ∙ f in let q : x0 ≡ x = cc in subst ReachesBase q i)
         | inr differs ↦ elim (fits_before old h (key ∷ []) runs other x (sym (updates.others other differs) ∙ f)) [
           | inl one ↦ inl (let o = none_at key other differs in omega (arith, o))
           | inr fit ↦ inr fit
@@ -171,7 +171,7 @@ sound_laid key now t why old new x0 h e k i updates live rest =
       suspended = h.suspended;
     })
 
-pub sound_blocked : (key now : ℕ) (t : Turning) (why : Why) (old new : State) → IsSound old → old.running ≡ Some t → t.key ≡ Some key → Fits (kept_of old.machine t) → Blocked key t why now old new → IsSound new
+pub sound_blocked : (key now : ℕ) (t : Turning) (why : Why) (old new : State) → IsSound old → old.running ≡ Some t → t.key ≡ Some key → ReachesBase (kept_of old.machine t) → Blocked key t why now old new → IsSound new
 sound_blocked key now t why old new h e k i m = sound_laid key now t why old new (kept_of old.machine t) h e k i m.updates m.live m.rest
 
 pub sound_adopted : (key : ℕ) (t : Turning) (old new : State) → IsSound old → old.running ≡ Some t → t.key ≡ None → Adopted key t old new → IsSound new
@@ -248,7 +248,7 @@ sound_spawned entry base old new h m =
       count = omega (arith, h.count, m.claims.live, length-listed old.lists, length-listed (record old.lists { ready = old.lists.ready ++ m.key ∷ [] }), length-append old.lists.ready (m.key ∷ []));
       most = omega (arith, m.claims.live, m.claims.room);
       fits = λ other k f. elim (cases_eq other m.key) [
-        | inl same ↦ inr (let g : Some (fresh old.machine.memory.flash base entry) ≡ Some k = sym m.claims.updates.changed ∙ ap (get new.pool) (sym same) ∙ f in let q : fresh old.machine.memory.flash base entry ≡ k = cc in subst Fits q (record { span = omega arith; inside = λ some. absurd (omega arith) }))
+        | inl same ↦ inr (let g : Some (fresh old.machine.memory.flash base entry) ≡ Some k = sym m.claims.updates.changed ∙ ap (get new.pool) (sym same) ∙ f in let q : fresh old.machine.memory.flash base entry ≡ k = cc in subst ReachesBase q (record { span = omega arith; inside = λ some. absurd (omega arith) }))
         | inr differs ↦ h.fits other k (sym (m.claims.updates.others other differs) ∙ f)
       ];
       suspended = h.suspended;
@@ -256,7 +256,7 @@ sound_spawned entry base old new h m =
 
 -- lists with the same keys do as well
 sound_relisted : (s : State) (pool : Slab Kept) (q : ListsOf ℕ) → IsSound s → ((key : ℕ) → how_often key (listed q) ≡ how_often key (listed s.lists)) → length (listed q) ≡ length (listed s.lists) → slab_len pool ≡ slab_len s.pool
-    → ((key : ℕ) → is_some (get pool key) ≡ is_some (get s.pool key)) → ((key : ℕ) (k : Kept) → get pool key ≡ Some k → (j : Kept) × (get s.pool key ≡ Some j) × (Fits j → Fits k)) → IsSound (record s { pool = pool; lists = q })
+    → ((key : ℕ) → is_some (get pool key) ≡ is_some (get s.pool key)) → ((key : ℕ) (k : Kept) → get pool key ≡ Some k → (j : Kept) × (get s.pool key ≡ Some j) × (ReachesBase j → ReachesBase k)) → IsSound (record s { pool = pool; lists = q })
 sound_relisted s pool q h t n l o f = record {
   each = λ key. omega (arith, t key, h.each key, ap once (o key));
   count = omega (arith, h.count);
@@ -293,12 +293,12 @@ sound_woken e old new h m =
         let z : once (is_some (get old.pool key)) ≡ 0 = ap (λ x. once (is_some x)) g in
         omega (arith, h.each key))
 
-    back : (key : ℕ) (k : Kept) → get new.pool key ≡ Some k → (o : Option Kept) → get old.pool key ≡ o → (n : ℕ) → how_often key (chosen (hears e) old.lists.waiters) ≡ n → (j : Kept) × (get old.pool key ≡ Some j) × (Fits j → Fits k)
+    back : (key : ℕ) (k : Kept) → get new.pool key ≡ Some k → (o : Option Kept) → get old.pool key ≡ o → (n : ℕ) → how_often key (chosen (hears e) old.lists.waiters) ≡ n → (j : Kept) × (get old.pool key ≡ Some j) × (ReachesBase j → ReachesBase k)
     back key k f o g zero t = (k, sym (m.others key t) ∙ f, λ x. x)
     back key k f (Some j) g (suc n) t =
         let c : Some (record j { value = e.value }) ≡ Some k = sym (m.changed key j g (omega arith)) ∙ f in
         let s : record j { value = e.value } ≡ k = cc in
-        (j, g, λ x. subst Fits s (record { span = x.span; inside = x.inside }))
+        (j, g, λ x. subst ReachesBase s (record { span = x.span; inside = x.inside }))
     back key k f None g (suc n) t = absurd (
         let a = how_often-listed key old.lists in let d = how_often-parted (hears e) key old.lists.waiters in
         let z : once (is_some (get old.pool key)) ≡ 0 = ap (λ x. once (is_some x)) g in
@@ -319,7 +319,7 @@ updates_twice a b d key x y u v = record { changed = v.changed; others = λ othe
 pub record NextFits (pool : Slab Kept) (key : ℕ) : Type 0 where
   pub kept : Kept
   pub found : get pool key ≡ Some kept
-  pub fits : Fits kept
+  pub fits : ReachesBase kept
 
 pub next_fits : (s : State) (key : ℕ) (ready : List ℕ) → IsSound s → s.running ≡ None → s.raisers ≡ [] → s.lists.ready ≡ key ∷ ready → NextFits s.pool key
 next_fits s key ready h e f r = by_slot (get s.pool key) refl

@@ -7,7 +7,7 @@ use Rattle.fiber_pool.specs.Kept.{Kept}
 use Rattle.fiber_runtime.specs.declared.turning.Turning.{Turning}
 use Rattle.fiber_runtime.specs.declared.blocking.Why.{Why}
 use Rattle.bank_model.specs.Standing.{words_in}
-use Rattle.fiber_runtime.specs.Words.{Fits, kept_of}
+use Rattle.fiber_runtime.specs.Words.{ReachesBase, kept_of}
 use Rattle.fiber_runtime.specs.State.{State}
 use Rattle.fiber_runtime.specs.Moves.{Blocked, Put, Resumed}
 use Rattle.fiber_runtime.specs.Copying.{Parked, Taken, HasWords}
@@ -24,7 +24,7 @@ parked_is_blocked key t why now old new pool k found w p =
       rest = b.rest;
     }
 
-pub taken_is_resumed : (old new : State) (stack : List ℕ) (p : Taken (record old { machine = record old.machine { memory = record old.machine.memory { stack = stack } } }) new) → Fits p.kept → Put p.kept old.machine.memory.stack stack → Resumed old new
+pub taken_is_resumed : (old new : State) (stack : List ℕ) (p : Taken (record old { machine = record old.machine { memory = record old.machine.memory { stack = stack } } }) new) → ReachesBase p.kept → Put p.kept old.machine.memory.stack stack → Resumed old new
 taken_is_resumed old new stack p f w =
     let words : new.machine.memory.stack ≡ stack = ap (λ (m : Machine). m.memory.stack) p.machine in
     record {

@@ -16,7 +16,7 @@ use Rattle.fiber_runtime.specs.declared.turning.Raiser.{Raiser}
 use Rattle.fiber_runtime.specs.declared.blocking.Why.{Why}
 use Rattle.fiber_runtime.specs.declared.blocking.Why.TheVariants.{Pause, Wait}
 use Rattle.bank_model.specs.Standing.{words_in, SameFrom}
-use Rattle.fiber_runtime.specs.Words.{Fits, kept_of}
+use Rattle.fiber_runtime.specs.Words.{ReachesBase, kept_of}
 use Rattle.fiber_runtime.specs.State.{State}
 
 -- a key joins the list for why it blocks
@@ -67,7 +67,7 @@ pub record Resumed (old new : State) : Type 0 where
   pub key : ℕ
   pub kept : Kept
   pub next : RunsNext key kept old new
-  pub fits : Fits kept
+  pub fits : ReachesBase kept
   pub holds : Holds kept old.machine new.machine
 
 -- A fiber begins with an empty record, as the last ready one.
@@ -108,11 +108,11 @@ pub record Ended (key : ℕ) (old new : State) : Type 0 where
   pub rest : new ≡ record old { pool = new.pool; running = None }
 
 -- A fiber without a record begins; the stack region stays.
-abbrev pub placed : ℕ → ℕ → Machine → Machine
-placed entry base m = record { registers = begun base (return_of m.memory.flash) entry; memory = record m.memory { base = base } }
+abbrev pub machine_started : ℕ → ℕ → Machine → Machine
+machine_started entry base m = record { registers = begun base (return_of m.memory.flash) entry; memory = record m.memory { base = base } }
 
 abbrev pub started : ℕ → ℕ → Turning → State → State
-started entry base t s = record s { machine = placed entry base s.machine; running = Some t }
+started entry base t s = record s { machine = machine_started entry base s.machine; running = Some t }
 
 -- The running fiber begins again, at its own base and with another event's value; its record and its listener stay.
 abbrev pub restarted : ℕ → Turning → State → State

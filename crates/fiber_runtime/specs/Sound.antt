@@ -8,7 +8,7 @@ use Rattle.fiber_queues.specs.Keys.{listed, how_often}
 use Rattle.fiber_runtime.specs.declared.turning.Turning.{Turning}
 use Rattle.fiber_runtime.specs.declared.turning.Raiser.{Raiser}
 use Rattle.bank_model.specs.Standing.{IsInside}
-use Rattle.fiber_runtime.specs.Words.{Fits, kept_of}
+use Rattle.fiber_runtime.specs.Words.{ReachesBase, kept_of}
 use Rattle.fiber_runtime.specs.State.{State, keys_on}
 
 abbrev pub once : Bool → ℕ
@@ -20,7 +20,7 @@ pub record IsSound (s : State) : Type 0 where
   pub each : (key : ℕ) → how_often key (keys_on s) + how_often key (listed s.lists) ≡ once (is_some (get s.pool key))
   pub count : length (keys_on s) + length (listed s.lists) ≡ slab_len s.pool
   pub most : slab_len s.pool ≤ seat_limit
-  pub fits : (key : ℕ) (k : Kept) → get s.pool key ≡ Some k → (1 ≤ how_often key (keys_on s)) ⊎ Fits k
+  pub fits : (key : ℕ) (k : Kept) → get s.pool key ≡ Some k → (1 ≤ how_often key (keys_on s)) ⊎ ReachesBase k
   pub suspended : length s.raisers ≤ raiser_limit
 
 -- Raisers stand inside, from an address on, the innermost lowest: each one's base is at most the next one's SP.
@@ -31,4 +31,4 @@ IsNested at (r ∷ rs) = (at ≤ r.registers.sp) × IsInside r.registers.sp r.ba
 -- The fiber in the machine stands below the raisers.
 abbrev pub IsStanding : Option Turning → Machine → List Raiser → Type 0
 IsStanding None m rs = IsNested 0 rs
-IsStanding (Some t) m rs = Fits (kept_of m t) × IsNested m.memory.base rs
+IsStanding (Some t) m rs = ReachesBase (kept_of m t) × IsNested m.memory.base rs

@@ -17,8 +17,8 @@ kept_of m t = record {
 }
 
 -- What is kept reaches from SP to the base.
-abbrev pub Fits : Kept → Type 0
-Fits k = Spans k.registers.sp k.words k.base
+abbrev pub ReachesBase : Kept → Type 0
+ReachesBase k = Spans k.registers.sp k.words k.base
 
 -- the innermost raiser's SP
 abbrev pub innermost : List Raiser → Option ℕ

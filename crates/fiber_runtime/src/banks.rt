@@ -11,7 +11,7 @@ ghost use Rattle.fiber_runtime.specs.declared.turning.Turning.{Turning};
 ghost use Rattle.fiber_runtime.specs.declared.turning.Raiser.{Raiser};
 ghost use Rattle.fiber_runtime.specs.declared.blocking.Why.{Why};
 ghost use Rattle.bank_model.specs.Standing.{fiber_on, KeepsAbove};
-ghost use Rattle.fiber_runtime.specs.Words.{Fits, kept_of};
+ghost use Rattle.fiber_runtime.specs.Words.{ReachesBase, kept_of};
 ghost use Rattle.fiber_runtime.specs.State.{State};
 ghost use Rattle.fiber_runtime.specs.Sound.{IsNested, IsStanding};
 ghost use Rattle.fiber_runtime.specs.Moves.{HasMain, Blocked, Put, Resumed, Spawned, Woken, started, restarted, suspended, raiser_of, reinstated};
@@ -46,5 +46,5 @@ pub fn anybody_may_copy()
     ensures blocks { (key now : ℕ) (t : Turning) (why : Why) (old new : State) (pool : Slab Kept) (k : Kept) → get old.pool key ≡ Some k → HasWords key (kept_of old.machine t).words old.pool pool
         → Parked key t why now (record old { pool = pool }) new → Blocked key t why now old new }
     ensures resumes { (old new : State) (stack : List ℕ) (p : Taken (record old { machine = record old.machine { memory = record old.machine.memory { stack = stack } } }) new)
-        → Fits p.kept → Put p.kept old.machine.memory.stack stack → Resumed old new }
+        → ReachesBase p.kept → Put p.kept old.machine.memory.stack stack → Resumed old new }
 {}

@@ -3,7 +3,7 @@ ghost use Rattle.std.specs.Prelude.{◌≡◌, Some, IfSome};
 ghost use Rattle.slab.specs.Slab.{get, slab_len, Updates, ContainsKey};
 ghost use Rattle.fiber_pool.specs.Kept.{Kept};
 ghost use Rattle.bank_model.specs.Standing.{IsInside};
-ghost use Rattle.fiber_runtime.specs.Words.{Fits, kept_of};
+ghost use Rattle.fiber_runtime.specs.Words.{ReachesBase, kept_of};
 ghost use Rattle.fiber_runtime.specs.Moves.{Holds};
 
 use crate::turning::Turning;
@@ -16,7 +16,7 @@ const STACK: u32 = 0x2000_3000;
 /// The words of the record become those from SP to the base, and its registers and base those of the machine.
 pub fn copy_in(machine: &mut Machine, pool: &Pool, key: usize)
     requires live { ContainsKey pool.now key }
-    requires fits { IfSome (get pool.now key) Fits }
+    requires fits { IfSome (get pool.now key) ReachesBase }
     ensures { (k : Kept) → get pool.now key ≡ Some k → Holds k machine.old machine.new }
 {
     let (registers, base) = pool.kept(key);
@@ -39,7 +39,7 @@ pub fn copy_out(machine: &Machine, pool: &mut Pool, key: usize, turning: Turning
     requires inside { IsInside machine.now.registers.sp machine.now.memory.base }
     ensures updates { Updates pool.old pool.new key (Some (kept_of machine.now turning)) }
     ensures live { slab_len pool.new ≡ slab_len pool.old }
-    ensures fits { Fits (kept_of machine.now turning) }
+    ensures fits { ReachesBase (kept_of machine.now turning) }
 {
     let registers = machine.registers();
     let base = machine.base();

@@ -4,7 +4,7 @@ ghost use Rattle.std.specs.Bool.{OnTrue, OnFalse};
 ghost use Rattle.slab.specs.Slab.{slab_len, ContainsKey};
 ghost use Rattle.fiber_pool.specs.Kept.{record_limit, kept_at, sized, with_words, with_kept};
 ghost use Rattle.fiber_queues.specs.Lists.{Leads};
-ghost use Rattle.fiber_runtime.specs.Words.{Fits};
+ghost use Rattle.fiber_runtime.specs.Words.{ReachesBase};
 ghost use Rattle.thumb_code.specs.Machine.{base_of, step as step_of};
 ghost use Rattle.armv6m_machine.specs.Steps.{IsStep};
 ghost use Rattle.board_world.specs.Limits.{seat_limit, raiser_limit, end_limit};
@@ -236,7 +236,7 @@ impl Runtime {
         requires alone { self.old.raisers ≡ [] }
         requires first { Leads key self.old.lists.ready }
         ensures taken { Taken self.old self.new }
-        ensures fits { Fits (kept_at self.old.pool key) }
+        ensures fits { ReachesBase (kept_at self.old.pool key) }
     {
         let (registers, base) = self.pool.kept(key);
         let value = self.pool.value(key);

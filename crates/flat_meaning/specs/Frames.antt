@@ -36,8 +36,8 @@ abbrev pub entered : ℕ → List Value → FlatFrame
 entered f args = record { function = f; place = 0; temps = map_of args }
 
 -- a frame that goes on at a place; and behind its op, with a value in a temporary
-abbrev pub placed : ℕ → FlatFrame → FlatFrame
-placed place f = record { function = f.function; place = place; temps = f.temps }
+abbrev pub going_on_at : ℕ → FlatFrame → FlatFrame
+going_on_at place f = record { function = f.function; place = place; temps = f.temps }
 
 abbrev pub given : ℕ → Value → FlatFrame → FlatFrame
 given to v f = record { function = f.function; place = f.place + 1; temps = with_entry to v f.temps }

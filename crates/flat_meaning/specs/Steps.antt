@@ -21,7 +21,7 @@ use Rattle.sts_meaning.specs.Heaps.{FlatHeap, Fields, Items, with_cell, write_gl
 use Rattle.sts_meaning.specs.Services.{requested}
 use Rattle.sts_meaning.specs.Frames.{stuck, after, grown, first, answered, text_of}
 use Rattle.flat_meaning.specs.Operators.{prefixed_by, answers, zeros, exactly}
-use Rattle.flat_meaning.specs.Frames.{FlatFrame, FlatActivity, Enters, Stands, entered, placed, given, result_of, words, op_at, depth_of}
+use Rattle.flat_meaning.specs.Frames.{FlatFrame, FlatActivity, Enters, Stands, entered, going_on_at, given, result_of, words, op_at, depth_of}
 
 -- the turn of an activity over flat code's heap
 abbrev pub FlatTurn : Type 0
@@ -59,7 +59,7 @@ module _ (C : FlatCode) (texts : List ByteList) where
     gives to v = Stands (given to v f) callers base
 
     abbrev pub goes_to : ℕ → FlatActivity
-    goes_to place = Stands (placed place f) callers base
+    goes_to place = Stands (going_on_at place f) callers base
 
     -- an op that gives what an operation gives; and one that changes the heap
     abbrev pub puts : ℕ → Outcome Value → FlatTurn

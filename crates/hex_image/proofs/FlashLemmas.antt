@@ -9,7 +9,7 @@ use Rattle.std.proofs.lemmas.List.FromFn.{length-map-range_with_len, get_or-map-
 use Rattle.hex_image.specs.declared.refused.HexCode.{HexCode}
 use Rattle.hex_image.specs.declared.refused.HexCode.TheVariants.{PastFlash, Overlap}
 use Rattle.hex_image.specs.Image.{Cell, byte_at, extent, image_of}
-use Rattle.hex_image.specs.Spells.{flash_bytes, cells_fault}
+use Rattle.hex_image.specs.Spells.{flash_size, cells_fault}
 use Rattle.hex_image.specs.Reading.{Cells, cell_at, put, put_all}
 use Rattle.hex_image.proofs.ListLemmas.{list_any-agree, map-map, all_both}
 use Rattle.hex_image.proofs.GivenLemmas.{byte_at-past, byte_at-append_none, byte_at-none_cons, AreOnce, LieApart, head_apart}
@@ -101,6 +101,6 @@ choose false false f = refl
 pub put_all-flash : (before new : List Cell) → put_all (flash_of before) new ≡ unless (cells_fault before new) (fold put (flash_of before) new)
 unfolding put_all
 put_all-flash before new =
-    ap (λ t. cond (list_any (λ c. nat_le flash_bytes c.at) new) (Err PastFlash) (cond t (Err Overlap) (Ok (fold put (flash_of before) new))))
+    ap (λ t. cond (list_any (λ c. nat_le flash_size c.at) new) (Err PastFlash) (cond t (Err Overlap) (Ok (fold put (flash_of before) new))))
     (list_any-agree (λ c. is_some (cell_at (flash_of before) c.at)) (λ c. is_some (byte_at before c.at)) (λ c. ap is_some (cell_at-flash before c.at)) new)
-    ∙ choose (list_any (λ c. nat_le flash_bytes c.at) new) (list_any (λ c. is_some (byte_at before c.at)) new) (fold put (flash_of before) new)
+    ∙ choose (list_any (λ c. nat_le flash_size c.at) new) (list_any (λ c. is_some (byte_at before c.at)) new) (fold put (flash_of before) new)

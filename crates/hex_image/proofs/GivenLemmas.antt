@@ -5,7 +5,7 @@ use Rattle.std.specs.List.{AllByRecursion, IsDistinct}
 use Rattle.std.proofs.lemmas.Bool.Decides.{nat_tests}
 use Rattle.hex_image.specs.declared.flash.Base.{Base}
 use Rattle.hex_image.specs.declared.flash.Base.TheVariants as bases
-use Rattle.hex_image.specs.Image.{Cell, address, placed, byte_at, extent}
+use Rattle.hex_image.specs.Image.{Cell, address, cells_from, byte_at, extent}
 use Rattle.hex_image.proofs.ListLemmas.{all_weaker, all_both}
 
 -- nothing is given past the extent
@@ -121,13 +121,13 @@ address-apart bases.Zero o p h k = grind (arith, nat_tests)
 address-apart (bases.Segment n) o p h k = grind (arith, nat_tests)
 address-apart (bases.Linear n) o p h k = grind (arith, nat_tests)
 
-placed-apart : (base : Base) (bytes : List ℕ) (o p : ℕ) → p < o → o + length bytes ≤ p + 65536 → byte_at (placed base o bytes) (address base p) ≡ None
-placed-apart base [] o p h k = refl
-placed-apart base (b ∷ bytes) o p h k =
-    byte_at-none_cons (record { at = address base o; byte = b }) (placed base (o + 1) bytes) (address base p)
-    (address-apart base o p h (omega arith)) (placed-apart base bytes (o + 1) p (omega arith) (omega arith))
+cells_from-apart : (base : Base) (bytes : List ℕ) (o p : ℕ) → p < o → o + length bytes ≤ p + 65536 → byte_at (cells_from base o bytes) (address base p) ≡ None
+cells_from-apart base [] o p h k = refl
+cells_from-apart base (b ∷ bytes) o p h k =
+    byte_at-none_cons (record { at = address base o; byte = b }) (cells_from base (o + 1) bytes) (address base p)
+    (address-apart base o p h (omega arith)) (cells_from-apart base bytes (o + 1) p (omega arith) (omega arith))
 
-pub AreOnce-placed : (base : Base) (bytes : List ℕ) (o : ℕ) → length bytes ≤ 65536 → AreOnce (placed base o bytes)
-AreOnce-placed base [] o h = tt
-AreOnce-placed base (b ∷ bytes) o h =
-    (placed-apart base bytes (o + 1) o (omega arith) (omega arith), AreOnce-placed base bytes (o + 1) (omega arith))
+pub AreOnce-cells_from : (base : Base) (bytes : List ℕ) (o : ℕ) → length bytes ≤ 65536 → AreOnce (cells_from base o bytes)
+AreOnce-cells_from base [] o h = tt
+AreOnce-cells_from base (b ∷ bytes) o h =
+    (cells_from-apart base bytes (o + 1) o (omega arith) (omega arith), AreOnce-cells_from base bytes (o + 1) (omega arith))

@@ -10,7 +10,7 @@ use Rattle.hex_image.specs.declared.flash.Base.{Base}
 use Rattle.hex_image.specs.declared.flash.Base.TheVariants.{Zero}
 use Rattle.hex_image.specs.Records.{Record}
 use Rattle.hex_image.specs.Image.{Cell, base_behind, cells_of, given, byte_at}
-use Rattle.hex_image.specs.Spells.{flash_bytes, is_end, has_end, base_after, cells_fault}
+use Rattle.hex_image.specs.Spells.{flash_size, is_end, has_end, base_after, cells_fault}
 use Rattle.hex_image.specs.Reading.{Progress, ◌>>=◌, put, put_all, behind_record}
 use Rattle.hex_image.proofs.ListLemmas.{all_weaker, none_passes, all_fail, fold-append}
 use Rattle.hex_image.proofs.GivenLemmas.{AreOnce, LieApart}
@@ -69,16 +69,16 @@ is_none None h = refl
 is_none (Some x) h = cc h
 
 -- what no fault says of new bytes
-pub no_fault : (before new : List Cell) → cells_fault before new ≡ None → AllByRecursion (λ c. c.at < flash_bytes) new × LieApart before new
+pub no_fault : (before new : List Cell) → cells_fault before new ≡ None → AllByRecursion (λ c. c.at < flash_size) new × LieApart before new
 no_fault before new h =
-    let tests = none_of (list_any (λ c. nat_le flash_bytes c.at) new) (list_any (λ c. is_some (byte_at before c.at)) new) h in (
-      all_weaker (λ (c : Cell). nat_le flash_bytes c.at ≡ false) (λ c. c.at < flash_bytes) (λ c e. leb-false flash_bytes c.at e) new (none_passes (λ (c : Cell). nat_le flash_bytes c.at) new tests.0),
+    let tests = none_of (list_any (λ c. nat_le flash_size c.at) new) (list_any (λ c. is_some (byte_at before c.at)) new) h in (
+      all_weaker (λ (c : Cell). nat_le flash_size c.at ≡ false) (λ c. c.at < flash_size) (λ c e. leb-false flash_size c.at e) new (none_passes (λ (c : Cell). nat_le flash_size c.at) new tests.0),
       all_weaker (λ (c : Cell). is_some (byte_at before c.at) ≡ false) (λ c. byte_at before c.at ≡ None) (λ c e. is_none (byte_at before c.at) e) new (none_passes (λ (c : Cell). is_some (byte_at before c.at)) new tests.1),
     )
 
-pub fault_free : (before new : List Cell) → AllByRecursion (λ c. c.at < flash_bytes) new → LieApart before new → cells_fault before new ≡ None
+pub fault_free : (before new : List Cell) → AllByRecursion (λ c. c.at < flash_size) new → LieApart before new → cells_fault before new ≡ None
 fault_free before new low apart =
-    let past = all_fail (λ (c : Cell). nat_le flash_bytes c.at) new (all_weaker (λ (c : Cell). c.at < flash_bytes) (λ c. nat_le flash_bytes c.at ≡ false) (λ c e. lt-leb flash_bytes c.at e) new low) in
+    let past = all_fail (λ (c : Cell). nat_le flash_size c.at) new (all_weaker (λ (c : Cell). c.at < flash_size) (λ c. nat_le flash_size c.at ≡ false) (λ c e. lt-leb flash_size c.at e) new low) in
     let over = all_fail (λ (c : Cell). is_some (byte_at before c.at)) new (all_weaker (λ (c : Cell). byte_at before c.at ≡ None) (λ c. is_some (byte_at before c.at) ≡ false) (λ c e. ap is_some e) new apart) in
     ap (λ s. cond s (Some PastFlash) (cond (list_any (λ c. is_some (byte_at before c.at)) new) (Some Overlap) None)) past
     ∙ ap (λ t. cond t (Some Overlap) None) over

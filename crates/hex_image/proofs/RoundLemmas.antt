@@ -10,8 +10,8 @@ use Rattle.hex.specs.Hex.{IsBytes}
 use Rattle.hex_image.specs.declared.flash.Base.{Base}
 use Rattle.hex_image.specs.declared.flash.Base.TheVariants as bases
 use Rattle.hex_image.specs.Records.{Record, Bytes, End, Linear, meaning}
-use Rattle.hex_image.specs.Image.{Cell, base_behind, placed, given, byte_at, extent, image_of}
-use Rattle.hex_image.specs.Spells.{flash_bytes, is_end, has_end, EndsLast, Spells}
+use Rattle.hex_image.specs.Image.{Cell, base_behind, cells_from, given, byte_at, extent, image_of}
+use Rattle.hex_image.specs.Spells.{flash_size, is_end, has_end, EndsLast, Spells}
 use Rattle.hex_image.specs.Writing.{record_line, row, row_count, block_lines, row_lines, hextext}
 use Rattle.hex_image.specs.Laws.{IsImage, RoundTrip}
 use Rattle.hex_image.proofs.ListLemmas.{or_false, fold-append}
@@ -86,19 +86,19 @@ Tells-end = Tells-record 1 0 [] End (omega arith) (omega arith) (omega arith) (�
 -- ---- what they give: each byte at its place
 
 -- data bytes by blocks stand where they stand in the image
-placed-block : (bytes : List ℕ) (q r at : ℕ) → 65536 * q + r ≡ at → at + length bytes ≤ 2 ^ 32 → placed (bases.Linear q) r bytes ≡ placed bases.Zero at bytes
-placed-block [] q r at e low = refl
-placed-block (b ∷ bytes) q r at e low =
+cells_from-block : (bytes : List ℕ) (q r at : ℕ) → 65536 * q + r ≡ at → at + length bytes ≤ 2 ^ 32 → cells_from (bases.Linear q) r bytes ≡ cells_from bases.Zero at bytes
+cells_from-block [] q r at e low = refl
+cells_from-block (b ∷ bytes) q r at e low =
     let here : (65536 * q + r) % 2 ^ 32 ≡ at = omega arith in
-    let rest : List Cell = placed (bases.Linear q) (r + 1) bytes in
+    let rest : List Cell = cells_from (bases.Linear q) (r + 1) bytes in
     ap (λ a. record { at = a; byte = b } ∷ rest) here
-    ∙ ap (λ cells. record { at = at; byte = b } ∷ cells) (placed-block bytes q (r + 1) (at + 1) (omega arith) (omega arith))
+    ∙ ap (λ cells. record { at = at; byte = b } ∷ cells) (cells_from-block bytes q (r + 1) (at + 1) (omega arith) (omega arith))
 
-placed-append : (a b : List ℕ) (at : ℕ) → placed bases.Zero at (a ++ b) ≡ placed bases.Zero at a ++ placed bases.Zero (at + length a) b
-placed-append [] b at = ap (λ n. placed bases.Zero n b) (sym (add-zero at))
-placed-append (x ∷ a) b at =
+cells_from-append : (a b : List ℕ) (at : ℕ) → cells_from bases.Zero at (a ++ b) ≡ cells_from bases.Zero at a ++ cells_from bases.Zero (at + length a) b
+cells_from-append [] b at = ap (λ n. cells_from bases.Zero n b) (sym (add-zero at))
+cells_from-append (x ∷ a) b at =
     let same : at + 1 + length a ≡ at + suc (length a) = omega arith in
-    ap (λ cells. record { at = at; byte = x } ∷ cells) (placed-append a b (at + 1) ∙ ap (λ n. placed bases.Zero (at + 1) a ++ placed bases.Zero n b) same)
+    ap (λ cells. record { at = at; byte = x } ∷ cells) (cells_from-append a b (at + 1) ∙ ap (λ n. cells_from bases.Zero (at + 1) a ++ cells_from bases.Zero n b) same)
 
 -- a base behind which row k needs no base record
 abbrev IsBaseAt : Base → ℕ → Type 0
@@ -123,93 +123,93 @@ base-next : (k : ℕ) → IsBaseAt (bases.Linear (16 * k / 65536)) (16 * (k + 1)
 base-next k h = let same : 16 * k / 65536 ≡ 16 * (k + 1) / 65536 = grind (arith, nat_tests) in ap bases.Linear same
 
 -- what row k gives
-row_given : (image : List ℕ) (base : Base) (k : ℕ) → IsBaseAt base (16 * k) → 16 * k + 16 ≤ 2 ^ 32 → given base (row_records image k) ≡ placed bases.Zero (16 * k) (row image k)
+row_given : (image : List ℕ) (base : Base) (k : ℕ) → IsBaseAt base (16 * k) → 16 * k + 16 ≤ 2 ^ 32 → given base (row_records image k) ≡ cells_from bases.Zero (16 * k) (row image k)
 row_given image base k good low =
     let len = length-take 16 (drop (16 * k) image) in
     given-append base (block_records (16 * k)) (Bytes (16 * k % 65536) (row image k) ∷ [])
     ∙ ap (λ cells. cells ++ given (fold base_behind base (block_records (16 * k))) (Bytes (16 * k % 65536) (row image k) ∷ [])) (block_given base (16 * k))
-    ∙ ap (λ b. placed b (16 * k % 65536) (row image k) ++ []) (block_base base (16 * k) good)
-    ∙ append-nil (placed (bases.Linear (16 * k / 65536)) (16 * k % 65536) (row image k))
-    ∙ placed-block (row image k) (16 * k / 65536) (16 * k % 65536) (16 * k) (omega arith) (omega (arith, len))
+    ∙ ap (λ b. cells_from b (16 * k % 65536) (row image k) ++ []) (block_base base (16 * k) good)
+    ∙ append-nil (cells_from (bases.Linear (16 * k / 65536)) (16 * k % 65536) (row image k))
+    ∙ cells_from-block (row image k) (16 * k / 65536) (16 * k % 65536) (16 * k) (omega arith) (omega (arith, len))
 
 -- the base behind row k
 row_base : (image : List ℕ) (base : Base) (k : ℕ) → IsBaseAt base (16 * k) → fold base_behind base (row_records image k) ≡ bases.Linear (16 * k / 65536)
 row_base image base k good = fold-append base_behind base (block_records (16 * k)) (Bytes (16 * k % 65536) (row image k) ∷ []) ∙ block_base base (16 * k) good
 
 -- a row and what stands behind it
-row_joins : (image : List ℕ) (k : ℕ) → placed bases.Zero (16 * k) (row image k) ++ placed bases.Zero (16 * (k + 1)) (drop (16 * (k + 1)) image) ≡ placed bases.Zero (16 * k) (drop (16 * k) image)
+row_joins : (image : List ℕ) (k : ℕ) → cells_from bases.Zero (16 * k) (row image k) ++ cells_from bases.Zero (16 * (k + 1)) (drop (16 * (k + 1)) image) ≡ cells_from bases.Zero (16 * k) (drop (16 * k) image)
 row_joins image k =
     let rest : List ℕ = drop (16 * k) image in
     let behind : drop 16 rest ≡ drop (16 * (k + 1)) image = drop-drop 16 (16 * k) image ∙ ap (λ n. drop n image) (omega arith) in
-    let whole : placed bases.Zero (16 * k) (row image k) ++ placed bases.Zero (16 * k + length (row image k)) (drop 16 rest) ≡ placed bases.Zero (16 * k) rest =
-    sym (placed-append (row image k) (drop 16 rest) (16 * k)) ∙ ap (placed bases.Zero (16 * k)) (take-append-drop 16 rest) in
+    let whole : cells_from bases.Zero (16 * k) (row image k) ++ cells_from bases.Zero (16 * k + length (row image k)) (drop 16 rest) ≡ cells_from bases.Zero (16 * k) rest =
+    sym (cells_from-append (row image k) (drop 16 rest) (16 * k)) ∙ ap (cells_from bases.Zero (16 * k)) (take-append-drop 16 rest) in
     let len = length-take 16 rest in
-    ap (λ cells. placed bases.Zero (16 * k) (row image k) ++ cells)
+    ap (λ cells. cells_from bases.Zero (16 * k) (row image k) ++ cells)
     (⊎_elim (λ (full : 16 ≤ length rest).
     let same : 16 * (k + 1) ≡ 16 * k + length (row image k) = omega (arith, len) in
-    ap (λ n. placed bases.Zero n (drop (16 * (k + 1)) image)) same ∙ ap (placed bases.Zero (16 * k + length (row image k))) (sym behind))
+    ap (λ n. cells_from bases.Zero n (drop (16 * (k + 1)) image)) same ∙ ap (cells_from bases.Zero (16 * k + length (row image k))) (sym behind))
     (λ (short : length rest < 16).
     let none : drop 16 rest ≡ [] = drop_all 16 rest (omega arith) in
-    ap (placed bases.Zero (16 * (k + 1))) (sym behind ∙ none) ∙ ap (placed bases.Zero (16 * k + length (row image k))) (sym none))
+    ap (cells_from bases.Zero (16 * (k + 1))) (sym behind ∙ none) ∙ ap (cells_from bases.Zero (16 * k + length (row image k))) (sym none))
     (cases_le 16 (length rest)))
     ∙ whole
   where
     cases_le : (m n : ℕ) → (m ≤ n) ⊎ (n < m)
     cases_le m n = grind arith
 
-rows_given : (image : List ℕ) (m k : ℕ) (base : Base) → IsBaseAt base (16 * k) → 16 * (k + m) ≤ 2 ^ 32 → length image ≤ 16 * (k + m) → given base (rows_records image k m) ≡ placed bases.Zero (16 * k) (drop (16 * k) image)
-rows_given image zero k base good low all = ap (placed bases.Zero (16 * k)) (sym (drop_all (16 * k) image (omega arith)))
+rows_given : (image : List ℕ) (m k : ℕ) (base : Base) → IsBaseAt base (16 * k) → 16 * (k + m) ≤ 2 ^ 32 → length image ≤ 16 * (k + m) → given base (rows_records image k m) ≡ cells_from bases.Zero (16 * k) (drop (16 * k) image)
+rows_given image zero k base good low all = ap (cells_from bases.Zero (16 * k)) (sym (drop_all (16 * k) image (omega arith)))
 rows_given image (suc m) k base good low all =
     given-append base (row_records image k) (rows_records image (k + 1) m)
     ∙ ap (λ cells. cells ++ given (fold base_behind base (row_records image k)) (rows_records image (k + 1) m)) (row_given image base k good (omega arith))
-    ∙ ap (λ b. placed bases.Zero (16 * k) (row image k) ++ given b (rows_records image (k + 1) m)) (row_base image base k good)
-    ∙ ap (λ cells. placed bases.Zero (16 * k) (row image k) ++ cells) (rows_given image m (k + 1) (bases.Linear (16 * k / 65536)) (base-next k) (omega arith) (omega arith))
+    ∙ ap (λ b. cells_from bases.Zero (16 * k) (row image k) ++ given b (rows_records image (k + 1) m)) (row_base image base k good)
+    ∙ ap (λ cells. cells_from bases.Zero (16 * k) (row image k) ++ cells) (rows_given image m (k + 1) (bases.Linear (16 * k / 65536)) (base-next k) (omega arith) (omega arith))
     ∙ row_joins image k
 
 -- ---- the image of bytes that stand at their places
 
-extent-placed : (b : ℕ) (bytes : List ℕ) (at : ℕ) → extent (placed bases.Zero at (b ∷ bytes)) ≡ at + suc (length bytes)
-extent-placed b [] at = omega arith
-extent-placed b (c ∷ bytes) at = let rest = extent-placed c bytes (at + 1) in omega (arith, rest)
+extent-cells_from : (b : ℕ) (bytes : List ℕ) (at : ℕ) → extent (cells_from bases.Zero at (b ∷ bytes)) ≡ at + suc (length bytes)
+extent-cells_from b [] at = omega arith
+extent-cells_from b (c ∷ bytes) at = let rest = extent-cells_from c bytes (at + 1) in omega (arith, rest)
 
-extent-image : (image : List ℕ) → extent (placed bases.Zero 0 image) ≡ length image
+extent-image : (image : List ℕ) → extent (cells_from bases.Zero 0 image) ≡ length image
 extent-image [] = refl
-extent-image (b ∷ bytes) = extent-placed b bytes 0 ∙ omega arith
+extent-image (b ∷ bytes) = extent-cells_from b bytes 0 ∙ omega arith
 
-zero-apart : (bytes : List ℕ) (at before : ℕ) → before < at → byte_at (placed bases.Zero at bytes) before ≡ None
+zero-apart : (bytes : List ℕ) (at before : ℕ) → before < at → byte_at (cells_from bases.Zero at bytes) before ≡ None
 zero-apart [] at before h = refl
 zero-apart (b ∷ bytes) at before h =
-    byte_at-none_cons (record { at = at; byte = b }) (placed bases.Zero (at + 1) bytes) before (grind (arith, nat_tests)) (zero-apart bytes (at + 1) before (omega arith))
+    byte_at-none_cons (record { at = at; byte = b }) (cells_from bases.Zero (at + 1) bytes) before (grind (arith, nat_tests)) (zero-apart bytes (at + 1) before (omega arith))
 
-AreOnce-zero : (bytes : List ℕ) (at : ℕ) → AreOnce (placed bases.Zero at bytes)
+AreOnce-zero : (bytes : List ℕ) (at : ℕ) → AreOnce (cells_from bases.Zero at bytes)
 AreOnce-zero [] at = tt
 AreOnce-zero (b ∷ bytes) at = (zero-apart bytes (at + 1) at (omega arith), AreOnce-zero bytes (at + 1))
 
-below : (bytes : List ℕ) (at : ℕ) → at + length bytes ≤ flash_bytes → AllByRecursion (λ cell. cell.at < flash_bytes) (placed bases.Zero at bytes)
+below : (bytes : List ℕ) (at : ℕ) → at + length bytes ≤ flash_size → AllByRecursion (λ cell. cell.at < flash_size) (cells_from bases.Zero at bytes)
 below [] at h = tt
 below (b ∷ bytes) at h = (omega arith, below bytes (at + 1) (omega arith))
 
-byte_at-placed : (bytes : List ℕ) (at k : ℕ) → k < length bytes → byte_at (placed bases.Zero at bytes) (at + k) ≡ Some (get_or bytes k 0)
-byte_at-placed [] at k h = absurd (omega arith)
-byte_at-placed (b ∷ bytes) at zero h =
+byte_at-cells_from : (bytes : List ℕ) (at k : ℕ) → k < length bytes → byte_at (cells_from bases.Zero at bytes) (at + k) ≡ Some (get_or bytes k 0)
+byte_at-cells_from [] at k h = absurd (omega arith)
+byte_at-cells_from (b ∷ bytes) at zero h =
     let same : (at == at + 0) ≡ true = grind (arith, nat_tests) in
-    ap (λ t. cond t (Some b) (byte_at (placed bases.Zero (at + 1) bytes) (at + 0))) same
-byte_at-placed (b ∷ bytes) at (suc k) h =
+    ap (λ t. cond t (Some b) (byte_at (cells_from bases.Zero (at + 1) bytes) (at + 0))) same
+byte_at-cells_from (b ∷ bytes) at (suc k) h =
     let other : (at == at + suc k) ≡ false = grind (arith, nat_tests) in
     let same : at + suc k ≡ at + 1 + k = omega arith in
-    ap (λ t. cond t (Some b) (byte_at (placed bases.Zero (at + 1) bytes) (at + suc k))) other
-    ∙ ap (byte_at (placed bases.Zero (at + 1) bytes)) same ∙ byte_at-placed bytes (at + 1) k (omega arith)
+    ap (λ t. cond t (Some b) (byte_at (cells_from bases.Zero (at + 1) bytes) (at + suc k))) other
+    ∙ ap (byte_at (cells_from bases.Zero (at + 1) bytes)) same ∙ byte_at-cells_from bytes (at + 1) k (omega arith)
 
-image_of-placed : (image : List ℕ) → image_of (placed bases.Zero 0 image) ≡ image
-image_of-placed image =
-    let cells : List Cell = placed bases.Zero 0 image in
+image_of-cells_from : (image : List ℕ) → image_of (cells_from bases.Zero 0 image) ≡ image
+image_of-cells_from image =
+    let cells : List Cell = cells_from bases.Zero 0 image in
     let len : length (image_of cells) ≡ length image = length-map-range_with_len (λ at. unwrap_or (byte_at cells at) 0xFF) 0 (extent cells) ∙ extent-image image in
     let wide = extent-image image in
     ext_get_or 0 (image_of cells) image len (λ k lt.
     let within : k < length image = omega (arith, lt, len) in
     let zero_up : k ≡ 0 + k = omega arith in
     get_or-map-range_with_len (λ at. unwrap_or (byte_at cells at) 0xFF) 0 (extent cells) k k 0 (omega (arith, within, wide)) (omega arith)
-    ∙ ap (λ at. unwrap_or (byte_at cells at) 0xFF) zero_up ∙ ap (λ o. unwrap_or o 0xFF) (byte_at-placed image 0 k within))
+    ∙ ap (λ at. unwrap_or (byte_at cells at) 0xFF) zero_up ∙ ap (λ o. unwrap_or o 0xFF) (byte_at-cells_from image 0 k within))
 
 -- ---- the rules
 
@@ -251,7 +251,7 @@ Spells-hextext image fits =
     let bytes = IsBytes-from_image image fits.bytes in
     let told = Tells-append (flat_map (row_lines image) (range_with_len 0 m)) (record_line 1 0 []) rows (End ∷ []) (Tells-rows image m 0 bytes (omega arith)) Tells-end in
     let said = told.tells [] [] tt in
-    let cells : given bases.Zero (rows ++ End ∷ []) ≡ placed bases.Zero 0 image =
+    let cells : given bases.Zero (rows ++ End ∷ []) ≡ cells_from bases.Zero 0 image =
     given-append bases.Zero rows (End ∷ []) ∙ append-nil (given bases.Zero rows)
     ∙ rows_given image m 0 bases.Zero (λ e. absurd (false≢true (sym e))) (omega arith) (omega arith) in
     record {
@@ -260,10 +260,10 @@ Spells-hextext image fits =
       sound = record {
         ends_last = EndsLast-push rows End (EndsLast-none rows (no_end image m 0)) (no_end image m 0);
         in_flash = rw cells (below image 0 (omega arith));
-        once = rw cells (distinct_from_once (placed bases.Zero 0 image) (AreOnce-zero image 0));
+        once = rw cells (distinct_from_once (cells_from bases.Zero 0 image) (AreOnce-zero image 0));
       };
       ended = has_end-push rows End;
-      content = sym (ap image_of cells ∙ image_of-placed image);
+      content = sym (ap image_of cells ∙ image_of-cells_from image);
     }
 
 pub round_trip-of : (image : List ℕ) → IsImage image → RoundTrip image

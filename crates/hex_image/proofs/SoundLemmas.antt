@@ -4,7 +4,7 @@ use Rattle.std.proofs.lemmas.Bool.{false≢true}
 use Rattle.hex_image.specs.declared.flash.Base.TheVariants.{Zero}
 use Rattle.hex_image.specs.Records.{Record}
 use Rattle.hex_image.specs.Image.{Cell, base_behind, byte_at, given}
-use Rattle.hex_image.specs.Spells.{flash_bytes, is_end, has_end, EndsLast, AreSound, base_after, cells_fault}
+use Rattle.hex_image.specs.Spells.{flash_size, is_end, has_end, EndsLast, AreSound, base_after, cells_fault}
 use Rattle.hex_image.proofs.ListLemmas.{or_false, all_append, all_front, all_back}
 use Rattle.hex_image.proofs.GivenLemmas.{AreOnce, AreOnce-append, AreOnce-front, AreOnce-back, AreOnce-apart, distinct_from_once, once_from_distinct}
 use Rattle.hex_image.proofs.ProgressLemmas.{given-append, given-push, new_cells, no_fault, fault_free}
@@ -40,7 +40,7 @@ AreSound-push records r sound open' fault once =
     let e = given-push records r in
     record {
       ends_last = EndsLast-push records r sound.ends_last open';
-      in_flash = rw e (all_append (λ (c : Cell). c.at < flash_bytes) old new sound.in_flash keeps.0);
+      in_flash = rw e (all_append (λ (c : Cell). c.at < flash_size) old new sound.in_flash keeps.0);
       once = rw e (distinct_from_once (old ++ new) (AreOnce-append old new (once_from_distinct old sound.once) once keeps.1));
     }
 
@@ -56,7 +56,7 @@ kept_before records rest r sound =
     let new : List Cell = new_cells records r in
     let later : List Cell = given (base_behind (base_after records) r) rest in
     let e : given Zero (records ++ r ∷ rest) ≡ old ++ (new ++ later) = given-append Zero records (r ∷ rest) in
-    let low = all_front (λ (c : Cell). c.at < flash_bytes) new later (all_back (λ (c : Cell). c.at < flash_bytes) old (new ++ later) (rw e at sound.in_flash)) in
+    let low = all_front (λ (c : Cell). c.at < flash_size) new later (all_back (λ (c : Cell). c.at < flash_size) old (new ++ later) (rw e at sound.in_flash)) in
     let once = once_from_distinct (old ++ (new ++ later)) (rw e at sound.once) in
     record {
       open_end = ends_before records rest r sound.ends_last;

@@ -27,13 +27,13 @@ pub record Cell : Type 0 where
   pub byte : ℕ
 
 -- data bytes from an offset on, each with its address
-abbrev pub placed : Base → ℕ → List ℕ → List Cell
-placed base offset [] = []
-placed base offset (b ∷ bytes) = record { at = address base offset; byte = b } ∷ placed base (offset + 1) bytes
+abbrev pub cells_from : Base → ℕ → List ℕ → List Cell
+cells_from base offset [] = []
+cells_from base offset (b ∷ bytes) = record { at = address base offset; byte = b } ∷ cells_from base (offset + 1) bytes
 
 -- what one record gives
 abbrev pub cells_of : Base → Record → List Cell
-cells_of base (Bytes offset bytes) = placed base offset bytes
+cells_of base (Bytes offset bytes) = cells_from base offset bytes
 cells_of base End = []
 cells_of base (Segment n) = []
 cells_of base (Linear n) = []

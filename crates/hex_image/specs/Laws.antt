@@ -2,7 +2,7 @@
 use Rattle.std.specs.Prelude.{◌≡◌, ℕ, ◌<◌, ◌≤◌, ◌⊎◌, List, length}
 use Rattle.std.specs.List.{All}
 use Rattle.hex_image.specs.declared.refused.HexCode.{HexCode}
-use Rattle.hex_image.specs.Spells.{Spells, Breaks, flash_bytes}
+use Rattle.hex_image.specs.Spells.{Spells, Breaks, flash_size}
 use Rattle.hex_image.specs.Writing.{hextext}
 
 -- A text spells one image, or there is one rule that it breaks first.
@@ -14,7 +14,7 @@ pub record OneReading (text : List ℕ) : Type 0 where
 
 -- what fits the board's flash, byte by byte
 pub record IsImage (image : List ℕ) : Type 0 where
-  pub fits : length image ≤ flash_bytes
+  pub fits : length image ≤ flash_size
   pub bytes : All (λ b. b < 256) image
 
 -- The text that is written for an image spells it, and no other.

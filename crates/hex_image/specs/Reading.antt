@@ -8,7 +8,7 @@ use Rattle.hex_image.specs.declared.flash.Base.{Base}
 use Rattle.hex_image.specs.declared.flash.Base.TheVariants.{Zero}
 use Rattle.hex_image.specs.Records.{Record, full_lines, record_of}
 use Rattle.hex_image.specs.Image.{Cell, base_behind, cells_of}
-use Rattle.hex_image.specs.Spells.{flash_bytes, is_end}
+use Rattle.hex_image.specs.Spells.{flash_size, is_end}
 
 -- the ? of the logic: the second step, if the first gave a value
 infixl 10 ◌>>=◌
@@ -31,7 +31,7 @@ put flash cell = slice_set (flash ++ replicate (cell.at + 1 - length flash) None
 -- the flash with new cells, or the rule that they break
 unfoldable pub put_all : Cells → List Cell → Result Cells HexCode
 put_all flash cells =
-    if list_any (λ cell. nat_le flash_bytes cell.at) cells then Err PastFlash
+    if list_any (λ cell. nat_le flash_size cell.at) cells then Err PastFlash
     else if list_any (λ cell. is_some (cell_at flash cell.at)) cells then Err Overlap
     else Ok (fold put flash cells)
 

@@ -9,8 +9,8 @@ use Rattle.hex_image.specs.Records.{Record, Bytes, End, Segment, Linear, Start, 
 use Rattle.hex_image.specs.Image.{Cell, base_behind, cells_of, given, byte_at, image_of}
 
 -- the board's flash, in bytes
-abbrev pub flash_bytes : ℕ
-flash_bytes = 262144
+abbrev pub flash_size : ℕ
+flash_size = 262144
 
 -- the lines say these records, one each
 abbrev pub Say : List (List ℕ) → List Record → Type 0
@@ -36,7 +36,7 @@ EndsLast (r ∷ records) = (is_end r ≡ true → records ≡ []) × EndsLast re
 -- the records keep the rules: nothing follows the end, all bytes lie in flash, and no address is given twice
 pub record AreSound (records : List Record) : Type 0 where
   pub ends_last : EndsLast records
-  pub in_flash : AllByRecursion (λ cell. cell.at < flash_bytes) (given Zero records)
+  pub in_flash : AllByRecursion (λ cell. cell.at < flash_size) (given Zero records)
   pub once : IsDistinct nat_eq (map (λ cell. cell.at) (given Zero records))
 
 -- The text spells the image: its lines say records that keep the rules, the end record among them, and the image is
@@ -55,7 +55,7 @@ base_after records = fold base_behind Zero records
 -- the rule that new data bytes break, behind those given before
 abbrev pub cells_fault : List Cell → List Cell → Option HexCode
 cells_fault before cells =
-    if list_any (λ cell. nat_le flash_bytes cell.at) cells then Some PastFlash
+    if list_any (λ cell. nat_le flash_size cell.at) cells then Some PastFlash
     else if list_any (λ cell. is_some (byte_at before cell.at)) cells then Some Overlap
     else None
 

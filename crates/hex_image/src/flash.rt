@@ -3,8 +3,8 @@
 ghost use Rattle.std.specs.Prelude.{◌≡◌, ℕ, ◌+◌, ◌^◌, ◌<◌, ◌≤◌, List, Option, length, OnOk, map, nat_le, is_some, unwrap_or, fold, IfOk};
 ghost use Rattle.std.specs.List.{list_any};
 ghost use Rattle.hex_image.specs.Image as spec;
-ghost use Rattle.hex_image.specs.Image.{Cell, placed};
-ghost use Rattle.hex_image.specs.Spells.{flash_bytes};
+ghost use Rattle.hex_image.specs.Image.{Cell, cells_from};
+ghost use Rattle.hex_image.specs.Spells.{flash_size};
 ghost use Rattle.hex_image.specs.Answers.{Gives};
 ghost use Rattle.hex_image.specs.Reading.{cell_at, put_all};
 ghost use Rattle.hex_image.specs.Reading as reading;
@@ -44,7 +44,7 @@ fn address(base: Base, offset: usize) -> usize
 
 /// Whether one of these data bytes stands behind the flash.
 fn passes_flash(base: Base, offset: u16, bytes: &[u8]) -> bool
-    ensures { result ≡ list_any (λ cell. nat_le flash_bytes cell.at) (placed base offset bytes.now) }
+    ensures { result ≡ list_any (λ cell. nat_le flash_size cell.at) (cells_from base offset bytes.now) }
 {
     for i in 0..bytes.len() {
         if address(base, usize::from(offset) + i) >= FLASH {
@@ -63,7 +63,7 @@ fn is_given(flash: &[Option<u8>], at: usize) -> bool
 
 /// Whether one of these data bytes stands where a byte was given.
 fn meets_given(flash: &[Option<u8>], base: Base, offset: u16, bytes: &[u8]) -> bool
-    ensures { result ≡ list_any (λ cell. is_some (cell_at flash.now cell.at)) (placed base offset bytes.now) }
+    ensures { result ≡ list_any (λ cell. is_some (cell_at flash.now cell.at)) (cells_from base offset bytes.now) }
 {
     for i in 0..bytes.len() {
         if is_given(flash, address(base, usize::from(offset) + i)) {
@@ -93,7 +93,7 @@ fn put_bytes(
     offset: u16,
     bytes: &[u8],
 ) -> Result<(), AllocError>
-    ensures { OnOk result (flash.new.items ≡ fold reading.put flash.old.items (placed base offset bytes.now)) }
+    ensures { OnOk result (flash.new.items ≡ fold reading.put flash.old.items (cells_from base offset bytes.now)) }
 {
     for i in 0..bytes.len() {
         put(flash, address(base, usize::from(offset) + i), bytes[i])?;
@@ -109,7 +109,7 @@ pub fn place(
     offset: u16,
     bytes: &[u8],
 ) -> Result<(), HexRefused>
-    ensures { Gives (λ _. flash.new.items) result (put_all flash.old.items (placed base offset bytes.now)) }
+    ensures { Gives (λ _. flash.new.items) result (put_all flash.old.items (cells_from base offset bytes.now)) }
 {
     if passes_flash(base, offset, bytes) {
         return Err(HexRefused::Image(HexCode::PastFlash));

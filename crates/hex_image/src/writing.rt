@@ -3,7 +3,7 @@
 ghost use Rattle.std.specs.Prelude.{◌≡◌, ◌+◌, ◌*◌, ◌/◌, ◌%◌, ◌^◌, ◌<◌, ◌≤◌, ◌++◌, length, sum, IfOk, OnOk};
 ghost use Rattle.hex.specs.Hex.{encode_upper};
 ghost use Rattle.hex_image.specs.Writing.{block_lines, hextext, record_line, row_lines};
-ghost use Rattle.hex_image.specs.Spells.{flash_bytes};
+ghost use Rattle.hex_image.specs.Spells.{flash_size};
 
 use std::alloc::{AllocError, Global};
 use sts_base::NoMemory;
@@ -60,7 +60,7 @@ fn put_block(out: &mut Vec<u8>, at: usize) -> Result<(), AllocError>
 /// Adds the lines of row `k` of an image: its 16 bytes, behind a base record where 64 KB begin.
 #[tactic(auto, unfolding(crate::specs::Writing::row_lines))]
 fn put_row(out: &mut Vec<u8>, image: &[u8], k: usize) -> Result<(), AllocError>
-    requires fits { length image.now ≤ flash_bytes }
+    requires fits { length image.now ≤ flash_size }
     requires within { 16 * k < length image.now }
     ensures { OnOk result (out.new.items ≡ out.old.items ++ row_lines image.now k) }
 {
@@ -73,14 +73,14 @@ fn put_row(out: &mut Vec<u8>, image: &[u8], k: usize) -> Result<(), AllocError>
 /// The HEX text of an image: records of 16 bytes from address 0 on, behind a base record where each 64 KB begin,
 /// and the end record.
 pub fn write_hex(alloc: Global, image: &[u8]) -> Result<Vec<u8>, NoMemory>
-    requires { length image.now ≤ flash_bytes }
+    requires { length image.now ≤ flash_size }
     ensures { IfOk result (λ text. text.items ≡ hextext image.now) }
 {
     write(alloc, image).map_err(|_| NoMemory)
 }
 
 fn write(alloc: Global, image: &[u8]) -> Result<Vec<u8>, AllocError>
-    requires { length image.now ≤ flash_bytes }
+    requires { length image.now ≤ flash_size }
     ensures { IfOk result (λ text. text.items ≡ hextext image.now) }
 {
     let mut out = Vec::new(alloc);

@@ -17,7 +17,7 @@ use Rattle.tool_io.specs.declared.sink.PutFailed.{PutFailed}
 use Rattle.tool_io.proofs.Laws.{took-then, rose-before}
 use Rattle.board_ports.specs.Account.{Account}
 use Rattle.board_ports.specs.Plugged.{Plugged}
-use Rattle.board_ports.specs.History.{Follows}
+use Rattle.board_ports.specs.History.{FollowsMoves}
 use Rattle.board_ports.proofs.Laws.{places_after}
 use Rattle.event_script.specs.World.{world_entries}
 use Rattle.event_script.specs.declared.script.Script.{Script}
@@ -48,7 +48,7 @@ is_over (Some x) q = refl
 is_over None q = absurd (let c : false ≡ true = q in cc)
 
 module _ {B : Type 0} (account : B → Account) (arrivals left : List Arrival) (first b : OverSink B)
-    (h : Underway account arrivals first b left b.board.instructions) (budget : ℕ) (image : List ℕ) (script : Script) (m : IsMounted image script first.board.engine) (places : List (Option B)) (f : Follows account [] places first.board.plugs) where
+    (h : Underway account arrivals first b left b.board.instructions) (budget : ℕ) (image : List ℕ) (script : Script) (m : IsMounted image script first.board.engine) (places : List (Option B)) (f : FollowsMoves account [] places first.board.plugs) where
   abbrev e : Engine
   e = b.board.engine
 

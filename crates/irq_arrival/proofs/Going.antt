@@ -8,7 +8,7 @@ use Rattle.tool_io.specs.Putting.{Took}
 use Rattle.tool_io.proofs.Laws.{took-nothing, took-then}
 use Rattle.event_script.specs.World.{world_entries}
 use Rattle.board_ports.specs.Account.{Account}
-use Rattle.board_ports.specs.History.{Follows}
+use Rattle.board_ports.specs.History.{FollowsMoves}
 use Rattle.board_outside.specs.Moves.{seen_of}
 use Rattle.board_outside.proofs.Laws.{seen_of-append, lines-append}
 use Rattle.board_run.specs.declared.engine.Engine.{Engine}
@@ -29,7 +29,7 @@ module _ {B : Type 0} (account : B → Account) (arrivals : List Arrival) (first
   underway_begins r = record {
     moves = [];
     along = λ image script m. ([], begins image script.end (world_entries script.entries) arrivals (state_of first.board.engine) r m.begins);
-    ports = λ before start f. subst (λ ms. Follows account ms start first.board.plugs) (sym (append-nil before)) f;
+    ports = λ before start f. subst (λ ms. FollowsMoves account ms start first.board.plugs) (sym (append-nil before)) f;
     written = took-nothing first.taken;
   }
 

@@ -17,7 +17,7 @@ use Rattle.board_world.specs.Modes.{queues_if_busy}
 use Rattle.sts_meaning.specs.Services.{event, text, code, mode, with_none, with_one, with_two, with_three, with_four, of_one, of_two, of_listener, requested}
 use Rattle.sts_meaning.specs.Continuation.{Continuation, asks, gives_value}
 use Rattle.meaning_sound.specs.Sorts.{Sort, Of, Begins, Exactly, sorts_of, above, Well, Is, IsA, IsRequest, Asks}
-use Rattle.meaning_sound.specs.Fits.{Given, Answers, Fits}
+use Rattle.meaning_sound.specs.Fits.{Given, Answers, FitsValues}
 use Rattle.meaning_sound.proofs.Growth.{then_well}
 use Rattle.meaning_sound.proofs.Operations.{number_whole}
 
@@ -106,19 +106,19 @@ module _ (P : TypedProgram) where
 
   module _ (S : Setting) where
     abbrev G : Continuation → Sort → List Sort → Type 0
-    G k s ss = Given P (Fits P S k) s ss
+    G k s ss = Given P (FitsValues P S k) s ss
 
     abbrev sorts : BoardCall → List Sort
     sorts call = arranged Exactly (row_of call).action (sorts_of (row_of call).takes)
 
     -- a call that asks for a service
     abbrev asked_for : (service : ℕ) (these : List Sort) (u : ValueType) → Asks P service these → (n : ℕ) (k : Continuation) (ss : List Sort) → Answers (gives_value u) u → n ≡ length these → G k (Of u) ss
-        → (before : List Sort) × (x : List Sort) × (w : ValueType) × (above these ss ≡ above before x) × (n ≡ length before) × Asks P service before × Answers (gives_value u) w × Given P (Fits P S k) (Of w) x
+        → (before : List Sort) × (x : List Sort) × (w : ValueType) × (above these ss ≡ above before x) × (n ≡ length before) × Asks P service before × Answers (gives_value u) w × Given P (FitsValues P S k) (Of w) x
     asked_for service these u fine n k ss answers m g = (these, ss, u, refl, m, fine, answers, g)
 
     pub asks_fit : (call : BoardCall) (n : ℕ) (k : Continuation) (ss : List Sort) → IsAsked (row_of call).action
         → n ≡ length (arranged Exactly (row_of call).action (sorts_of (row_of call).takes)) → G k (Of (row_of call).gives) ss
-        → Fits P S (asks (row_of call).action n (gives_value (row_of call).gives) k) (above (arranged Exactly (row_of call).action (sorts_of (row_of call).takes)) ss)
+        → FitsValues P S (asks (row_of call).action n (gives_value (row_of call).gives) k) (above (arranged Exactly (row_of call).action (sorts_of (row_of call).takes)) ss)
     asks_fit b.Pause n k ss a m g = asked_for 2 (sorts b.Pause) t.Nothing (λ h vs p. one_number h q.Pause (λ x. tt) (Of t.Number) tt vs p) n k ss tt m g
     asks_fit b.Forever n k ss a m g = g
     asks_fit b.ShowLeds n k ss a m g = absurd a

@@ -10,7 +10,7 @@ use Rattle.sts_syntax.specs.WellTyped.{Setting, parameters_of}
 use Rattle.sts_syntax.specs.WellTypedPrograms.{is_maker, base_of_maker, setting, IsBodyOf, IsWellTyped}
 use Rattle.sts_meaning.specs.Continuation.{Continuation, Drop, evals_each, bare, runs_all}
 use Rattle.meaning_sound.specs.Sorts.{Of}
-use Rattle.meaning_sound.specs.Fits.{Fits}
+use Rattle.meaning_sound.specs.Fits.{FitsValues}
 use Rattle.meaning_sound.specs.Kept.{GivesThis}
 use Rattle.meaning_sound.proofs.Lists.{some_same}
 use Rattle.meaning_sound.proofs.Growth.{same_suits}
@@ -88,15 +88,15 @@ module _ (P : TypedProgram) where
       abbrev back : Continuation
       back = bare S.maker
 
-      pub body_fits : (base : Option ℕ) (all : TypedStatements) → base_of_maker P P.classes f ≡ base → IsBodyOf P base S all → Fits P S (runs_all S.maker all back back back) []
+      pub body_fits : (base : Option ℕ) (all : TypedStatements) → base_of_maker P P.classes f ≡ base → IsBodyOf P base S all → FitsValues P S (runs_all S.maker all back back back) []
       body_fits None all q p = all_run P S (this_is f r has) all false [] back back back p (bare_fits P S (this_is f r has)) (bare_fits P S (this_is f r has)) (bare_fits P S (this_is f r has))
       body_fits (Some base) (e.also (e.Plain (e.SuperCall u g args)) rest) q p =
           (let m = base_class P.classes f base q in
           let o = makes_of f m.0 m.1 r m.2 has in
           let i = p.4 in
-          let fine : Fits P S back [] = bare_fits P S (this_is f r has) in
+          let fine : FitsValues P S back [] = bare_fits P S (this_is f r has) in
           let next : Continuation = runs_all S.maker rest back back back in
-          let next_fits : Fits P S next [] = all_run P S (this_is f r has) rest false [] back back back p.7 fine fine fine in
+          let next_fits : FitsValues P S next [] = all_run P S (this_is f r has) rest false [] back back back p.7 fine fine fine in
           super_fits P S m.0 i.1 g i.0 p.1 (evals_each args) u (Drop next) [] o.this (suc i.4.0, (m.1, base, m.2.has, m.3, i.4.1)) i.2 i.3 (i.5 ∙ sym p.6)
           (parameters_yield P S p.1 (evals_each args) (each_yields P S [] (parameters_of p.1) args p.5))
           (Of u, same_suits P (Of u), next_fits))

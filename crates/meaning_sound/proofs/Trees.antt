@@ -15,7 +15,7 @@ use Rattle.sts_meaning.specs.Values.{Value, Whole, Text, default, truth}
 use Rattle.sts_meaning.specs.Heaps.{Heap}
 use Rattle.sts_meaning.specs.Continuation.{Continuation, Put, Get, Store, Drop, Unary, Apply, Choose, Both, Either, Read, Peek, Write, At, PeekAt, SetAt, Bump, BumpField, BumpAt, by_one, Measure, Push, Pop, Append, New, Build, Invoke, Send, Again, Each, Give, item_of, chained, arguments, appended, calls, evals, evals_each, initial, declares, tests, steps, bare, returns, runs, runs_first, runs_all}
 use Rattle.meaning_sound.specs.Sorts.{Sort, Of, Begins, Exactly, of_types, sorts_of, above, IsA}
-use Rattle.meaning_sound.specs.Fits.{Given, IsStored, Fits}
+use Rattle.meaning_sound.specs.Fits.{Given, IsStored, FitsValues}
 use Rattle.meaning_sound.specs.Kept.{GivesThis}
 use Rattle.meaning_sound.proofs.Growth.{default_is, same_goes, same_suits, suits_trans, suits_is}
 use Rattle.meaning_sound.proofs.Boards.{asks_fit}
@@ -30,11 +30,11 @@ length_types (u ∷ us) = ap suc (length_types us)
 
 module _ (P : TypedProgram) (S : Setting) where
   abbrev pub G : Continuation → Sort → List Sort → Type 0
-  G k s ss = Given P (Fits P S k) s ss
+  G k s ss = Given P (FitsValues P S k) s ss
 
   -- what gives a value of a sort
   abbrev pub Yields : Sort → (Continuation → Continuation) → Type 0
-  Yields s f = (k : Continuation) (before : List Sort) → Fits P S k (s ∷ before) → Fits P S (f k) before
+  Yields s f = (k : Continuation) (before : List Sort) → FitsValues P S k (s ∷ before) → FitsValues P S (f k) before
 
   abbrev pub EachYields : List Sort → List (Continuation → Continuation) → Type 0
   EachYields [] [] = Unit {0}
@@ -50,15 +50,15 @@ module _ (P : TypedProgram) (S : Setting) where
   truth_always false h = tt
 
   -- a value that is of a sort whatever the heap is given
-  put_fits : (v : Value) (s : Sort) (k : Continuation) (ss : List Sort) → ((h : Heap) → IsA P h s v) → G k s ss → Fits P S (Put v k) ss
+  put_fits : (v : Value) (s : Sort) (k : Continuation) (ss : List Sort) → ((h : Heap) → IsA P h s v) → G k s ss → FitsValues P S (Put v k) ss
   put_fits v s k ss p h = (h.0, λ heap. suits_is P heap s h.0 v h.1 (p heap), h.2)
 
   -- a value of a type that is known
-  at_type : (k : Continuation) (u v : ValueType) (ss : List Sort) → u ≡ v → Fits P S k (Of v ∷ ss) → G k (Of u) ss
+  at_type : (k : Continuation) (u v : ValueType) (ss : List Sort) → u ≡ v → FitsValues P S k (Of v ∷ ss) → G k (Of u) ss
   at_type k u v ss e h = (Of v, inl e, h)
 
   -- the sort itself
-  itself : (k : Continuation) (s : Sort) (ss : List Sort) → Fits P S k (s ∷ ss) → G k s ss
+  itself : (k : Continuation) (s : Sort) (ss : List Sort) → FitsValues P S k (s ∷ ss) → G k s ss
   itself k s ss h = (s, same_suits P s, h)
 
   -- a wider type
@@ -69,12 +69,12 @@ module _ (P : TypedProgram) (S : Setting) where
   of_type k u v ss q h = subst (λ (w : ValueType). G k (Of w) ss) q h
 
   -- `++` and `--`
-  by_one_fits : (by : ℤ) (k : Continuation) (ss : List Sort) → IsOne by → Fits P S k ss → Fits P S (by_one by k) ss
-  by_one_fits by k ss (inl e) h = subst (λ (n : ℤ). Fits P S (by_one n k) ss) (sym e) h
-  by_one_fits by k ss (inr e) h = subst (λ (n : ℤ). Fits P S (by_one n k) ss) (sym e) h
+  by_one_fits : (by : ℤ) (k : Continuation) (ss : List Sort) → IsOne by → FitsValues P S k ss → FitsValues P S (by_one by k) ss
+  by_one_fits by k ss (inl e) h = subst (λ (n : ℤ). FitsValues P S (by_one n k) ss) (sym e) h
+  by_one_fits by k ss (inr e) h = subst (λ (n : ℤ). FitsValues P S (by_one n k) ss) (sym e) h
 
   -- arguments, one after the other
-  chained_fit : (these : List Sort) (fs : List (Continuation → Continuation)) (k : Continuation) (before : List Sort) → EachYields these fs → Fits P S k (above these before) → Fits P S (chained fs k) before
+  chained_fit : (these : List Sort) (fs : List (Continuation → Continuation)) (k : Continuation) (before : List Sort) → EachYields these fs → FitsValues P S k (above these before) → FitsValues P S (chained fs k) before
   chained_fit [] [] k before y h = h
   chained_fit (s ∷ ss) (f ∷ fs) k before y h = y.0 (chained fs k) before (chained_fit ss fs k (s ∷ before) y.1 h)
   chained_fit [] (f ∷ fs) k before y h = absurd y
@@ -114,14 +114,14 @@ module _ (P : TypedProgram) (S : Setting) where
 
   -- a call of a function
   invoke_fits : (f : ℕ) (r : TypedRoutine) (fs : List (Continuation → Continuation)) (u : ValueType) (k : Continuation) (ss : List Sort) → HasRoutine P f r → EachYields (of_types r.params) fs → u ≡ r.gives → G k (Of u) ss
-      → Fits P S (chained fs (Invoke f (length fs) k)) ss
+      → FitsValues P S (chained fs (Invoke f (length fs) k)) ss
   invoke_fits f r fs u k ss has y q h =
       chained_fit (of_types r.params) fs (Invoke f (length fs) k) ss y (ss, r, has, refl, parameters_length r.params fs y, of_type k u r.gives ss q h)
 
   -- a call through `super`
   pub super_fits : (d o f : ℕ) (r : TypedRoutine) (params : List ValueType) (fs : List (Continuation → Continuation)) (u : ValueType) (k : Continuation) (ss : List Sort)
       → entry S.routine.params 0 ≡ Some (t.Object d) → IsBelow P d o → HasRoutine P f r → r.params ≡ t.Object o ∷ params → r.gives ≡ u → EachYields (of_types params) fs → G k (Of u) ss
-      → Fits P S (Get (Param 0) (chained fs (Invoke f (suc (length fs)) k))) ss
+      → FitsValues P S (Get (Param 0) (chained fs (Invoke f (suc (length fs)) k))) ss
   super_fits d o f r params fs u k ss this below has ps q y h = (
     t.Object d,
     this,
@@ -180,7 +180,7 @@ module _ (P : TypedProgram) (S : Setting) where
 
     mutual
       -- an expression fits where what comes after it fits above a value of its type
-      pub evals_fit : (a : TypedTree) (k : Continuation) (ss : List Sort) → IsTyped P S known a → G k (Of (type_of a)) ss → Fits P S (evals a k) ss
+      pub evals_fit : (a : TypedTree) (k : Continuation) (ss : List Sort) → IsTyped P S known a → G k (Of (type_of a)) ss → FitsValues P S (evals a k) ss
       evals_fit (e.Num u n) k ss p h = put_fits (Whole n) (Of t.Number) k ss (λ heap. tt) (of_type k u t.Number ss p.0 h)
       evals_fit (e.Text u n) k ss p h = put_fits (Text n) (Of t.Text) k ss (λ heap. tt) (of_type k u t.Text ss p h)
       evals_fit (e.Truth u v) k ss p h = put_fits (truth v) (Of t.Boolean) k ss (truth_always v) (of_type k u t.Boolean ss p h)
@@ -305,46 +305,46 @@ module _ (P : TypedProgram) (S : Setting) where
       items_yield u e.none p = tt
       items_yield u (e.more a rest) p = ((λ k before h. evals_fit a k before p.0 (Of u, p.1, h)), items_yield u rest p.2)
 
-    tests_fit : (o : Option TypedTree) (y n : Continuation) → MayTest P S known o → Fits P S y [] → Fits P S n [] → Fits P S (tests o y n) []
+    tests_fit : (o : Option TypedTree) (y n : Continuation) → MayTest P S known o → FitsValues P S y [] → FitsValues P S n [] → FitsValues P S (tests o y n) []
     tests_fit None y n p hy hn = hy
     tests_fit (Some a) y n p hy hn = evals_fit a (Choose y n) [] p.0 (at_type (Choose y n) (type_of a) t.Boolean [] p.1 (hy, hn))
 
-    steps_fit : (o : Option TypedTree) (k : Continuation) → MayStep P S known o → Fits P S k [] → Fits P S (steps o k) []
+    steps_fit : (o : Option TypedTree) (k : Continuation) → MayStep P S known o → FitsValues P S k [] → FitsValues P S (steps o k) []
     steps_fit None k p h = h
     steps_fit (Some a) k p h = evals_fit a (Drop k) [] p (itself (Drop k) (Of (type_of a)) [] h)
 
-    initial_fits : (o : Option TypedTree) (x : Spot) (u : ValueType) (k : Continuation) → MayDeclare P S x u → IsInitial P S known o u → Fits P S k [] → Fits P S (initial o (Store x (Drop k))) []
+    initial_fits : (o : Option TypedTree) (x : Spot) (u : ValueType) (k : Continuation) → MayDeclare P S x u → IsInitial P S known o u → FitsValues P S k [] → FitsValues P S (initial o (Store x (Drop k))) []
     initial_fits None x u k m p h = (Of u, (λ heap. default_is P heap u), (u, may_stored x u m, same_goes P u, itself (Drop k) (Of u) [] h))
     initial_fits (Some a) x u k m p h = evals_fit a (Store x (Drop k)) [] p.0 (itself (Store x (Drop k)) (Of (type_of a)) [] (u, may_stored x u m, p.1, itself (Drop k) (Of u) [] h))
 
-  declares_fit : (known : List ℕ) (each : List TypedDeclaration) (k : Continuation) → AreDeclared P S known each → Fits P S k [] → Fits P S (declares each k) []
+  declares_fit : (known : List ℕ) (each : List TypedDeclaration) (k : Continuation) → AreDeclared P S known each → FitsValues P S k [] → FitsValues P S (declares each k) []
   declares_fit known [] k p h = h
   declares_fit known (d ∷ rest) k p h = initial_fits known d.first d.name p.0 (declares rest k) p.1 p.2 (declares_fit (known_with d.name known) rest k p.3 h)
 
   module _ (this : GivesThis P S) where
     -- running off the end
-    pub bare_fits : Fits P S (bare S.maker) []
+    pub bare_fits : FitsValues P S (bare S.maker) []
     bare_fits = by_maker S.maker refl
       where
-        by_maker : (m : Bool) → S.maker ≡ m → Fits P S (bare m) []
+        by_maker : (m : Bool) → S.maker ≡ m → FitsValues P S (bare m) []
         by_maker true q = (let o = this q in (t.Object o.0, o.1, (Of (t.Object o.0), same_suits P (Of (t.Object o.0)), inl (sym o.2))))
         by_maker false q = (Of S.routine.gives, (λ h. default_is P h S.routine.gives), same_goes P S.routine.gives)
 
-    returned_fits : (known : List ℕ) (value : Option TypedTree) (main maker : Bool) → S.maker ≡ maker → Fits P S (bare maker) []
-        → IsReturned P S known value (if main then None else Some (if maker then t.Nothing else S.routine.gives)) → (b d k : Continuation) → Fits P S (runs maker (e.Return value) b d k) []
+    returned_fits : (known : List ℕ) (value : Option TypedTree) (main maker : Bool) → S.maker ≡ maker → FitsValues P S (bare maker) []
+        → IsReturned P S known value (if main then None else Some (if maker then t.Nothing else S.routine.gives)) → (b d k : Continuation) → FitsValues P S (runs maker (e.Return value) b d k) []
     returned_fits known value true maker q back p b d k = absurd p
     returned_fits known None false maker q back p b d k = back
     returned_fits known (Some a) false true q back p b d k = evals_fit known a (returns true) [] p.0 (itself (returns true) (Of (type_of a)) [] back)
     returned_fits known (Some a) false false q back p b d k = evals_fit known a Give [] p.0 (itself Give (Of (type_of a)) [] p.1)
 
-    first_run : (known : List ℕ) (o : OptionalTypedStatement) (b d k : Continuation) → IsSoundFirst P S o known → Fits P S k [] → Fits P S (runs_first S.maker o b d k) []
+    first_run : (known : List ℕ) (o : OptionalTypedStatement) (b d k : Continuation) → IsSoundFirst P S o known → FitsValues P S k [] → FitsValues P S (runs_first S.maker o b d k) []
     first_run known e.omitted b d k p h = h
     first_run known (e.written (e.Let fixed each)) b d k p h = declares_fit known each k p h
     first_run known (e.written (e.Plain a)) b d k p h = evals_fit known a (Drop k) [] p (itself (Drop k) (Of (type_of a)) [] h)
     first_run known (e.written _) b d k p h = absurd p
 
     mutual
-      pub runs_fit : (s : TypedStatement) (looped : Bool) (known : List ℕ) (b d k : Continuation) → IsSound P S s looped known → Fits P S b [] → Fits P S d [] → Fits P S k [] → Fits P S (runs S.maker s b d k) []
+      pub runs_fit : (s : TypedStatement) (looped : Bool) (known : List ℕ) (b d k : Continuation) → IsSound P S s looped known → FitsValues P S b [] → FitsValues P S d [] → FitsValues P S k [] → FitsValues P S (runs S.maker s b d k) []
       runs_fit (e.Block all) l n b d k p hb hd h = all_run all l n b d k p hb hd h
       runs_fit (e.Let fixed each) l n b d k p hb hd h = declares_fit n each k p h
       runs_fit (e.IfOnly test a) l n b d k p hb hd h =
@@ -354,22 +354,22 @@ module _ (P : TypedProgram) (S : Setting) where
           (let so : Continuation = runs S.maker a b d k in let otherwise : Continuation = runs S.maker o b d k in
           evals_fit n test (Choose so otherwise) [] p.0.0 (at_type (Choose so otherwise) (type_of test) t.Boolean [] p.0.1 (runs_fit a l n b d k p.1 hb hd h, runs_fit o l n b d k p.2 hb hd h)))
       runs_fit (e.While test a) l n b d k p hb hd h =
-          (let turn : Continuation = Again (e.While test a) k in let fine : Fits P S turn [] = (refl, l, n, p, h) in
+          (let turn : Continuation = Again (e.While test a) k in let fine : FitsValues P S turn [] = (refl, l, n, p, h) in
           let body : Continuation = runs S.maker a k turn turn in
           evals_fit n test (Choose body k) [] p.0.0 (at_type (Choose body k) (type_of test) t.Boolean [] p.0.1 (runs_fit a true n k turn turn p.1 h fine fine, h)))
       runs_fit (e.DoWhile a test) l n b d k p hb hd h =
-          (let turn : Continuation = Again (e.DoWhile a test) k in let fine : Fits P S turn [] = (refl, l, n, p, h) in
+          (let turn : Continuation = Again (e.DoWhile a test) k in let fine : FitsValues P S turn [] = (refl, l, n, p, h) in
           let next : Continuation = evals test (Choose turn k) in
-          let next_fits : Fits P S next [] = evals_fit n test (Choose turn k) [] p.1.0 (at_type (Choose turn k) (type_of test) t.Boolean [] p.1.1 (fine, h)) in
+          let next_fits : FitsValues P S next [] = evals_fit n test (Choose turn k) [] p.1.0 (at_type (Choose turn k) (type_of test) t.Boolean [] p.1.1 (fine, h)) in
           runs_fit a true n k next next p.0 h next_fits next_fits)
       runs_fit (e.For first test step a) l n b d k p hb hd h =
           (let inside : List ℕ = known_after_first first n in
-          let turn : Continuation = Again (e.For e.omitted test step a) k in let fine : Fits P S turn [] = (refl, l, inside, (tt, p.1, p.2, p.3), h) in
-          let next : Continuation = steps step turn in let next_fits : Fits P S next [] = steps_fit inside step turn p.2 fine in
+          let turn : Continuation = Again (e.For e.omitted test step a) k in let fine : FitsValues P S turn [] = (refl, l, inside, (tt, p.1, p.2, p.3), h) in
+          let next : Continuation = steps step turn in let next_fits : FitsValues P S next [] = steps_fit inside step turn p.2 fine in
           let body : Continuation = runs S.maker a k next next in
           first_run n first b d (tests test body k) p.0 (tests_fit inside test body k p.1 (runs_fit a true inside k next next p.3 h next_fits next_fits) h))
       runs_fit (e.ForOf fixed (Local i) list a) l n b d k p hb hd h =
-          (let last : Fits P S (Each i a k) [] = (refl, i ∷ n, p.6, h, p.0, p.3, p.4, p.5) in
+          (let last : FitsValues P S (Each i a k) [] = (refl, i ∷ n, p.6, h, p.0, p.3, p.4, p.5) in
           let rest : Continuation = Drop (Put default (Store (Local (suc (suc i))) (Drop (Each i a k)))) in
           evals_fit n list (Store (Local (suc i)) rest) [] p.1
           (at_type (Store (Local (suc i)) rest) (type_of list) (t.ListOf p.0) [] p.2 (
@@ -387,7 +387,7 @@ module _ (P : TypedProgram) (S : Setting) where
       runs_fit (e.Plain a) l n b d k p hb hd h = evals_fit n a (Drop k) [] p (itself (Drop k) (Of (type_of a)) [] h)
       runs_fit e.Empty l n b d k p hb hd h = h
 
-      pub all_run : (all : TypedStatements) (looped : Bool) (known : List ℕ) (b d k : Continuation) → AreSound P S all looped known → Fits P S b [] → Fits P S d [] → Fits P S k [] → Fits P S (runs_all S.maker all b d k) []
+      pub all_run : (all : TypedStatements) (looped : Bool) (known : List ℕ) (b d k : Continuation) → AreSound P S all looped known → FitsValues P S b [] → FitsValues P S d [] → FitsValues P S k [] → FitsValues P S (runs_all S.maker all b d k) []
       all_run e.done l n b d k p hb hd h = h
       all_run (e.also a rest) l n b d k p hb hd h =
           runs_fit a l n b d (runs_all S.maker rest b d k) p.0 hb hd (all_run rest l (known_after a n) b d k p.1 hb hd h)

@@ -26,7 +26,7 @@ use Rattle.sts_meaning.specs.Continuation.{Continuation, Put, Get, Store, Drop, 
 use Rattle.sts_meaning.specs.Frames.{Names, Frame, Activity, Starts, Runs, after, with_latest, with_two, with_three, taken, named, with_local, with_param, stored, defaults, as_many, first, answered, round, grown}
 use Rattle.sts_meaning.specs.Steps.{repeating, words, entered, entered_round, method, entering, invoked, ended, begun, at, now, now_with, asker, takes_item, act, step, source, empty}
 use Rattle.meaning_sound.specs.Sorts.{Sort, Of, Begins, Exactly, of_types, above, Well, May, Is, IsA, IsRequest, Asks}
-use Rattle.meaning_sound.specs.Fits.{Answers, Given, IsStored, Fits}
+use Rattle.meaning_sound.specs.Fits.{Answers, Given, IsStored, FitsValues}
 use Rattle.meaning_sound.specs.Kept.{Grows, IsHeap, Holds, AreNamed, GivesThis, IsFrame, Wait, IsActivity, typed}
 use Rattle.meaning_sound.proofs.Lists.{some_same, paired_changed, paired_entry, paired_weak, entry_cases, entry_here}
 use Rattle.meaning_sound.proofs.Growth.{same_suits, default_is, goes_is, suits_is, is_on, holds_on, names_on, wait_on, activity_on, cell_on, Changed, cell_new, unchanged, defaults_are, then_well, AreTaken, taken_well, types_are, params_are}
@@ -89,7 +89,7 @@ module _ (P : TypedProgram) (good : IsWellTyped P) (texts : List ByteList) where
   repeater = record { routine = record { params = []; locals = []; gives = t.Nothing; all = Rattle.sts_syntax.specs.TypedTrees.done }; this = false; maker = false; main = false }
 
   -- whatever it is typed as, a round fits
-  round_fits : (S : Setting) (g : ℕ) → MayBegin P g → Fits P S (round g) []
+  round_fits : (S : Setting) (g : ℕ) → MayBegin P g → FitsValues P S (round g) []
   round_fits S g may = (
     [],
     may.0,
@@ -194,7 +194,7 @@ module _ (P : TypedProgram) (good : IsWellTyped P) (texts : List ByteList) where
   module _ (used : ℕ) (h : Heap) (heap : IsHeap P used h) (f : ℕ) (n : Names) (callers : List Frame) (base depth : ℕ) (S : Setting)
       (kind : is_maker P.classes f ≡ S.maker) (this : GivesThis P S) (names : AreNamed P h S.routine n) (wait : Wait P h S.routine.gives callers) where
     -- the frame goes on with other names and another heap
-    further : (more : ℕ) (h' : Heap) (m : Names) (ss : List Sort) (vs : List Value) (k : Continuation) → Changed P more h h' → AreNamed P h' S.routine m → Holds P h' ss vs → Fits P S k ss
+    further : (more : ℕ) (h' : Heap) (m : Names) (ss : List Sort) (vs : List Value) (k : Continuation) → Changed P more h h' → AreNamed P h' S.routine m → Holds P h' ss vs → FitsValues P S k ss
         → Further (typed P) more h (now_with P texts h f n callers base depth m vs k, h')
     further more h' m ss vs k c called holds fits =
         record {
@@ -208,24 +208,24 @@ module _ (P : TypedProgram) (good : IsWellTyped P) (texts : List ByteList) where
     abbrev goes_at : List Value → Continuation → Turn Activity Heap
     goes_at vs k = Goes (at' vs k) h
 
-    goes : (more : ℕ) (h' : Heap) (ss : List Sort) (vs : List Value) (k : Continuation) → Changed P more h h' → Holds P h' ss vs → Fits P S k ss → Further (typed P) more h (at' vs k, h')
+    goes : (more : ℕ) (h' : Heap) (ss : List Sort) (vs : List Value) (k : Continuation) → Changed P more h h' → Holds P h' ss vs → FitsValues P S k ss → Further (typed P) more h (at' vs k, h')
     goes more h' ss vs k c holds fits = further more h' n ss vs k c (names_on P h h' c.grows S.routine n names) holds fits
 
     same : Changed P used h h
     same = unchanged P used h heap
 
-    stays : (ss : List Sort) (vs : List Value) (k : Continuation) → Holds P h ss vs → Fits P S k ss → Further (typed P) used h (at' vs k, h)
+    stays : (ss : List Sort) (vs : List Value) (k : Continuation) → Holds P h ss vs → FitsValues P S k ss → Further (typed P) used h (at' vs k, h)
     stays ss vs k holds fits = further used h n ss vs k same names holds fits
 
     -- a value is given
-    gives_in : (more : ℕ) (h' : Heap) (s : Sort) (v : Value) (ss : List Sort) (vs : List Value) (k : Continuation) → Changed P more h h' → IsA P h' s v → Holds P h' ss vs → Given P (Fits P S k) s ss → Further (typed P) more h (at' (v ∷ vs) k, h')
+    gives_in : (more : ℕ) (h' : Heap) (s : Sort) (v : Value) (ss : List Sort) (vs : List Value) (k : Continuation) → Changed P more h h' → IsA P h' s v → Holds P h' ss vs → Given P (FitsValues P S k) s ss → Further (typed P) more h (at' (v ∷ vs) k, h')
     gives_in more h' s v ss vs k c p holds fits = goes more h' (fits.0 ∷ ss) (v ∷ vs) k c (suits_is P h' s fits.0 v fits.1 p, holds) fits.2
 
-    gives : (s : Sort) (v : Value) (ss : List Sort) (vs : List Value) (k : Continuation) → IsA P h s v → Holds P h ss vs → Given P (Fits P S k) s ss → Further (typed P) used h (at' (v ∷ vs) k, h)
+    gives : (s : Sort) (v : Value) (ss : List Sort) (vs : List Value) (k : Continuation) → IsA P h s v → Holds P h ss vs → Given P (FitsValues P S k) s ss → Further (typed P) used h (at' (v ∷ vs) k, h)
     gives s v ss vs k p holds fits = gives_in used h s v ss vs k same p holds fits
 
     -- a frame that waits for the value of a call
-    waits : (u : ValueType) (ss : List Sort) (vs : List Value) (k : Continuation) → Holds P h ss vs → Given P (Fits P S k) (Of u) ss → Wait P h u (at P texts h f n callers base depth vs k ∷ callers)
+    waits : (u : ValueType) (ss : List Sort) (vs : List Value) (k : Continuation) → Holds P h ss vs → Given P (FitsValues P S k) (Of u) ss → Wait P h u (at P texts h f n callers base depth vs k ∷ callers)
     waits u ss vs k holds fits = (S, fits.0, fits.1, record { maker = kind; this = this; names = names; sorts = ss; values = holds; fits = fits.2 }, wait)
 
     entry_named : (i : ℕ) (u : ValueType) (v : Value) (ts : List ValueType) (m : ℕ → Value) → entry ts i ≡ Some u → Is P h u v → ((j : ℕ) (w : ValueType) → entry ts j ≡ Some w → Is P h w (m j)) → (j : ℕ) (w : ValueType) → entry ts j ≡ Some w → Is P h w (with_entry i v m j)
@@ -267,7 +267,7 @@ module _ (P : TypedProgram) (good : IsWellTyped P) (texts : List ByteList) where
         subst (λ (o : Option Value). Well AreStored (then_gives (then_gives (there o) (λ old. Gives h')) (λ h''. Gives (n, h'')))) (sym q.1)
         (record { called = names_on P h h' c.grows S.routine n names; changed = c }))
 
-    stored_typed : (x : Spot) (u : ValueType) (v w : Value) (s : Sort) (ss : List Sort) (vs : List Value) (k : Continuation) → IsStored P S x u → Is P h u v → IsA P h s w → Holds P h ss vs → Given P (Fits P S k) s ss
+    stored_typed : (x : Spot) (u : ValueType) (v w : Value) (s : Sort) (ss : List Sort) (vs : List Value) (k : Continuation) → IsStored P S x u → Is P h u v → IsA P h s w → Holds P h ss vs → Given P (FitsValues P S k) s ss
         → Typed used h (after (stored x v n h) (λ z. Goes (now_with P texts h f n callers base depth z.0 (w ∷ vs) k) z.1))
     stored_typed x u v w s ss vs k has p i holds fits =
         after_typed AreStored used h (stored x v n h) _ (stored_well x u v has p)
@@ -279,19 +279,19 @@ module _ (P : TypedProgram) (good : IsWellTyped P) (texts : List ByteList) where
         isa_on' h' c Begins w i = i
         isa_on' h' c (Exactly m) w i = i
 
-    goes_in_typed : (w : ℕ) (h' : Heap) (ss : List Sort) (vs : List Value) (k : Continuation) → Changed P (used + w) h h' → Holds P h' ss vs → Fits P S k ss → Typed used h (grown w h' (at' vs k))
+    goes_in_typed : (w : ℕ) (h' : Heap) (ss : List Sort) (vs : List Value) (k : Continuation) → Changed P (used + w) h h' → Holds P h' ss vs → FitsValues P S k ss → Typed used h (grown w h' (at' vs k))
     goes_in_typed zero h' ss vs k c holds fits =
         (let none : used + 0 ≡ used = omega arith in
         goes used h' ss vs k (subst (λ (m : ℕ). Changed P m h h') none c) holds fits)
     goes_in_typed (suc w) h' ss vs k c holds fits = goes (used + suc w) h' ss vs k c holds fits
 
-    next_typed : (i : ℕ) (s : TypedStatement) (vs : List Value) (k : Continuation) (u : ValueType) (o : Option (ℕ × Value)) → Fits P S (Each i s k) [] → IsStored P S (Local i) u → IsNext P h u o
-        → Fits P S k [] → IsStored P S (Local (suc (suc i))) t.Number → (known : List ℕ) → IsSound P S s true known → Typed used h (takes_item P texts h f n callers base depth i s vs k o)
+    next_typed : (i : ℕ) (s : TypedStatement) (vs : List Value) (k : Continuation) (u : ValueType) (o : Option (ℕ × Value)) → FitsValues P S (Each i s k) [] → IsStored P S (Local i) u → IsNext P h u o
+        → FitsValues P S k [] → IsStored P S (Local (suc (suc i))) t.Number → (known : List ℕ) → IsSound P S s true known → Typed used h (takes_item P texts h f n callers base depth i s vs k o)
     next_typed i s vs k u None turn a p fits c known sound = stays [] vs k tt fits
     next_typed i s vs k u (Some x) turn a p fits c known sound =
         further used h _ [] vs (runs (is_maker P.classes f) s k (Each i s k) (Each i s k)) same
         (local_named i u x.1 (with_local (suc (suc i)) (Whole (to_int32 (pos x.0 +ℤ pos 1))) n) a p (local_named (suc (suc i)) t.Number (Whole (to_int32 (pos x.0 +ℤ pos 1))) n c tt names))
-        tt (subst (λ (m : Bool). Fits P S (runs m s k (Each i s k) (Each i s k)) []) (sym kind) (runs_fit P S this s true known k (Each i s k) (Each i s k) sound fits turn turn))
+        tt (subst (λ (m : Bool). FitsValues P S (runs m s k (Each i s k) (Each i s k)) []) (sym kind) (runs_fit P S this s true known k (Each i s k) (Each i s k) sound fits turn turn))
 
     -- the arguments that are taken
     taken_typed : (these before : List Sort) (m : ℕ) (ss : List Sort) (vs : List Value) (go : List Value × List Value → Turn Activity Heap) → ss ≡ above these before → m ≡ length these → Holds P h ss vs
@@ -307,7 +307,7 @@ module _ (P : TypedProgram) (good : IsWellTyped P) (texts : List ByteList) where
     abbrev Act : Continuation → List Value → Turn Activity Heap
     Act k vs = act P texts h f n callers base depth k vs
 
-    send_typed : (s : ℕ) (c : ℕ) (params : List ValueType) (u : ValueType) (before : List Sort) (k : Continuation) → Rattle.sts_syntax.specs.TypeRules.HasMethod P c s params u → Given P (Fits P S k) (Of u) before
+    send_typed : (s : ℕ) (c : ℕ) (params : List ValueType) (u : ValueType) (before : List Sort) (k : Continuation) → Rattle.sts_syntax.specs.TypeRules.HasMethod P c s params u → Given P (FitsValues P S k) (Of u) before
         → (x : List Value × List Value) → AreTaken P h (Of (t.Object c) ∷ of_types params) before x
         → Typed used h (after (then_gives (first x.0) (λ o. method P texts h o s)) (λ g. invoked P texts h base depth g x.0 (at P texts h f n callers base depth x.1 k ∷ callers)))
     send_typed s c params u before k has fits ([], rest) p = absurd p.these
@@ -315,7 +315,7 @@ module _ (P : TypedProgram) (good : IsWellTyped P) (texts : List ByteList) where
         after_typed (IsFoundMethod P good h params u o) used h (method P texts h o s) _ (method_well P good used h c s params u o heap p.these.0 has)
         (λ g q. (let these : Paired (Is P h) q.routine.params (o ∷ xs) = subst (λ (us : List ValueType). Paired (Is P h) us (o ∷ xs)) (sym q.params') (q.receiver, types_are P h params xs p.these.1) in
         invoked_typed used h base depth g q.routine (o ∷ xs) _ heap q.has these
-        (waits q.routine.gives before rest k p.rest (subst (λ (w : ValueType). Given P (Fits P S k) (Of w) before) (sym q.gives) fits))))
+        (waits q.routine.gives before rest k p.rest (subst (λ (w : ValueType). Given P (FitsValues P S k) (Of w) before) (sym q.gives) fits))))
 
     answered_is : (answers : Bool) (u : ValueType) (z : ℤ) → Answers answers u → Is P h u (answered answers z)
     answered_is true t.Number z a = tt
@@ -334,13 +334,13 @@ module _ (P : TypedProgram) (good : IsWellTyped P) (texts : List ByteList) where
     answered_is false t.NullType z a = absurd a
 
     -- a request is made, and the frame goes on with its answer
-    request_typed : (answers : Bool) (u : ValueType) (before : List Sort) (rest : List Value) (k : Continuation) (r : Request) → IsRequest P r → Answers answers u → Holds P h before rest → Given P (Fits P S k) (Of u) before
+    request_typed : (answers : Bool) (u : ValueType) (before : List Sort) (rest : List Value) (k : Continuation) (r : Request) → IsRequest P r → Answers answers u → Holds P h before rest → Given P (FitsValues P S k) (Of u) before
         → Typed used h (asked (asker P texts h f n callers base depth answers rest k) r)
     request_typed answers u before rest k r p a holds fits =
         asked_typed used h (asker P texts h f n callers base depth answers rest k) r heap p (λ g may. may)
         (λ z. gives (Of u) (answered answers z) before rest k (answered_is answers u z a) holds fits) (λ z. refl)
 
-    act_typed : (k : Continuation) (ss : List Sort) (vs : List Value) → Holds P h ss vs → Fits P S k ss → Typed used h (Act k vs)
+    act_typed : (k : Continuation) (ss : List Sort) (vs : List Value) → Holds P h ss vs → FitsValues P S k ss → Typed used h (Act k vs)
     act_typed (Put v k) ss vs holds fits = stays (fits.0 ∷ ss) (v ∷ vs) k (fits.1 h, holds) fits.2
     act_typed (Get x k) ss vs holds fits =
         after_typed (Is P h fits.0) used h (named h n x) _ (named_well P used h S n x fits.0 heap names fits.1) (λ v p. gives (Of fits.0) v ss vs k p holds fits.2)
@@ -360,7 +360,7 @@ module _ (P : TypedProgram) (good : IsWellTyped P) (texts : List ByteList) where
         latest_typed used h (Of t.Boolean) ss vs _ holds (λ v rest e i low.
         after_typed (λ x. Unit {0}) used h (decided v) _ (decided_well P h v i) (λ c _. stays ss rest (if c then so else otherwise) low (chosen c)))
       where
-        chosen : (c : Bool) → Fits P S (if c then so else otherwise) ss
+        chosen : (c : Bool) → FitsValues P S (if c then so else otherwise) ss
         chosen true = fits.0
         chosen false = fits.1
     act_typed (Both so otherwise) (Of t.Boolean ∷ ss) vs holds fits =
@@ -462,7 +462,7 @@ module _ (P : TypedProgram) (good : IsWellTyped P) (texts : List ByteList) where
         (request_typed false t.Nothing ss rest k (q.Spawn (repeating P texts i.0)) (inr (i.0, refl, i.2)) tt holds.1 fits))
     act_typed (Repeat k) (Begins ∷ ss) [] holds fits = absurd holds
     act_typed (Again s k) ss vs holds (e, looped, known, sound, fits) =
-        stays [] vs (runs (is_maker P.classes f) s k k k) tt (subst (λ (m : Bool). Fits P S (runs m s k k k) []) (sym kind) (runs_fit P S this s looped known k k k sound fits fits fits))
+        stays [] vs (runs (is_maker P.classes f) s k k k) tt (subst (λ (m : Bool). FitsValues P S (runs m s k k k) []) (sym kind) (runs_fit P S this s looped known k k k sound fits fits fits))
     act_typed (Each i s k) ss vs holds (e, known, sound, fits, u, a, l, c) =
         after_typed (IsNext P h u) used h (next_item h (n.locals (suc i)) (n.locals (suc (suc i)))) _
         (next_item_well P used h u _ _ heap (names.locals (suc i) (t.ListOf u) l) (names.locals (suc (suc i)) t.Number c))

@@ -12,7 +12,7 @@ use Rattle.sts_meaning.specs.Values.{Value}
 use Rattle.sts_meaning.specs.Heaps.{Cell, Fields, Items, Heap}
 use Rattle.sts_meaning.specs.Frames.{Names, Frame, Activity, Starts, Runs}
 use Rattle.meaning_sound.specs.Sorts.{Sort, Of, Shape, Stands, May, Is, IsA, Suits}
-use Rattle.meaning_sound.specs.Fits.{Fits}
+use Rattle.meaning_sound.specs.Fits.{FitsValues}
 
 -- all that stood still stands
 abbrev pub Grows : Heap → Heap → Type 0
@@ -53,7 +53,7 @@ module _ (P : TypedProgram) where
     pub names : AreNamed h S.routine frame.names
     pub sorts : List Sort
     pub values : Holds h sorts frame.values
-    pub fits : Fits P S frame.todo (given ++ sorts)
+    pub fits : FitsValues P S frame.todo (given ++ sorts)
 
   -- the frames that wait for a value of a type
   abbrev pub Wait : Heap → ValueType → List Frame → Type 0

@@ -4,8 +4,8 @@ use Rattle.std.specs.Prelude.{ℤ, Bool, true, false, Some, None}
 use Rattle.sts_lexer.specs.declared.marks.Mark.{Mark}
 use Rattle.sts_lexer.specs.declared.marks.Mark.TheVariants as m
 use Rattle.sts_lexer.specs.declared.words.Word.TheVariants as w
-use Rattle.sts_lexer.specs.declared.token.Kind.{Kind}
-use Rattle.sts_lexer.specs.declared.token.Kind.TheVariants as k
+use Rattle.sts_lexer.specs.declared.token.TokenKind.{TokenKind}
+use Rattle.sts_lexer.specs.declared.token.TokenKind.TheVariants as k
 use Rattle.sts_syntax.specs.Trees.{Tree, Num, Text, Truth, Null, This, Name, Unary, Binary, Both, Either, Choice, Set, Bump, Member, Item, Call, SuperCall, Make, Items, Handler, Trees, none, more, Statements, done, also, Does}
 use Rattle.sts_grammar.specs.Source.{Source, kind, IsMemberName}
 use Rattle.sts_grammar.specs.Operators.{bump_by}
@@ -13,7 +13,7 @@ use Rattle.sts_grammar.specs.Operands.{Stands, IsWrapped, IsOperand}
 use Rattle.sts_grammar.specs.Spells.{IsBare, AreListed, AreFurther, InBlock}
 use Rattle.parse_expr.specs.Lasts.{may_be_last}
 
-kind_last : (s : Source) (i j : ℕ) (t : Kind) → kind s i ≡ t → j ≡ i + 1 → may_be_last t ≡ true → may_be_last (kind s (j - 1)) ≡ true
+kind_last : (s : Source) (i j : ℕ) (t : TokenKind) → kind s i ≡ t → j ≡ i + 1 → may_be_last t ≡ true → may_be_last (kind s (j - 1)) ≡ true
 kind_last s i j t e q h = let back : j - 1 ≡ i = omega arith in ap (λ n. may_be_last (kind s n)) back ∙ ap may_be_last e ∙ h
 
 bump_last : (mark : Mark) (by : ℤ) → bump_by mark ≡ Some by → may_be_last (k.Mark mark) ≡ true

@@ -1,11 +1,11 @@
 -- Which tokens may be the last of an expression.
 use Rattle.std.specs.Prelude.{Bool, true, false}
 use Rattle.sts_lexer.specs.declared.marks.Mark.TheVariants as m
-use Rattle.sts_lexer.specs.declared.token.Kind.{Kind}
-use Rattle.sts_lexer.specs.declared.token.Kind.TheVariants as k
+use Rattle.sts_lexer.specs.declared.token.TokenKind.{TokenKind}
+use Rattle.sts_lexer.specs.declared.token.TokenKind.TheVariants as k
 
 -- Numbers, texts, names and reserved words, closing brackets, `++` and `--`.
-abbrev pub may_be_last : Kind → Bool
+abbrev pub may_be_last : TokenKind → Bool
 may_be_last (k.Num value) = true
 may_be_last (k.Text text) = true
 may_be_last (k.Name name) = true

@@ -10,14 +10,14 @@ use crate::operators::{
     infix_level, infix_number,
 };
 use crate::reader::{Reader, Unread};
-use sts_lexer::{Kind, Mark};
+use sts_lexer::{Mark, TokenKind};
 
 /// Whether a token is `++` or `--`.
-fn is_bump(kind: Kind) -> bool
+fn is_bump(kind: TokenKind) -> bool
     ensures { result ≡ spec.is_bump kind }
 {
     match kind {
-        Kind::Mark(mark) => bump_by(mark).is_some(),
+        TokenKind::Mark(mark) => bump_by(mark).is_some(),
         _ => false,
     }
 }
@@ -34,7 +34,7 @@ fn operator_binds(number: Option<u8>, assigned: Option<Option<u8>>) -> u8
 }
 
 /// How tightly a mark binds to the expression before it, 0 where it doesn't go on with one.
-fn mark_binds(before: Kind, new_line: bool, mark: Mark) -> u8
+fn mark_binds(before: TokenKind, new_line: bool, mark: Mark) -> u8
     ensures { result ≡ spec.mark_binds before new_line mark }
 {
     match mark {
@@ -50,13 +50,13 @@ fn mark_binds(before: Kind, new_line: bool, mark: Mark) -> u8
 }
 
 /// A statement may end before such a token without a `;`.
-fn may_end(kind: Kind, new_line: bool) -> bool
+fn may_end(kind: TokenKind, new_line: bool) -> bool
     ensures { result ≡ spec.may_end kind new_line false }
 {
     match kind {
-        Kind::Mark(Mark::Semicolon) => false,
-        Kind::Mark(Mark::CloseBrace) => true,
-        Kind::Finish => true,
+        TokenKind::Mark(Mark::Semicolon) => false,
+        TokenKind::Mark(Mark::CloseBrace) => true,
+        TokenKind::Finish => true,
         _ => new_line,
     }
 }
@@ -70,7 +70,7 @@ impl<'a> Reader<'a> {
             return 0;
         }
         match self.kind(at) {
-            Kind::Mark(mark) => {
+            TokenKind::Mark(mark) => {
                 mark_binds(self.kind(at.saturating_sub(1)), self.is_broken(at), mark)
             }
             _ => 0,

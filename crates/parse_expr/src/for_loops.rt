@@ -12,7 +12,7 @@ ghost use Rattle.parse_expr.specs.Gives.{source, nested, Gives, read_of};
 use crate::grammar::Grammar;
 use crate::operators::ASSIGNMENT_LEVEL;
 use crate::reader::{Read, Reader, Unread, lost};
-use sts_lexer::{Kind, Mark, Word};
+use sts_lexer::{Mark, TokenKind, Word};
 use sts_syntax::{Expr, Stmt, build};
 
 impl<'a> Reader<'a> {
@@ -22,8 +22,8 @@ impl<'a> Reader<'a> {
         ensures inside { IfSome result (λ _. at < usize.MAX) }
     {
         match self.kind(at) {
-            Kind::Word(Word::Let, _) => Some(false),
-            Kind::Word(Word::Const, _) => Some(true),
+            TokenKind::Word(Word::Let, _) => Some(false),
+            TokenKind::Word(Word::Const, _) => Some(true),
             _ => None,
         }
     }
@@ -34,7 +34,7 @@ impl<'a> Reader<'a> {
         ensures inside { result ≡ true → at < usize.MAX }
     {
         match self.kind(at) {
-            Kind::Name(name) => self.is_spelled(name, b"of"),
+            TokenKind::Name(name) => self.is_spelled(name, b"of"),
             _ => false,
         }
     }
@@ -46,7 +46,7 @@ impl<'a> Reader<'a> {
         ensures inside { IfSome result (λ _. at + 2 < usize.MAX) }
     {
         let fixed = self.let_word(at)?;
-        let Kind::Name(name) = self.kind(at + 1) else {
+        let TokenKind::Name(name) = self.kind(at + 1) else {
             return None;
         };
         if !self.is_of(at + 2) {

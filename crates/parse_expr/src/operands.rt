@@ -12,7 +12,7 @@ use crate::grammar::Grammar;
 use crate::headings::Heading;
 use crate::operators::{ASSIGNMENT_LEVEL, PREFIX_LEVEL, bump_by, prefix_number};
 use crate::reader::{Read, Reader, Unread, lost};
-use sts_lexer::{Kind, Mark, Word};
+use sts_lexer::{Mark, TokenKind, Word};
 use sts_syntax::{Expr, Node, Stmt, build};
 
 /// Whether an expression can be assigned to: a name, a member or an item.
@@ -237,12 +237,12 @@ impl<
     {
         let place = self.reader.place(at);
         match self.reader.kind(at) {
-            Kind::Num(value) => Ok(leaf(place, Node::Num(value), at + 1)),
-            Kind::Text(text) => Ok(leaf(place, Node::Text(text), at + 1)),
-            Kind::Name(name) => Ok(leaf(place, Node::Name(name), at + 1)),
-            Kind::Word(word, _) => self.by_word(word, at),
-            Kind::Mark(mark) => self.by_mark(mark, at),
-            Kind::Finish => Err(Unread::Syntax(at)),
+            TokenKind::Num(value) => Ok(leaf(place, Node::Num(value), at + 1)),
+            TokenKind::Text(text) => Ok(leaf(place, Node::Text(text), at + 1)),
+            TokenKind::Name(name) => Ok(leaf(place, Node::Name(name), at + 1)),
+            TokenKind::Word(word, _) => self.by_word(word, at),
+            TokenKind::Mark(mark) => self.by_mark(mark, at),
+            TokenKind::Finish => Err(Unread::Syntax(at)),
         }
     }
 

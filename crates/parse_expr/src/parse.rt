@@ -22,7 +22,7 @@ use crate::reader::{Read, Reader, Unread};
 use crate::readers::{expression, statement};
 use std::alloc::Global;
 use sts_base::{Code, Refused, Seq, Tables};
-use sts_lexer::{Kind, Mark, Token};
+use sts_lexer::{Mark, Token, TokenKind};
 use sts_syntax::{Expr, Stmt};
 
 /// The nesting that a tree, and a whole text, may have.
@@ -45,19 +45,19 @@ pub fn refusal(reader: Reader<'_>, unread: Unread) -> Refused
 }
 
 /// Whether an expression may have a token as its last.
-fn may_be_last(kind: Kind) -> bool
+fn may_be_last(kind: TokenKind) -> bool
     ensures { result ≡ may_be_last kind }
 {
     match kind {
-        Kind::Num(_) => true,
-        Kind::Text(_) => true,
-        Kind::Name(_) => true,
-        Kind::Word(_, _) => true,
-        Kind::Mark(Mark::CloseParenthesis) => true,
-        Kind::Mark(Mark::CloseBracket) => true,
-        Kind::Mark(Mark::CloseBrace) => true,
-        Kind::Mark(Mark::PlusPlus) => true,
-        Kind::Mark(Mark::MinusMinus) => true,
+        TokenKind::Num(_) => true,
+        TokenKind::Text(_) => true,
+        TokenKind::Name(_) => true,
+        TokenKind::Word(_, _) => true,
+        TokenKind::Mark(Mark::CloseParenthesis) => true,
+        TokenKind::Mark(Mark::CloseBracket) => true,
+        TokenKind::Mark(Mark::CloseBrace) => true,
+        TokenKind::Mark(Mark::PlusPlus) => true,
+        TokenKind::Mark(Mark::MinusMinus) => true,
         _ => false,
     }
 }

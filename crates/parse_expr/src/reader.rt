@@ -6,7 +6,7 @@ ghost use Rattle.parse_expr.specs.Gives.{source, Gives};
 
 use std::alloc::Global;
 use sts_base::{NoMemory, Seq, Tables};
-use sts_lexer::{Kind, Mark, Token, Word};
+use sts_lexer::{Mark, Token, TokenKind, Word};
 
 /// Why nothing is read: no tree stands there, as the token with this number shows, or memory ran out.
 #[derive(Clone, Copy, Drop)]
@@ -75,14 +75,14 @@ impl<'a> Reader<'a> {
     }
 
     /// The kind of the token with a number, Finish past the end.
-    pub fn kind(&self, at: usize) -> Kind
+    pub fn kind(&self, at: usize) -> TokenKind
         ensures value { result ≡ source.kind (source self.now) at }
-        ensures inside { result ≢ Kind.Finish → at < usize.MAX }
+        ensures inside { result ≢ TokenKind.Finish → at < usize.MAX }
     {
         let _count = self.tokens.len();
         match self.tokens.get(at) {
             Some(token) => token.kind,
-            None => Kind::Finish,
+            None => TokenKind::Finish,
         }
     }
 
@@ -112,7 +112,7 @@ impl<'a> Reader<'a> {
         ensures inside { result ≡ true → at < usize.MAX }
     {
         match self.kind(at) {
-            Kind::Mark(other) => other == mark,
+            TokenKind::Mark(other) => other == mark,
             _ => false,
         }
     }
@@ -123,7 +123,7 @@ impl<'a> Reader<'a> {
         ensures inside { result ≡ true → at < usize.MAX }
     {
         match self.kind(at) {
-            Kind::Word(other, _) => other == word,
+            TokenKind::Word(other, _) => other == word,
             _ => false,
         }
     }
@@ -146,7 +146,7 @@ impl<'a> Reader<'a> {
         ensures inside { IfOk result (λ _. at < usize.MAX) }
     {
         match self.kind(at) {
-            Kind::Name(name) => Ok(name),
+            TokenKind::Name(name) => Ok(name),
             _ => Err(Unread::Syntax(at)),
         }
     }
@@ -157,8 +157,8 @@ impl<'a> Reader<'a> {
         ensures inside { IfOk result (λ _. at < usize.MAX) }
     {
         match self.kind(at) {
-            Kind::Name(name) => Ok(name),
-            Kind::Word(_, name) => Ok(name),
+            TokenKind::Name(name) => Ok(name),
+            TokenKind::Word(_, name) => Ok(name),
             _ => Err(Unread::Syntax(at)),
         }
     }

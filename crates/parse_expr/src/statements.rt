@@ -13,7 +13,7 @@ ghost use Rattle.parse_expr.specs.Gives.{source, nested, Gives, read_of};
 use crate::grammar::Grammar;
 use crate::operators::ASSIGNMENT_LEVEL;
 use crate::reader::{Read, Reader, Unread, lost};
-use sts_lexer::{Kind, Mark, Word};
+use sts_lexer::{Mark, TokenKind, Word};
 use sts_syntax::{Expr, Form, Stmt, build};
 
 impl<
@@ -350,7 +350,7 @@ impl<
         ensures fits { IfOk result (λ r. r.nesting ≤ self.now.room + 1) }
     {
         match self.reader.kind(at) {
-            Kind::Mark(Mark::OpenBrace) => {
+            TokenKind::Mark(Mark::OpenBrace) => {
                 let all = self.block(in_function, in_loop, at)?;
                 Ok(Read {
                     item: build::block(self.reader.place(at), all.item),
@@ -358,7 +358,7 @@ impl<
                     nesting: all.nesting + 1,
                 })
             }
-            Kind::Mark(Mark::Semicolon) => Ok(Read {
+            TokenKind::Mark(Mark::Semicolon) => Ok(Read {
                 item: Stmt {
                     at: self.reader.place(at),
                     form: Form::Empty,
@@ -366,7 +366,7 @@ impl<
                 end: at + 1,
                 nesting: 1,
             }),
-            Kind::Word(word, _) => self.by_reserved(word, in_function, in_loop, at),
+            TokenKind::Word(word, _) => self.by_reserved(word, in_function, in_loop, at),
             _ => self.plain(at),
         }
     }

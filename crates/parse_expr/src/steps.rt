@@ -13,7 +13,7 @@ use crate::operators::{
     ASSIGNMENT_LEVEL, BOTH_LEVEL, EITHER_LEVEL, assignment, bump_by, infix_level, infix_number,
 };
 use crate::reader::{Read, Reader, Unread, lost};
-use sts_lexer::{Kind, Mark};
+use sts_lexer::{Mark, TokenKind};
 use sts_syntax::{Expr, Stmt, build};
 
 impl<
@@ -285,7 +285,7 @@ impl<
         ensures fits { IfOk result (λ r. r.nesting ≤ self.now.room + 1) }
     {
         match self.reader.kind(e.end) {
-            Kind::Mark(mark) => self.further(place, e, mark),
+            TokenKind::Mark(mark) => self.further(place, e, mark),
             _ => lost(Unread::Syntax(e.end), e),
         }
     }

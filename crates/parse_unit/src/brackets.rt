@@ -5,24 +5,24 @@ ghost use Rattle.sts_grammar.specs.Brackets.{open_behind};
 ghost use Rattle.sts_grammar.specs.Deep.{NoneDeep, IsFirstDeep};
 
 use sts_base::Seq;
-use sts_lexer::{Kind, Mark, Token};
+use sts_lexer::{Mark, Token, TokenKind};
 
 /// The most brackets that may be open at a token.
 const MOST_OPEN: usize = 64;
 
 /// How many brackets are open behind a token, where so many were open before it. A closing one closes the latest that is
 /// open, of whatever kind.
-fn open_behind(count: usize, kind: Kind) -> usize
+fn open_behind(count: usize, kind: TokenKind) -> usize
     requires { count ≤ most_open }
     ensures { result ≡ open_behind count kind }
 {
     match kind {
-        Kind::Mark(Mark::OpenParenthesis) => count + 1,
-        Kind::Mark(Mark::OpenBracket) => count + 1,
-        Kind::Mark(Mark::OpenBrace) => count + 1,
-        Kind::Mark(Mark::CloseParenthesis) => count.saturating_sub(1),
-        Kind::Mark(Mark::CloseBracket) => count.saturating_sub(1),
-        Kind::Mark(Mark::CloseBrace) => count.saturating_sub(1),
+        TokenKind::Mark(Mark::OpenParenthesis) => count + 1,
+        TokenKind::Mark(Mark::OpenBracket) => count + 1,
+        TokenKind::Mark(Mark::OpenBrace) => count + 1,
+        TokenKind::Mark(Mark::CloseParenthesis) => count.saturating_sub(1),
+        TokenKind::Mark(Mark::CloseBracket) => count.saturating_sub(1),
+        TokenKind::Mark(Mark::CloseBrace) => count.saturating_sub(1),
         _ => count,
     }
 }

@@ -14,28 +14,28 @@ ghost use Rattle.sts_grammar.specs.ReadUnits as read;
 
 use parse_expr::{Reader, Unread, block, initialiser};
 use sts_base::Seq;
-use sts_lexer::{Kind, Mark, Word};
+use sts_lexer::{Mark, TokenKind, Word};
 use sts_syntax::{Body, Member, build};
 
 /// Whether a token is `public`, `private` or `protected`.
-fn is_modifier(kind: Kind) -> bool
+fn is_modifier(kind: TokenKind) -> bool
     ensures { result ≡ is_modifier kind }
 {
     match kind {
-        Kind::Word(Word::Public, _) => true,
-        Kind::Word(Word::Private, _) => true,
-        Kind::Word(Word::Protected, _) => true,
+        TokenKind::Word(Word::Public, _) => true,
+        TokenKind::Word(Word::Private, _) => true,
+        TokenKind::Word(Word::Protected, _) => true,
         _ => false,
     }
 }
 
 /// Whether a token may be a member's name.
-fn names_member(kind: Kind) -> bool
+fn names_member(kind: TokenKind) -> bool
     ensures { result ≡ is_found (member_name_of kind) }
 {
     match kind {
-        Kind::Name(_) => true,
-        Kind::Word(_, _) => true,
+        TokenKind::Name(_) => true,
+        TokenKind::Word(_, _) => true,
         _ => false,
     }
 }
@@ -143,7 +143,7 @@ fn is_constructor(reader: Reader<'_>, at: usize) -> bool
     ensures { result ≡ read.is_constructor (source reader.entry) (source.kind (source reader.entry) at) }
 {
     match reader.kind(at) {
-        Kind::Name(name) => reader.is_spelled(name, b"constructor"),
+        TokenKind::Name(name) => reader.is_spelled(name, b"constructor"),
         _ => false,
     }
 }

@@ -10,7 +10,7 @@ ghost use Rattle.sts_grammar.specs.ReadUnits as read;
 use crate::members::{read_members, read_routine};
 use parse_expr::{Reader, Unread, statement};
 use sts_base::Seq;
-use sts_lexer::{Kind, Mark, Word};
+use sts_lexer::{Mark, TokenKind, Word};
 use sts_syntax::Item;
 
 /// The base of a class.
@@ -86,8 +86,8 @@ fn read_part(reader: Reader<'_>, room: usize, at: usize) -> Result<(Item, usize)
     ensures { Gives (found top_level) result (read.read_part (source reader.entry) room at (source.kind (source reader.entry) at)) }
 {
     match reader.kind(at) {
-        Kind::Word(Word::Class, _) => read_class(reader, room - 2, at + 1),
-        Kind::Word(Word::Function, _) => read_function(reader, room - 1, at + 1),
+        TokenKind::Word(Word::Class, _) => read_class(reader, room - 2, at + 1),
+        TokenKind::Word(Word::Function, _) => read_function(reader, room - 1, at + 1),
         _ => read_main(reader, room, at),
     }
 }
@@ -111,7 +111,7 @@ pub fn read_parts(reader: Reader<'_>, room: usize) -> Result<Seq<Item>, Unread>
     let mut next = 0;
     let mut left = reader.count();
     while left > 0 {
-        if matches!(reader.kind(next), Kind::Finish) {
+        if matches!(reader.kind(next), TokenKind::Finish) {
             return if is_last(reader, next) {
                 Ok(all)
             } else {

@@ -8,7 +8,7 @@ use Rattle.thumb_code.specs.Effect.{effect, Effect, ends, Goes, stores}
 use Rattle.thumb_code.specs.Memory.{Executed, Done, execute_moving}
 use Rattle.thumb_code.specs.Map.{globals_at, arena_at, access_fault, flash_word}
 use Rattle.bank_model.specs.Bank.{Bank, bank_memory, bank_load, bank_store, bank_move}
-use Rattle.placed_frames.specs.View.{View, with_low, registers_of, bank_of, Reads, InFlash, InGlobals, InArena, Stores, ToGlobals, ToArena, Does, Quiet, GetOwn, PutOwn, Get, GetAt, Put, PutAt, At}
+use Rattle.placed_frames.specs.View.{View, with_low, registers_of, bank_of, Reads, InFlash, InGlobals, InArena, Stores, ToGlobals, ToArena, Alters, Quiet, GetOwn, PutOwn, Get, GetAt, Put, PutAt, At}
 use Rattle.placed_frames.proofs.Accesses.{word_at, own_at, own_fault, own_load, own_store, arena_fault, arena_load, arena_store, globals_fault, globals_load, globals_store, flash_fault, flash_load, sp_stays, sp_has}
 
 abbrev pub Bm : Bank × List ℕ → ℕ → Effect → Executed (Bank × List ℕ)
@@ -80,7 +80,7 @@ puts_does flash rt a w v v' e f (ToArena k l q) next pc s b free h n =
     )
 
 -- the instruction does it, and the bank is as long as before
-pub does : (flash : List ℕ) (x : Instr) (v v' : View) → Does flash x v v' → (next pc : ℕ) (s : Registers) (b : Bank) (free : List ℕ) → At flash s.sp b
+pub does : (flash : List ℕ) (x : Instr) (v v' : View) → Alters flash x v v' → (next pc : ℕ) (s : Registers) (b : Bank) (free : List ℕ) → At flash s.sp b
     → length v.words ≡ length b.words
     → (Bm (bank_of v b, free) s.sp (effect next (registers_of v pc s) x) ≡ Done (registers_of v' next s) (bank_of v' b, free)) × (length v'.words ≡ length
     b.words)

@@ -11,7 +11,7 @@ use Rattle.hex_image.specs.Answers.{HasCause}
 use Rattle.hex_image.specs.Codes.{number_of}
 use Rattle.hex_image.specs.declared.flash.Base.TheVariants.{Zero}
 use Rattle.hex_image.specs.Image.{Cell, given, byte_at, extent}
-use Rattle.hex_image.specs.Spells.{flash_bytes, Spells, Breaks}
+use Rattle.hex_image.specs.Spells.{flash_size, Spells, Breaks}
 use Rattle.sts_base.specs.Faults.{Rose}
 use Rattle.tool_io.specs.Putting.{Took}
 use Rattle.board_world.specs.Observations.{End as RunEnd, Quietly, By_script}
@@ -36,12 +36,12 @@ use Rattle.run_tool.specs.RunHex.{image_refused_line, RunsHex}
 use Rattle.board_ports.specs.Account.{Account}
 use Rattle.run_tool.proofs.Readings.{IsOnward, file-onwards}
 
-extent-fits : (cells : List Cell) → AllByRecursion (λ cell. cell.at < flash_bytes) cells → extent cells ≤ flash_bytes
+extent-fits : (cells : List Cell) → AllByRecursion (λ cell. cell.at < flash_size) cells → extent cells ≤ flash_size
 extent-fits [] h = omega arith
-extent-fits (cell ∷ cells) h = let rest = extent-fits cells h.1 in let first : cell.at < flash_bytes = h.0 in omega (arith, rest, first)
+extent-fits (cell ∷ cells) h = let rest = extent-fits cells h.1 in let first : cell.at < flash_size = h.0 in omega (arith, rest, first)
 
 -- an image that is spelled fits the flash
-pub image-fits : (text image : List ℕ) → Spells text image → length image ≤ flash_bytes
+pub image-fits : (text image : List ℕ) → Spells text image → length image ≤ flash_size
 image-fits text image s =
     let cells = given Zero s.records in
     let same : length image ≡ extent cells =

@@ -129,7 +129,7 @@ fn refuse_big<K: Sink>(out: &mut K, size: u32, text: &[u8], code: Code, at: u32)
 
 /// The same for this reason; without memory nothing is given.
 fn say_big_refused<K: Sink>(out: &mut K, size: u32, text: &[u8], why: Refused) -> Ending
-    requires { accepting.Refuses text.now why }
+    requires { accepting.RefusesText text.now why }
     ensures { GivesOneOf K.taken K.faults out.old out.new (Led (spec.big_line size) (OverProgram none_to_programs text.now)) result }
 {
     refusals_stand_in_their_texts();

@@ -76,7 +76,7 @@ fn refuse_program<K: Sink>(out: &mut K, number: u32, text: &[u8], code: Code, at
 
 /// The same for this reason; without memory nothing is given.
 fn say_program_refused<K: Sink>(out: &mut K, number: u32, text: &[u8], why: Refused) -> Ending
-    requires { accepting.Refuses text.now why }
+    requires { accepting.RefusesText text.now why }
     ensures { GivesOneOf K.taken K.faults out.old out.new (OverBoardProgram number none_to_boards text.now) result }
 {
     refusals_stand_in_their_texts();

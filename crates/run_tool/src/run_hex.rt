@@ -4,7 +4,7 @@ ghost use Rattle.std.specs.Option.{option_map};
 ghost use Rattle.sts_base.specs.Faults.{Rose};
 ghost use Rattle.tool_io.specs.Putting.{PutsTo};
 ghost use Rattle.hex_image.specs.Codes.{number_of};
-ghost use Rattle.hex_image.specs.Spells.{flash_bytes};
+ghost use Rattle.hex_image.specs.Spells.{flash_size};
 ghost use Rattle.event_script.specs.Sound.{IsSound};
 ghost use Rattle.sts_words.specs.Orders.{IsBudget};
 ghost use Rattle.sts_words.specs.Views.{spoken};
@@ -75,7 +75,7 @@ fn run_board<K: Sink, D: Device>(
     out: &mut K,
     places: &mut Vec<Option<D>>,
 ) -> Ending
-    requires size { vec_len image ≤ flash_bytes }
+    requires size { vec_len image ≤ flash_size }
     requires script { IsSound script }
     requires budget { IsBudget budget }
     ensures { Concludes (of_sink K.taken K.faults out.old out.new) (of_devices D.account places.old.items places.new.items) [] (RunsBoard image.items script budget) result }
@@ -96,7 +96,7 @@ fn run_named<F: Folder, K: Sink, D: Device>(
     out: &mut K,
     places: &mut Vec<Option<D>>,
 ) -> Ending
-    requires size { vec_len image ≤ flash_bytes }
+    requires size { vec_len image ≤ flash_size }
     requires budget { IsBudget budget }
     ensures answer { Concludes (of_sink K.taken K.faults out.old out.new) (of_devices D.account places.old.items places.new.items) []
         (OverScript (told_by F.holds F.faults folder.old folder.new) (option_map spoken script.entry) (λ read. RunsBoard image.items read budget)) result }

@@ -61,7 +61,7 @@ pub fn say_refused<K: Sink>(out: &mut K, text: &[u8], code: Code, at: u32) -> En
 
 /// Gives the answer that the text is refused for this reason; without memory none.
 pub fn say_refusal<K: Sink>(out: &mut K, text: &[u8], why: Refused) -> Ending
-    requires { accepting.Refuses text.now why }
+    requires { accepting.RefusesText text.now why }
     ensures { GivesOneOf K.taken K.faults out.old out.new (OverProgram none_to_programs text.now) result }
 {
     refusals_stand_in_their_texts();

@@ -1,6 +1,10 @@
 -- Counts of faults.
 use Rattle.std.specs.Prelude.{ℕ, ◌+◌, ◌-◌, ◌^◌, ◌≤◌, min}
 
--- A count of faults rose between two moments. A count that stands at the end of its type, 2^64 - 1, counts as one that rose.
+-- the count after one more; it stays at the end of its type
+abbrev pub one_more : ℕ → ℕ
+one_more count = min (count + 1) (2 ^ 64 - 1)
+
+-- A count of faults rose between two moments. A count that stands at the end of its type counts as one that rose.
 abbrev pub Rose : ℕ → ℕ → Type 0
-Rose before now = min (before + 1) (2 ^ 64 - 1) ≤ now
+Rose before now = one_more before ≤ now

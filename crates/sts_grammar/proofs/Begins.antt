@@ -6,8 +6,8 @@ use Rattle.sts_lexer.specs.declared.marks.Mark.{Mark}
 use Rattle.sts_lexer.specs.declared.marks.Mark.TheVariants as m
 use Rattle.sts_lexer.specs.declared.words.Word.{Word}
 use Rattle.sts_lexer.specs.declared.words.Word.TheVariants as w
-use Rattle.sts_lexer.specs.declared.token.Kind.{Kind}
-use Rattle.sts_lexer.specs.declared.token.Kind.TheVariants as k
+use Rattle.sts_lexer.specs.declared.token.TokenKind.{TokenKind}
+use Rattle.sts_lexer.specs.declared.token.TokenKind.TheVariants as k
 use Rattle.sts_syntax.specs.Annotations.{Annotation}
 use Rattle.sts_syntax.specs.Trees.{Parameter, Tree, Num, Text, Truth, Null, This, Name, Unary, Binary, Both, Either, Choice, Set, Bump, Member, Item, Call, SuperCall, Make, Items, Handler, Trees, none, more, Statements, done, also, Routine, Does}
 use Rattle.sts_grammar.specs.Source.{Source, kind, broken, IsMark, IsWord, IsName, IsMemberName}
@@ -40,7 +40,7 @@ begins_word w.Function = true
 begins_word word = false
 
 -- an expression may begin with such a token
-abbrev pub begins : Kind → Bool
+abbrev pub begins : TokenKind → Bool
 begins (k.Num value) = true
 begins (k.Text text) = true
 begins (k.Name name) = true
@@ -96,7 +96,7 @@ operand_begins s l e i j h = wrapped_begins s h.0 (IsBare s e) (bare_begins s e)
 
 -- 2. The last token of what stands before `.`, `[` and `(` is no `++` or `--`.
 
-last : (s : Source) (i j : ℕ) (t : Kind) → kind s i ≡ t → is_bump t ≡ false → j ≡ i + 1 → is_bump (kind s (j - 1)) ≡ false
+last : (s : Source) (i j : ℕ) (t : TokenKind) → kind s i ≡ t → is_bump t ≡ false → j ≡ i + 1 → is_bump (kind s (j - 1)) ≡ false
 last s i j t h b e = let same : j - 1 ≡ i = omega arith in ap (λ x. is_bump (kind s x)) same ∙ ap is_bump h ∙ b
 
 further_last : (s : Source) (all : Trees) (close : Mark) (i j : ℕ) → is_bump (k.Mark close) ≡ false → AreFurther s all close i j → is_bump (kind s (j - 1)) ≡ false

@@ -3,8 +3,8 @@ use Rattle.std.proofs.Common.{◌≡◌, ◌≢◌, ℕ, ◌+◌, ◌≤◌, len
 use Rattle.std.specs.Prelude.{Bool, true, false, Option, Some, None}
 use Rattle.std.proofs.lemmas.Bool.{false≢true}
 use Rattle.sts_lexer.specs.declared.words.Word.TheVariants as w
-use Rattle.sts_lexer.specs.declared.token.Kind.{Kind}
-use Rattle.sts_lexer.specs.declared.token.Kind.TheVariants as k
+use Rattle.sts_lexer.specs.declared.token.TokenKind.{TokenKind}
+use Rattle.sts_lexer.specs.declared.token.TokenKind.TheVariants as k
 use Rattle.sts_syntax.specs.Annotations.{Annotation}
 use Rattle.sts_syntax.specs.Trees.{OptionalTree, absent, present, Statement, Block, Let, IfOnly, IfElse, While, DoWhile, For, ForOf, Return, Break, Continue, Plain, Empty}
 use Rattle.sts_syntax.specs.Nesting.{optional_nesting}
@@ -38,7 +38,7 @@ sound_below s = record {
 }
 
 -- A part of a text that begins with a token that begins no class and no function is a statement.
-begins_main : (s : Source) (room i : ℕ) (t : Kind) → begins t ≡ true → ((entry : ℕ) → t ≡ k.Word w.Class entry → ⊥) → ((entry : ℕ) → t ≡ k.Word w.Function entry → ⊥)
+begins_main : (s : Source) (room i : ℕ) (t : TokenKind) → begins t ≡ true → ((entry : ℕ) → t ≡ k.Word w.Class entry → ⊥) → ((entry : ℕ) → t ≡ k.Word w.Function entry → ⊥)
     → (read_part s room i t ≡ read_main (statement_readers s room) i) × (is_finish t ≡ false)
 begins_main s room i (k.Word w.Class entry) b c f = absurd (c entry refl)
 begins_main s room i (k.Word w.Function entry) b c f = absurd (f entry refl)

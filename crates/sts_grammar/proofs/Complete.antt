@@ -6,8 +6,8 @@ use Rattle.std.proofs.lemmas.Bool.{false_from_ne_true}
 use Rattle.sts_lexer.specs.declared.marks.Mark.{Mark}
 use Rattle.sts_lexer.specs.declared.marks.Mark.TheVariants as m
 use Rattle.sts_lexer.specs.declared.words.Word.TheVariants as w
-use Rattle.sts_lexer.specs.declared.token.Kind.{Kind}
-use Rattle.sts_lexer.specs.declared.token.Kind.TheVariants as k
+use Rattle.sts_lexer.specs.declared.token.TokenKind.{TokenKind}
+use Rattle.sts_lexer.specs.declared.token.TokenKind.TheVariants as k
 use Rattle.sts_syntax.specs.Annotations.{Annotation}
 use Rattle.sts_syntax.specs.Trees.{Parameter, Tree, Num, Text, Truth, Null, This, Name, Unary, Binary, Both, Either, Choice, Set, Bump, Member, Item, Call, SuperCall, Make, Items, Handler, Trees, none, more, OptionalTree, absent, present, Statement, Block, Let, IfOnly, IfElse, While, DoWhile, For, ForOf, Return, Break, Continue, Plain, Empty, Statements, done, also, OptionalStatement, omitted, written, Declaration, Declare, Declarations, ended, next, Does}
 use Rattle.sts_syntax.specs.Nesting.{nesting, deepest_tree, optional_nesting, statement_nesting, deepest_statement, optional_statement_nesting, declaration_nesting, deepest_declaration}
@@ -462,7 +462,7 @@ mutual
       let read : expression s (length s.tokens) room 1 i ≡ Some (a, h.0) = in_statement s a (bare_reads s a) room i h.0 h.2 fit (ends_stop s h.0 j h.3) in
       returned_reads s (statement_readers s room) at a i h.0 j (operand_begins s 1 a i h.0 h.2) h.1 read (end_reads s (continues s h.0) h.0 j h.3)
 
-  optional_reads : (s : Source) (c : OptionalTree) (test : Kind → Bool) (room i n : ℕ) → IsOptional s c i n → test (kind s n) ≡ true → ((t : Kind) → begins t ≡ true → test t ≡ false) → binds s n ≡ 0 → optional_nesting c ≤ room → read_optional (expression s (length s.tokens) room 1) (test (kind s i)) i ≡ Some (c, n)
+  optional_reads : (s : Source) (c : OptionalTree) (test : TokenKind → Bool) (room i n : ℕ) → IsOptional s c i n → test (kind s n) ≡ true → ((t : TokenKind) → begins t ≡ true → test t ≡ false) → binds s n ≡ 0 → optional_nesting c ≤ room → read_optional (expression s (length s.tokens) room 1) (test (kind s i)) i ≡ Some (c, n)
   optional_reads s absent test room i n h ends_it not_begun z fit =
       ap (λ x. read_optional (expression s (length s.tokens) room 1) (test (kind s x)) x) h ∙ ap (λ x. read_optional (expression s (length s.tokens) room 1) x n) ends_it
   optional_reads s (present a) test room i n h ends_it not_begun z fit =

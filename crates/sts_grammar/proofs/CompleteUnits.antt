@@ -6,8 +6,8 @@ use Rattle.std.proofs.lemmas.List.{append-nil, append_assoc}
 use Rattle.sts_lexer.specs.declared.marks.Mark.{Mark}
 use Rattle.sts_lexer.specs.declared.marks.Mark.TheVariants as m
 use Rattle.sts_lexer.specs.declared.words.Word.TheVariants as w
-use Rattle.sts_lexer.specs.declared.token.Kind.{Kind}
-use Rattle.sts_lexer.specs.declared.token.Kind.TheVariants as k
+use Rattle.sts_lexer.specs.declared.token.TokenKind.{TokenKind}
+use Rattle.sts_lexer.specs.declared.token.TokenKind.TheVariants as k
 use Rattle.sts_syntax.specs.Annotations.{Annotation}
 use Rattle.sts_syntax.specs.Trees.{Parameter, OptionalTree, absent, present, Statement, Statements, Declaration, Declare, Does}
 use Rattle.sts_syntax.specs.Programs.{ClassMember, Field, Method, Constructor, TopLevel, Class, Function, Main, Program}
@@ -73,26 +73,26 @@ comma_cant : (nl : Bool) → may_end (k.Mark m.Comma) nl true ≡ false
 comma_cant true = refl
 comma_cant false = refl
 
-comma_mark : (t : Kind) → is_mark m.Comma t ≡ true → t ≡ k.Mark m.Comma
+comma_mark : (t : TokenKind) → is_mark m.Comma t ≡ true → t ≡ k.Mark m.Comma
 comma_mark (k.Mark m.Comma) h = refl
 comma_mark t h = absurd (false≢true h)
 
-assign_mark : (t : Kind) → is_mark m.Assign t ≡ true → t ≡ k.Mark m.Assign
+assign_mark : (t : TokenKind) → is_mark m.Assign t ≡ true → t ≡ k.Mark m.Assign
 assign_mark (k.Mark m.Assign) h = refl
 assign_mark t h = absurd (false≢true h)
 
-colon_mark : (t : Kind) → is_mark m.Colon t ≡ true → t ≡ k.Mark m.Colon
+colon_mark : (t : TokenKind) → is_mark m.Colon t ≡ true → t ≡ k.Mark m.Colon
 colon_mark (k.Mark m.Colon) h = refl
 colon_mark t h = absurd (false≢true h)
 
-open_mark : (t : Kind) → is_mark m.OpenParenthesis t ≡ true → t ≡ k.Mark m.OpenParenthesis
+open_mark : (t : TokenKind) → is_mark m.OpenParenthesis t ≡ true → t ≡ k.Mark m.OpenParenthesis
 open_mark (k.Mark m.OpenParenthesis) h = refl
 open_mark t h = absurd (false≢true h)
 
-not_semicolon : (t : Kind) (nl g : Bool) → may_end t nl g ≡ true → is_mark m.Semicolon t ≡ false
+not_semicolon : (t : TokenKind) (nl g : Bool) → may_end t nl g ≡ true → is_mark m.Semicolon t ≡ false
 not_semicolon t nl g h = not_true (is_mark m.Semicolon t) (λ q. not_semicolon_at t nl g q h)
   where
-    not_semicolon_at : (t : Kind) (nl g : Bool) → is_mark m.Semicolon t ≡ true → may_end t nl g ≡ true → ⊥
+    not_semicolon_at : (t : TokenKind) (nl g : Bool) → is_mark m.Semicolon t ≡ true → may_end t nl g ≡ true → ⊥
     not_semicolon_at (k.Mark m.Semicolon) nl g q h = false≢true h
     not_semicolon_at t nl g q h = false≢true q
 
@@ -104,7 +104,7 @@ or_true_right : (a b : Bool) → b ≡ true → (a || b) ≡ true
 or_true_right true b h = refl
 or_true_right false b h = h
 
-closing : (t : Kind) (nl : Bool) → may_end t nl true ≡ true → (t ≡ k.Mark m.CloseBrace) ⊎ (t ≡ k.Finish)
+closing : (t : TokenKind) (nl : Bool) → may_end t nl true ≡ true → (t ≡ k.Mark m.CloseBrace) ⊎ (t ≡ k.Finish)
 closing (k.Mark m.CloseBrace) nl h = inl refl
 closing k.Finish nl h = inr refl
 closing t true h = absurd (false≢true h)
@@ -133,7 +133,7 @@ module _ (s : Source) where
       unbroken_ends goes_on false q = refl
 
       pair_not : (goes_on : Bool) (o j : ℕ) → Ends s goes_on o j → (is_mark m.OpenBracket (kind s o) && (not (broken s o) && is_mark m.CloseBracket (kind s (o + 1)))) ≡ true → ⊥
-      pair_not goes_on o j (inl h) q = let a = and_true (is_mark m.OpenBracket (kind s o)) (not (broken s o) && is_mark m.CloseBracket (kind s (o + 1))) q in (let e = sym (mark_is m.OpenBracket (kind s o) a.0) ∙ h.0 in let z : ◌≡◌ {A = Kind} (k.Mark m.OpenBracket) (k.Mark m.Semicolon) = e in cc)
+      pair_not goes_on o j (inl h) q = let a = and_true (is_mark m.OpenBracket (kind s o)) (not (broken s o) && is_mark m.CloseBracket (kind s (o + 1))) q in (let e = sym (mark_is m.OpenBracket (kind s o) a.0) ∙ h.0 in let z : ◌≡◌ {A = TokenKind} (k.Mark m.OpenBracket) (k.Mark m.Semicolon) = e in cc)
       pair_not goes_on o j (inr h) q =
           let a = and_true (is_mark m.OpenBracket (kind s o)) (not (broken s o) && is_mark m.CloseBracket (kind s (o + 1))) q in
           let b = and_true (not (broken s o)) (is_mark m.CloseBracket (kind s (o + 1))) a.1 in
@@ -334,7 +334,7 @@ module _ (s : Source) (below : CompleteBelow s) where
   name_begins i name (inl h) = (ap (is_mark m.CloseBrace) h, ap (is_mark m.Semicolon) h)
   name_begins i name (inr h) = (ap (is_mark m.CloseBrace) h.1, ap (is_mark m.Semicolon) h.1)
 
-  modifier_begins : (i : ℕ) (t : Kind) → kind s i ≡ t → is_modifier t ≡ true → Begins i
+  modifier_begins : (i : ℕ) (t : TokenKind) → kind s i ≡ t → is_modifier t ≡ true → Begins i
   modifier_begins i (k.Word word entry) q h = (ap (is_mark m.CloseBrace) q, ap (is_mark m.Semicolon) q)
   modifier_begins i t q h = absurd (false≢true h)
 

@@ -2,14 +2,14 @@
 use Rattle.std.proofs.Common.{ℕ, ◌+◌, [], ◌∷◌, refl, arith, inr}
 use Rattle.std.specs.Prelude.{true, false, None, pos}
 use Rattle.sts_lexer.specs.declared.marks.Mark.TheVariants as m
-use Rattle.sts_lexer.specs.declared.token.Kind.{Kind}
-use Rattle.sts_lexer.specs.declared.token.Kind.TheVariants as k
+use Rattle.sts_lexer.specs.declared.token.TokenKind.{TokenKind}
+use Rattle.sts_lexer.specs.declared.token.TokenKind.TheVariants as k
 use Rattle.sts_lexer.specs.declared.token.Token.{Token}
 use Rattle.sts_syntax.specs.Trees.{Name, Binary, Bump, Handler, Plain, Does, done}
 use Rattle.sts_grammar.specs.Source.{Source}
 use Rattle.sts_grammar.specs.Spells.{IsExpression, IsStatement}
 
-abbrev token : Kind → ℕ → Token
+abbrev token : TokenKind → ℕ → Token
 token kind at = record { kind = kind; span = record { from = at; upto = at + 1 }; broken = false }
 
 -- `a + b * c`
@@ -35,7 +35,7 @@ sum = (
   λ h. omega arith,
 )
 
-abbrev token_behind_break : Kind → ℕ → Token
+abbrev token_behind_break : TokenKind → ℕ → Token
 token_behind_break kind at = record { kind = kind; span = record { from = at; upto = at + 1 }; broken = true }
 
 -- `x`, a line break, `++y`

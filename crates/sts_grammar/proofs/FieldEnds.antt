@@ -2,8 +2,8 @@
 use Rattle.std.proofs.Common.{◌≡◌, ◌≢◌, ℕ, refl, sym, ap, ◌∙◌}
 use Rattle.std.specs.Prelude.{Bool, true, false, ◌||◌, nat_lt, Option, Some, None}
 use Rattle.sts_lexer.specs.declared.marks.Mark.TheVariants as m
-use Rattle.sts_lexer.specs.declared.token.Kind.{Kind}
-use Rattle.sts_lexer.specs.declared.token.Kind.TheVariants as k
+use Rattle.sts_lexer.specs.declared.token.TokenKind.{TokenKind}
+use Rattle.sts_lexer.specs.declared.token.TokenKind.TheVariants as k
 use Rattle.sts_syntax.specs.Annotations.{Annotation}
 use Rattle.sts_syntax.specs.Trees.{OptionalTree, absent, present, Declare}
 use Rattle.sts_grammar.specs.Source.{Source, kind, is_mark}
@@ -12,7 +12,7 @@ use Rattle.sts_grammar.specs.Ends.{binds, declaration_continues}
 use Rattle.sts_grammar.specs.Spells.{IsInitialised}
 use Rattle.sts_grammar.specs.Units.{is_open, field_continues}
 
-open_same : (t : Kind) → is_open t ≡ is_mark m.OpenParenthesis t
+open_same : (t : TokenKind) → is_open t ≡ is_mark m.OpenParenthesis t
 open_same (k.Mark m.OpenParenthesis) = refl
 open_same t = refl
 

@@ -4,8 +4,8 @@ use Rattle.std.specs.Prelude.{ℤ, Bool, true, false, not, ◌&&◌, nat_lt, Opt
 use Rattle.std.proofs.lemmas.Bool.{false≢true, and_parts, not-true, ltb-false}
 use Rattle.sts_lexer.specs.declared.marks.Mark.{Mark}
 use Rattle.sts_lexer.specs.declared.marks.Mark.TheVariants as m
-use Rattle.sts_lexer.specs.declared.token.Kind.{Kind}
-use Rattle.sts_lexer.specs.declared.token.Kind.TheVariants as k
+use Rattle.sts_lexer.specs.declared.token.TokenKind.{TokenKind}
+use Rattle.sts_lexer.specs.declared.token.TokenKind.TheVariants as k
 use Rattle.sts_syntax.specs.Trees.{Tree, Name, Unary, Binary, Both, Either, Choice, Set, Bump, Member, Item}
 use Rattle.sts_grammar.specs.Source.{Source, kind, broken, is_mark}
 use Rattle.sts_grammar.specs.Operators.{infix_number, infix_level, bump_by, assignment}
@@ -42,11 +42,11 @@ assignment_alone m.Slash op h = never op h
 assignment_alone m.Percent op h = never op h
 assignment_alone mark op h = refl
 
-pub assignment_binds : (before : Kind) (new_line : Bool) (mark : Mark) (op : Option ℕ) → assignment mark ≡ Some op → mark_binds before new_line mark ≡ 1
+pub assignment_binds : (before : TokenKind) (new_line : Bool) (mark : Mark) (op : Option ℕ) → assignment mark ≡ Some op → mark_binds before new_line mark ≡ 1
 assignment_binds before new_line mark op h = binds_assignment before new_line mark op (assignment_alone mark op h) h
 
 -- `++` and `--` bind as such where no line break stands before them
-pub bump_binds : (before : Kind) (mark : Mark) (by : ℤ) → bump_by mark ≡ Some by → mark_binds before false mark ≡ 13
+pub bump_binds : (before : TokenKind) (mark : Mark) (by : ℤ) → bump_by mark ≡ Some by → mark_binds before false mark ≡ 13
 bump_binds before m.PlusPlus by h = refl
 bump_binds before m.MinusMinus by h = refl
 bump_binds before mark by h = never by h
@@ -57,7 +57,7 @@ chosen_gap : (t : Bool) (b : ℕ) → b ≢ 12 → (if t then 0 else b) ≢ 12
 chosen_gap true b h = λ e. absurd (omega arith)
 chosen_gap false b h = h
 
-mark_gap : (before : Kind) (new_line : Bool) (mark : Mark) → mark_binds before new_line mark ≢ 12
+mark_gap : (before : TokenKind) (new_line : Bool) (mark : Mark) → mark_binds before new_line mark ≢ 12
 mark_gap before new_line m.Question = λ e. absurd (omega arith)
 mark_gap before new_line m.BarBar = λ e. absurd (omega arith)
 mark_gap before new_line m.AmpersandAmpersand = λ e. absurd (omega arith)
@@ -68,7 +68,7 @@ mark_gap before new_line m.OpenBracket = chosen_gap (is_bump before) 14 (λ e. a
 mark_gap before new_line m.OpenParenthesis = chosen_gap (is_bump before) 14 (λ e. absurd (omega arith))
 mark_gap before new_line mark = λ e. absurd (omega (arith, operator_max mark))
 
-kind_gap : (before : Kind) (new_line : Bool) (t : Kind) → kind_binds before new_line t ≢ 12
+kind_gap : (before : TokenKind) (new_line : Bool) (t : TokenKind) → kind_binds before new_line t ≢ 12
 kind_gap before new_line (k.Mark mark) = mark_gap before new_line mark
 kind_gap before new_line _ = λ e. absurd (omega arith)
 
@@ -127,7 +127,7 @@ quiet new_line x h =
     let a = and_parts new_line (not (nat_lt 0 x)) (is_true _ h) in
     let le : x ≤ 0 = ltb-false 0 x (not-true (nat_lt 0 x) a.1) in omega arith
 
-end_binds : (before : Kind) (new_line : Bool) (t : Kind) → IsTrue (may_end t new_line (nat_lt 0 (kind_binds before new_line t))) → kind_binds before new_line t ≡ 0
+end_binds : (before : TokenKind) (new_line : Bool) (t : TokenKind) → IsTrue (may_end t new_line (nat_lt 0 (kind_binds before new_line t))) → kind_binds before new_line t ≡ 0
 end_binds before new_line (k.Mark m.Semicolon) h = refl
 end_binds before new_line (k.Mark m.CloseBrace) h = refl
 end_binds before new_line (k.Mark mark) h = quiet new_line (mark_binds before new_line mark) h
@@ -142,13 +142,13 @@ weaker : (new_line goes_on : Bool) → IsTrue (new_line && not goes_on) → (new
 weaker true goes_on h = refl
 weaker false goes_on h = absurd (false≢true h)
 
-may_end_weak : (t : Kind) (new_line goes_on : Bool) → IsTrue (may_end t new_line goes_on) → may_end t new_line false ≡ true
+may_end_weak : (t : TokenKind) (new_line goes_on : Bool) → IsTrue (may_end t new_line goes_on) → may_end t new_line false ≡ true
 may_end_weak (k.Mark m.Semicolon) new_line goes_on h = absurd (false≢true h)
 may_end_weak (k.Mark m.CloseBrace) new_line goes_on h = refl
 may_end_weak k.Finish new_line goes_on h = refl
 may_end_weak _ new_line goes_on h = weaker new_line goes_on h
 
-not_semicolon : (t : Kind) (new_line goes_on : Bool) → IsTrue (may_end t new_line goes_on) → is_mark m.Semicolon t ≡ false
+not_semicolon : (t : TokenKind) (new_line goes_on : Bool) → IsTrue (may_end t new_line goes_on) → is_mark m.Semicolon t ≡ false
 not_semicolon (k.Mark m.Semicolon) new_line goes_on h = absurd (false≢true h)
 not_semicolon _ new_line goes_on h = refl
 

@@ -3,8 +3,8 @@ use Rattle.std.proofs.Common.{◌≡◌, ℕ, zero, suc, ◌+◌, ◌-◌, ◌<�
 use Rattle.std.specs.Prelude.{Bool, true, false, not, ◌&&◌, Some}
 use Rattle.sts_lexer.specs.declared.marks.Mark.{Mark}
 use Rattle.sts_lexer.specs.declared.marks.Mark.TheVariants as m
-use Rattle.sts_lexer.specs.declared.token.Kind.{Kind}
-use Rattle.sts_lexer.specs.declared.token.Kind.TheVariants as k
+use Rattle.sts_lexer.specs.declared.token.TokenKind.{TokenKind}
+use Rattle.sts_lexer.specs.declared.token.TokenKind.TheVariants as k
 use Rattle.sts_syntax.specs.Trees.{Tree, Num, Binary, Bump, Trees, none, more, Statement, Statements, done, also}
 use Rattle.sts_syntax.specs.Nesting.{nesting}
 use Rattle.sts_grammar.specs.Source.{Source, kind, IsMark, is_mark}
@@ -88,11 +88,11 @@ in_statement s e ok room i j h fit z =
     let x : Within s i j = operand_spans s 1 e (IsBare s e) (bare_spans s e) i j h in
     whole_found s e ok (length s.tokens) room i j h fit x.inside z
 
-closed_by : (s : Source) (i : ℕ) (t : Kind) → kind s i ≡ t → is_mark m.OpenParenthesis t ≡ false → (is_mark m.OpenParenthesis (kind s i) && not (begins_arrow s i)) ≡ false
+closed_by : (s : Source) (i : ℕ) (t : TokenKind) → kind s i ≡ t → is_mark m.OpenParenthesis t ≡ false → (is_mark m.OpenParenthesis (kind s i) && not (begins_arrow s i)) ≡ false
 closed_by s i t e h = ap (λ x. is_mark m.OpenParenthesis x && not (begins_arrow s i)) e ∙ ap (λ x. x && not (begins_arrow s i)) h
 
 -- by the first token
-pub token_arrives : (s : Source) (upto room : ℕ) (readers : Readers) (t q l from i : ℕ) (e : Tree) (j : ℕ) (token : Kind) → i ≡ from + q → kind s i ≡ token → is_mark m.OpenParenthesis token ≡ false → read_primary s readers i token ≡ Some (e, j) → Arrives s upto room readers t q l from i e j
+pub token_arrives : (s : Source) (upto room : ℕ) (readers : Readers) (t q l from i : ℕ) (e : Tree) (j : ℕ) (token : TokenKind) → i ≡ from + q → kind s i ≡ token → is_mark m.OpenParenthesis token ≡ false → read_primary s readers i token ≡ Some (e, j) → Arrives s upto room readers t q l from i e j
 token_arrives s upto room readers t q l from i e j token here h o read =
     primary_arrives s upto room readers t q l from i e j here (closed_by s i token h o) (ap (read_primary s readers i) h ∙ read) (nesting_pos e)
 

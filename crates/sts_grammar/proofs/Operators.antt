@@ -4,8 +4,8 @@ use Rattle.std.specs.Prelude.{ℤ, Bool, true, false, nat_lt, if◌then◌else�
 use Rattle.std.proofs.lemmas.Bool.{false≢true}
 use Rattle.sts_lexer.specs.declared.marks.Mark.{Mark}
 use Rattle.sts_lexer.specs.declared.marks.Mark.TheVariants as m
-use Rattle.sts_lexer.specs.declared.token.Kind.{Kind}
-use Rattle.sts_lexer.specs.declared.token.Kind.TheVariants as k
+use Rattle.sts_lexer.specs.declared.token.TokenKind.{TokenKind}
+use Rattle.sts_lexer.specs.declared.token.TokenKind.TheVariants as k
 use Rattle.sts_syntax.specs.Trees.{Tree, Name, Member, Item}
 use Rattle.sts_grammar.specs.Source.{Source, kind, broken}
 use Rattle.sts_grammar.specs.Operators.{infix_number, infix_level, bump_by, assignment}
@@ -38,7 +38,7 @@ unless_max : (b : Bool) (n : ℕ) → (if b then 0 else n) ≤ n
 unless_max true n = omega arith
 unless_max false n = omega arith
 
-mark_max : (before : Kind) (new_line : Bool) (mark : Mark) → mark_binds before new_line mark ≤ 14
+mark_max : (before : TokenKind) (new_line : Bool) (mark : Mark) → mark_binds before new_line mark ≤ 14
 mark_max before new_line m.Question = omega arith
 mark_max before new_line m.BarBar = omega arith
 mark_max before new_line m.AmpersandAmpersand = omega arith
@@ -49,7 +49,7 @@ mark_max before new_line m.OpenBracket = unless_max (is_bump before) 14
 mark_max before new_line m.OpenParenthesis = unless_max (is_bump before) 14
 mark_max before new_line mark = omega (arith, operator_max mark)
 
-kind_max : (before : Kind) (new_line : Bool) (t : Kind) → kind_binds before new_line t ≤ 14
+kind_max : (before : TokenKind) (new_line : Bool) (t : TokenKind) → kind_binds before new_line t ≤ 14
 kind_max before new_line (k.Mark mark) = mark_max before new_line mark
 kind_max before new_line _ = omega arith
 
@@ -60,7 +60,7 @@ binds_max s upto j =
     by (nat_lt j upto)
 
 -- behind `++` and `--` nothing binds more tightly than they do
-bump_mark_max : (before : Kind) (new_line : Bool) (mark : Mark) → is_bump before ≡ true → mark_binds before new_line mark ≤ 13
+bump_mark_max : (before : TokenKind) (new_line : Bool) (mark : Mark) → is_bump before ≡ true → mark_binds before new_line mark ≤ 13
 bump_mark_max before new_line m.Question h = omega arith
 bump_mark_max before new_line m.BarBar h = omega arith
 bump_mark_max before new_line m.AmpersandAmpersand h = omega arith
@@ -71,7 +71,7 @@ bump_mark_max before new_line m.OpenBracket h = subst (λ (b : Bool). (if b then
 bump_mark_max before new_line m.OpenParenthesis h = subst (λ (b : Bool). (if b then 0 else 14) ≤ 13) (sym h) (omega arith)
 bump_mark_max before new_line mark h = omega (arith, operator_max mark)
 
-bump_kind_max : (before : Kind) (new_line : Bool) (t : Kind) → is_bump before ≡ true → kind_binds before new_line t ≤ 13
+bump_kind_max : (before : TokenKind) (new_line : Bool) (t : TokenKind) → is_bump before ≡ true → kind_binds before new_line t ≤ 13
 bump_kind_max before new_line (k.Mark mark) h = bump_mark_max before new_line mark h
 bump_kind_max before new_line _ h = omega arith
 
@@ -88,7 +88,7 @@ bump_is_bump mark by h = ap is_some h
 
 -- 2. How tightly a mark binds, by what it is.
 
-pub binds_operator : (before : Kind) (new_line : Bool) (mark : Mark) (op : ℕ) → infix_number mark ≡ Some op → mark_binds before new_line mark ≡ infix_level op
+pub binds_operator : (before : TokenKind) (new_line : Bool) (mark : Mark) (op : ℕ) → infix_number mark ≡ Some op → mark_binds before new_line mark ≡ infix_level op
 binds_operator before new_line m.Question op h = never op h
 binds_operator before new_line m.BarBar op h = never op h
 binds_operator before new_line m.AmpersandAmpersand op h = never op h
@@ -99,7 +99,7 @@ binds_operator before new_line m.OpenBracket op h = never op h
 binds_operator before new_line m.OpenParenthesis op h = never op h
 binds_operator before new_line mark op h = ap (λ (x : Option ℕ). operator_binds x (assignment mark)) h
 
-pub binds_assignment : (before : Kind) (new_line : Bool) (mark : Mark) (op : Option ℕ) → infix_number mark ≡ None → assignment mark ≡ Some op → mark_binds before new_line mark ≡ 1
+pub binds_assignment : (before : TokenKind) (new_line : Bool) (mark : Mark) (op : Option ℕ) → infix_number mark ≡ None → assignment mark ≡ Some op → mark_binds before new_line mark ≡ 1
 binds_assignment before new_line m.Question op n h = never op h
 binds_assignment before new_line m.BarBar op n h = never op h
 binds_assignment before new_line m.AmpersandAmpersand op n h = never op h
@@ -111,7 +111,7 @@ binds_assignment before new_line m.OpenParenthesis op n h = never op h
 binds_assignment before new_line mark op n h =
     ap (λ (x : Option ℕ). operator_binds x (assignment mark)) n ∙ ap (λ (x : Option (Option ℕ)). operator_binds None x) h
 
-pub binds_bump : (before : Kind) (new_line : Bool) (mark : Mark) (by : ℤ) → bump_by mark ≡ Some by → mark_binds before new_line mark ≡ (if new_line then 0 else 13)
+pub binds_bump : (before : TokenKind) (new_line : Bool) (mark : Mark) (by : ℤ) → bump_by mark ≡ Some by → mark_binds before new_line mark ≡ (if new_line then 0 else 13)
 binds_bump before new_line m.PlusPlus by h = refl
 binds_bump before new_line m.MinusMinus by h = refl
 binds_bump before new_line _ by h = never by h

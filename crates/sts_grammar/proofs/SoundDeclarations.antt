@@ -4,8 +4,8 @@ use Rattle.std.specs.Prelude.{Bool, true, false, ◌||◌, nat_lt, if◌then◌e
 use Rattle.std.proofs.lemmas.Bool.{false≢true}
 use Rattle.std.proofs.lemmas.Option.{slice_get_past}
 use Rattle.sts_lexer.specs.declared.marks.Mark.TheVariants as m
-use Rattle.sts_lexer.specs.declared.token.Kind.{Kind}
-use Rattle.sts_lexer.specs.declared.token.Kind.TheVariants as k
+use Rattle.sts_lexer.specs.declared.token.TokenKind.{TokenKind}
+use Rattle.sts_lexer.specs.declared.token.TokenKind.TheVariants as k
 use Rattle.sts_syntax.specs.Annotations.{Annotation}
 use Rattle.sts_syntax.specs.Trees.{Tree, OptionalTree, absent, present, Declaration, Declare, Declarations, ended, next}
 use Rattle.sts_syntax.specs.Nesting.{nesting, optional_nesting, declaration_nesting, deepest_declaration}
@@ -46,7 +46,7 @@ pub end_ok : (s : Source) (goes_on : Bool) → goes_on ≡ false → (i j : ℕ)
 unfolding read_end
 end_ok s goes_on g i j h = subst (λ (b : Bool). Ends s b i j) (sym g) (end_by s i (is_mark m.Semicolon (kind s i)) refl j h)
 
-new_line_ends : (t : Kind) → is_mark m.Semicolon t ≡ false → may_end t true false ≡ true
+new_line_ends : (t : TokenKind) → is_mark m.Semicolon t ≡ false → may_end t true false ≡ true
 new_line_ends (k.Mark m.Semicolon) h = absurd (false≢true (sym h))
 new_line_ends (k.Mark m.CloseBrace) h = refl
 new_line_ends k.Finish h = refl

@@ -3,8 +3,8 @@ use Rattle.std.proofs.Common.{◌≡◌, ℕ, zero, suc, ◌+◌, ◌-◌, ◌<�
 use Rattle.std.specs.Prelude.{ℤ, Bool, true, false, not, ◌&&◌, nat_lt, if◌then◌else◌, Option, Some, None, length}
 use Rattle.sts_lexer.specs.declared.marks.Mark.{Mark}
 use Rattle.sts_lexer.specs.declared.marks.Mark.TheVariants as m
-use Rattle.sts_lexer.specs.declared.token.Kind.{Kind}
-use Rattle.sts_lexer.specs.declared.token.Kind.TheVariants as k
+use Rattle.sts_lexer.specs.declared.token.TokenKind.{TokenKind}
+use Rattle.sts_lexer.specs.declared.token.TokenKind.TheVariants as k
 use Rattle.sts_syntax.specs.Trees.{Tree, Binary, Both, Either, Choice, Set, Bump, Member, Item, Call}
 use Rattle.sts_syntax.specs.Nesting.{nesting, deepest_tree}
 use Rattle.sts_grammar.specs.Source.{Source, kind, broken, place, IsMark, is_mark}
@@ -71,7 +71,7 @@ module _ (s : Source) (upto room : ℕ) (readers : Readers) (ok : AreSound s upt
   loose : (l from : ℕ) (e : Tree) (j : ℕ) → l ≤ 1 → IsBare s e from j → nesting e ≤ suc room → 1 ≤ level e → binds_before s upto j < 1 → IsGrown s upto room l from e j
   loose l from e j le b n t stops = (1, (0, b, λ _. t), n, le, omega arith, λ (x : 1 ≤ binds_before s upto j). absurd (omega arith))
 
-  infix_ok : (l w from : ℕ) (e : Tree) (i : ℕ) (mark : Mark) → IsMark s i mark → (before : Kind) (new_line : Bool) → (op : ℕ) (assigned : Option (Option ℕ)) (by : Option ℤ) → infix_number mark ≡ Some op → (e' : Tree) (j : ℕ) → read_operator readers (place s from) e i (Some op) assigned by ≡ Some (e', j) →
+  infix_ok : (l w from : ℕ) (e : Tree) (i : ℕ) (mark : Mark) → IsMark s i mark → (before : TokenKind) (new_line : Bool) → (op : ℕ) (assigned : Option (Option ℕ)) (by : Option ℤ) → infix_number mark ≡ Some op → (e' : Tree) (j : ℕ) → read_operator readers (place s from) e i (Some op) assigned by ≡ Some (e', j) →
       1 ≤ l → l ≤ mark_binds before new_line mark → mark_binds before new_line mark ≤ w → nesting e ≤ room → IsOperand s w e (IsBare s e) from i → IsGrown s upto room l from e' j
   infix_ok l w from e i mark q before new_line op assigned by o e' j h one le bw nd a =
       let r = bind_ok (readers.expr (infix_level op + 1) (i + 1)) (λ b. Some (Binary (place s from) op e b.0, b.1)) (e', j) h in
@@ -90,7 +90,7 @@ module _ (s : Source) (upto room : ℕ) (readers : Readers) (ok : AreSound s upt
         λ _. omega arith,
       )
 
-  operator_ok : (l w from : ℕ) (e : Tree) (i : ℕ) (mark : Mark) → IsMark s i mark → (before : Kind) (op : Option ℕ) (assigned : Option (Option ℕ)) (by : Option ℤ) → infix_number mark ≡ op → assignment mark ≡ assigned → bump_by mark ≡ by →
+  operator_ok : (l w from : ℕ) (e : Tree) (i : ℕ) (mark : Mark) → IsMark s i mark → (before : TokenKind) (op : Option ℕ) (assigned : Option (Option ℕ)) (by : Option ℤ) → infix_number mark ≡ op → assignment mark ≡ assigned → bump_by mark ≡ by →
       (e' : Tree) (j : ℕ) → read_operator readers (place s from) e i op assigned by ≡ Some (e', j) →
       1 ≤ l → l ≤ mark_binds before (broken s i) mark → mark_binds before (broken s i) mark ≤ w → nesting e ≤ room → IsOperand s w e (IsBare s e) from i → IsGrown s upto room l from e' j
   operator_ok l w from e i mark q before (Some op) assigned by po pa pb e' j h one le bw nd a =
@@ -134,7 +134,7 @@ module _ (s : Source) (upto room : ℕ) (readers : Readers) (ok : AreSound s upt
       (loose l from (Choice (place s from) e r.0.0 v.0.0) v.0.1 le
       (i, r.0.1, refl, operand_weak s 2 w e (IsBare s e) from i two a, q, x.0, mark_is m.Colon (kind s r.0.1) c.0, y.0) (omega arith) (omega arith) y.2)
 
-  further_ok : (l w from : ℕ) (e : Tree) (i : ℕ) (mark : Mark) → IsMark s i mark → (before : Kind) → (e' : Tree) (j : ℕ) → read_further s readers (place s from) e i mark ≡ Some (e', j) →
+  further_ok : (l w from : ℕ) (e : Tree) (i : ℕ) (mark : Mark) → IsMark s i mark → (before : TokenKind) → (e' : Tree) (j : ℕ) → read_further s readers (place s from) e i mark ≡ Some (e', j) →
       1 ≤ l → l ≤ mark_binds before (broken s i) mark → mark_binds before (broken s i) mark ≤ w → 2 ≤ w → nesting e ≤ room → IsOperand s w e (IsBare s e) from i → IsGrown s upto room l from e' j
   further_ok l w from e i m.Dot q before e' j h one le bw two nd a =
       let r = bind_ok (member_name_of (kind s (i + 1))) (λ name. Some (Member (place s from) e name, i + 2)) (e', j) h in
@@ -177,7 +177,7 @@ module _ (s : Source) (upto room : ℕ) (readers : Readers) (ok : AreSound s upt
   further_ok l w from e i mark q before e' j h one le bw two nd a =
       operator_ok l w from e i mark q before (infix_number mark) (assignment mark) (bump_by mark) refl refl refl e' j h one le bw nd a
 
-  behind_ok : (l w from : ℕ) (e : Tree) (i : ℕ) (t : Kind) → kind s i ≡ t → (e' : Tree) (j : ℕ) → read_behind s readers (place s from) e i t ≡ Some (e', j) →
+  behind_ok : (l w from : ℕ) (e : Tree) (i : ℕ) (t : TokenKind) → kind s i ≡ t → (e' : Tree) (j : ℕ) → read_behind s readers (place s from) e i t ≡ Some (e', j) →
       1 ≤ l → l ≤ kind_binds (kind s (i - 1)) (broken s i) t → kind_binds (kind s (i - 1)) (broken s i) t ≤ w → 2 ≤ w → nesting e ≤ room → IsOperand s w e (IsBare s e) from i → IsGrown s upto room l from e' j
   behind_ok l w from e i (k.Mark mark) q e' j h one le bw two nd a = further_ok l w from e i mark q (kind s (i - 1)) e' j h one le bw two nd a
   behind_ok l w from e i _ q e' j h one le bw two nd a = never (e', j) h

@@ -5,8 +5,8 @@ use Rattle.sts_lexer.specs.declared.marks.Mark.{Mark}
 use Rattle.sts_lexer.specs.declared.marks.Mark.TheVariants as m
 use Rattle.sts_lexer.specs.declared.words.Word.{Word}
 use Rattle.sts_lexer.specs.declared.words.Word.TheVariants as w
-use Rattle.sts_lexer.specs.declared.token.Kind.{Kind}
-use Rattle.sts_lexer.specs.declared.token.Kind.TheVariants as k
+use Rattle.sts_lexer.specs.declared.token.TokenKind.{TokenKind}
+use Rattle.sts_lexer.specs.declared.token.TokenKind.TheVariants as k
 use Rattle.sts_syntax.specs.Annotations.{Annotation}
 use Rattle.sts_syntax.specs.Trees.{Parameter, Tree, Num, Text, Truth, Null, This, Name, Unary, Bump, SuperCall, Make, Items, Handler, Statement, Statements, Does}
 use Rattle.sts_syntax.specs.Nesting.{nesting, deepest_tree, statement_nesting, deepest_statement}
@@ -146,7 +146,7 @@ module _ (s : Source) (upto room : ℕ) (readers : Readers) (ok : AreSound s upt
   word_ok i w.Function entry q e j h = function_ok i entry q e j h
   word_ok i _ entry q e j h = never (e, j) h
 
-  pub primary_ok : (i : ℕ) (t : Kind) → kind s i ≡ t → (e : Tree) (j : ℕ) → read_primary s readers i t ≡ Some (e, j) → IsPrimary s upto room e i j
+  pub primary_ok : (i : ℕ) (t : TokenKind) → kind s i ≡ t → (e : Tree) (j : ℕ) → read_primary s readers i t ≡ Some (e, j) → IsPrimary s upto room e i j
   primary_ok i (k.Num value) q e j h =
       moved (λ (z : Tree × ℕ). IsPrimary s upto room z.0 i z.1) (Num (place s i) value, i + 1) (e, j) h
       (firm (Num (place s i) value) i (i + 1) (refl, q, refl) (omega arith) (omega arith))

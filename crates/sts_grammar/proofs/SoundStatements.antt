@@ -6,8 +6,8 @@ use lib.Chars.{codes}
 use Rattle.sts_lexer.specs.declared.marks.Mark.TheVariants as m
 use Rattle.sts_lexer.specs.declared.words.Word.{Word}
 use Rattle.sts_lexer.specs.declared.words.Word.TheVariants as w
-use Rattle.sts_lexer.specs.declared.token.Kind.{Kind}
-use Rattle.sts_lexer.specs.declared.token.Kind.TheVariants as k
+use Rattle.sts_lexer.specs.declared.token.TokenKind.{TokenKind}
+use Rattle.sts_lexer.specs.declared.token.TokenKind.TheVariants as k
 use Rattle.sts_syntax.specs.Trees.{Tree, OptionalTree, absent, present, Statement, Block, Let, IfOnly, IfElse, While, DoWhile, For, ForOf, Return, Break, Continue, Plain, Empty, OptionalStatement, omitted, written, Declarations}
 use Rattle.sts_syntax.specs.Nesting.{nesting, optional_nesting, statement_nesting, deepest_statement, optional_statement_nesting, deepest_declaration}
 use Rattle.sts_grammar.specs.Source.{Source, kind, place, IsMark, IsName, IsSpelled, is_mark, is_word}
@@ -23,7 +23,7 @@ use Rattle.sts_grammar.proofs.SoundPrimaries.{AreSound}
 use Rattle.sts_grammar.proofs.SoundDeclarations.{nothing_binds, nothing_continues, end_ok, no_end, AreWhole, let_ok}
 
 -- an expression as a statement may begin so
-abbrev begins_plain : Kind → Bool
+abbrev begins_plain : TokenKind → Bool
 begins_plain (k.Mark m.OpenBrace) = false
 begins_plain (k.Word w.Function name) = false
 begins_plain (k.Word w.Class name) = false
@@ -315,7 +315,7 @@ module _ (s : Source) (room : ℕ) (readers : Readers) (ok : AreSound s (length 
   word_statement_ok f l i w.Class entry q x j h = never (x, j) h
   word_statement_ok f l i word entry q x j h = plain_ok f l i (plain_begins s i (ap begins_plain q)) x j h
 
-  pub statement_ok : (f l : Bool) (i : ℕ) (t : Kind) → kind s i ≡ t → (x : Statement) (j : ℕ) → read_statement s room readers f l i t ≡ Some (x, j) → IsDone s room f l x i j
+  pub statement_ok : (f l : Bool) (i : ℕ) (t : TokenKind) → kind s i ≡ t → (x : Statement) (j : ℕ) → read_statement s room readers f l i t ≡ Some (x, j) → IsDone s room f l x i j
   statement_ok f l i (k.Mark m.OpenBrace) q x j h =
       let r = bind_ok (read_block s (readers.stmt f l) i) (λ b. Some (Block (place s i) b.0, b.1)) (x, j) h in
       let a = block_ok s room f l (readers.stmt f l) (λ i a j h. ok.stmt_ok f l i a j h) i r.0.0 r.0.1 r.1 in

@@ -5,8 +5,8 @@ use Rattle.std.proofs.lemmas.Bool.{cases_lt, eqb-true}
 use Rattle.std.proofs.lemmas.List.{append-nil, append_assoc}
 use Rattle.sts_lexer.specs.declared.marks.Mark.TheVariants as m
 use Rattle.sts_lexer.specs.declared.words.Word.TheVariants as w
-use Rattle.sts_lexer.specs.declared.token.Kind.{Kind}
-use Rattle.sts_lexer.specs.declared.token.Kind.TheVariants as k
+use Rattle.sts_lexer.specs.declared.token.TokenKind.{TokenKind}
+use Rattle.sts_lexer.specs.declared.token.TokenKind.TheVariants as k
 use Rattle.sts_syntax.specs.Annotations.{Annotation}
 use Rattle.sts_syntax.specs.Trees.{Parameter, OptionalTree, Statement, Statements, Declaration, Declare, Routine, Does}
 use Rattle.sts_syntax.specs.Programs.{ClassMember, Field, Method, Constructor, TopLevel, Class, Function, Main, Program}
@@ -217,7 +217,7 @@ module _ (s : Source) (below : SoundBelow s) where
       let a = bind_ok (statement s room false false i) (λ a. Some (Main a.0, a.1)) (x, j) h in
       subst (λ z. IsPart s z.0 i z.1 × (top_level_nesting z.0 ≤ room)) (some_is (Main a.0.0, a.0.1) (x, j) a.2) (statement_ok room false false i a.0.0 a.0.1 a.1)
 
-  part_ok : (room i : ℕ) (t : Kind) (x : TopLevel) (j : ℕ) → 2 ≤ room → kind s i ≡ t → read_part s room i t ≡ Some (x, j) → IsPart s x i j × (top_level_nesting x ≤ room)
+  part_ok : (room i : ℕ) (t : TokenKind) (x : TopLevel) (j : ℕ) → 2 ≤ room → kind s i ≡ t → read_part s room i t ≡ Some (x, j) → IsPart s x i j × (top_level_nesting x ≤ room)
   part_ok room i (k.Word w.Class name) x j two q h =
       let r = class_ok (room - 2) i x j (name, q) h in let deep = r.1 in (r.0, omega arith)
   part_ok room i (k.Word w.Function name) x j two q h =

@@ -7,8 +7,8 @@ use Rattle.sts_lexer.specs.declared.marks.Mark.{Mark}
 use Rattle.sts_lexer.specs.declared.marks.Mark.TheVariants as m
 use Rattle.sts_lexer.specs.declared.words.Word.{Word}
 use Rattle.sts_lexer.specs.declared.words.Word.TheVariants as w
-use Rattle.sts_lexer.specs.declared.token.Kind.{Kind}
-use Rattle.sts_lexer.specs.declared.token.Kind.TheVariants as k
+use Rattle.sts_lexer.specs.declared.token.TokenKind.{TokenKind}
+use Rattle.sts_lexer.specs.declared.token.TokenKind.TheVariants as k
 use Rattle.sts_syntax.specs.Annotations.{Annotation, Number, Boolean, Nothing, Named, ListOf}
 use Rattle.sts_syntax.specs.Annotations as annotations
 use Rattle.sts_syntax.specs.Trees.{Parameter, Tree, Num, Text, Truth, Null, This, Name, Unary, Binary, Both, Either, Choice, Set, Bump, Member, Item, Call, SuperCall, Make, Items, Handler, Trees, none, more, OptionalTree, absent, present, Statement, Block, Let, IfOnly, IfElse, While, DoWhile, For, ForOf, Return, Break, Continue, Plain, Empty, Statements, done, also, OptionalStatement, omitted, written, Declaration, Declare, Declarations, ended, next, Routine, Does}
@@ -30,7 +30,7 @@ pub record Reaches (s : Source) (i j : ℕ) : Type 0 where
   pub inside : i ≤ length s.tokens → j ≤ length s.tokens
 
 -- a number with a kind other than Finish is that of a token
-pub kind_in : (s : Source) (i : ℕ) (t : Kind) → kind s i ≡ t → t ≢ k.Finish → i < length s.tokens
+pub kind_in : (s : Source) (i : ℕ) (t : TokenKind) → kind s i ≡ t → t ≢ k.Finish → i < length s.tokens
 kind_in s i t e ne =
     elim (cases_lt i (length s.tokens)) [
       | inl h ↦ h

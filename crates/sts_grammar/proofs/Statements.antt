@@ -6,8 +6,8 @@ use Rattle.std.proofs.lemmas.Bool.{false≢true, false_from_ne_true, and_parts, 
 use Rattle.sts_lexer.specs.declared.marks.Mark.{Mark}
 use Rattle.sts_lexer.specs.declared.marks.Mark.TheVariants as m
 use Rattle.sts_lexer.specs.declared.words.Word.TheVariants as w
-use Rattle.sts_lexer.specs.declared.token.Kind.{Kind}
-use Rattle.sts_lexer.specs.declared.token.Kind.TheVariants as k
+use Rattle.sts_lexer.specs.declared.token.TokenKind.{TokenKind}
+use Rattle.sts_lexer.specs.declared.token.TokenKind.TheVariants as k
 use Rattle.sts_syntax.specs.Annotations.{Annotation}
 use Rattle.sts_syntax.specs.Trees.{Tree, OptionalTree, absent, present, Statement, Let, IfOnly, IfElse, While, DoWhile, For, ForOf, Return, Plain, OptionalStatement, omitted, written, Declaration, Declare, Declarations, ended, next}
 use Rattle.sts_syntax.specs.Nesting.{nesting, deepest_declaration}
@@ -25,32 +25,32 @@ use Rattle.sts_grammar.proofs.Begins.{begins, binds_mark}
 
 -- 1. What begins an expression closes nothing.
 
-pub begins_not_closed : (t : Kind) → begins t ≡ true → is_mark m.CloseParenthesis t ≡ false
+pub begins_not_closed : (t : TokenKind) → begins t ≡ true → is_mark m.CloseParenthesis t ≡ false
 begins_not_closed (k.Mark m.CloseParenthesis) h = absurd (false≢true h)
 begins_not_closed _ h = refl
 
-begins_not_bracket : (t : Kind) → begins t ≡ true → is_mark m.CloseBracket t ≡ false
+begins_not_bracket : (t : TokenKind) → begins t ≡ true → is_mark m.CloseBracket t ≡ false
 begins_not_bracket (k.Mark m.CloseBracket) h = absurd (false≢true h)
 begins_not_bracket _ h = refl
 
-pub begins_not_closing : (square : Bool) (t : Kind) → begins t ≡ true → closes square t ≡ false
+pub begins_not_closing : (square : Bool) (t : TokenKind) → begins t ≡ true → closes square t ≡ false
 begins_not_closing true t h = begins_not_bracket t h
 begins_not_closing false t h = begins_not_closed t h
 
-pub begins_not_brace : (t : Kind) → begins t ≡ true → is_mark m.CloseBrace t ≡ false
+pub begins_not_brace : (t : TokenKind) → begins t ≡ true → is_mark m.CloseBrace t ≡ false
 begins_not_brace (k.Mark m.CloseBrace) h = absurd (false≢true h)
 begins_not_brace _ h = refl
 
-pub begins_not_semicolon : (t : Kind) → begins t ≡ true → is_mark m.Semicolon t ≡ false
+pub begins_not_semicolon : (t : TokenKind) → begins t ≡ true → is_mark m.Semicolon t ≡ false
 begins_not_semicolon (k.Mark m.Semicolon) h = absurd (false≢true h)
 begins_not_semicolon _ h = refl
 
-begins_not_let : (t : Kind) → begins t ≡ true → let_of t ≡ None
+begins_not_let : (t : TokenKind) → begins t ≡ true → let_of t ≡ None
 begins_not_let (k.Word w.Let entry) h = absurd (false≢true h)
 begins_not_let (k.Word w.Const entry) h = absurd (false≢true h)
 begins_not_let _ h = refl
 
-not_end_by : (t : Kind) → begins t ≡ true → may_end t false false ≡ false
+not_end_by : (t : TokenKind) → begins t ≡ true → may_end t false false ≡ false
 not_end_by (k.Mark m.CloseBrace) h = absurd (false≢true h)
 not_end_by k.Finish h = absurd (false≢true h)
 not_end_by _ h = refl
@@ -210,7 +210,7 @@ head_omitted s i h = of_head_no_let s i (ap let_of h)
 
 -- 4. Expressions as statements, and `return`.
 
-plain_is : (s : Source) (room : ℕ) (readers : Readers) (f l : Bool) (i : ℕ) (t : Kind) → begins t ≡ true → ((entry : ℕ) → t ≢ k.Word w.Function entry) → read_statement s room readers f l i t ≡ read_plain s readers i
+plain_is : (s : Source) (room : ℕ) (readers : Readers) (f l : Bool) (i : ℕ) (t : TokenKind) → begins t ≡ true → ((entry : ℕ) → t ≢ k.Word w.Function entry) → read_statement s room readers f l i t ≡ read_plain s readers i
 plain_is s room readers f l i (k.Mark m.OpenBrace) b g = absurd (false≢true b)
 plain_is s room readers f l i (k.Mark m.Semicolon) b g = absurd (false≢true b)
 plain_is s room readers f l i (k.Word w.Let entry) b g = absurd (false≢true b)
@@ -267,7 +267,7 @@ last_semicolon s ended n h = tt
 last_semicolon s (next a ended) n h = (settled_semicolon s a n h, ap (is_mark m.Comma) h)
 last_semicolon s (next a (next b rest)) n h = last_semicolon s (next b rest) n h
 
-last_quiet : (s : Source) (each : Declarations) (n : ℕ) (t : Kind) → kind s n ≡ t → kind_binds (kind s (n - 1)) (broken s n) t ≡ 0 → is_mark m.Assign t ≡ false → is_mark m.OpenBracket t ≡ false → is_mark m.Colon t ≡ false → is_mark m.Comma t ≡ false → LastSettled s each n
+last_quiet : (s : Source) (each : Declarations) (n : ℕ) (t : TokenKind) → kind s n ≡ t → kind_binds (kind s (n - 1)) (broken s n) t ≡ 0 → is_mark m.Assign t ≡ false → is_mark m.OpenBracket t ≡ false → is_mark m.Colon t ≡ false → is_mark m.Comma t ≡ false → LastSettled s each n
 last_quiet s ended n t h b x y z c = tt
 last_quiet s (next a ended) n t h b x y z c =
     (settled_at s a n (ap (kind_binds (kind s (n - 1)) (broken s n)) h ∙ b) (ap (is_mark m.Assign) h ∙ x) (ap (is_mark m.OpenBracket) h ∙ y) (ap (is_mark m.Colon) h ∙ z), ap (is_mark m.Comma) h ∙ c)
@@ -300,7 +300,7 @@ last_new_line s (next a ended) n nl g = new_line_settled s a n nl g
 last_new_line s (next a (next b rest)) n nl g = last_new_line s (next b rest) n nl g
 
 -- before which tokens a statement may end
-may_end_cases : (t : Kind) (new_line goes_on : Bool) → IsTrue (may_end t new_line goes_on) → (t ≡ k.Mark m.CloseBrace) ⊎ ((t ≡ k.Finish) ⊎ ((new_line ≡ true) × (goes_on ≡ false)))
+may_end_cases : (t : TokenKind) (new_line goes_on : Bool) → IsTrue (may_end t new_line goes_on) → (t ≡ k.Mark m.CloseBrace) ⊎ ((t ≡ k.Finish) ⊎ ((new_line ≡ true) × (goes_on ≡ false)))
 may_end_cases (k.Mark m.Semicolon) new_line goes_on h = absurd (false≢true h)
 may_end_cases (k.Mark m.CloseBrace) new_line goes_on h = inl refl
 may_end_cases k.Finish new_line goes_on h = inr (inl refl)

@@ -11,8 +11,8 @@ use Rattle.sts_lexer.specs.declared.words.Word.TheVariants as w
 use denote.Enum.Bare.{same_true, same_false}
 use Rattle.sts_lexer.specs.contracts.marks.Mark.{the_type as mark_type}
 use Rattle.sts_lexer.specs.contracts.words.Word.{the_type as word_type}
-use Rattle.sts_lexer.specs.declared.token.Kind.{Kind}
-use Rattle.sts_lexer.specs.declared.token.Kind.TheVariants as k
+use Rattle.sts_lexer.specs.declared.token.TokenKind.{TokenKind}
+use Rattle.sts_lexer.specs.declared.token.TokenKind.TheVariants as k
 use Rattle.sts_grammar.specs.Source.{Source, kind, IsWord, IsMemberName, IsSpelled, is_mark, is_word}
 use Rattle.sts_grammar.specs.Operands.{IsLet}
 use Rattle.sts_grammar.specs.Found.{◌>>=◌, when, name_of, member_name_of, let_of, closes, has_bytes, is_of}
@@ -61,11 +61,11 @@ and_no false = refl
 
 -- 2. Marks.
 
-pub mark_is : (mark : Mark) (t : Kind) → is_mark mark t ≡ true → t ≡ k.Mark mark
+pub mark_is : (mark : Mark) (t : TokenKind) → is_mark mark t ≡ true → t ≡ k.Mark mark
 mark_is mark (k.Mark other) h = ap k.Mark (same_true mark_type tt other mark h)
 mark_is mark _ h = absurd (false≢true h)
 
-pub mark_isnt : (mark : Mark) (t : Kind) → is_mark mark t ≡ false → t ≢ k.Mark mark
+pub mark_isnt : (mark : Mark) (t : TokenKind) → is_mark mark t ≡ false → t ≢ k.Mark mark
 mark_isnt mark t h e = same_false mark_type mark mark (sym (ap (is_mark mark) e) ∙ h) refl
 
 -- the mark that closes a list
@@ -73,29 +73,29 @@ abbrev pub closing : Bool → Mark
 closing true = m.CloseBracket
 closing false = m.CloseParenthesis
 
-pub closes_is : (square : Bool) (t : Kind) → closes square t ≡ true → t ≡ k.Mark (closing square)
+pub closes_is : (square : Bool) (t : TokenKind) → closes square t ≡ true → t ≡ k.Mark (closing square)
 closes_is true t h = mark_is m.CloseBracket t h
 closes_is false t h = mark_is m.CloseParenthesis t h
 
 -- 3. Words and names.
 
-pub word_is : (s : Source) (i : ℕ) (word : Word) (t : Kind) → kind s i ≡ t → is_word word t ≡ true → IsWord s i word
+pub word_is : (s : Source) (i : ℕ) (word : Word) (t : TokenKind) → kind s i ≡ t → is_word word t ≡ true → IsWord s i word
 word_is s i word (k.Word other name) q h = (name, q ∙ ap (λ z. k.Word z name) (same_true word_type tt other word h))
 word_is s i word _ q h = absurd (false≢true h)
 
 pub word_isnt : (s : Source) (i : ℕ) (word : Word) → is_word word (kind s i) ≡ false → ¬ (IsWord s i word)
 word_isnt s i word h e = same_false word_type word word (sym (ap (is_word word) e.1) ∙ h) refl
 
-pub name_is : (t : Kind) (x : ℕ) → name_of t ≡ Some x → t ≡ k.Name x
+pub name_is : (t : TokenKind) (x : ℕ) → name_of t ≡ Some x → t ≡ k.Name x
 name_is (k.Name y) x h = ap k.Name (some_is y x h)
 name_is _ x h = never x h
 
-pub member_name_is : (s : Source) (i : ℕ) (t : Kind) (x : ℕ) → kind s i ≡ t → member_name_of t ≡ Some x → IsMemberName s i x
+pub member_name_is : (s : Source) (i : ℕ) (t : TokenKind) (x : ℕ) → kind s i ≡ t → member_name_of t ≡ Some x → IsMemberName s i x
 member_name_is s i (k.Name y) x q h = inl (q ∙ ap k.Name (some_is y x h))
 member_name_is s i (k.Word word y) x q h = inr (word, q ∙ ap (k.Word word) (some_is y x h))
 member_name_is s i _ x q h = never x h
 
-pub let_is : (s : Source) (i : ℕ) (t : Kind) (fixed : Bool) → kind s i ≡ t → let_of t ≡ Some fixed → IsLet s fixed i
+pub let_is : (s : Source) (i : ℕ) (t : TokenKind) (fixed : Bool) → kind s i ≡ t → let_of t ≡ Some fixed → IsLet s fixed i
 let_is s i (k.Word w.Let name) fixed q h = moved (λ (b : Bool). IsLet s b i) false fixed h (name, q)
 let_is s i (k.Word w.Const name) fixed q h = moved (λ (b : Bool). IsLet s b i) true fixed h (name, q)
 let_is s i _ fixed q h = never fixed h
@@ -108,7 +108,7 @@ pub has_bytes_isnt : (entry : Option (List ℕ)) (bytes : List ℕ) → has_byte
 has_bytes_isnt None bytes h e = cc
 has_bytes_isnt (Some entry) bytes h e = false≢true (sym h ∙ (bytes_eq-Decides entry bytes).1 (some_is entry bytes e))
 
-pub is_of_is : (s : Source) (i : ℕ) (t : Kind) → kind s i ≡ t → is_of s t ≡ true → IsSpelled s i (codes "of")
+pub is_of_is : (s : Source) (i : ℕ) (t : TokenKind) → kind s i ≡ t → is_of s t ≡ true → IsSpelled s i (codes "of")
 is_of_is s i (k.Name name) q h = (name, q, has_bytes_is (slice_get s.names name) (codes "of") h)
 is_of_is s i _ q h = absurd (false≢true h)
 

@@ -3,8 +3,8 @@ use Rattle.std.proofs.Common.{◌≡◌, ℕ, zero, suc, ◌+◌, ◌-◌, ◌<�
 use Rattle.std.specs.Prelude.{ℤ, Bool, true, false, not, ◌&&◌, nat_lt, Option, Some, None, if◌then◌else◌}
 use Rattle.sts_lexer.specs.declared.marks.Mark.{Mark}
 use Rattle.sts_lexer.specs.declared.marks.Mark.TheVariants as m
-use Rattle.sts_lexer.specs.declared.token.Kind.{Kind}
-use Rattle.sts_lexer.specs.declared.token.Kind.TheVariants as k
+use Rattle.sts_lexer.specs.declared.token.TokenKind.{TokenKind}
+use Rattle.sts_lexer.specs.declared.token.TokenKind.TheVariants as k
 use Rattle.sts_syntax.specs.Trees.{Tree, Trees, Statement, Statements}
 use Rattle.sts_syntax.specs.Nesting.{nesting}
 use Rattle.sts_grammar.specs.Source.{Source, kind, place, IsMark, is_mark}
@@ -107,7 +107,7 @@ pub expression_at : (s : Source) (upto room l i : ℕ) → expression s upto (su
 unfolding expression
 expression_at s upto room l i = refl
 
-pub statement_by : (s : Source) (room : ℕ) (f l : Bool) (i : ℕ) (t : Kind) → 1 ≤ room → kind s i ≡ t → statement s room f l i ≡ read_statement s (room - 1) (statement_readers s (room - 1)) f l i t
+pub statement_by : (s : Source) (room : ℕ) (f l : Bool) (i : ℕ) (t : TokenKind) → 1 ≤ room → kind s i ≡ t → statement s room f l i ≡ read_statement s (room - 1) (statement_readers s (room - 1)) f l i t
 unfolding expression
 statement_by s zero f l i t h e = absurd (omega arith)
 statement_by s (suc room) f l i t h e =

@@ -4,8 +4,8 @@ use Rattle.std.specs.Prelude.{Bool, true, false, ◌&&◌, Option, Some, None, �
 use Rattle.std.proofs.lemmas.Bool.{false≢true}
 use lib.Chars.{codes}
 use Rattle.sts_lexer.specs.declared.words.Word.{Word}
-use Rattle.sts_lexer.specs.declared.token.Kind.{Kind}
-use Rattle.sts_lexer.specs.declared.token.Kind.TheVariants as k
+use Rattle.sts_lexer.specs.declared.token.TokenKind.{TokenKind}
+use Rattle.sts_lexer.specs.declared.token.TokenKind.TheVariants as k
 use Rattle.sts_grammar.specs.Source.{Source, kind}
 use Rattle.sts_grammar.specs.Units.{is_modifier, IsModified, IsConstructor}
 use Rattle.sts_grammar.specs.Found.{name_of, member_name_of}
@@ -13,19 +13,19 @@ use Rattle.sts_grammar.specs.ReadHeadings.{is_found}
 use Rattle.sts_grammar.specs.ReadUnits.{is_constructor, is_finish}
 use Rattle.sts_grammar.proofs.Tokens.{has_bytes_is, has_bytes_yes}
 
-pub finish_is : (t : Kind) → is_finish t ≡ true → t ≡ k.Finish
+pub finish_is : (t : TokenKind) → is_finish t ≡ true → t ≡ k.Finish
 finish_is k.Finish h = refl
 finish_is t h = absurd (false≢true h)
 
-abbrev pub MemberNameKind : Kind → ℕ → Type 0
+abbrev pub MemberNameKind : TokenKind → ℕ → Type 0
 MemberNameKind t name = (t ≡ k.Name name) ⊎ ((word : Word) × (t ≡ k.Word word name))
 
-pub member_name_is : (t : Kind) (x : ℕ) → member_name_of t ≡ Some x → MemberNameKind t x
+pub member_name_is : (t : TokenKind) (x : ℕ) → member_name_of t ≡ Some x → MemberNameKind t x
 member_name_is (k.Name y) x h = inl (ap k.Name (let e : ◌≡◌ {A = Option ℕ} (Some y) (Some x) = h in cc))
 member_name_is (k.Word word y) x h = inr (word, ap (k.Word word) (let e : ◌≡◌ {A = Option ℕ} (Some y) (Some x) = h in cc))
 member_name_is t x h = absurd (let e : ◌≡◌ {A = Option ℕ} None (Some x) = h in cc)
 
-constructor_at : (s : Source) (i : ℕ) (t : Kind) → kind s i ≡ t → is_constructor s t ≡ true → IsConstructor s i
+constructor_at : (s : Source) (i : ℕ) (t : TokenKind) → kind s i ≡ t → is_constructor s t ≡ true → IsConstructor s i
 constructor_at s i (k.Name name) q h = (name, q, has_bytes_is (slice_get s.names name) (codes "constructor") h)
 constructor_at s i t q h = absurd (false≢true h)
 
@@ -50,7 +50,7 @@ some_found : {A : Type 0} (r : Option A) (x : A) → r ≡ Some x → is_found r
 some_found None x h = absurd (cc)
 some_found (Some y) x h = refl
 
-pub member_name_of_is : (t : Kind) (x : ℕ) → MemberNameKind t x → member_name_of t ≡ Some x
+pub member_name_of_is : (t : TokenKind) (x : ℕ) → MemberNameKind t x → member_name_of t ≡ Some x
 member_name_of_is t x (inl h) = rw h refl
 member_name_of_is t x (inr h) = rw h.1 refl
 
@@ -74,7 +74,7 @@ is_constructor_false s i other = by_case (is_constructor s (kind s i)) refl
     by_case true h = absurd (other (constructor_is s i h))
     by_case false h = h
 
-pub name_of_is : (t : Kind) (x : ℕ) → t ≡ k.Name x → name_of t ≡ Some x
+pub name_of_is : (t : TokenKind) (x : ℕ) → t ≡ k.Name x → name_of t ≡ Some x
 name_of_is t x h = ap name_of h
 
 pub modified_not : (s : Source) (i : ℕ) → ¬ (IsModified s i) → (is_modifier (kind s i) && is_found (member_name_of (kind s (i + 1)))) ≡ false

@@ -7,7 +7,7 @@ use Rattle.sts_base.specs.declared.refused.Code.TheVariants as code
 use Rattle.sts_lexer.specs.declared.token.Token.{Token}
 use Rattle.sts_lexer.specs.Laws.{IsRead}
 use Rattle.sts_lexer.proofs.Laws.{one_numbering, tokens_or_refusal}
-use Rattle.sts_grammar.specs.Texts.{source, Refuses, no_entries, HasTokens, SpellsProgram, SpellsNone}
+use Rattle.sts_grammar.specs.Texts.{source, RefusesSource, no_entries, HasTokens, SpellsProgram, SpellsNone}
 use Rattle.sts_grammar.specs.Deep.{NoneDeep, IsFirstDeep}
 use Rattle.sts_grammar.specs.Units.{IsProgram}
 use Rattle.sts_grammar.specs.Laws.{OneVerdict}
@@ -32,7 +32,7 @@ own_tokens text tables tables' tokens tokens' h h' =
 not_deep : (tokens : List Token) (at : ℕ) → NoneDeep tokens → IsFirstDeep tokens at → ⊥
 not_deep tokens at none h = absurd (omega (arith, h.deep, none h.at (slice_get_within tokens h.at h.token h.is)))
 
-not_refused : (text : List ℕ) (why : Code) (at : ℕ) (s : SpellsProgram text) → Refuses (source s.tokens s.tables) why at → ⊥
+not_refused : (text : List ℕ) (why : Code) (at : ℕ) (s : SpellsProgram text) → RefusesSource (source s.tokens s.tables) why at → ⊥
 not_refused text code.TooDeep at s r = not_deep s.tokens at s.shallow r
 not_refused text code.Syntax at s r = r.1 s.program s.spelled
 not_refused text other at s r = r
@@ -42,7 +42,7 @@ verdict text why at s (inl r) = tokens_or_refusal s.tables text s.tokens why at 
 verdict text why at s (inr r) =
     let same = own_tokens text r.tables s.tables r.tokens s.tokens r.read s.read in
     not_refused text why at s
-    (subst (λ (x : Tables). Refuses (source s.tokens x) why at) same.0 (subst (λ (x : List Token). Refuses (source x r.tables) why at) same.1 r.why))
+    (subst (λ (x : Tables). RefusesSource (source s.tokens x) why at) same.0 (subst (λ (x : List Token). RefusesSource (source x r.tables) why at) same.1 r.why))
 
 program_same : (text : List ℕ) (a b : SpellsProgram text) → a.program ≡ b.program
 program_same text a b =

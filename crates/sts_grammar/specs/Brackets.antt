@@ -1,13 +1,13 @@
 -- Brackets that are open.
 use Rattle.std.specs.Prelude.{ℕ, ◌+◌, ◌-◌, List, [], ◌∷◌, take}
 use Rattle.sts_lexer.specs.declared.marks.Mark.TheVariants as m
-use Rattle.sts_lexer.specs.declared.token.Kind.{Kind}
-use Rattle.sts_lexer.specs.declared.token.Kind.TheVariants as k
+use Rattle.sts_lexer.specs.declared.token.TokenKind.{TokenKind}
+use Rattle.sts_lexer.specs.declared.token.TokenKind.TheVariants as k
 use Rattle.sts_lexer.specs.declared.token.Token.{Token}
 
 -- How many brackets are open behind a token before which n were. A closing one closes the latest that is open, of whatever kind,
 -- and does nothing where none is.
-abbrev pub open_behind : ℕ → Kind → ℕ
+abbrev pub open_behind : ℕ → TokenKind → ℕ
 open_behind n (k.Mark m.OpenParenthesis) = n + 1
 open_behind n (k.Mark m.OpenBracket) = n + 1
 open_behind n (k.Mark m.OpenBrace) = n + 1

@@ -3,15 +3,15 @@
 use Rattle.std.specs.Prelude.{◌≡◌, ℕ, ◌+◌, ◌-◌, ◌⊎◌, Bool, true, false, not, ◌&&◌, ◌||◌, if◌then◌else◌, nat_lt, Option, Some, None, is_some, IsTrue}
 use Rattle.sts_lexer.specs.declared.marks.Mark.{Mark}
 use Rattle.sts_lexer.specs.declared.marks.Mark.TheVariants as m
-use Rattle.sts_lexer.specs.declared.token.Kind.{Kind}
-use Rattle.sts_lexer.specs.declared.token.Kind.TheVariants as k
+use Rattle.sts_lexer.specs.declared.token.TokenKind.{TokenKind}
+use Rattle.sts_lexer.specs.declared.token.TokenKind.TheVariants as k
 use Rattle.sts_syntax.specs.Trees.{absent, present, Declaration, Declare, Declarations, ended, next}
 use Rattle.sts_grammar.specs.Precedence.{assignment_level, either_level, both_level, postfix_level, primary_level}
 use Rattle.sts_grammar.specs.Source.{Source, kind, broken, IsMark, is_mark}
 use Rattle.sts_grammar.specs.Operators.{infix_number, infix_level, bump_by, assignment}
 
 -- `++` or `--`
-abbrev pub is_bump : Kind → Bool
+abbrev pub is_bump : TokenKind → Bool
 is_bump (k.Mark mark) = is_some (bump_by mark)
 is_bump other = false
 
@@ -23,7 +23,7 @@ operator_binds None None = 0
 
 -- How tightly a mark binds to the expression before it, 0 where it doesn't go on with one. A `++` or `--` on a new line doesn't,
 -- and behind `++` and `--` stands no `.`, `[` or `(`.
-abbrev pub mark_binds : (before : Kind) (new_line : Bool) → Mark → ℕ
+abbrev pub mark_binds : (before : TokenKind) (new_line : Bool) → Mark → ℕ
 mark_binds before new_line m.Question = assignment_level
 mark_binds before new_line m.BarBar = either_level
 mark_binds before new_line m.AmpersandAmpersand = both_level
@@ -34,7 +34,7 @@ mark_binds before new_line m.OpenBracket = if is_bump before then 0 else primary
 mark_binds before new_line m.OpenParenthesis = if is_bump before then 0 else primary_level
 mark_binds before new_line mark = operator_binds (infix_number mark) (assignment mark)
 
-abbrev pub kind_binds : (before : Kind) (new_line : Bool) → Kind → ℕ
+abbrev pub kind_binds : (before : TokenKind) (new_line : Bool) → TokenKind → ℕ
 kind_binds before new_line (k.Mark mark) = mark_binds before new_line mark
 kind_binds before new_line other = 0
 
@@ -59,7 +59,7 @@ declarations_continue s (next a ended) j = declaration_continues s a j
 declarations_continue s (next a (next b rest)) j = declarations_continue s (next b rest) j
 
 -- a statement may end before such a token without a `;`
-abbrev pub may_end : Kind → (new_line goes_on : Bool) → Bool
+abbrev pub may_end : TokenKind → (new_line goes_on : Bool) → Bool
 may_end (k.Mark m.Semicolon) new_line goes_on = false
 may_end (k.Mark m.CloseBrace) new_line goes_on = true
 may_end k.Finish new_line goes_on = true

@@ -4,8 +4,8 @@ use lib.Chars.{codes}
 use Rattle.std.specs.Str.{bytes_eq}
 use Rattle.sts_lexer.specs.declared.marks.Mark.TheVariants as m
 use Rattle.sts_lexer.specs.declared.words.Word.TheVariants as w
-use Rattle.sts_lexer.specs.declared.token.Kind.{Kind}
-use Rattle.sts_lexer.specs.declared.token.Kind.TheVariants as k
+use Rattle.sts_lexer.specs.declared.token.TokenKind.{TokenKind}
+use Rattle.sts_lexer.specs.declared.token.TokenKind.TheVariants as k
 use Rattle.sts_grammar.specs.Source.{Source, kind, is_mark}
 
 -- what is read, and the number of the token behind it; None where nothing of that sort stands there
@@ -22,24 +22,24 @@ None >>= f = None
 abbrev pub when : {A : Type 0} → Bool → Option A → Option A
 when test read = if test then read else None
 
-abbrev pub name_of : Kind → Option ℕ
+abbrev pub name_of : TokenKind → Option ℕ
 name_of (k.Name name) = Some name
 name_of other = None
 
 -- the name of a member: any name or reserved word
-abbrev pub member_name_of : Kind → Option ℕ
+abbrev pub member_name_of : TokenKind → Option ℕ
 member_name_of (k.Name name) = Some name
 member_name_of (k.Word word name) = Some name
 member_name_of other = None
 
 -- `let` gives false and `const` true
-abbrev pub let_of : Kind → Option Bool
+abbrev pub let_of : TokenKind → Option Bool
 let_of (k.Word w.Let name) = Some false
 let_of (k.Word w.Const name) = Some true
 let_of other = None
 
 -- the mark that closes a list: `]` where it is square, or else `)`
-abbrev pub closes : (square : Bool) → Kind → Bool
+abbrev pub closes : (square : Bool) → TokenKind → Bool
 closes true kind = is_mark m.CloseBracket kind
 closes false kind = is_mark m.CloseParenthesis kind
 
@@ -49,6 +49,6 @@ has_bytes None bytes = false
 has_bytes (Some entry) bytes = bytes_eq entry bytes
 
 -- the name `of`
-abbrev pub is_of : Source → Kind → Bool
+abbrev pub is_of : Source → TokenKind → Bool
 is_of s (k.Name name) = has_bytes (slice_get s.names name) (codes "of")
 is_of s other = false

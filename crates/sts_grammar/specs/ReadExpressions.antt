@@ -5,8 +5,8 @@ use Rattle.sts_lexer.specs.declared.marks.Mark.{Mark}
 use Rattle.sts_lexer.specs.declared.marks.Mark.TheVariants as m
 use Rattle.sts_lexer.specs.declared.words.Word.{Word}
 use Rattle.sts_lexer.specs.declared.words.Word.TheVariants as w
-use Rattle.sts_lexer.specs.declared.token.Kind.{Kind}
-use Rattle.sts_lexer.specs.declared.token.Kind.TheVariants as k
+use Rattle.sts_lexer.specs.declared.token.TokenKind.{TokenKind}
+use Rattle.sts_lexer.specs.declared.token.TokenKind.TheVariants as k
 use Rattle.sts_syntax.specs.Annotations.{Annotation}
 use Rattle.sts_syntax.specs.Trees.{Parameter, Tree, Num, Text, Truth, Null, This, Name, Unary, Binary, Both, Either, Choice, Set, Bump, Member, Item, Call, SuperCall, Make, Items, Handler, Trees, none, more, Statement, Statements, done, also, Does}
 use Rattle.sts_syntax.specs.Nesting.{nesting}
@@ -44,7 +44,7 @@ abbrev pub binds_before : Source → (upto j : ℕ) → ℕ
 binds_before s upto j = if nat_lt j upto then binds s j else 0
 
 -- what stands behind an expression of a list at i: the closing mark, or a comma and further ones, which `read` reads
-abbrev pub items_rest : (square : Bool) (read : Trees → ℕ → Found Trees) (all : Trees) → ℕ → Kind → Found Trees
+abbrev pub items_rest : (square : Bool) (read : Trees → ℕ → Found Trees) (all : Trees) → ℕ → TokenKind → Found Trees
 items_rest square read all i kind =
     if closes square kind then Some (all, i + 1) else when (is_mark m.Comma kind) (read all (i + 1))
 
@@ -115,7 +115,7 @@ read_word s readers i w.Function = read_heading s (i + 1) >>= λ h. read_handler
 read_word s readers i word = None
 
 -- A primary without parentheses round it, or a prefix operator and its operand, by its first token.
-abbrev pub read_primary : Source → Readers → ℕ → Kind → Found Tree
+abbrev pub read_primary : Source → Readers → ℕ → TokenKind → Found Tree
 read_primary s readers i (k.Num value) = Some (Num (place s i) value, i + 1)
 read_primary s readers i (k.Text text) = Some (Text (place s i) text, i + 1)
 read_primary s readers i (k.Name name) = Some (Name (place s i) name, i + 1)
@@ -146,7 +146,7 @@ read_further s readers at e i m.BarBar = readers.expr (either_level + 1) (i + 1)
 read_further s readers at e i m.AmpersandAmpersand = readers.expr (both_level + 1) (i + 1) >>= λ b. Some (Both at e b.0, b.1)
 read_further s readers at e i mark = read_operator readers at e i (infix_number mark) (assignment mark) (bump_by mark)
 
-abbrev pub read_behind : Source → Readers → (at : ℕ) (e : Tree) → ℕ → Kind → Found Tree
+abbrev pub read_behind : Source → Readers → (at : ℕ) (e : Tree) → ℕ → TokenKind → Found Tree
 read_behind s readers at e i (k.Mark mark) = read_further s readers at e i mark
 read_behind s readers at e i other = None
 

@@ -1,7 +1,7 @@
 -- Reading types and parameters. Readers begin at a token's number, and none of these calls another that calls it.
 use Rattle.std.specs.Prelude.{ℕ, zero, suc, ◌+◌, Bool, true, false, ◌&&◌, not, if◌then◌else◌, List, [], ◌∷◌, ◌++◌, Option, Some, None, slice_get, length}
 use lib.Chars.{codes}
-use Rattle.sts_lexer.specs.declared.token.Kind.{Kind}
+use Rattle.sts_lexer.specs.declared.token.TokenKind.{TokenKind}
 use Rattle.sts_syntax.specs.Annotations.{Annotation, Number, Boolean, Text, Nothing, Named, ListOf}
 use Rattle.sts_syntax.specs.Trees.{Parameter}
 use Rattle.sts_lexer.specs.declared.marks.Mark.TheVariants as m
@@ -57,7 +57,7 @@ read_parameter s i =
     name_of (kind s i) >>= λ name. read_optional_type s (i + 1) >>= λ t. Some (record { at = place s i; name = name; shape = t.0 }, t.1)
 
 -- what stands behind parameters at i: `)`, or a comma and further ones, which `read` reads
-abbrev pub parameters_rest : (read : List Parameter → ℕ → Found (List Parameter)) → (all : List Parameter) → ℕ → Kind → Found (List Parameter)
+abbrev pub parameters_rest : (read : List Parameter → ℕ → Found (List Parameter)) → (all : List Parameter) → ℕ → TokenKind → Found (List Parameter)
 parameters_rest read all i kind =
     if is_mark m.CloseParenthesis kind then Some (all, i + 1) else when (is_mark m.Comma kind) (read all (i + 1))
 

@@ -3,8 +3,8 @@ use Rattle.std.specs.Prelude.{ℕ, zero, suc, ◌+◌, Bool, true, false, if◌t
 use Rattle.sts_lexer.specs.declared.marks.Mark.TheVariants as m
 use Rattle.sts_lexer.specs.declared.words.Word.{Word}
 use Rattle.sts_lexer.specs.declared.words.Word.TheVariants as w
-use Rattle.sts_lexer.specs.declared.token.Kind.{Kind}
-use Rattle.sts_lexer.specs.declared.token.Kind.TheVariants as k
+use Rattle.sts_lexer.specs.declared.token.TokenKind.{TokenKind}
+use Rattle.sts_lexer.specs.declared.token.TokenKind.TheVariants as k
 use Rattle.sts_syntax.specs.Trees.{Tree, OptionalTree, absent, present, Statement, Block, Let, IfOnly, IfElse, While, DoWhile, For, ForOf, Return, Break, Continue, Plain, Empty, OptionalStatement, omitted, written, Declaration, Declare, Declarations, ended, next}
 use Rattle.sts_syntax.specs.Nesting.{nesting, deepest_declaration}
 use Rattle.sts_grammar.specs.Precedence.{assignment_level}
@@ -161,7 +161,7 @@ read_word_statement s room readers f l i w.Class = None
 read_word_statement s room readers f l i word = read_plain s readers i
 
 -- A statement, by its first token.
-abbrev pub read_statement : Source → (room : ℕ) → Readers → (f l : Bool) → ℕ → Kind → Found Statement
+abbrev pub read_statement : Source → (room : ℕ) → Readers → (f l : Bool) → ℕ → TokenKind → Found Statement
 read_statement s room readers f l i (k.Mark m.OpenBrace) = read_block s (readers.stmt f l) i >>= λ b. Some (Block (place s i) b.0, b.1)
 read_statement s room readers f l i (k.Mark m.Semicolon) = Some (Empty (place s i), i + 1)
 read_statement s room readers f l i (k.Word word name) = read_word_statement s room readers f l i word

@@ -3,8 +3,8 @@
 use Rattle.std.specs.Prelude.{ℕ, zero, suc, ◌+◌, ◌-◌, Bool, true, false, ◌&&◌, ◌==◌, if◌then◌else◌, List, [], ◌∷◌, ◌++◌, Option, Some, None, length, slice_get}
 use lib.Chars.{codes}
 use Rattle.sts_lexer.specs.declared.words.Word.TheVariants as w
-use Rattle.sts_lexer.specs.declared.token.Kind.{Kind}
-use Rattle.sts_lexer.specs.declared.token.Kind.TheVariants as k
+use Rattle.sts_lexer.specs.declared.token.TokenKind.{TokenKind}
+use Rattle.sts_lexer.specs.declared.token.TokenKind.TheVariants as k
 use Rattle.sts_syntax.specs.Trees.{Declare, Routine, Does}
 use Rattle.sts_syntax.specs.Programs.{ClassMember, Field, Method, Constructor, TopLevel, Class, Function, Main, Program}
 use Rattle.sts_lexer.specs.declared.marks.Mark.TheVariants as m
@@ -23,7 +23,7 @@ unfoldable pub behind_modifier : Source → ℕ → ℕ
 behind_modifier s i = if is_modifier (kind s i) && is_found (member_name_of (kind s (i + 1))) then i + 1 else i
 
 -- the name `constructor`
-abbrev pub is_constructor : Source → Kind → Bool
+abbrev pub is_constructor : Source → TokenKind → Bool
 is_constructor s (k.Name name) = has_bytes (slice_get s.names name) (codes "constructor")
 is_constructor s other = false
 
@@ -94,12 +94,12 @@ unfoldable pub read_main : Readers → ℕ → Found TopLevel
 read_main readers i = readers.stmt false false i >>= λ a. Some (Main a.0, a.1)
 
 -- a part of a text, of nesting at most room, by its first token
-abbrev pub read_part : Source → (room : ℕ) → ℕ → Kind → Found TopLevel
+abbrev pub read_part : Source → (room : ℕ) → ℕ → TokenKind → Found TopLevel
 read_part s room i (k.Word w.Class name) = read_class s (statement_readers s (room - 2)) (i + 1)
 read_part s room i (k.Word w.Function name) = read_function s (statement_readers s (room - 1)) (i + 1)
 read_part s room i other = read_main (statement_readers s room) i
 
-abbrev pub is_finish : Kind → Bool
+abbrev pub is_finish : TokenKind → Bool
 is_finish k.Finish = true
 is_finish other = false
 

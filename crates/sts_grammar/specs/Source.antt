@@ -5,8 +5,8 @@ use Rattle.sts_lexer.specs.contracts.marks.Mark.{the_type as mark_type}
 use Rattle.sts_lexer.specs.contracts.words.Word.{the_type as word_type}
 use Rattle.sts_lexer.specs.declared.marks.Mark.{Mark}
 use Rattle.sts_lexer.specs.declared.words.Word.{Word}
-use Rattle.sts_lexer.specs.declared.token.Kind.{Kind}
-use Rattle.sts_lexer.specs.declared.token.Kind.TheVariants as k
+use Rattle.sts_lexer.specs.declared.token.TokenKind.{TokenKind}
+use Rattle.sts_lexer.specs.declared.token.TokenKind.TheVariants as k
 use Rattle.sts_lexer.specs.declared.token.Token.{Token}
 
 -- the tokens of a text, of which the last is Finish, and the spellings of its names
@@ -14,7 +14,7 @@ pub record Source : Type 0 where
   pub tokens : List Token
   pub names : List (List ℕ)
 
-abbrev pub kind_of : Option Token → Kind
+abbrev pub kind_of : Option Token → TokenKind
 kind_of None = k.Finish
 kind_of (Some t) = t.kind
 
@@ -27,7 +27,7 @@ place_of None = 0
 place_of (Some t) = t.span.from
 
 -- the kind of the token with a number, Finish past the end
-abbrev pub kind : Source → ℕ → Kind
+abbrev pub kind : Source → ℕ → TokenKind
 kind s i = kind_of (slice_get s.tokens i)
 
 -- a line break stands before it
@@ -45,12 +45,12 @@ abbrev pub IsWord : Source → ℕ → Word → Type 0
 IsWord s i word = (entry : ℕ) × (kind s i ≡ k.Word word entry)
 
 -- the test of a token for a mark
-abbrev pub is_mark : Mark → Kind → Bool
+abbrev pub is_mark : Mark → TokenKind → Bool
 is_mark mark (k.Mark other) = sameb mark_type other mark
 is_mark mark other = false
 
 -- the test of a token for a reserved word
-abbrev pub is_word : Word → Kind → Bool
+abbrev pub is_word : Word → TokenKind → Bool
 is_word word (k.Word other name) = sameb word_type other word
 is_word word other = false
 

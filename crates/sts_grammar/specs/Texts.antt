@@ -30,10 +30,10 @@ pub record BeginsToken (tokens : List Token) (place : ℕ) : Type 0 where
 
 -- Why tokens are refused: at some token too many brackets are open, and the place is that of the first such token; or they spell
 -- no program, and the place is that of some token.
-abbrev pub Refuses : Source → Code → ℕ → Type 0
-Refuses s TooDeep place = IsFirstDeep s.tokens place
-Refuses s Syntax place = NoneDeep s.tokens × NoProgram s × BeginsToken s.tokens place
-Refuses s other place = ⊥
+abbrev pub RefusesSource : Source → Code → ℕ → Type 0
+RefusesSource s TooDeep place = IsFirstDeep s.tokens place
+RefusesSource s Syntax place = NoneDeep s.tokens × NoProgram s × BeginsToken s.tokens place
+RefusesSource s other place = ⊥
 
 -- tables without an entry
 abbrev pub no_entries : Tables
@@ -61,7 +61,7 @@ pub record RefusesTokens (text : List ℕ) (code : Code) (at : ℕ) : Type 0 whe
   pub tables : Tables
   pub tokens : List Token
   pub read : HasTokens text tables tokens
-  pub why : Refuses (source tokens tables) code at
+  pub why : RefusesSource (source tokens tables) code at
 
 -- A text spells no program, for this reason at this place: it has no tokens, or these spell none.
 abbrev pub SpellsNone : List ℕ → Code → ℕ → Type 0

@@ -4,8 +4,8 @@ use Rattle.std.specs.Prelude.{◌≡◌, ◌⊎◌, ℕ, ◌+◌, ◌<◌, ◌�
 use lib.Chars.{codes}
 use Rattle.sts_lexer.specs.declared.marks.Mark.TheVariants as m
 use Rattle.sts_lexer.specs.declared.words.Word.TheVariants as w
-use Rattle.sts_lexer.specs.declared.token.Kind.{Kind}
-use Rattle.sts_lexer.specs.declared.token.Kind.TheVariants as k
+use Rattle.sts_lexer.specs.declared.token.TokenKind.{TokenKind}
+use Rattle.sts_lexer.specs.declared.token.TokenKind.TheVariants as k
 use Rattle.sts_syntax.specs.Trees.{Declaration, Declare, absent, Does}
 use Rattle.sts_syntax.specs.Programs.{ClassMember, Field, Method, Constructor, TopLevel, Class, Function, Main, Program}
 use Rattle.sts_syntax.specs.Nesting.{program_nesting}
@@ -17,7 +17,7 @@ use Rattle.sts_grammar.specs.Ends.{declaration_continues, Ends}
 use Rattle.sts_grammar.specs.Spells.{IsInitialised, IsStatement, InBlock}
 
 -- `public`, `private` or `protected`
-abbrev pub is_modifier : Kind → Bool
+abbrev pub is_modifier : TokenKind → Bool
 is_modifier (k.Word w.Public entry) = true
 is_modifier (k.Word w.Private entry) = true
 is_modifier (k.Word w.Protected entry) = true
@@ -35,7 +35,7 @@ IsModified s i = IsTrue (is_modifier (kind s i)) × NamesMember s (i + 1)
 abbrev pub HasModifier : Source → Stands
 HasModifier s i j = (IsModified s i × (j ≡ i + 1)) ⊎ (¬ (IsModified s i) × (j ≡ i))
 
-abbrev pub is_open : Kind → Bool
+abbrev pub is_open : TokenKind → Bool
 is_open (k.Mark m.OpenParenthesis) = true
 is_open other = false
 

@@ -24,8 +24,8 @@ use Rattle.sts_lexer.specs.declared.marks.Mark.{Mark}
 use Rattle.sts_lexer.specs.declared.marks.TheConstants.{MARKS}
 use Rattle.sts_lexer.specs.declared.words.Word.{Word}
 use Rattle.sts_lexer.specs.declared.words.TheConstants.{WORDS}
-use Rattle.sts_lexer.specs.declared.token.Kind.{Kind}
-use Rattle.sts_lexer.specs.declared.token.Kind.TheVariants as kinds
+use Rattle.sts_lexer.specs.declared.token.TokenKind.{TokenKind}
+use Rattle.sts_lexer.specs.declared.token.TokenKind.TheVariants as kinds
 use Rattle.sts_lexer.specs.declared.token.Token.{Token}
 use Rattle.sts_lexer.proofs.Lexing.{spells_within, name_longest, number_longest, quoted_longest, mark_longest}
 use Rattle.sts_lexer.proofs.MarkTable.{place_of as mark_place, placed as mark_placed}
@@ -219,7 +219,7 @@ abbrev is_other : List ℕ → Word → Bool
 is_other bytes word = not (bytes_eq bytes (word_bytes word))
 
 -- the longest lexeme at the front of the rest takes n bytes, and has this kind
-abbrev is_read : Tables → Kind → ℕ → List ℕ → Bool
+abbrev is_read : Tables → TokenKind → ℕ → List ℕ → Bool
 is_read tables (kinds.Name entry) n rest =
     (nat_lt entry (length tables.names) && list_all (is_other (string tables.names entry)) WORDS) && is_name (string tables.names entry) n rest
 is_read tables (kinds.Word word entry) n rest =
@@ -230,7 +230,7 @@ is_read tables (kinds.Text entry) n rest = nat_lt entry (length tables.texts) &&
 is_read tables (kinds.Mark which) n rest = is_the_mark which n rest
 is_read tables kinds.Finish n rest = false
 
-read : (tables : Tables) (text rest : List ℕ) (kind : Kind) (i n : ℕ) → drop i text ≡ rest → IsTrue (is_read tables kind n rest) → Reads tables text i kind (i + n)
+read : (tables : Tables) (text rest : List ℕ) (kind : TokenKind) (i n : ℕ) → drop i text ≡ rest → IsTrue (is_read tables kind n rest) → Reads tables text i kind (i + n)
 read tables text rest (kinds.Name entry) i n h t =
     let left = and_parts _ _ (and_parts _ _ t).0 in
     let bytes = string tables.names entry in

@@ -14,8 +14,8 @@ use Rattle.sts_lexer.specs.Tokens.{IsKindOf, IsNext, AreTokens, IsTokenization}
 use Rattle.sts_lexer.specs.Tables.{Extends}
 use Rattle.sts_lexer.specs.Uses.{TakesUp, TakeUp, NumbersInOrder, NumbersOne, name_entry, text_entry}
 use Rattle.sts_lexer.specs.Refusals.{cause}
-use Rattle.sts_lexer.specs.declared.token.Kind.{Kind}
-use Rattle.sts_lexer.specs.declared.token.Kind.TheVariants as kinds
+use Rattle.sts_lexer.specs.declared.token.TokenKind.{TokenKind}
+use Rattle.sts_lexer.specs.declared.token.TokenKind.TheVariants as kinds
 use Rattle.sts_lexer.specs.declared.token.Token.{Token}
 use Rattle.sts_lexer.proofs.Bodies.{inside}
 use Rattle.sts_lexer.proofs.Numbering.{slice_get_left}
@@ -30,7 +30,7 @@ entry_stays : (old new : List (List ℕ)) (entry : ℕ) (string : List ℕ) → 
 entry_stays old new entry string grows h =
     subst (λ (x : List (List ℕ)). slice_get x entry ≡ Some string) (sym grows.1) (slice_get_left old grows.0 entry string h)
 
-kind_stays : (old new : Tables) (lexeme : Lexeme) (kind : Kind) → Extends old.names new.names → Extends old.texts new.texts
+kind_stays : (old new : Tables) (lexeme : Lexeme) (kind : TokenKind) → Extends old.names new.names → Extends old.texts new.texts
     → IsKindOf old lexeme kind → IsKindOf new lexeme kind
 kind_stays old new (name bytes) (kinds.Name entry) names texts h = (entry_stays old.names new.names entry bytes names h.0, h.1)
 kind_stays old new (name bytes) (kinds.Word word entry) names texts h = (entry_stays old.names new.names entry bytes names h.0, h.1)
@@ -116,18 +116,18 @@ pub no_not_utf8 : (byte : ℕ) → code.NotUtf8 ≡ cause byte → ⊥
 no_not_utf8 byte = other_cause code.NotUtf8 byte (λ e. cc) (λ e. cc) (λ e. cc)
 
 -- entries that tokens name
-take_up_more : (entry_of : Kind → Option ℕ) (all : List Token) (token : Token) (before middle after : ℕ) → TakeUp entry_of all before middle
+take_up_more : (entry_of : TokenKind → Option ℕ) (all : List Token) (token : Token) (before middle after : ℕ) → TakeUp entry_of all before middle
     → TakesUp (entry_of token.kind) middle after → TakeUp entry_of (all ++ token ∷ []) before after
 take_up_more entry_of [] token before middle after h here = (after, subst (λ (x : ℕ). TakesUp (entry_of token.kind) x after) h here, refl)
 take_up_more entry_of (first ∷ rest) token before middle after h here = (h.0, h.1, take_up_more entry_of rest token h.0 middle after h.2 here)
 
-pub numbers_more : (old middle new : Tables) (all : List Token) (token : Token) (kind : Kind) (upto : ℕ) → token.kind ≡ kind → NumbersInOrder old middle all
+pub numbers_more : (old middle new : Tables) (all : List Token) (token : Token) (kind : TokenKind) (upto : ℕ) → token.kind ≡ kind → NumbersInOrder old middle all
     → NumbersOne middle new (Some (kind, upto)) → NumbersInOrder old new (all ++ token ∷ [])
 numbers_more old middle new all token kind upto is before here = record {
   names = take_up_more name_entry all token (length old.names) (length middle.names) (length new.names) before.names
-      (subst (λ (x : Kind). TakesUp (name_entry x) (length middle.names) (length new.names)) (sym is) here.names);
+      (subst (λ (x : TokenKind). TakesUp (name_entry x) (length middle.names) (length new.names)) (sym is) here.names);
   texts = take_up_more text_entry all token (length old.texts) (length middle.texts) (length new.texts) before.texts
-      (subst (λ (x : Kind). TakesUp (text_entry x) (length middle.texts) (length new.texts)) (sym is) here.texts);
+      (subst (λ (x : TokenKind). TakesUp (text_entry x) (length middle.texts) (length new.texts)) (sym is) here.texts);
 }
 
 -- the end names no entry

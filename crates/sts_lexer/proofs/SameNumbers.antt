@@ -13,8 +13,8 @@ use Rattle.sts_lexer.specs.Uses.{TakesUp, TakeUp, name_entry, text_entry}
 use Rattle.sts_lexer.specs.Laws.{IsRead}
 use Rattle.sts_lexer.specs.declared.marks.Mark.{Mark}
 use Rattle.sts_lexer.specs.declared.words.Word.{Word}
-use Rattle.sts_lexer.specs.declared.token.Kind.{Kind}
-use Rattle.sts_lexer.specs.declared.token.Kind.TheVariants as kinds
+use Rattle.sts_lexer.specs.declared.token.TokenKind.{TokenKind}
+use Rattle.sts_lexer.specs.declared.token.TokenKind.TheVariants as kinds
 use Rattle.sts_lexer.specs.declared.token.Token.{Token}
 use Rattle.sts_lexer.proofs.WordTable.{same_word}
 use Rattle.sts_lexer.proofs.Numbering.{slice_get_left}
@@ -59,14 +59,14 @@ record Agree (t t' : Tables) (n x : ℕ) : Type 0 where
   below_texts : SameBelow x t.texts t'.texts
 
 -- the same token has been taken up by both
-record TookSame (t t' : Tables) (kind kind' : Kind) (m m' y y' : ℕ) : Type 0 where
+record TookSame (t t' : Tables) (kind kind' : TokenKind) (m m' y y' : ℕ) : Type 0 where
   kinds_same : kind ≡ kind'
   names_same : m ≡ m'
   texts_same : y ≡ y'
   agree : Agree t t' m y
 
 -- what tokens for one lexeme take up
-abbrev Takes : Tables → Tables → Lexeme → Kind → Kind → Type 0
+abbrev Takes : Tables → Tables → Lexeme → TokenKind → TokenKind → Type 0
 Takes t t' lexeme kind kind' =
     (n m m' x y y' : ℕ) → Agree t t' n x → IsKindOf t lexeme kind → IsKindOf t' lexeme kind' → TakesUp (name_entry kind) n m → TakesUp (name_entry kind') n m'
     → TakesUp (text_entry kind) x y → TakesUp (text_entry kind') x y' → TookSame t t' kind kind' m m' y y'
@@ -75,14 +75,14 @@ agreed : (t t' : Tables) (n m x y : ℕ) → Agree t t' n x → SameBelow m t.na
 agreed t t' n m x y a names texts =
     record { names = a.names; names' = a.names'; texts = a.texts; texts' = a.texts'; below_names = names; below_texts = texts }
 
-plain : (t t' : Tables) (n m m' x y y' : ℕ) (kind kind' : Kind) → Agree t t' n x → kind ≡ kind' → TakesUp None n m → TakesUp None n m' → TakesUp None x y
+plain : (t t' : Tables) (n m m' x y y' : ℕ) (kind kind' : TokenKind) → Agree t t' n x → kind ≡ kind' → TakesUp None n m → TakesUp None n m' → TakesUp None x y
     → TakesUp None x y' → TookSame t t' kind kind' m m' y y'
 plain t t' n m m' x y y' kind kind' a same h h' g g' =
     let names = none_same t.names t'.names n m m' a.below_names h h' in
     let texts = none_same t.texts t'.texts x y y' a.below_texts g g' in
     record { kinds_same = same; names_same = names.0; texts_same = texts.0; agree = agreed t t' n m x y a names.1 texts.1 }
 
-named : (t t' : Tables) (bytes : List ℕ) (e e' n m m' x y y' : ℕ) (kind : ℕ → Kind) (kind' : Kind) → Agree t t' n x → kind e' ≡ kind'
+named : (t t' : Tables) (bytes : List ℕ) (e e' n m m' x y y' : ℕ) (kind : ℕ → TokenKind) (kind' : TokenKind) → Agree t t' n x → kind e' ≡ kind'
     → slice_get t.names e ≡ Some bytes → slice_get t'.names e' ≡ Some bytes → TakesUp (Some e) n m → TakesUp (Some e') n m' → TakesUp None x y
     → TakesUp None x y' → TookSame t t' (kind e) kind' m m' y y'
 named t t' bytes e e' n m m' x y y' kind kind' a same here there h h' g g' =
@@ -90,36 +90,36 @@ named t t' bytes e e' n m m' x y y' kind kind' a same here there h h' g g' =
     let texts = none_same t.texts t'.texts x y y' a.below_texts g g' in
     record { kinds_same = ap (λ (i : ℕ). kind i) names.0 ∙ same; names_same = names.1; texts_same = texts.0; agree = agreed t t' n m x y a names.2 texts.1 }
 
-name_taken : (t t' : Tables) (bytes : List ℕ) (e : ℕ) (kind' : Kind) → Takes t t' (name bytes) (kinds.Name e) kind'
+name_taken : (t t' : Tables) (bytes : List ℕ) (e : ℕ) (kind' : TokenKind) → Takes t t' (name bytes) (kinds.Name e) kind'
 name_taken t t' bytes e (kinds.Name e') n m m' x y y' a k k' h h' g g' = named t t' bytes e e' n m m' x y y' (λ i. kinds.Name i) (kinds.Name e') a refl k.0 k'.0 h h' g g'
 name_taken t t' bytes e (kinds.Word word e') n m m' x y y' a k k' h h' g g' = absurd (k.1 word k'.1)
 name_taken t t' bytes e other n m m' x y y' a k k' h h' g g' = absurd k'
 
-word_taken : (t t' : Tables) (bytes : List ℕ) (word : Word) (e : ℕ) (kind' : Kind) → Takes t t' (name bytes) (kinds.Word word e) kind'
+word_taken : (t t' : Tables) (bytes : List ℕ) (word : Word) (e : ℕ) (kind' : TokenKind) → Takes t t' (name bytes) (kinds.Word word e) kind'
 word_taken t t' bytes word e (kinds.Name e') n m m' x y y' a k k' h h' g g' = absurd (k'.1 word k.1)
 word_taken t t' bytes word e (kinds.Word word' e') n m m' x y y' a k k' h h' g g' =
     named t t' bytes e e' n m m' x y y' (λ i. kinds.Word word i) (kinds.Word word' e') a
     (ap (λ (w : Word). kinds.Word w e') (same_word word word' (sym k.1 ∙ k'.1))) k.0 k'.0 h h' g g'
 word_taken t t' bytes word e other n m m' x y y' a k k' h h' g g' = absurd k'
 
-number_taken : (t t' : Tables) (value : ℕ) (int : ℤ) (kind' : Kind) → Takes t t' (number value) (kinds.Num int) kind'
+number_taken : (t t' : Tables) (value : ℕ) (int : ℤ) (kind' : TokenKind) → Takes t t' (number value) (kinds.Num int) kind'
 number_taken t t' value int (kinds.Num int') n m m' x y y' a k k' h h' g g' =
     plain t t' n m m' x y y' (kinds.Num int) (kinds.Num int') a (ap (λ (i : ℤ). kinds.Num i) (k ∙ sym k')) h h' g g'
 number_taken t t' value int other n m m' x y y' a k k' h h' g g' = absurd k'
 
-mark_taken : (t t' : Tables) (this which : Mark) (kind' : Kind) → Takes t t' (mark this) (kinds.Mark which) kind'
+mark_taken : (t t' : Tables) (this which : Mark) (kind' : TokenKind) → Takes t t' (mark this) (kinds.Mark which) kind'
 mark_taken t t' this which (kinds.Mark which') n m m' x y y' a k k' h h' g g' =
     plain t t' n m m' x y y' (kinds.Mark which) (kinds.Mark which') a (ap (λ (i : Mark). kinds.Mark i) (k ∙ sym k')) h h' g g'
 mark_taken t t' this which other n m m' x y y' a k k' h h' g g' = absurd k'
 
-text_taken : (t t' : Tables) (value : List ℕ) (e : ℕ) (kind' : Kind) → Takes t t' (quoted value) (kinds.Text e) kind'
+text_taken : (t t' : Tables) (value : List ℕ) (e : ℕ) (kind' : TokenKind) → Takes t t' (quoted value) (kinds.Text e) kind'
 text_taken t t' value e (kinds.Text e') n m m' x y y' a k k' h h' g g' =
     let texts = entry_same t.texts t'.texts value e e' x y y' a.texts a.texts' a.below_texts k k' g g' in
     let names = none_same t.names t'.names n m m' a.below_names h h' in
     record { kinds_same = ap (λ (i : ℕ). kinds.Text i) texts.0; names_same = names.0; texts_same = texts.1; agree = agreed t t' n m x y a names.1 texts.2 }
 text_taken t t' value e other n m m' x y y' a k k' h h' g g' = absurd k'
 
-taken : (t t' : Tables) (lexeme : Lexeme) (kind kind' : Kind) → Takes t t' lexeme kind kind'
+taken : (t t' : Tables) (lexeme : Lexeme) (kind kind' : TokenKind) → Takes t t' lexeme kind kind'
 taken t t' (name bytes) (kinds.Name e) kind' = name_taken t t' bytes e kind'
 taken t t' (name bytes) (kinds.Word word e) kind' = word_taken t t' bytes word e kind'
 taken t t' (name bytes) other kind' = λ n m m' x y y' a k k' h h' g g'. absurd k
@@ -181,7 +181,7 @@ extended_below old new new' h h' k lt =
     ]
 
 -- without the end
-front_up : (entry_of : Kind → Option ℕ) (front : List Token) (token : Token) (n m : ℕ) → entry_of token.kind ≡ None → TakeUp entry_of (front ++ token ∷ []) n m
+front_up : (entry_of : TokenKind → Option ℕ) (front : List Token) (token : Token) (n m : ℕ) → entry_of token.kind ≡ None → TakeUp entry_of (front ++ token ∷ []) n m
     → TakeUp entry_of front n m
 front_up entry_of [] token n m none h = let same : h.0 ≡ n = subst (λ (e : Option ℕ). TakesUp e n h.0) none h.1 in h.2 ∙ same
 front_up entry_of (first ∷ rest) token n m none h = (h.0, h.1, front_up entry_of rest token h.0 m none h.2)
@@ -213,10 +213,10 @@ one_numbering old new new' text all all' h h' =
     } in
     let took = all_taken new new' text (start_of text) r.stop r'.stop (length old.names) (length new.names) (length new'.names) (length old.texts) (length new.texts) (length new'.texts)
     r.front r'.front a r.read r'.read over over'
-    (front_up name_entry r.front r.finish _ _ (ap (λ (k : Kind). name_entry k) r.ends.kind) names)
-    (front_up name_entry r'.front r'.finish _ _ (ap (λ (k : Kind). name_entry k) r'.ends.kind) names')
-    (front_up text_entry r.front r.finish _ _ (ap (λ (k : Kind). text_entry k) r.ends.kind) texts)
-    (front_up text_entry r'.front r'.finish _ _ (ap (λ (k : Kind). text_entry k) r'.ends.kind) texts') in (
+    (front_up name_entry r.front r.finish _ _ (ap (λ (k : TokenKind). name_entry k) r.ends.kind) names)
+    (front_up name_entry r'.front r'.finish _ _ (ap (λ (k : TokenKind). name_entry k) r'.ends.kind) names')
+    (front_up text_entry r.front r.finish _ _ (ap (λ (k : TokenKind). text_entry k) r.ends.kind) texts)
+    (front_up text_entry r'.front r'.finish _ _ (ap (λ (k : TokenKind). text_entry k) r'.ends.kind) texts') in (
       same_tables new new' (lists_same new.names new'.names took.names_same took.agree.below_names) (lists_same new.texts new'.texts took.texts_same took.agree.below_texts),
       r.all_is ∙ (ap (λ (x : List Token). x ++ r.finish ∷ []) took.all_same ∙ (ap (λ (x : Token). r'.front ++ x ∷ []) finish ∙ sym r'.all_is)),
     )

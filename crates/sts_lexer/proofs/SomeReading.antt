@@ -21,8 +21,8 @@ use Rattle.sts_lexer.specs.Spaces.{IsGap, start_of}
 use Rattle.sts_lexer.specs.Tables.{Extends}
 use Rattle.sts_lexer.specs.Tokens.{IsKindOf, AreTokens}
 use Rattle.sts_lexer.specs.Uses.{TakesUp, NumbersInOrder, NumbersOne}
-use Rattle.sts_lexer.specs.declared.token.Kind.{Kind}
-use Rattle.sts_lexer.specs.declared.token.Kind.TheVariants as kinds
+use Rattle.sts_lexer.specs.declared.token.TokenKind.{TokenKind}
+use Rattle.sts_lexer.specs.declared.token.TokenKind.TheVariants as kinds
 use Rattle.sts_lexer.specs.declared.token.Token.{Token}
 use Rattle.sts_lexer.proofs.Growing.{extends_same, extends_on, tokens_stay, tokens_more, start_within, numbers_more, numbers_finish}
 use Rattle.sts_lexer.proofs.Lexing.{spells_within}
@@ -76,7 +76,7 @@ held old string distinct =
 -- tables that have what a lexeme says, and the kind of a token for it
 record Kinded (old : Tables) (lexeme : Lexeme) : Type 0 where
   new : Tables
-  kind : Kind
+  kind : TokenKind
   is : IsKindOf new lexeme kind
   names : Extends old.names new.names
   texts : Extends old.texts new.texts

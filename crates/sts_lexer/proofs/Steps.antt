@@ -10,8 +10,8 @@ use Rattle.sts_lexer.specs.Bytes.{most_bytes, is_break, SomeByte}
 use Rattle.sts_lexer.specs.Spaces.{IsGap}
 use Rattle.sts_lexer.specs.Tokens.{Reads, IsNext, IsFinish}
 use Rattle.sts_lexer.specs.Refusals.{Stops, IsRefusal}
-use Rattle.sts_lexer.specs.declared.token.Kind.{Kind}
-use Rattle.sts_lexer.specs.declared.token.Kind.TheVariants as kinds
+use Rattle.sts_lexer.specs.declared.token.TokenKind.{TokenKind}
+use Rattle.sts_lexer.specs.declared.token.TokenKind.TheVariants as kinds
 use Rattle.sts_lexer.specs.declared.token.Token.{Token}
 use Rattle.sts_lexer.proofs.Growing.{no_text_too_long, no_not_utf8}
 
@@ -41,7 +41,7 @@ finish_of text i from token broken kind at upto same end places gap breaks = rec
   broken = subst (λ (x : ℕ). IsTrue token.broken ↔ SomeByte is_break text i x) end (subst (λ (b : Bool). IsTrue b ↔ SomeByte is_break text i from) (sym same) breaks);
 }
 
-pub next_of : (tables : Tables) (text : List ℕ) (i from upto : ℕ) (kind : Kind) (token : Token) (broken : Bool) → token.kind ≡ kind → token.span.from ≡ from
+pub next_of : (tables : Tables) (text : List ℕ) (i from upto : ℕ) (kind : TokenKind) (token : Token) (broken : Bool) → token.kind ≡ kind → token.span.from ≡ from
     → token.span.upto ≡ upto → token.broken ≡ broken → (places : List ℕ) → IsGap text i places from → (IsTrue broken ↔ SomeByte is_break text i from)
     → Reads tables text from kind upto → IsNext tables text i token
 next_of tables text i from upto kind token broken is at to same places gap breaks reads = record {
@@ -49,7 +49,7 @@ next_of tables text i from upto kind token broken is at to same places gap break
   gap = subst (λ (x : ℕ). IsGap text i places x) (sym at) gap;
   broken = subst (λ (x : ℕ). IsTrue token.broken ↔ SomeByte is_break text i x) (sym at) (subst (λ (b : Bool). IsTrue b ↔ SomeByte is_break text i from) (sym same) breaks);
   reads = subst (λ (x : ℕ). Reads tables text x token.kind token.span.upto) (sym at)
-      (subst (λ (x : ℕ). Reads tables text from token.kind x) (sym to) (subst (λ (x : Kind). Reads tables text from x upto) (sym is) reads));
+      (subst (λ (x : ℕ). Reads tables text from token.kind x) (sym to) (subst (λ (x : TokenKind). Reads tables text from x upto) (sym is) reads));
 }
 
 -- a stop is a refusal

@@ -14,8 +14,8 @@ use Rattle.sts_lexer.specs.Spaces.{IsSpace, IsGap, IsLineComment, opens_comment,
 use Rattle.sts_lexer.specs.Lexemes.{Lexeme, name, number, quoted, mark, Spells}
 use Rattle.sts_lexer.specs.Tokens.{IsKindOf, IsNext, AreTokens, IsFinish, IsTokenization}
 use Rattle.sts_lexer.specs.Refusals.{cause, Stops, IsStuck}
-use Rattle.sts_lexer.specs.declared.token.Kind.{Kind}
-use Rattle.sts_lexer.specs.declared.token.Kind.TheVariants as kinds
+use Rattle.sts_lexer.specs.declared.token.TokenKind.{TokenKind}
+use Rattle.sts_lexer.specs.declared.token.TokenKind.TheVariants as kinds
 use Rattle.sts_lexer.specs.declared.token.Token.{Token}
 use Rattle.sts_lexer.specs.declared.words.Word.{Word}
 use Rattle.sts_lexer.specs.declared.marks.Mark.{Mark}
@@ -128,7 +128,7 @@ lexeme_same text (mark which) (quoted value') i j h g = absurd (quote_mark (slic
 lexeme_same text (mark which) (mark which') i j h g = ap (λ (x : Mark). mark x) (same_mark which which' (sym h.0.0 ∙ g.0.0))
 
 -- a lexeme has one kind in given tables
-kind_same : (tables : Tables) (lexeme : Lexeme) (kind kind' : Kind) → IsDistinct tables.names → IsDistinct tables.texts
+kind_same : (tables : Tables) (lexeme : Lexeme) (kind kind' : TokenKind) → IsDistinct tables.names → IsDistinct tables.texts
     → IsKindOf tables lexeme kind → IsKindOf tables lexeme kind' → kind ≡ kind'
 kind_same tables (name bytes) (kinds.Name entry) (kinds.Name entry') names texts h g = ap (λ (x : ℕ). kinds.Name x) (names entry entry' bytes h.0 g.0)
 kind_same tables (name bytes) (kinds.Name entry) (kinds.Word word entry') names texts h g = absurd (h.1 word g.1)
@@ -217,7 +217,7 @@ next_alike tables tables' text i t u h g =
     (same_truth t.broken u.broken (SomeByte is_break text i t.span.from) h.broken (subst (λ (x : ℕ). IsTrue u.broken ↔ SomeByte is_break text i x) (sym places.0) g.broken))
 
 pub same_token : (tables tables' : Tables) (text : List ℕ) (i : ℕ) (t u : Token) → t.kind ≡ u.kind → IsNext tables text i t → IsNext tables' text i u → t ≡ u
-same_token tables tables' text i t u kind h g = ap (λ (k : Kind). record t { kind = k }) kind ∙ next_alike tables tables' text i t u h g
+same_token tables tables' text i t u kind h g = ap (λ (k : TokenKind). record t { kind = k }) kind ∙ next_alike tables tables' text i t u h g
 
 next_same : (tables : Tables) (text : List ℕ) (i : ℕ) (t u : Token) → IsDistinct tables.names → IsDistinct tables.texts → IsNext tables text i t
     → IsNext tables text i u → t ≡ u

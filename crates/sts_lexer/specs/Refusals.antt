@@ -47,6 +47,6 @@ IsRefusal text code.NotUtf8 at = (length text ≤ most_bytes) × IsValidUpTo tex
 IsRefusal text why at = (length text ≤ most_bytes) × IsUtf8 text × Stops text why at
 
 -- what `tokens` answers in place of tokens; want of memory has no cause
-abbrev pub Refuses : List ℕ → Refused → Type 0
-Refuses text (refused.Program why at) = IsRefusal text why at
-Refuses text refused.NoMemory = Unit {0}
+abbrev pub RefusesBytes : List ℕ → Refused → Type 0
+RefusesBytes text (refused.Program why at) = IsRefusal text why at
+RefusesBytes text refused.NoMemory = Unit {0}

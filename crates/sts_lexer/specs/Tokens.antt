@@ -7,14 +7,14 @@ use Rattle.sts_lexer.specs.Bytes.{most_bytes, is_break, SomeByte}
 use Rattle.sts_lexer.specs.Spaces.{IsGap, start_of}
 use Rattle.sts_lexer.specs.Lexemes.{Lexeme, name, number, quoted, mark, Spells, IsLongest}
 use Rattle.sts_lexer.specs.Words.{word_bytes}
-use Rattle.sts_lexer.specs.declared.token.Kind.{Kind}
-use Rattle.sts_lexer.specs.declared.token.Kind.TheVariants as kinds
+use Rattle.sts_lexer.specs.declared.token.TokenKind.{TokenKind}
+use Rattle.sts_lexer.specs.declared.token.TokenKind.TheVariants as kinds
 use Rattle.sts_lexer.specs.declared.token.Token.{Token}
 use Rattle.sts_lexer.specs.declared.words.Word.{Word}
 
 -- The kind of a token for a lexeme: a number goes through ToInt32, and names, reserved words and texts are given by
 -- the number of their entry in the tables.
-abbrev pub IsKindOf : Tables → Lexeme → Kind → Type 0
+abbrev pub IsKindOf : Tables → Lexeme → TokenKind → Type 0
 IsKindOf tables (name bytes) (kinds.Name entry) =
     (slice_get tables.names entry ≡ Some bytes) × ((word : Word) → bytes ≢ word_bytes word)
 IsKindOf tables (name bytes) (kinds.Word word entry) = (slice_get tables.names entry ≡ Some bytes) × (bytes ≡ word_bytes word)
@@ -24,7 +24,7 @@ IsKindOf tables (mark which) (kinds.Mark this) = this ≡ which
 IsKindOf tables lexeme kind = ⊥
 
 -- The longest lexeme at i ends at j, and a token for it has this kind.
-pub record Reads (tables : Tables) (text : List ℕ) (i : ℕ) (kind : Kind) (j : ℕ) : Type 0 where
+pub record Reads (tables : Tables) (text : List ℕ) (i : ℕ) (kind : TokenKind) (j : ℕ) : Type 0 where
   pub lexeme : Lexeme
   pub spelled : Spells text lexeme i j
   pub longest : IsLongest text i j

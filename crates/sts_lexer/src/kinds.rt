@@ -14,7 +14,7 @@ use crate::marks::mark_at;
 use crate::numbers::number_at;
 use crate::quotes::quoted_at;
 use crate::spaces::opens_comment;
-use crate::token::Kind;
+use crate::token::TokenKind;
 use crate::words::reserved;
 use std::alloc::Global;
 use sts_base::{NoMemory, Tables};
@@ -26,7 +26,7 @@ fn name_at(
     at: usize,
     tables: &mut Tables,
     index: &mut Index,
-) -> Result<(Kind, usize), NoMemory>
+) -> Result<(TokenKind, usize), NoMemory>
     requires here { at < length text.now }
     requires begins { IsTrue (bytes.begins_name (slice_index text.now at)) }
     requires room { length tables.old.names < 2 ^ 32 }
@@ -42,8 +42,8 @@ fn name_at(
     let name = &text[at..end];
     let entry = entry_of(alloc, &mut tables.names, &mut index.names, name)?;
     match reserved(name) {
-        Some(word) => Ok((Kind::Word(word, entry), end)),
-        None => Ok((Kind::Name(entry), end)),
+        Some(word) => Ok((TokenKind::Word(word, entry), end)),
+        None => Ok((TokenKind::Name(entry), end)),
     }
 }
 
@@ -54,7 +54,7 @@ fn text_at(
     at: usize,
     tables: &mut Tables,
     index: &mut Index,
-) -> Result<Option<(Kind, usize)>, NoMemory>
+) -> Result<Option<(TokenKind, usize)>, NoMemory>
     requires short { length text.now ≤ bytes.most_bytes }
     requires here { at < length text.now }
     requires opens { IsTrue (bytes.is_quote (slice_index text.now at)) }
@@ -72,11 +72,11 @@ fn text_at(
         return Ok(None);
     };
     let entry = entry_of(alloc, &mut tables.texts, &mut index.texts, value.as_slice())?;
-    Ok(Some((Kind::Text(entry), end)))
+    Ok(Some((TokenKind::Text(entry), end)))
 }
 
 /// The number or mark that stands at a place, and the place behind it.
-fn plain_at(text: &[u8], at: usize) -> Option<(Kind, usize)>
+fn plain_at(text: &[u8], at: usize) -> Option<(TokenKind, usize)>
     requires short { length text.now ≤ bytes.most_bytes }
     requires here { at < length text.now }
     requires no_name { bytes.begins_name (slice_index text.now at) ≡ false }
@@ -88,13 +88,13 @@ fn plain_at(text: &[u8], at: usize) -> Option<(Kind, usize)>
 {
     if text[at].is_ascii_digit() {
         let (value, end) = number_at(text, at)?;
-        return Some((Kind::Num(value.cast_signed()), end));
+        return Some((TokenKind::Num(value.cast_signed()), end));
     }
     if opens_comment(text, at) {
         return None;
     }
     let (mark, end) = mark_at(text, at)?;
-    Some((Kind::Mark(mark), end))
+    Some((TokenKind::Mark(mark), end))
 }
 
 /// The token that stands at a place, and the place behind it. None where no token can be read.
@@ -104,7 +104,7 @@ pub fn kind_at(
     at: usize,
     tables: &mut Tables,
     index: &mut Index,
-) -> Result<Option<(Kind, usize)>, NoMemory>
+) -> Result<Option<(TokenKind, usize)>, NoMemory>
     requires short { length text.now ≤ bytes.most_bytes }
     requires here { at < length text.now }
     requires names_room { length tables.old.names < 2 ^ 32 }

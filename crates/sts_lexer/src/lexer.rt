@@ -4,7 +4,7 @@ ghost use Rattle.std.specs.Str.{IsUtf8};
 ghost use Rattle.sts_base.specs.Distinct.{IsDistinct};
 ghost use Rattle.sts_lexer.specs.Bytes.{most_bytes};
 ghost use Rattle.sts_lexer.specs.Entries.{IsIndexed};
-ghost use Rattle.sts_lexer.specs.Refusals.{Refuses, cause};
+ghost use Rattle.sts_lexer.specs.Refusals.{RefusesBytes, cause};
 ghost use Rattle.sts_lexer.specs.Tables.{Extends, GrewBy, AreDistinct};
 ghost use Rattle.sts_lexer.specs.Tokens.{IsTokenization};
 ghost use Rattle.sts_lexer.specs.Uses.{NumbersInOrder};
@@ -13,7 +13,7 @@ use crate::bytes::{has_break, is_quote};
 use crate::entries::{Index, index_of};
 use crate::kinds::kind_at;
 use crate::spaces::{gap_end, start};
-use crate::token::{Kind, Token};
+use crate::token::{Token, TokenKind};
 use std::alloc::Global;
 use sts_base::{Code, NoMemory, Refused, Seq, Span, Tables};
 
@@ -39,7 +39,7 @@ fn cause(byte: u8) -> Code
     }
 }
 
-fn make_token(kind: Kind, from: usize, upto: usize, broken: bool) -> Token
+fn make_token(kind: TokenKind, from: usize, upto: usize, broken: bool) -> Token
     requires from { from ≤ most_bytes }
     requires upto { upto ≤ most_bytes }
     ensures kind { result.kind ≡ kind }
@@ -71,7 +71,7 @@ fn read_all(
     requires indexed { IsIndexed tables.old index.old }
     ensures tokens { IfOk result (IsTokenization tables.new text.now) }
     ensures in_order { IfOk result (NumbersInOrder tables.old tables.new) }
-    ensures refused { IfErr result (Refuses text.now) }
+    ensures refused { IfErr result (RefusesBytes text.now) }
     ensures distinct { AreDistinct tables.new }
     ensures grew { GrewBy most_bytes tables.old tables.new }
 {
@@ -81,7 +81,7 @@ fn read_all(
         let from = gap_end(text, at);
         let broken = has_break(text, at, from);
         if from == text.len() {
-            all.push(make_token(Kind::Finish, from, from, broken))
+            all.push(make_token(TokenKind::Finish, from, from, broken))
                 .map_err(no_memory)?;
             return Ok(all);
         }
@@ -112,7 +112,7 @@ pub fn tokens(alloc: Global, text: &[u8], tables: &mut Tables) -> Result<Seq<Tok
     requires few_texts { length tables.old.texts < 2 ^ 31 }
     ensures tokens { IfOk result (IsTokenization tables.new text.now) }
     ensures in_order { IfOk result (NumbersInOrder tables.old tables.new) }
-    ensures refused { IfErr result (Refuses text.now) }
+    ensures refused { IfErr result (RefusesBytes text.now) }
     ensures names_extended { Extends tables.old.names tables.new.names }
     ensures texts_extended { Extends tables.old.texts tables.new.texts }
     ensures names_distinct { IsDistinct tables.new.names }

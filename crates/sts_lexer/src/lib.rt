@@ -19,5 +19,5 @@ mod words;
 pub use lexer::tokens;
 pub use marks::Mark;
 pub use theorems::{one_numbering, one_reading, spellings_stay, texts_are_read_or_refused};
-pub use token::{Kind, Token};
+pub use token::{Token, TokenKind};
 pub use words::Word;

@@ -13,8 +13,8 @@ use Rattle.sts_syntax.specs.Types.{ValueType}
 use Rattle.sts_lower.proofs.Opened.{arranged_length}
 use Rattle.sts_lower.specs.Sizes.{ToName, sizes, initial_size, test_size, step_size, statement_size, first_size}
 use Rattle.sts_lower.specs.Code.{bump_code}
-use Rattle.sts_lower.specs.inner.Works.{Layout, Work, Put, puts, places_in, places_of, passed_by, opened_value, opened_reach, opened_arguments, opened_elements, opened_initial, opened_first, opened_test, opened_step, opened_statement, opened_statements, opened_declarations, opened, Value, Reach, Arguments, Elements, Does, DoesAll, Declares}
-use Rattle.sts_lower.specs.inner.Fitting.{IsLowerable, AreLowerable, IsLowerableIfAny, IsFirst, Fits, AllFit}
+use Rattle.sts_lower.specs.inner.Works.{Layout, Work, Put, puts, places_in, places_of, passed_by, opened_value, opened_reach, opened_arguments, opened_elements, opened_initial, opened_first, opened_test, opened_step, opened_statement, opened_statements, opened_declarations, opened, Value, Reach, Arguments, Elements, Expand, ExpandAll, ExpandDeclarations}
+use Rattle.sts_lower.specs.inner.Fitting.{IsLowerable, AreLowerable, IsLowerableIfAny, IsFirst, WorkFits, AllFit}
 
 stacked_above : (d b : ℕ) (hs : List ℕ) → stacked (d + b) hs ≤ d + stacked b hs
 stacked_above d b [] = omega arith
@@ -126,7 +126,7 @@ module _ (L : Layout) where
   joined_fit [] ws v w = w
   joined_fit (x ∷ vs) ws v w = (v.0, joined_fit vs ws v.1 w)
 
-  value_fits : (a : TypedTree) (d at next : ℕ) → Fits L (Value a d at next) → AllFit L (opened_value L a d at next)
+  value_fits : (a : TypedTree) (d at next : ℕ) → WorkFits L (Value a d at next) → AllFit L (opened_value L a d at next)
   value_fits (e.Num u n) d at next fits = (tt, tt)
   value_fits (e.Text u n) d at next fits = (tt, tt)
   value_fits (e.Truth u b) d at next fits = (tt, tt)
@@ -167,20 +167,20 @@ module _ (L : Layout) where
   value_fits (e.Items u items) d at next fits = (tt, ((omega arith, omega arith, fits.2), tt))
   value_fits (e.Handler u f) d at next fits = (tt, tt)
 
-  reach_fits : (x : TypedTree) (d at : ℕ) → Fits L (Reach x d at) → AllFit L (opened_reach L x d at)
+  reach_fits : (x : TypedTree) (d at : ℕ) → WorkFits L (Reach x d at) → AllFit L (opened_reach L x d at)
   reach_fits (e.Name u x) d at fits = tt
   reach_fits (e.Field u a f) d at fits = ((omega arith, omega arith, fits.2), tt)
   reach_fits (e.Item u a i) d at fits = ((omega arith, omega arith, fits.2.0), ((omega arith, omega arith, fits.2.1), tt))
   reach_fits x d at fits = absurd fits.2
 
-  arguments_fit : (places : List ServicePlace) (args : TypedTrees) (d at : ℕ) → Fits L (Arguments places args d at) → AllFit L (opened_arguments L places args d at)
+  arguments_fit : (places : List ServicePlace) (args : TypedTrees) (d at : ℕ) → WorkFits L (Arguments places args d at) → AllFit L (opened_arguments L places args d at)
   arguments_fit [] e.none d at fits = tt
   arguments_fit [] (e.more a rest) d at fits = ((omega arith, omega arith, fits.3.0), ((omega arith, omega arith, omega arith, fits.3.1), tt))
   arguments_fit (Always n ∷ ps) args d at fits = (tt, ((omega arith, omega arith, omega arith, fits.3), tt))
   arguments_fit (Written ∷ ps) e.none d at fits = (fits, tt)
   arguments_fit (Written ∷ ps) (e.more a rest) d at fits = ((omega arith, omega arith, fits.3.0), ((omega arith, omega arith, omega arith, fits.3.1), tt))
 
-  elements_fit : (items : TypedTrees) (d at : ℕ) → Fits L (Elements items d at) → AllFit L (opened_elements L items d at)
+  elements_fit : (items : TypedTrees) (d at : ℕ) → WorkFits L (Elements items d at) → AllFit L (opened_elements L items d at)
   elements_fit e.none d at fits = tt
   elements_fit (e.more a rest) d at fits = ((omega arith, omega arith, fits.2.0), (tt, ((omega arith, omega arith, fits.2.1), tt)))
 
@@ -189,7 +189,7 @@ module _ (L : Layout) where
   initial_fits None at places temporaries is = (tt, tt)
   initial_fits (Some a) at places temporaries is = ((omega arith, omega arith, is), tt)
 
-  declarations_fit : (each : List TypedDeclaration) (at : ℕ) → Fits L (Declares each at) → AllFit L (opened_declarations L each at)
+  declarations_fit : (each : List TypedDeclaration) (at : ℕ) → WorkFits L (ExpandDeclarations each at) → AllFit L (opened_declarations L each at)
   declarations_fit [] at fits = tt
   declarations_fit (d ∷ rest) at fits =
       joined_fit (opened_initial L d.first at) _ (initial_fits d.first at (omega arith) (omega arith) fits.2.1) (tt, ((omega arith, omega arith, fits.2.2), tt))
@@ -209,7 +209,7 @@ module _ (L : Layout) where
   step_fits None at places temporaries is = tt
   step_fits (Some a) at places temporaries is = ((omega arith, omega arith, is), tt)
 
-  statement_fits : (a : TypedStatement) (at next out again : ℕ) → Fits L (Does a at next out again) → AllFit L (opened_statement L a at next out again)
+  statement_fits : (a : TypedStatement) (at next out again : ℕ) → WorkFits L (Expand a at next out again) → AllFit L (opened_statement L a at next out again)
   statement_fits (e.Block all) at next out again fits = (fits, tt)
   statement_fits (e.Let fixed each) at next out again fits = (fits, tt)
   statement_fits (e.IfOnly test a) at next out again fits = ((omega arith, omega arith, fits.2.0), (tt, (tt, ((omega arith, omega arith, fits.2.1), tt))))
@@ -234,16 +234,16 @@ module _ (L : Layout) where
   statement_fits (e.Plain a) at next out again fits = ((omega arith, omega arith, fits.2), tt)
   statement_fits e.Empty at next out again fits = tt
 
-  statements_fit : (all : TypedStatements) (at next out again : ℕ) → Fits L (DoesAll all at next out again) → AllFit L (opened_statements L all at next out again)
+  statements_fit : (all : TypedStatements) (at next out again : ℕ) → WorkFits L (ExpandAll all at next out again) → AllFit L (opened_statements L all at next out again)
   statements_fit e.done at next out again fits = tt
   statements_fit (e.also a rest) at next out again fits = ((omega arith, omega arith, fits.2.0), ((omega arith, omega arith, fits.2.1), tt))
 
-  pub opened_fits : (w : Work) → Fits L w → AllFit L (opened L w)
+  pub opened_fits : (w : Work) → WorkFits L w → AllFit L (opened L w)
   opened_fits (Put op) fits = tt
   opened_fits (Value a d at next) fits = value_fits a d at next fits
   opened_fits (Reach x d at) fits = reach_fits x d at fits
   opened_fits (Arguments places args d at) fits = arguments_fit places args d at fits
   opened_fits (Elements items d at) fits = elements_fit items d at fits
-  opened_fits (Does a at next out again) fits = statement_fits a at next out again fits
-  opened_fits (DoesAll all at next out again) fits = statements_fit all at next out again fits
-  opened_fits (Declares each at) fits = declarations_fit each at fits
+  opened_fits (Expand a at next out again) fits = statement_fits a at next out again fits
+  opened_fits (ExpandAll all at next out again) fits = statements_fit all at next out again fits
+  opened_fits (ExpandDeclarations each at) fits = declarations_fit each at fits

@@ -14,7 +14,7 @@ use Rattle.sts_syntax.proofs.Laws.{weighs, few_places, one_more, places_of as ac
 use Rattle.sts_lower.specs.Sizes.{initial_size, test_size, statement_size, first_size, Target, ToName, ToField, ToItem, ToNothing, target}
 use Rattle.sts_lower.specs.Code.{set_op, handler_of, action_code, call_code, store_code, bump_code}
 use Rattle.sts_lower.specs.Statements.{bare_code, return_code}
-use Rattle.sts_lower.specs.inner.Works.{Layout, Work, Put, puts, places_in, places_of, passed_by, opened_value, opened_reach, opened_arguments, opened_elements, opened_initial, opened_first, opened_test, opened_step, opened_statement, opened_statements, opened_declarations, opened, Value, Reach, Arguments, Elements, Does, DoesAll, Declares}
+use Rattle.sts_lower.specs.inner.Works.{Layout, Work, Put, puts, places_in, places_of, passed_by, opened_value, opened_reach, opened_arguments, opened_elements, opened_initial, opened_first, opened_test, opened_step, opened_statement, opened_statements, opened_declarations, opened, Value, Reach, Arguments, Elements, Expand, ExpandAll, ExpandDeclarations}
 use Rattle.sts_lower.proofs.Fitted.{sizes_placed}
 
 abbrev pub load_of : Work → ℕ
@@ -23,9 +23,9 @@ load_of (Value a d at next) = 16 * weight_of a - 8
 load_of (Reach x d at) = 16 * weight_of x
 load_of (Arguments places args d at) = 16 * total (placed (λ n. 1) places (weights args)) + length places + 1
 load_of (Elements items d at) = 16 * total (weights items) + 1
-load_of (Does a at next out again) = 16 * statement_weight a - 8
-load_of (DoesAll all at next out again) = 16 * statements_weight all + 1
-load_of (Declares each at) = 16 * declared_weight each + 1
+load_of (Expand a at next out again) = 16 * statement_weight a - 8
+load_of (ExpandAll all at next out again) = 16 * statements_weight all + 1
+load_of (ExpandDeclarations each at) = 16 * declared_weight each + 1
 
 abbrev pub load : List Work → ℕ
 load [] = 0
@@ -171,10 +171,10 @@ module _ (L : Layout) where
   initial_less None at = lit≤ tt
   initial_less (Some a) at = omega arith
 
-  declarations_less : (each : List TypedDeclaration) (at : ℕ) → load (opened_declarations L each at) < load_of (Declares each at)
+  declarations_less : (each : List TypedDeclaration) (at : ℕ) → load (opened_declarations L each at) < load_of (ExpandDeclarations each at)
   declarations_less [] at = lit< tt
   declarations_less (d ∷ rest) at =
-      omega (arith, load_joined (opened_initial L d.first at) (Put (set_op L.params (L.base + 0) d.name) ∷ (Declares rest (at + initial_size d.first + 1) ∷ [])), initial_less d.first at)
+      omega (arith, load_joined (opened_initial L d.first at) (Put (set_op L.params (L.base + 0) d.name) ∷ (ExpandDeclarations rest (at + initial_size d.first + 1) ∷ [])), initial_less d.first at)
 
   first_less : (first : OptionalTypedStatement) (at next out again : ℕ) → load (opened_first L first at next out again) ≤ 16 * first_weight first
   first_less e.omitted at next out again = lit≤ tt
@@ -188,7 +188,7 @@ module _ (L : Layout) where
   step_less None at = lit≤ tt
   step_less (Some a) at = omega arith
 
-  statement_less : (a : TypedStatement) (at next out again : ℕ) → load (opened_statement L a at next out again) < load_of (Does a at next out again)
+  statement_less : (a : TypedStatement) (at next out again : ℕ) → load (opened_statement L a at next out again) < load_of (Expand a at next out again)
   statement_less (e.Block all) at next out again = omega arith
   statement_less (e.Let fixed each) at next out again = omega arith
   statement_less (e.IfOnly test a) at next out again = omega (arith, weighs test, statement_weighs a)
@@ -200,7 +200,7 @@ module _ (L : Layout) where
       let body = loop + test_size test in
       let turn = body + statement_size L.maker a in
       let last = Put (Jump loop) ∷ [] in
-      let does = Does a body turn next turn ∷ (opened_step L step turn ++ last) in
+      let does = Expand a body turn next turn ∷ (opened_step L step turn ++ last) in
       omega (
         arith,
         load_joined (opened_first L first at loop out again) (opened_test L test loop next ++ does),
@@ -221,7 +221,7 @@ module _ (L : Layout) where
   statement_less (e.Plain a) at next out again = omega (arith, weighs a)
   statement_less e.Empty at next out again = lit< tt
 
-  statements_less : (all : TypedStatements) (at next out again : ℕ) → load (opened_statements L all at next out again) < load_of (DoesAll all at next out again)
+  statements_less : (all : TypedStatements) (at next out again : ℕ) → load (opened_statements L all at next out again) < load_of (ExpandAll all at next out again)
   statements_less e.done at next out again = lit< tt
   statements_less (e.also a rest) at next out again = omega (arith, statement_weighs a)
 
@@ -231,6 +231,6 @@ module _ (L : Layout) where
   opened_less (Reach x d at) = reach_less x d at
   opened_less (Arguments places args d at) = arguments_less places args d at
   opened_less (Elements items d at) = elements_less items d at
-  opened_less (Does a at next out again) = statement_less a at next out again
-  opened_less (DoesAll all at next out again) = statements_less all at next out again
-  opened_less (Declares each at) = declarations_less each at
+  opened_less (Expand a at next out again) = statement_less a at next out again
+  opened_less (ExpandAll all at next out again) = statements_less all at next out again
+  opened_less (ExpandDeclarations each at) = declarations_less each at

@@ -10,7 +10,7 @@ use Rattle.sts_syntax.specs.BoardTable.{BoardAction, Service, Library, Repeats, 
 use Rattle.sts_syntax.specs.Measures.{how_many, total}
 use Rattle.flat_ir.specs.declared.ops.Op.TheVariants.{Copy, Call, MakeObject, MakeArray}
 use Rattle.sts_lower.specs.Code.{span, maker_of, items_code, number_part, arguments, parts, Part, call_code, parts_code}
-use Rattle.sts_lower.specs.inner.Works.{Layout, Work, Put, puts, places_in, places_of, passed_by, ops_of, ops_of_all, opened_value, opened_reach, opened_arguments, opened_elements, opened_statement, opened_statements, opened_declarations, opened, own_ops, opened_initial, opened_first, opened_test, opened_step, Value, Reach, Arguments, Elements, Does, DoesAll, Declares}
+use Rattle.sts_lower.specs.inner.Works.{Layout, Work, Put, puts, places_in, places_of, passed_by, ops_of, ops_of_all, opened_value, opened_reach, opened_arguments, opened_elements, opened_statement, opened_statements, opened_declarations, opened, own_ops, opened_initial, opened_first, opened_test, opened_step, Value, Reach, Arguments, Elements, Expand, ExpandAll, ExpandDeclarations}
 use Rattle.sts_lower.specs.Code.{handler_of}
 use Rattle.sts_lower.specs.Statements.{bare_code, initial_code, first_code, test_code, step_code}
 
@@ -135,7 +135,7 @@ module _ (L : Layout) where
   initial_is None at = refl
   initial_is (Some a) at = simp append-nil
 
-  declarations_is : (each : List TypedDeclaration) (at : ℕ) → ops_of_all L (opened_declarations L each at) ≡ ops_of L (Declares each at)
+  declarations_is : (each : List TypedDeclaration) (at : ℕ) → ops_of_all L (opened_declarations L each at) ≡ ops_of L (ExpandDeclarations each at)
   declarations_is [] at = refl
   declarations_is (d ∷ rest) at = simp (joined_are, initial_is, append-nil)
 
@@ -152,7 +152,7 @@ module _ (L : Layout) where
   step_is None at = refl
   step_is (Some a) at = simp append-nil
 
-  statement_is : (a : TypedStatement) (at next out again : ℕ) → ops_of_all L (opened_statement L a at next out again) ≡ ops_of L (Does a at next out again)
+  statement_is : (a : TypedStatement) (at next out again : ℕ) → ops_of_all L (opened_statement L a at next out again) ≡ ops_of L (Expand a at next out again)
   statement_is (e.Block all) at next out again = simp append-nil
   statement_is (e.Let fixed each) at next out again = simp append-nil
   statement_is (e.IfOnly test a) at next out again = simp append-nil
@@ -170,7 +170,7 @@ module _ (L : Layout) where
   statement_is (e.Plain a) at next out again = simp append-nil
   statement_is e.Empty at next out again = refl
 
-  statements_is : (all : TypedStatements) (at next out again : ℕ) → ops_of_all L (opened_statements L all at next out again) ≡ ops_of L (DoesAll all at next out again)
+  statements_is : (all : TypedStatements) (at next out again : ℕ) → ops_of_all L (opened_statements L all at next out again) ≡ ops_of L (ExpandAll all at next out again)
   statements_is e.done at next out again = refl
   statements_is (e.also a rest) at next out again = simp append-nil
 
@@ -180,6 +180,6 @@ module _ (L : Layout) where
   opened_is (Reach x d at) = reach_is x d at
   opened_is (Arguments places args d at) = arguments_is places args d at
   opened_is (Elements items d at) = elements_is items d at
-  opened_is (Does a at next out again) = statement_is a at next out again
-  opened_is (DoesAll all at next out again) = statements_is all at next out again
-  opened_is (Declares each at) = declarations_is each at
+  opened_is (Expand a at next out again) = statement_is a at next out again
+  opened_is (ExpandAll all at next out again) = statements_is all at next out again
+  opened_is (ExpandDeclarations each at) = declarations_is each at

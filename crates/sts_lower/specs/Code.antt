@@ -34,19 +34,19 @@ truth_number false = pos 0
 
 -- The prefix operators 5 and 6 give one more and one less than a number. `++` does the first and `--` the second; its old value is
 -- made of the new one by the other.
-abbrev pub one_more : ℕ
-one_more = 5
+abbrev pub increment_operator : ℕ
+increment_operator = 5
 
-abbrev pub one_less : ℕ
-one_less = 6
+abbrev pub decrement_operator : ℕ
+decrement_operator = 6
 
 abbrev pub bump_op : ℤ → ℕ
-bump_op (pos n) = one_more
-bump_op (negsuc n) = one_less
+bump_op (pos n) = increment_operator
+bump_op (negsuc n) = decrement_operator
 
 abbrev pub unbump_op : ℤ → ℕ
-unbump_op (pos n) = one_less
-unbump_op (negsuc n) = one_more
+unbump_op (pos n) = decrement_operator
+unbump_op (negsuc n) = increment_operator
 
 -- the value of `++` or `--`: the old one where the mark stands behind its target, of the new one in a temporary
 abbrev pub bumped_op : ℤ → Bool → ℕ → ℕ → Op

@@ -7,7 +7,7 @@ ghost use Rattle.sts_lower.specs.Sizes as z;
 ghost use Rattle.sts_lower.specs.Code as k;
 ghost use Rattle.sts_lower.specs.Repeated as r;
 ghost use Rattle.sts_lower.specs.inner.Works as p;
-ghost use Rattle.sts_lower.specs.inner.Fitting.{Fits};
+ghost use Rattle.sts_lower.specs.inner.Fitting.{WorkFits};
 ghost use Rattle.sts_lower.specs.inner.Shown.{works, layout};
 
 use crate::arguments::{own_numbers, places};
@@ -323,7 +323,7 @@ pub(crate) fn open_arguments<'a>(
     d: u32,
     at: u32,
 ) -> Result<(), NoMemory>
-    requires fits { Fits (layout frame.now) (p.Arguments (map service_place places.now) (typed_trees args.now) d at) }
+    requires fits { WorkFits (layout frame.now) (p.Arguments (map service_place places.now) (typed_trees args.now) d at) }
     ensures { OnOk result (works stack.new ≡ p.opened_arguments (layout frame.now) (map service_place places.now) (typed_trees args.now) d at ++ works stack.old) }
 {
     match (places, args) {
@@ -387,7 +387,7 @@ pub(crate) fn open_elements<'a>(
     d: u32,
     at: u32,
 ) -> Result<(), NoMemory>
-    requires fits { Fits (layout frame.now) (p.Elements (typed_trees items.now) d at) }
+    requires fits { WorkFits (layout frame.now) (p.Elements (typed_trees items.now) d at) }
     ensures { OnOk result (works stack.new ≡ p.opened_elements (layout frame.now) (typed_trees items.now) d at ++ works stack.old) }
 {
     match items {

@@ -3,7 +3,7 @@ ghost use Rattle.std.specs.Prelude.{◌≡◌, suc, ◌+◌, ◌<◌, ◌^◌, [
 ghost use Rattle.sts_syntax.specs.TypedViews.{typed_tree};
 ghost use Rattle.sts_lower.specs.Sizes as z;
 ghost use Rattle.sts_lower.specs.inner.Works as p;
-ghost use Rattle.sts_lower.specs.inner.Fitting.{Fits, IsTarget};
+ghost use Rattle.sts_lower.specs.inner.Fitting.{WorkFits, IsTarget};
 ghost use Rattle.sts_lower.specs.inner.Shown.{works, layout};
 
 use crate::assign::{bump, read_op, store, stored_at};
@@ -209,7 +209,7 @@ pub(crate) fn open_value<'a>(
     at: u32,
     next: u32,
 ) -> Result<(), NoMemory>
-    requires fits { Fits (layout frame.now) (p.Value (typed_tree e.now) d at next) }
+    requires fits { WorkFits (layout frame.now) (p.Value (typed_tree e.now) d at next) }
     requires functions { frame.now.functions + length frame.now.repeated.now < 2 ^ 32 }
     ensures { OnOk result (works stack.new ≡ p.opened_value (layout frame.now) (typed_tree e.now) d at next ++ works stack.old) }
 {
@@ -306,7 +306,7 @@ pub(crate) fn open_reach<'a>(
     d: u32,
     at: u32,
 ) -> Result<(), NoMemory>
-    requires fits { Fits (layout frame.now) (p.Reach (typed_tree target.now) d at) }
+    requires fits { WorkFits (layout frame.now) (p.Reach (typed_tree target.now) d at) }
     ensures { OnOk result (works stack.new ≡ p.opened_reach (layout frame.now) (typed_tree target.now) d at ++ works stack.old) }
 {
     match &target.node {

@@ -4,7 +4,7 @@ ghost use Rattle.sts_syntax.specs.TypedViews.{typed_statements};
 ghost use Rattle.sts_lower.specs.Sizes as z;
 ghost use Rattle.sts_lower.specs.Statements as t;
 ghost use Rattle.sts_lower.specs.inner.Works as p;
-ghost use Rattle.sts_lower.specs.inner.Fitting.{Fits};
+ghost use Rattle.sts_lower.specs.inner.Fitting.{WorkFits};
 ghost use Rattle.sts_lower.specs.inner.Shown.{work_shown, works, layout};
 
 use crate::calls::{open_arguments, open_elements};
@@ -26,7 +26,7 @@ fn do_work<'a>(
     frame: &Frame<'a>,
     work: Work<'a>,
 ) -> Result<(), NoMemory>
-    requires fits { Fits (layout frame.now) (work_shown work) }
+    requires fits { WorkFits (layout frame.now) (work_shown work) }
     requires functions { frame.now.functions + length frame.now.repeated.now < 2 ^ 32 }
     ensures ops { OnOk result (ops.new ≡ ops.old ++ p.own_ops (layout frame.now) (work_shown work.entry)) }
     ensures pieces { OnOk result (works stack.new ≡ p.opened (layout frame.now) (work_shown work.entry) ++ works stack.old) }
@@ -42,21 +42,21 @@ fn do_work<'a>(
             at,
         } => open_arguments(stack, frame, places, args, d, at),
         Work::Elements { items, d, at } => open_elements(stack, alloc, frame, items, d, at),
-        Work::Does {
+        Work::Expand {
             a,
             at,
             next,
             out,
             again,
         } => { open_statement(stack, frame, a, at, next, out, again) }
-        Work::DoesAll {
+        Work::ExpandAll {
             all,
             at,
             next,
             out,
             again,
         } => { open_statements(stack, frame, all, at, next, out, again) }
-        Work::Declares { each, at } => open_declarations(stack, frame, each, at),
+        Work::ExpandDeclarations { each, at } => open_declarations(stack, frame, each, at),
     }
 }
 
@@ -66,7 +66,7 @@ pub(crate) fn ops_of<'a>(
     frame: &Frame<'a>,
     all: &'a [TypedStmt],
 ) -> Result<Seq<Op>, NoMemory>
-    requires fits { let end = z.statements_size frame.now.maker (typed_statements all.now) in Fits (layout frame.now) (p.DoesAll (typed_statements all.now) 0 end end end) }
+    requires fits { let end = z.statements_size frame.now.maker (typed_statements all.now) in WorkFits (layout frame.now) (p.ExpandAll (typed_statements all.now) 0 end end end) }
     requires functions { frame.now.functions + length frame.now.repeated.now < 2 ^ 32 }
     ensures { let end = z.statements_size frame.now.maker (typed_statements all.now) in
         IfOk result (λ ops. ops ≡ t.statements_code (layout frame.now).classes (layout frame.now).repeating
@@ -76,7 +76,7 @@ pub(crate) fn ops_of<'a>(
     let end = statements_size(all, frame.maker);
     let mut stack = Stack::new(alloc);
     open_bare(&mut stack, frame)?;
-    stack.push(Work::DoesAll {
+    stack.push(Work::ExpandAll {
         all,
         at: 0,
         next: end,

@@ -4,7 +4,7 @@ ghost use Rattle.sts_syntax.specs.TypedViews.{typed_tree, optional_typed_tree, t
 ghost use Rattle.sts_lower.specs.Sizes as z;
 ghost use Rattle.sts_lower.specs.Statements as t;
 ghost use Rattle.sts_lower.specs.inner.Works as p;
-ghost use Rattle.sts_lower.specs.inner.Fitting.{Fits};
+ghost use Rattle.sts_lower.specs.inner.Fitting.{WorkFits};
 ghost use Rattle.sts_lower.specs.inner.Shown.{works, layout};
 
 use crate::assign::ONE_MORE;
@@ -85,14 +85,14 @@ pub(crate) fn open_declarations<'a>(
     each: &'a [TypedBinding],
     at: u32,
 ) -> Result<(), NoMemory>
-    requires fits { Fits (layout frame.now) (p.Declares (typed_declarations each.now) at) }
+    requires fits { WorkFits (layout frame.now) (p.ExpandDeclarations (typed_declarations each.now) at) }
     ensures { OnOk result (works stack.new ≡ p.opened_declarations (layout frame.now) (typed_declarations each.now) at ++ works stack.old) }
 {
     match each {
         [] => Ok(()),
         [binding, rest @ ..] => {
             let behind = at + initial_size(&binding.first) + 1;
-            stack.push(Work::Declares {
+            stack.push(Work::ExpandDeclarations {
                 each: rest,
                 at: behind,
             })?;
@@ -124,7 +124,7 @@ fn open_test<'a>(
 }
 
 /// A statement comes next.
-fn open_does<'a>(
+fn push_statement<'a>(
     stack: &mut Stack<'a>,
     a: &'a TypedStmt,
     at: u32,
@@ -132,9 +132,9 @@ fn open_does<'a>(
     out: u32,
     again: u32,
 ) -> Result<(), NoMemory>
-    ensures { OnOk result (works stack.new ≡ p.Does (typed_statement a.now) at next out again ∷ works stack.old) }
+    ensures { OnOk result (works stack.new ≡ p.Expand (typed_statement a.now) at next out again ∷ works stack.old) }
 {
-    stack.push(Work::Does {
+    stack.push(Work::Expand {
         a,
         at,
         next,
@@ -152,9 +152,9 @@ fn open_block<'a>(
     out: u32,
     again: u32,
 ) -> Result<(), NoMemory>
-    ensures { OnOk result (works stack.new ≡ p.DoesAll (typed_statements all.now) at next out again ∷ works stack.old) }
+    ensures { OnOk result (works stack.new ≡ p.ExpandAll (typed_statements all.now) at next out again ∷ works stack.old) }
 {
-    stack.push(Work::DoesAll {
+    stack.push(Work::ExpandAll {
         all: all.as_slice(),
         at,
         next,
@@ -178,7 +178,7 @@ fn open_if<'a>(
     ensures { OnOk result (works stack.new ≡ p.if_only (layout frame.now) (typed_tree test.now) (typed_statement a.now) at next out again ++ works stack.old) }
 {
     let so = at + size_of(test) + 1 + 1;
-    open_does(stack, a, so, next, out, again)?;
+    push_statement(stack, a, so, next, out, again)?;
     put(stack, Op::Jump { target: next })?;
     open_test(stack, frame, test, at, so)
 }
@@ -200,9 +200,9 @@ fn open_if_else<'a>(
 {
     let otherwise = at + size_of(test) + 1;
     let so = otherwise + statement_size(o, frame.maker) + 1;
-    open_does(stack, a, so, next, out, again)?;
+    push_statement(stack, a, so, next, out, again)?;
     put(stack, Op::Jump { target: next })?;
-    open_does(stack, o, otherwise, next, out, again)?;
+    push_statement(stack, o, otherwise, next, out, again)?;
     open_test(stack, frame, test, at, so)
 }
 
@@ -221,7 +221,7 @@ fn open_while<'a>(
     let body = at + size_of(test) + 1 + 1;
     let turn = body + statement_size(a, frame.maker);
     put(stack, Op::Jump { target: at })?;
-    open_does(stack, a, body, turn, next, turn)?;
+    push_statement(stack, a, body, turn, next, turn)?;
     put(stack, Op::Jump { target: next })?;
     open_test(stack, frame, test, at, body)
 }
@@ -242,7 +242,7 @@ fn open_do_while<'a>(
     put(stack, Op::Jump { target: at })?;
     put(stack, Op::Jump { target: next })?;
     open_test(stack, frame, test, turn, turn + size_of(test) + 1 + 1)?;
-    open_does(stack, a, at, turn, next, turn)
+    push_statement(stack, a, at, turn, next, turn)
 }
 
 /// The test of a `for` comes next, where there is one.
@@ -298,7 +298,7 @@ fn open_turns<'a>(
     let step_at = body + statement_size(a, frame.maker);
     put(stack, Op::Jump { target: at })?;
     open_step(stack, frame, step, step_at)?;
-    open_does(stack, a, body, step_at, next, step_at)?;
+    push_statement(stack, a, body, step_at, next, step_at)?;
     open_may_test(stack, frame, test, at, next)
 }
 
@@ -371,7 +371,7 @@ fn open_for_of<'a>(
     let item = frame.params + i;
     let turn = at + size_of(list) + 1 + 1 + 1;
     put(stack, Op::Jump { target: turn })?;
-    open_does(stack, a, turn + ITEM_SIZE, turn, next, turn)?;
+    push_statement(stack, a, turn + ITEM_SIZE, turn, next, turn)?;
     open_item(stack, frame, i, turn, next)?;
     put(
         stack,
@@ -407,12 +407,12 @@ pub(crate) fn open_statement<'a>(
     out: u32,
     again: u32,
 ) -> Result<(), NoMemory>
-    requires { Fits (layout frame.now) (p.Does (typed_statement s.now) at next out again) }
+    requires { WorkFits (layout frame.now) (p.Expand (typed_statement s.now) at next out again) }
     ensures { OnOk result (works stack.new ≡ p.opened_statement (layout frame.now) (typed_statement s.now) at next out again ++ works stack.old) }
 {
     match s {
         TypedStmt::Block(all) => open_block(stack, all, at, next, out, again),
-        TypedStmt::Let { each, .. } => stack.push(Work::Declares {
+        TypedStmt::Let { each, .. } => stack.push(Work::ExpandDeclarations {
             each: each.as_slice(),
             at,
         }),
@@ -426,7 +426,7 @@ pub(crate) fn open_statement<'a>(
         TypedStmt::For(Some(first), test, step, a) => {
             let turns = at + statement_size(first, frame.maker);
             open_turns(stack, frame, test, step, a, turns, next)?;
-            open_does(stack, first, at, turns, out, again)
+            push_statement(stack, first, at, turns, out, again)
         }
         TypedStmt::ForOf {
             name,
@@ -464,14 +464,14 @@ pub(crate) fn open_statements<'a>(
     out: u32,
     again: u32,
 ) -> Result<(), NoMemory>
-    requires { Fits (layout frame.now) (p.DoesAll (typed_statements all.now) at next out again) }
+    requires { WorkFits (layout frame.now) (p.ExpandAll (typed_statements all.now) at next out again) }
     ensures { OnOk result (works stack.new ≡ p.opened_statements (layout frame.now) (typed_statements all.now) at next out again ++ works stack.old) }
 {
     match all {
         [] => Ok(()),
         [a, rest @ ..] => {
             let behind = at + statement_size(a, frame.maker);
-            stack.push(Work::DoesAll {
+            stack.push(Work::ExpandAll {
                 all: rest,
                 at: behind,
                 next,
@@ -483,7 +483,7 @@ pub(crate) fn open_statements<'a>(
             } else {
                 behind
             };
-            open_does(stack, a, at, go, out, again)
+            push_statement(stack, a, at, go, out, again)
         }
     }
 }

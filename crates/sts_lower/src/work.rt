@@ -39,7 +39,7 @@ pub(crate) enum Work<'a> {
         at: u32,
     },
     /// a statement; `break` goes to `out` and `continue` to `again`
-    Does {
+    Expand {
         a: &'a TypedStmt,
         at: u32,
         next: u32,
@@ -47,7 +47,7 @@ pub(crate) enum Work<'a> {
         again: u32,
     },
     /// some statements
-    DoesAll {
+    ExpandAll {
         all: &'a [TypedStmt],
         at: u32,
         next: u32,
@@ -55,7 +55,7 @@ pub(crate) enum Work<'a> {
         again: u32,
     },
     /// declared names
-    Declares {
+    ExpandDeclarations {
         each: &'a [TypedBinding],
         at: u32,
     },

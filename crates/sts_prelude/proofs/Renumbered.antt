@@ -14,12 +14,12 @@ use Rattle.sts_lexer.specs.Lexemes.{Lexeme, name, number, quoted, mark, Spells}
 use Rattle.sts_lexer.specs.Tokens.{IsKindOf, IsNext, AreTokens, IsFinish, IsTokenization}
 use Rattle.sts_lexer.specs.declared.marks.Mark.{Mark}
 use Rattle.sts_lexer.specs.declared.words.Word.{Word}
-use Rattle.sts_lexer.specs.declared.token.Kind.{Kind}
-use Rattle.sts_lexer.specs.declared.token.Kind.TheVariants as k
+use Rattle.sts_lexer.specs.declared.token.TokenKind.{TokenKind}
+use Rattle.sts_lexer.specs.declared.token.TokenKind.TheVariants as k
 use Rattle.sts_lexer.specs.declared.token.Token.{Token}
 use Rattle.sts_lexer.proofs.Laws.{IsOver, next_lexeme, next_alike, finish_over, finish_same, stop_same, same_word}
 
-abbrev pub renumbered : (names texts : ℕ → ℕ) → Kind → Kind
+abbrev pub renumbered : (names texts : ℕ → ℕ) → TokenKind → TokenKind
 renumbered names texts (k.Num int) = k.Num int
 renumbered names texts (k.Text entry) = k.Text (texts entry)
 renumbered names texts (k.Name entry) = k.Name (names entry)
@@ -57,33 +57,33 @@ moves old new bytes e e' distinct here there =
 
 -- Kinds of one lexeme by two pairs of tables.
 module _ (old new : Tables) (names : IsDistinct new.names) (texts : IsDistinct new.texts) where
-  abbrev pub other : Kind → Kind
+  abbrev pub other : TokenKind → TokenKind
   other kind = renumbered (moved old.names new.names) (moved old.texts new.texts) kind
 
-  name_kind : (bytes : List ℕ) (e : ℕ) (kind : Kind) → IsKindOf old (name bytes) (k.Name e) → IsKindOf new (name bytes) kind → kind ≡ other (k.Name e)
+  name_kind : (bytes : List ℕ) (e : ℕ) (kind : TokenKind) → IsKindOf old (name bytes) (k.Name e) → IsKindOf new (name bytes) kind → kind ≡ other (k.Name e)
   name_kind bytes e (k.Name e') h g = ap (λ (x : ℕ). k.Name x) (moves old.names new.names bytes e e' names h.0 g.0)
   name_kind bytes e (k.Word word e') h g = absurd (h.1 word g.1)
   name_kind bytes e otherwise h g = absurd g
 
-  word_kind : (bytes : List ℕ) (word : Word) (e : ℕ) (kind : Kind) → IsKindOf old (name bytes) (k.Word word e) → IsKindOf new (name bytes) kind → kind ≡ other (k.Word word e)
+  word_kind : (bytes : List ℕ) (word : Word) (e : ℕ) (kind : TokenKind) → IsKindOf old (name bytes) (k.Word word e) → IsKindOf new (name bytes) kind → kind ≡ other (k.Word word e)
   word_kind bytes word e (k.Name e') h g = absurd (g.1 word h.1)
   word_kind bytes word e (k.Word word' e') h g =
       ap (λ (x : Word). k.Word x e') (same_word word' word (sym g.1 ∙ h.1)) ∙ ap (λ (x : ℕ). k.Word word x) (moves old.names new.names bytes e e' names h.0 g.0)
   word_kind bytes word e otherwise h g = absurd g
 
-  number_kind : (value : ℕ) (int : ℤ) (kind : Kind) → IsKindOf old (number value) (k.Num int) → IsKindOf new (number value) kind → kind ≡ k.Num int
+  number_kind : (value : ℕ) (int : ℤ) (kind : TokenKind) → IsKindOf old (number value) (k.Num int) → IsKindOf new (number value) kind → kind ≡ k.Num int
   number_kind value int (k.Num int') h g = ap (λ (x : ℤ). k.Num x) (g ∙ sym h)
   number_kind value int otherwise h g = absurd g
 
-  text_kind : (bytes : List ℕ) (e : ℕ) (kind : Kind) → IsKindOf old (quoted bytes) (k.Text e) → IsKindOf new (quoted bytes) kind → kind ≡ other (k.Text e)
+  text_kind : (bytes : List ℕ) (e : ℕ) (kind : TokenKind) → IsKindOf old (quoted bytes) (k.Text e) → IsKindOf new (quoted bytes) kind → kind ≡ other (k.Text e)
   text_kind bytes e (k.Text e') h g = ap (λ (x : ℕ). k.Text x) (moves old.texts new.texts bytes e e' texts h g)
   text_kind bytes e otherwise h g = absurd g
 
-  mark_kind : (this which : Mark) (kind : Kind) → IsKindOf old (mark this) (k.Mark which) → IsKindOf new (mark this) kind → kind ≡ k.Mark which
+  mark_kind : (this which : Mark) (kind : TokenKind) → IsKindOf old (mark this) (k.Mark which) → IsKindOf new (mark this) kind → kind ≡ k.Mark which
   mark_kind this which (k.Mark which') h g = ap (λ (x : Mark). k.Mark x) (g ∙ sym h)
   mark_kind this which otherwise h g = absurd g
 
-  other_kind : (lexeme : Lexeme) (kind kind' : Kind) → IsKindOf old lexeme kind → IsKindOf new lexeme kind' → kind' ≡ other kind
+  other_kind : (lexeme : Lexeme) (kind kind' : TokenKind) → IsKindOf old lexeme kind → IsKindOf new lexeme kind' → kind' ≡ other kind
   other_kind (name bytes) (k.Name e) kind' h g = name_kind bytes e kind' h g
   other_kind (name bytes) (k.Word word e) kind' h g = word_kind bytes word e kind' h g
   other_kind (name bytes) otherwise kind' h g = absurd h
@@ -104,12 +104,12 @@ module _ (old new : Tables) (names : IsDistinct new.names) (texts : IsDistinct n
   all_other text i j j' (t ∷ rest) [] h g over over' = absurd (over' old t (subst (λ (x : ℕ). IsNext old text x t) g h.0))
   all_other text i j j' (t ∷ rest) (u ∷ rest') h g over over' =
       let kind : u.kind ≡ other t.kind = other_kind h.0.reads.lexeme t.kind u.kind h.0.reads.is (next_lexeme old new text i t u h.0 g.0) in
-      let same : u ≡ other_token t = sym (next_alike old new text i t u h.0 g.0) ∙ ap (λ (x : Kind). record t { kind = x }) kind in
+      let same : u ≡ other_token t = sym (next_alike old new text i t u h.0 g.0) ∙ ap (λ (x : TokenKind). record t { kind = x }) kind in
       let on : AreTokens new text t.span.upto rest' j' = subst (λ (x : Token). AreTokens new text x.span.upto rest' j') same g.1 in
       ap (λ (x : Token). x ∷ rest') same ∙ ap (λ (x : List Token). other_token t ∷ x) (all_other text t.span.upto j j' rest rest' h.1 on over over')
 
   end_other : (token : Token) → token.kind ≡ k.Finish → token ≡ other_token token
-  end_other token e = ap (λ (x : Kind). record token { kind = x }) e ∙ sym (ap (λ (x : Kind). record token { kind = other x }) e)
+  end_other token e = ap (λ (x : TokenKind). record token { kind = x }) e ∙ sym (ap (λ (x : TokenKind). record token { kind = other x }) e)
 
   pub tokens_other : (text : List ℕ) (all all' : List Token) → IsTokenization old text all → IsTokenization new text all' → all' ≡ map other_token all
   tokens_other text all all' h g =
@@ -127,7 +127,7 @@ module _ (old new : Tables) (names : IsDistinct new.names) (texts : IsDistinct n
 pub named : (tables : Tables) (text : List ℕ) (i entry : ℕ) (token : Token) → IsNext tables text i token → token.kind ≡ k.Name entry
     → slice_get tables.names entry ≡ Some (slice_range text token.span.from token.span.upto)
 named tables text i entry token h e =
-    by_lexeme h.reads.lexeme h.reads.spelled (subst (λ (x : Kind). IsKindOf tables h.reads.lexeme x) e h.reads.is)
+    by_lexeme h.reads.lexeme h.reads.spelled (subst (λ (x : TokenKind). IsKindOf tables h.reads.lexeme x) e h.reads.is)
   where
     by_lexeme : (lexeme : Lexeme) → Spells text lexeme token.span.from token.span.upto → IsKindOf tables lexeme (k.Name entry)
         → slice_get tables.names entry ≡ Some (slice_range text token.span.from token.span.upto)

@@ -102,7 +102,7 @@ module _ (strings : List (List ℕ)) (names texts : ℕ → ℕ) (s : Spelled st
   all_become = (leds_become, (number_becomes, (string_becomes, (line_becomes, (abs_becomes, (min_becomes, (max_becomes, tt)))))))
 
 pub library_becomes : (tables : Tables) (tokens : List Token) → IsDistinct tables.names → IsDistinct tables.texts → IsTokenization tables LIBRARY.now tokens
-    → BecomeFunctions tables.names 0 (l.library tokens) (library_routines (l.entry tokens 155))
+    → BecomeFunctions tables.names 0 (l.library tokens) (library_routines (l.named_at tokens 155))
 library_becomes tables tokens names texts h =
     let n = moved own.names tables.names in
     let x = moved own.texts tables.texts in
@@ -123,4 +123,4 @@ library_becomes tables tokens names texts h =
       min = string_of tables n x tokens 180 (n 24) _ h same refl refl;
       max = string_of tables n x tokens 203 (n 27) _ h same refl refl;
     } in
-    subst (λ (all : List Token). BecomeFunctions tables.names 0 (l.library all) (library_routines (l.entry all 155))) (sym same) (all_become tables.names n x s)
+    subst (λ (all : List Token). BecomeFunctions tables.names 0 (l.library all) (library_routines (l.named_at all 155))) (sym same) (all_become tables.names n x s)

@@ -7,7 +7,7 @@ use Rattle.sts_base.specs.declared.tables.Tables.{Tables}
 use Rattle.sts_lexer.specs.Spaces.{start_of}
 use Rattle.sts_lexer.specs.Tokens.{IsTokenization}
 use Rattle.sts_lexer.specs.declared.token.Token.{Token}
-use Rattle.sts_lexer.specs.declared.token.Kind.TheVariants as k
+use Rattle.sts_lexer.specs.declared.token.TokenKind.TheVariants as k
 use Rattle.sts_lexer.proofs.Laws.{finish_behind}
 use Rattle.sts_syntax.specs.Annotations as a
 use Rattle.sts_syntax.specs.Annotations.{Annotation}
@@ -20,7 +20,7 @@ use Rattle.sts_grammar.specs.ReadUnits.{read_routine, read_function, read_parts,
 use Rattle.sts_grammar.specs.Texts.{source}
 use Rattle.sts_grammar.specs.Units.{IsProgram}
 use Rattle.sts_grammar.proofs.Laws.{what_is_read}
-use Rattle.sts_prelude.specs.inner.Library.{place, entry, parameter, function, show_leds, show_glyphs, write_line, absolute, one_of_two, library}
+use Rattle.sts_prelude.specs.inner.Library.{place, named_at, parameter, function, show_leds, show_glyphs, write_line, absolute, one_of_two, library}
 use Rattle.sts_prelude.specs.declared.text.TheConstants.{LIBRARY}
 use Rattle.sts_prelude.proofs.Tokens.{own, front, own_tokens, own_tokenized}
 use Rattle.sts_prelude.proofs.Renumbered.{renumber, moved, tokens_other, named, next_at}
@@ -32,8 +32,8 @@ tokens_by names texts = map (renumber names texts) own_tokens
 -- the library, where its two names of types have these strings
 abbrev library_by : List Token → (number text : Option (List ℕ)) → Program
 library_by tokens number text =
-    let n = λ (i : ℕ). type_of_entry number (a.Named (place tokens i) (entry tokens i)) in
-    let t = λ (i : ℕ). type_of_entry text (a.Named (place tokens i) (entry tokens i)) in
+    let n = λ (i : ℕ). type_of_entry number (a.Named (place tokens i) (named_at tokens i)) in
+    let t = λ (i : ℕ). type_of_entry text (a.Named (place tokens i) (named_at tokens i)) in
     function tokens 0 (parameter tokens 3 (n 5) ∷ []) a.Nothing (show_leds tokens 10)
     ∷ function tokens 22 (parameter tokens 25 (n 27) ∷ []) a.Nothing (show_glyphs tokens 32)
     ∷ function tokens 78 (parameter tokens 81 (t 83) ∷ []) a.Nothing (show_glyphs tokens 88)
@@ -69,13 +69,13 @@ own_tokens_are tables tokens names texts h =
     tokens_other own tables names texts LIBRARY.now own_tokens tokens own_tokenized h
 
 -- the string of a name among them
-pub string_of : (tables : Tables) (names texts : ℕ → ℕ) (tokens : List Token) (n entry : ℕ) (token : Token) → IsTokenization tables LIBRARY.now tokens
-    → tokens ≡ tokens_by names texts → slice_get (map (renumber names texts) front) n ≡ Some token → token.kind ≡ k.Name entry
-    → slice_get tables.names entry ≡ Some (slice_range LIBRARY.now token.span.from token.span.upto)
-string_of tables names texts tokens n entry token h same here kind =
+pub string_of : (tables : Tables) (names texts : ℕ → ℕ) (tokens : List Token) (n named_at : ℕ) (token : Token) → IsTokenization tables LIBRARY.now tokens
+    → tokens ≡ tokens_by names texts → slice_get (map (renumber names texts) front) n ≡ Some token → token.kind ≡ k.Name named_at
+    → slice_get tables.names named_at ≡ Some (slice_range LIBRARY.now token.span.from token.span.upto)
+string_of tables names texts tokens n named_at token h same here kind =
     let fronts : h.front ≡ map (renumber names texts) front = front_same h.front (map (renumber names texts) front) h.finish (finish_behind LIBRARY.now front) (sym h.all_is ∙ same) in
     let next = next_at tables LIBRARY.now (start_of LIBRARY.now) h.stop n h.front token h.read (subst (λ (x : List Token). slice_get x n ≡ Some token) (sym fronts) here) in
-    named tables LIBRARY.now next.0 entry token next.1 kind
+    named tables LIBRARY.now next.0 named_at token next.1 kind
 
 -- a program whose types of names are known
 typed : (names texts : ℕ → ℕ) (strings : List (List ℕ)) → slice_get strings (names 3) ≡ Some (codes "number") → slice_get strings (names 17) ≡ Some (codes "string")

@@ -12,8 +12,8 @@ use Rattle.sts_lexer.specs.Tokens.{IsTokenization}
 use Rattle.sts_lexer.specs.declared.marks.Mark.{Mark}
 use Rattle.sts_lexer.specs.declared.marks.Mark.TheVariants as m
 use Rattle.sts_lexer.specs.declared.words.Word.TheVariants as w
-use Rattle.sts_lexer.specs.declared.token.Kind.{Kind}
-use Rattle.sts_lexer.specs.declared.token.Kind.TheVariants as k
+use Rattle.sts_lexer.specs.declared.token.TokenKind.{TokenKind}
+use Rattle.sts_lexer.specs.declared.token.TokenKind.TheVariants as k
 use Rattle.sts_lexer.specs.declared.token.Token.{Token}
 use Rattle.sts_lexer.proofs.Laws.{is_tokenized, tokenized, finish_behind}
 use Rattle.sts_prelude.specs.declared.text.TheConstants.{LIBRARY}
@@ -40,7 +40,7 @@ entry_in [] bytes = 0
 entry_in (s ∷ strings) bytes = if bytes_eq s bytes then 0 else suc (entry_in strings bytes)
 
 -- a reserved word has one of these entries
-abbrev kind_of_entry : ℕ → Kind
+abbrev kind_of_entry : ℕ → TokenKind
 kind_of_entry entry =
     if entry == 0 then k.Word w.Function entry
     else (if entry == 4 then k.Word w.Void entry
@@ -69,7 +69,7 @@ mark_of first second =
     else m.Greater)))))))))))))
 
 -- the kind of the token at the front, and how many bytes it takes
-abbrev front_token : ℕ → List ℕ → Kind × ℕ
+abbrev front_token : ℕ → List ℕ → TokenKind × ℕ
 front_token b rest =
     if begins_name b then (kind_of_entry (entry_in own.names (take (run goes_on_name rest) rest)), run goes_on_name rest)
     else (if is_ascii_digit b then (k.Num (pos (digits_value 10 (take (run is_ascii_digit rest) rest))), run is_ascii_digit rest)

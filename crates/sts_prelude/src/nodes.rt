@@ -5,7 +5,7 @@ ghost use Rattle.sts_syntax.specs.Views.{tree, trees, statement, statements};
 
 use std::alloc::Global;
 use sts_base::{NoMemory, Seq};
-use sts_lexer::{Kind, Token};
+use sts_lexer::{Token, TokenKind};
 use sts_syntax::operators::{ADD, AT_LEAST};
 use sts_syntax::{Expr, Node, Stmt, build};
 
@@ -21,13 +21,13 @@ pub fn place(tokens: &Seq<Token>, i: usize) -> u32
 
 /// The entry that a token names; 0 where it names none.
 pub fn entry(tokens: &Seq<Token>, i: usize) -> u32
-    ensures { result ≡ l.entry tokens.now i }
+    ensures { result ≡ l.named_at tokens.now i }
 {
     match tokens.get(i) {
         Some(token) => match token.kind {
-            Kind::Name(entry) => entry,
-            Kind::Word(_, entry) => entry,
-            Kind::Text(entry) => entry,
+            TokenKind::Name(entry) => entry,
+            TokenKind::Word(_, entry) => entry,
+            TokenKind::Text(entry) => entry,
             _ => 0,
         },
         None => 0,

@@ -3,7 +3,7 @@ ghost use Rattle.std.specs.Prelude.{◌≡◌, ◌+◌, ◌<◌, ◌≤◌, ◌^
 ghost use Rattle.sts_base.specs.Distinct.{IsDistinct};
 ghost use Rattle.sts_lexer.specs.Bytes.{most_bytes};
 ghost use Rattle.sts_lexer.specs.Tables.{Extends};
-ghost use Rattle.sts_prelude.specs.Spelled.{IsLibrary};
+ghost use Rattle.sts_prelude.specs.Spelled.{IsLibraryTree};
 ghost use Rattle.sts_syntax.specs.Programs.{program};
 
 use crate::functions::library_of;
@@ -20,7 +20,7 @@ pub fn library(alloc: Global, tables: &mut Tables) -> Result<Unit, NoMemory>
     requires distinct_texts { IsDistinct tables.old.texts }
     requires few_names { length tables.old.names < 2 ^ 31 }
     requires few_texts { length tables.old.texts < 2 ^ 31 }
-    ensures library { IfOk result (λ unit. IsLibrary tables.old tables.new (program unit)) }
+    ensures library { IfOk result (λ unit. IsLibraryTree tables.old tables.new (program unit)) }
     ensures names_extended { Extends tables.old.names tables.new.names }
     ensures texts_extended { Extends tables.old.texts tables.new.texts }
     ensures names_distinct { IsDistinct tables.new.names }

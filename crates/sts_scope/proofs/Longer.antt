@@ -7,7 +7,7 @@ use Rattle.std.proofs.lemmas.Bool.Decides.{nat_tests}
 use Rattle.persistent_maps.specs.declared.maps.Node.{Node}
 use Rattle.persistent_maps.specs.Nodes.{IsWithin, Stays, found}
 use Rattle.persistent_maps.proofs.Laws.{stays_all, stays_both}
-use Rattle.sts_scope.specs.declared.kinds.Kind.{Kind}
+use Rattle.sts_scope.specs.declared.kinds.StaticType.{StaticType}
 use Rattle.sts_scope.specs.declared.entries.Entry.{Entry}
 use Rattle.sts_scope.specs.declared.entries.ClassHead.{ClassHead}
 use Rattle.sts_scope.specs.declared.entries.Owner.TheVariants as o
@@ -101,11 +101,11 @@ own_reach : (n : ℕ) (classes : List ClassHead) (c m : ℕ) → reaches classes
 unfolding reaches
 own_reach n classes c m = ap (λ r. c == m || r) (asked false (λ b. reaches classes n b m) (base_of classes c))
 
-taken : (classes : List ClassHead) (n : ℕ) (o : Option ℕ) → ◌≡◌ {A = List Kind} (elim o [ None ↦ [] | Some b ↦ maker_from classes n b ]) (of [] (maker_from classes n) o)
+taken : (classes : List ClassHead) (n : ℕ) (o : Option ℕ) → ◌≡◌ {A = List StaticType} (elim o [ None ↦ [] | Some b ↦ maker_from classes n b ]) (of [] (maker_from classes n) o)
 taken classes n o = asked [] (maker_from classes n) o
 
 -- what is taken by the nearest written constructor of a class, if it is its own one or not
-own_maker : (n : ℕ) (classes : List ClassHead) (c : ℕ) (class : ClassHead) (takes : Option (List Kind)) (up : Option ℕ) → slice_get classes c ≡ Some class → class.takes ≡ takes →
+own_maker : (n : ℕ) (classes : List ClassHead) (c : ℕ) (class : ClassHead) (takes : Option (List StaticType)) (up : Option ℕ) → slice_get classes c ≡ Some class → class.takes ≡ takes →
     of [] (maker_from classes n) (base_of classes c) ≡ takes_of classes up → maker_from classes (suc n) c ≡ takes_of classes (elim takes [ None ↦ up | Some t ↦ Some c ])
 own_maker n classes c class None up is h rest =
     let based : base_of classes c ≡ class.base = ap (λ o. elim o [ None ↦ None | Some k ↦ k.base ]) is in

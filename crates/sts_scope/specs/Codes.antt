@@ -2,7 +2,7 @@
 use Rattle.std.specs.Prelude.{ℕ, Option, Some, None, if◌then◌else◌}
 use Rattle.sts_base.specs.declared.refused.Code.{Code}
 use Rattle.sts_base.specs.declared.refused.Code.TheVariants.{UnknownName, Captures, NeedsType, BadHandler, Mismatch}
-use Rattle.sts_scope.specs.declared.kinds.Kind.{Kind}
+use Rattle.sts_scope.specs.declared.kinds.StaticType.{StaticType}
 use Rattle.sts_scope.specs.declared.known.Known.{Known}
 use Rattle.sts_scope.specs.declared.known.This.{This}
 use Rattle.sts_scope.specs.declared.known.This.TheVariants as this
@@ -36,7 +36,7 @@ why_part (part.Pop t) = BadHandler
 why_part part.Length = Mismatch
 
 -- a call of what gives this
-abbrev pub why_call : Option Kind → Code
+abbrev pub why_call : Option StaticType → Code
 why_call None = NeedsType
 why_call (Some t) = Mismatch
 

@@ -4,7 +4,7 @@ use Rattle.sts_base.specs.declared.refused.Code.TheVariants.{UnknownName, TwiceN
 use Rattle.sts_scope.specs.declared.entries.Owner.{Owner}
 use Rattle.sts_scope.specs.declared.entries.Owner.TheVariants as o
 use Rattle.sts_scope.specs.declared.entries.Entry.{Entry}
-use Rattle.sts_scope.specs.Faults.{Fault, ◌then◌, unless}
+use Rattle.sts_scope.specs.Failures.{Failure, ◌then◌, unless}
 use Rattle.sts_scope.specs.Lookup.{is_second}
 
 -- `$` is byte 36
@@ -17,11 +17,11 @@ abbrev pub is_dollar : List (List ℕ) → ℕ → Bool
 is_dollar names x = elim (slice_get names x) [ None ↦ false | Some bytes ↦ begins_with_dollar bytes ]
 
 -- a declared name, which may be a second one; members are none of these names
-abbrev pub name_fault : List (List ℕ) → Owner → ℕ → ℕ → Bool → Option Fault
-name_fault names o.Whole x at second = unless (not (is_dollar names x)) UnknownName at then unless (not second) TwiceNamed at
-name_fault names (o.Class c) x at second = None
+abbrev pub name_failure : List (List ℕ) → Owner → ℕ → ℕ → Bool → Option Failure
+name_failure names o.Whole x at second = unless (not (is_dollar names x)) UnknownName at then unless (not second) TwiceNamed at
+name_failure names (o.Class c) x at second = None
 
 -- the first failure from the d-th declaration on, in text order
-abbrev pub names_fault : List (List ℕ) → List Entry → ℕ → List Entry → Option Fault
-names_fault names entries d [] = None
-names_fault names entries d (e ∷ rest) = name_fault names e.owner e.name e.at (is_second entries d e.owner e.name) then names_fault names entries (d + 1) rest
+abbrev pub names_failure : List (List ℕ) → List Entry → ℕ → List Entry → Option Failure
+names_failure names entries d [] = None
+names_failure names entries d (e ∷ rest) = name_failure names e.owner e.name e.at (is_second entries d e.owner e.name) then names_failure names entries (d + 1) rest

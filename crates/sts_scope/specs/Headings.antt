@@ -8,26 +8,26 @@ use Rattle.sts_syntax.specs.Programs.{ClassMember, Field, Method, Constructor, T
 use Rattle.sts_scope.specs.declared.entries.Owner.TheVariants as o
 use Rattle.sts_scope.specs.declared.entries.Entry.{Entry}
 use Rattle.sts_scope.specs.declared.entries.ClassHead.{ClassHead}
-use Rattle.sts_scope.specs.Faults.{Fault, ◌then◌, unless, own}
+use Rattle.sts_scope.specs.Failures.{Failure, ◌then◌, unless, own}
 use Rattle.sts_scope.specs.Entries.{Naming, kind_of, classes_in, item_entries, member_entry}
 use Rattle.sts_scope.specs.Lookup.{is_second, inherited, inherits_field}
 
 -- an unknown type name, at that name
-abbrev pub type_name_fault : Naming → Annotation → Option Fault
-type_name_fault names (s.Named at x) = own (names x) UnknownName at
-type_name_fault names (s.ListOf a) = type_name_fault names a
-type_name_fault names s.Number = None
-type_name_fault names s.Boolean = None
-type_name_fault names s.Text = None
-type_name_fault names s.Nothing = None
+abbrev pub type_name_failure : Naming → Annotation → Option Failure
+type_name_failure names (s.Named at x) = own (names x) UnknownName at
+type_name_failure names (s.ListOf a) = type_name_failure names a
+type_name_failure names s.Number = None
+type_name_failure names s.Boolean = None
+type_name_failure names s.Text = None
+type_name_failure names s.Nothing = None
 
 -- A type that isn't known: its name is unknown, or it has too many `[]`, at the place of what has the type.
-abbrev pub type_fault : Naming → ℕ → Annotation → Option Fault
-type_fault names at a = type_name_fault names a then own (kind_of names a) UnknownName at
+abbrev pub type_failure : Naming → ℕ → Annotation → Option Failure
+type_failure names at a = type_name_failure names a then own (kind_of names a) UnknownName at
 
-abbrev pub written_fault : Naming → ℕ → Option Annotation → Option Fault
-written_fault names at None = None
-written_fault names at (Some a) = type_fault names at a
+abbrev pub written_failure : Naming → ℕ → Option Annotation → Option Failure
+written_failure names at None = None
+written_failure names at (Some a) = type_failure names at a
 
 -- a parameter of this name stands among these
 abbrev pub takes_name : List Parameter → ℕ → Bool
@@ -35,13 +35,13 @@ takes_name [] x = false
 takes_name (p ∷ rest) x = p.name == x || takes_name rest x
 
 -- the first failure of the parameters from the i-th on; one without a type fails before one that is a second
-abbrev pub parameters_fault : Naming → List Parameter → ℕ → List Parameter → Option Fault
-parameters_fault names all i [] = None
-parameters_fault names all i (p ∷ rest) =
-    (own p.shape NeedsType p.at then unless (not (takes_name (take i all) p.name)) TwiceNamed p.at then written_fault names p.at p.shape) then parameters_fault names all (i + 1) rest
+abbrev pub parameters_failure : Naming → List Parameter → ℕ → List Parameter → Option Failure
+parameters_failure names all i [] = None
+parameters_failure names all i (p ∷ rest) =
+    (own p.shape NeedsType p.at then unless (not (takes_name (take i all) p.name)) TwiceNamed p.at then written_failure names p.at p.shape) then parameters_failure names all (i + 1) rest
 
-abbrev pub routine_fault : Naming → Routine → Option Fault
-routine_fault names (Does at params gives all arrow) = parameters_fault names params 0 params then written_fault names at gives
+abbrev pub routine_failure : Naming → Routine → Option Failure
+routine_failure names (Does at params gives all arrow) = parameters_failure names params 0 params then written_failure names at gives
 
 abbrev pub routine_at : Routine → ℕ
 routine_at (Does at params gives all arrow) = at
@@ -59,32 +59,32 @@ is_constructor (Constructor r) = true
 
 -- The member that is the d-th of all declarations, of the class c, behind a constructor or not.
 module _ (names : Naming) (entries : List Entry) (classes : List ClassHead) where
-  abbrev pub field_fault : ℕ → ℕ → Declaration → Option Fault
-  field_fault c d (Declare at x shape first) =
+  abbrev pub field_failure : ℕ → ℕ → Declaration → Option Failure
+  field_failure c d (Declare at x shape first) =
       unless (not (is_second entries d (o.Class c) x)) TwiceNamed at then unless (not (is_some (inherited entries classes c x))) TwiceNamed at
-      then unless (is_typed shape first) NeedsType at then written_fault names at shape
+      then unless (is_typed shape first) NeedsType at then written_failure names at shape
 
-  abbrev pub method_fault : ℕ → ℕ → ℕ → Routine → Option Fault
-  method_fault c d x r =
+  abbrev pub method_failure : ℕ → ℕ → ℕ → Routine → Option Failure
+  method_failure c d x r =
       unless (not (is_second entries d (o.Class c) x)) TwiceNamed (routine_at r) then unless (not (inherits_field entries classes c x)) TwiceNamed (routine_at r)
-      then routine_fault names r
+      then routine_failure names r
 
-  abbrev pub member_fault : ℕ → ℕ → Bool → ClassMember → Option Fault
-  member_fault c d made (Field a) = field_fault c d a
-  member_fault c d made (Method x r) = method_fault c d x r
-  member_fault c d made (Constructor r) = unless (not made) TwiceNamed (routine_at r) then routine_fault names r
+  abbrev pub member_failure : ℕ → ℕ → Bool → ClassMember → Option Failure
+  member_failure c d made (Field a) = field_failure c d a
+  member_failure c d made (Method x r) = method_failure c d x r
+  member_failure c d made (Constructor r) = unless (not made) TwiceNamed (routine_at r) then routine_failure names r
 
-  abbrev pub members_fault : ℕ → ℕ → Bool → List ClassMember → Option Fault
-  members_fault c d made [] = None
-  members_fault c d made (m ∷ rest) = member_fault c d made m then members_fault c (d + length (member_entry names c m)) (made || is_constructor m) rest
+  abbrev pub members_failure : ℕ → ℕ → Bool → List ClassMember → Option Failure
+  members_failure c d made [] = None
+  members_failure c d made (m ∷ rest) = member_failure c d made m then members_failure c (d + length (member_entry names c m)) (made || is_constructor m) rest
 
   -- of a part of the text, which begins with the class c and the d-th declaration
-  abbrev pub item_fault : ℕ → ℕ → TopLevel → Option Fault
-  item_fault c d (Class at x base base_at members) = members_fault c (d + 1) false members
-  item_fault c d (Function x r) = routine_fault names r
-  item_fault c d (Main a) = None
+  abbrev pub item_failure : ℕ → ℕ → TopLevel → Option Failure
+  item_failure c d (Class at x base base_at members) = members_failure c (d + 1) false members
+  item_failure c d (Function x r) = routine_failure names r
+  item_failure c d (Main a) = None
 
   -- the first failure in text order
-  abbrev pub headings_fault : ℕ → ℕ → Program → Option Fault
-  headings_fault c d [] = None
-  headings_fault c d (i ∷ rest) = item_fault c d i then headings_fault (c + classes_in i) (d + length (item_entries names c i)) rest
+  abbrev pub headings_failure : ℕ → ℕ → Program → Option Failure
+  headings_failure c d [] = None
+  headings_failure c d (i ∷ rest) = item_failure c d i then headings_failure (c + classes_in i) (d + length (item_entries names c i)) rest

@@ -5,35 +5,35 @@ use Rattle.sts_syntax.specs.Layered.{layered}
 use Rattle.sts_syntax.specs.Types.{ValueType, ListOf}
 use Rattle.sts_scope.specs.declared.kinds.Base.{Base}
 use Rattle.sts_scope.specs.declared.kinds.Base.TheVariants as b
-use Rattle.sts_scope.specs.declared.kinds.Kind.{Kind}
+use Rattle.sts_scope.specs.declared.kinds.StaticType.{StaticType}
 
-abbrev pub flat : Base → Kind
+abbrev pub flat : Base → StaticType
 flat base = record { base = base; depth = 0 }
 
-abbrev pub number : Kind
+abbrev pub number : StaticType
 number = flat b.Number
 
-abbrev pub boolean : Kind
+abbrev pub boolean : StaticType
 boolean = flat b.Boolean
 
-abbrev pub text : Kind
+abbrev pub text : StaticType
 text = flat b.Text
 
-abbrev pub nothing : Kind
+abbrev pub nothing : StaticType
 nothing = flat b.Nothing
 
-abbrev pub null : Kind
+abbrev pub null : StaticType
 null = flat b.Null
 
 -- what `[]` has where a type is given
-abbrev pub empty : Kind
+abbrev pub empty : StaticType
 empty = flat b.Empty
 
-abbrev pub object : ℕ → Kind
+abbrev pub object : ℕ → StaticType
 object c = flat (b.Class c)
 
 -- one `[]` more
-abbrev pub array : Kind → Kind
+abbrev pub array : StaticType → StaticType
 array t = record { base = t.base; depth = t.depth + 1 }
 
 -- how many `[]` a type has at most
@@ -41,11 +41,11 @@ abbrev pub most_brackets : ℕ
 most_brackets = 4294967295
 
 -- the type of an array of items of a type: a type of more `[]` isn't known
-abbrev pub array_of : Kind → Option Kind
+abbrev pub array_of : StaticType → Option StaticType
 array_of t = if nat_lt t.depth most_brackets then Some (array t) else None
 
 -- the type of an array's items
-abbrev pub item : Kind → Kind
+abbrev pub item : StaticType → StaticType
 item t = record { base = t.base; depth = t.depth - 1 }
 
 abbrev pub same_base : Base → Base → Bool
@@ -59,10 +59,10 @@ same_base (b.Class m) (b.Class n) = m == n
 same_base _ _ = false
 
 -- the same type
-unfoldable pub same : Kind → Kind → Bool
+unfoldable pub same : StaticType → StaticType → Bool
 same s t = same_base s.base t.base && (s.depth == t.depth)
 
-unfoldable pub is_array : Kind → Bool
+unfoldable pub is_array : StaticType → Bool
 is_array t = not (t.depth == 0)
 
 abbrev pub base_class : Base → Option ℕ
@@ -70,7 +70,7 @@ base_class (b.Class n) = Some n
 base_class _ = None
 
 -- the number of the class of an object
-unfoldable pub class_of : Kind → Option ℕ
+unfoldable pub class_of : StaticType → Option ℕ
 class_of t = elim (t.depth == 0) [ true ↦ base_class t.base | false ↦ None ]
 
 abbrev pub base_takes_null : Base → Bool
@@ -79,7 +79,7 @@ base_takes_null (b.Class n) = true
 base_takes_null _ = false
 
 -- null goes to a text, an object and an array
-unfoldable pub takes_null : Kind → Bool
+unfoldable pub takes_null : StaticType → Bool
 takes_null t = is_array t || base_takes_null t.base
 
 -- The type of values that it is. `[]` has the type of its place, so that `Empty` is none.
@@ -92,9 +92,9 @@ base_type b.Null = t.NullType
 base_type b.Empty = t.Nothing
 base_type (b.Class c) = t.Object c
 
-abbrev pub value_type : Kind → ValueType
+abbrev pub value_type : StaticType → ValueType
 value_type t = layered ListOf t.depth (base_type t.base)
 
-abbrev pub value_types : List Kind → List ValueType
+abbrev pub value_types : List StaticType → List ValueType
 value_types [] = []
 value_types (t ∷ ts) = value_type t ∷ value_types ts

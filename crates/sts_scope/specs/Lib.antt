@@ -1,5 +1,5 @@
 pub mod Kinds
-pub mod Faults
+pub mod Failures
 pub mod Entries
 pub mod Lookup
 pub mod Globals

@@ -4,7 +4,7 @@ use Rattle.std.specs.Map.{lookup}
 use Rattle.std.specs.Ordering.{nat_cmp, is_eq}
 use Rattle.persistent_maps.specs.declared.maps.Node.{Node}
 use Rattle.persistent_maps.specs.Nodes.{IsWithin, Stays, found}
-use Rattle.sts_scope.specs.declared.kinds.Kind.{Kind}
+use Rattle.sts_scope.specs.declared.kinds.StaticType.{StaticType}
 use Rattle.sts_scope.specs.declared.entries.Entry.{Entry}
 use Rattle.sts_scope.specs.declared.entries.ClassHead.{ClassHead}
 use Rattle.sts_scope.specs.declared.lines.Line.{Line}
@@ -31,7 +31,7 @@ of none f None = none
 of none f (Some c) = f c
 
 -- what the written constructor of a class takes, if there is one
-abbrev pub takes_of : List ClassHead → Option ℕ → List Kind
+abbrev pub takes_of : List ClassHead → Option ℕ → List StaticType
 takes_of classes maker = of [] (λ m. elim (slice_get classes m) [ None ↦ [] | Some class ↦ elim class.takes [ None ↦ [] | Some takes ↦ takes ] ]) maker
 
 -- A line of so many classes, from a class on or of none: up to as many bases above it, or more, its maps have what the rules give.

@@ -3,8 +3,8 @@ use Rattle.std.specs.Prelude.{ℕ, zero, suc, Bool, true, false, ◌&&◌, ◌==
 use Rattle.std.specs.List.{position_from}
 use Rattle.sts_scope.specs.declared.entries.Owner.{Owner}
 use Rattle.sts_scope.specs.declared.entries.Owner.TheVariants as o
-use Rattle.sts_scope.specs.declared.entries.Sort.{Sort}
-use Rattle.sts_scope.specs.declared.entries.Sort.TheVariants as sort
+use Rattle.sts_scope.specs.declared.entries.DeclarationKind.{DeclarationKind}
+use Rattle.sts_scope.specs.declared.entries.DeclarationKind.TheVariants as sort
 use Rattle.sts_scope.specs.declared.entries.Entry.{Entry}
 use Rattle.sts_scope.specs.declared.entries.ClassHead.{ClassHead}
 
@@ -46,10 +46,10 @@ member_number entries classes c x = member_from entries classes (length classes)
 abbrev pub inherited : List Entry → List ClassHead → ℕ → ℕ → Option ℕ
 inherited entries classes c x = elim (base_of classes c) [ None ↦ None | Some b ↦ member_number entries classes b x ]
 
-abbrev pub sort_of : List Entry → ℕ → Option Sort
+abbrev pub sort_of : List Entry → ℕ → Option DeclarationKind
 sort_of entries d = elim (slice_get entries d) [ None ↦ None | Some e ↦ Some e.sort ]
 
-abbrev pub is_field : Option Sort → Bool
+abbrev pub is_field : Option DeclarationKind → Bool
 is_field (Some sort.Field) = true
 is_field _ = false
 

@@ -2,8 +2,8 @@
 use Rattle.std.specs.Prelude.{ℕ, zero, suc, ◌+◌, Bool, true, false, not, ◌==◌, Option, Some, None, List, [], ◌∷◌, ◌++◌, length, take, filter, unwrap_or, get_or}
 use Rattle.std.specs.List.{position_from, list_any}
 use Rattle.sts_scope.specs.declared.entries.Owner.TheVariants as o
-use Rattle.sts_scope.specs.declared.entries.Sort.{Sort}
-use Rattle.sts_scope.specs.declared.entries.Sort.TheVariants as sort
+use Rattle.sts_scope.specs.declared.entries.DeclarationKind.{DeclarationKind}
+use Rattle.sts_scope.specs.declared.entries.DeclarationKind.TheVariants as sort
 use Rattle.sts_scope.specs.declared.entries.Entry.{Entry}
 use Rattle.sts_scope.specs.declared.known.Known.{Known}
 use Rattle.sts_scope.specs.Lookup.{same_owner, base_of, is_field}
@@ -16,12 +16,12 @@ use Rattle.sts_scope.specs.Handlers.{declared_handlers, routine_handlers, unwrit
 abbrev pub global_number : Known → ℕ → ℕ
 global_number k d = length (names_of is_global (take d k.entries))
 
-abbrev pub is_method : Option Sort → Bool
+abbrev pub is_method : Option DeclarationKind → Bool
 is_method (Some sort.Method) = true
 is_method _ = false
 
 -- the names of a class's own members of a sort, in text order
-abbrev pub own_names : (Option Sort → Bool) → List Entry → ℕ → List ℕ
+abbrev pub own_names : (Option DeclarationKind → Bool) → List Entry → ℕ → List ℕ
 own_names which [] c = []
 own_names which (e ∷ rest) c = elim (same_owner e.owner (o.Class c)) [
   | true ↦ elim (which (Some e.sort)) [ true ↦ e.name ∷ own_names which rest c | false ↦ own_names which rest c ]
@@ -36,7 +36,7 @@ abbrev pub added : List ℕ → List ℕ → List ℕ
 added names more = names ++ filter (λ x. not (is_listed names x)) more
 
 -- the names of a class's fields or slots: its base's first, then its own new ones
-abbrev pub names_from : (Option Sort → Bool) → Known → ℕ → ℕ → List ℕ
+abbrev pub names_from : (Option DeclarationKind → Bool) → Known → ℕ → ℕ → List ℕ
 names_from which k zero c = []
 names_from which k (suc n) c = elim (base_of k.classes c) [ None ↦ own_names which k.entries c | Some b ↦ added (names_from which k n b) (own_names which k.entries c) ]
 

@@ -1,9 +1,9 @@
 -- What a name stands for where it is used.
 use Rattle.std.specs.Prelude.{ℕ, suc, Bool, true, false, not, ◌&&◌, ◌==◌, nat_le, is_some, Option, Some, None, List, [], ◌∷◌, ◌++◌, length, if◌then◌else◌}
-use Rattle.sts_scope.specs.declared.kinds.Kind.{Kind}
+use Rattle.sts_scope.specs.declared.kinds.StaticType.{StaticType}
 use Rattle.sts_scope.specs.declared.entries.Owner.TheVariants as o
-use Rattle.sts_scope.specs.declared.entries.Sort.{Sort}
-use Rattle.sts_scope.specs.declared.entries.Sort.TheVariants as sort
+use Rattle.sts_scope.specs.declared.entries.DeclarationKind.{DeclarationKind}
+use Rattle.sts_scope.specs.declared.entries.DeclarationKind.TheVariants as sort
 use Rattle.sts_scope.specs.declared.known.Known.{Known}
 use Rattle.sts_scope.specs.declared.known.Local.{Local}
 use Rattle.sts_scope.specs.declared.known.This.{This}
@@ -15,12 +15,12 @@ use Rattle.sts_scope.specs.Lookup.{entry_number, sort_of}
 
 -- Where something stands: the parameters and locals of the functions around, of which nothing but their names is known; those of this function that
 -- are in scope, outermost first, of which those from `block` on are of this block; what `this` is; what a `return` gives; and whether it is the library.
-pub record Place : Type 0 where
+pub record NameScope : Type 0 where
   pub around : List Local
   pub locals : List Local
   pub block : ℕ
   pub this : This
-  pub gives : Option Kind
+  pub gives : Option StaticType
   pub library : Bool
 
 -- the last one of this name, where the first has the number n
@@ -31,14 +31,14 @@ last_from n (l ∷ ls) x = elim (last_from (suc n) ls x) [ Some m ↦ Some m | N
 abbrev pub last_named : List Local → ℕ → Option ℕ
 last_named locals x = last_from 0 locals x
 
-abbrev pub entry_found : ℕ → Sort → Found
+abbrev pub entry_found : ℕ → DeclarationKind → Found
 entry_found d (sort.Global fixed) = found.Global d
 entry_found d sort.Function = found.Function d
 entry_found d (sort.Class c) = found.Class c
 entry_found d sort.Field = found.Unknown
 entry_found d sort.Method = found.Unknown
 
-abbrev pub sort_found : ℕ → Option Sort → Found
+abbrev pub sort_found : ℕ → Option DeclarationKind → Found
 sort_found d None = found.Unknown
 sort_found d (Some s) = entry_found d s
 
@@ -51,19 +51,19 @@ abbrev pub global_named : Known → Bool → ℕ → Found
 global_named k library x = whole_found k library (entry_number k.entries o.Whole x)
 
 -- a local of a function around, else the declaration of the whole text
-abbrev pub found_around : Known → Place → ℕ → Bool → Found
+abbrev pub found_around : Known → NameScope → ℕ → Bool → Found
 found_around k p x true = found.Captured
 found_around k p x false = global_named k p.library x
 
 -- The innermost local of this function, else what is around it. A name that begins with `$` stands for something in the library alone.
-abbrev pub found_among : Known → Place → ℕ → Option ℕ → Found
+abbrev pub found_among : Known → NameScope → ℕ → Option ℕ → Found
 found_among k p x (Some i) = found.Local i
 found_among k p x None = found_around k p x (is_some (last_named p.around x))
 
-abbrev pub is_hidden : List (List ℕ) → Place → ℕ → Bool
+abbrev pub is_hidden : List (List ℕ) → NameScope → ℕ → Bool
 is_hidden spellings p x = not p.library && is_dollar spellings x
 
-abbrev pub name_found : List (List ℕ) → Known → Place → ℕ → Found
+abbrev pub name_found : List (List ℕ) → Known → NameScope → ℕ → Found
 name_found spellings k p x = if is_hidden spellings p x then found.Unknown else found_among k p x (last_named p.locals x)
 
 -- a second local of this name in the block
@@ -71,18 +71,18 @@ abbrev pub is_from : ℕ → Option ℕ → Bool
 is_from block None = false
 is_from block (Some i) = nat_le block i
 
-abbrev pub is_twice : Place → ℕ → Bool
+abbrev pub is_twice : NameScope → ℕ → Bool
 is_twice p x = is_from p.block (last_named p.locals x)
 
 -- behind a declaration
-abbrev pub local : ℕ → Option Kind → Bool → Local
+abbrev pub local : ℕ → Option StaticType → Bool → Local
 local x kind fixed = record { name = x; kind = kind; fixed = fixed }
 
-abbrev pub with : Place → ℕ → Option Kind → Bool → Place
+abbrev pub with : NameScope → ℕ → Option StaticType → Bool → NameScope
 with p x kind fixed = record p { locals = p.locals ++ local x kind fixed ∷ [] }
 
 -- in a block that begins here
-abbrev pub inner : Place → Place
+abbrev pub inner : NameScope → NameScope
 inner p = record p { block = length p.locals }
 
 -- `this` in a handler
@@ -92,9 +92,9 @@ hidden (this.Hidden c) = this.Hidden c
 hidden this.Nowhere = this.Nowhere
 
 -- in a handler that begins here, whose result is this
-abbrev pub in_handler : Place → Option Kind → Place
+abbrev pub in_handler : NameScope → Option StaticType → NameScope
 in_handler p gives = record { around = p.around ++ p.locals; locals = []; block = 0; this = hidden p.this; gives = gives; library = p.library }
 
 -- outside all functions, where a class's objects may be meant by `this`
-abbrev pub outside : This → Bool → Option Kind → Place
+abbrev pub outside : This → Bool → Option StaticType → NameScope
 outside this library gives = record { around = []; locals = []; block = 0; this = this; gives = gives; library = library }

@@ -5,7 +5,7 @@ use Rattle.sts_syntax.specs.Annotations.{Annotation}
 use Rattle.sts_syntax.specs.Trees as t
 use Rattle.sts_syntax.specs.Trees.{Parameter, Declaration, Declare, Routine, Does, OptionalTree, absent, present, done, ended, next}
 use Rattle.sts_syntax.specs.Programs.{ClassMember, Field, Method, Constructor, TopLevel, Class, Function, Main, Program}
-use Rattle.sts_scope.specs.Faults.{Fault}
+use Rattle.sts_scope.specs.Failures.{Failure}
 use Rattle.sts_scope.specs.Scopes.{heading_refusal}
 
 -- a, b, c, $d
@@ -13,7 +13,7 @@ abbrev pub names : List (List ℕ)
 names = codes "a" ∷ codes "b" ∷ codes "c" ∷ codes "$d" ∷ []
 
 -- behind no library
-abbrev pub refused : Program → Option Fault
+abbrev pub refused : Program → Option Failure
 refused text = heading_refusal names [] text
 
 abbrev pub one : OptionalTree

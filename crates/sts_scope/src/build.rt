@@ -10,7 +10,7 @@ ghost use Rattle.sts_scope.specs.Kinds.{nothing};
 ghost use Rattle.sts_scope.specs.Adding.{Adds};
 
 use crate::by_number::ByNumber;
-use crate::{Base, Entry, Kind, Known, Owner, Sort};
+use crate::{Base, DeclarationKind, Entry, Known, Owner, StaticType};
 use std::alloc::Global;
 use sts_base::{NoMemory, Seq};
 use sts_syntax::{Binding, Body, Item, Param, Shape};
@@ -54,7 +54,7 @@ pub fn number_classes(classes: &mut ByNumber, first: u32, items: &[Item]) -> Res
 
 /// The type that is written, if its name is known and it hasn't too many `[]`.
 #[tactic(auto, using(crate::proofs::Deeper::same_kind, crate::proofs::Deeper::deeper_item, crate::proofs::Deeper::too_deep))]
-pub fn kind_of(classes: &ByNumber, shape: &Shape) -> Option<Kind>
+pub fn kind_of(classes: &ByNumber, shape: &Shape) -> Option<StaticType>
     ensures { result ≡ entry.kind_of (value_at classes.now.values.items) (annotation shape.now) }
 {
     let mut at = shape;
@@ -79,14 +79,14 @@ pub fn kind_of(classes: &ByNumber, shape: &Shape) -> Option<Kind>
             }
         };
         return match base {
-            Some(base) => Some(Kind { base, depth }),
+            Some(base) => Some(StaticType { base, depth }),
             None => None,
         };
     }
 }
 
 /// The type that is written, if there is one and it is known.
-pub fn written_kind(classes: &ByNumber, shape: &Option<Shape>) -> Option<Kind>
+pub fn written_kind(classes: &ByNumber, shape: &Option<Shape>) -> Option<StaticType>
     ensures { result ≡ entry.written_kind (value_at classes.now.values.items) (optional_annotation shape.now) }
 {
     match shape {
@@ -96,12 +96,12 @@ pub fn written_kind(classes: &ByNumber, shape: &Option<Shape>) -> Option<Kind>
 }
 
 /// The type of a parameter; one that isn't known counts as nothing.
-fn parameter_kind(classes: &ByNumber, param: &Param) -> Kind
+fn parameter_kind(classes: &ByNumber, param: &Param) -> StaticType
     ensures { result ≡ unwrap_or (entry.written_kind (value_at classes.now.values.items) (optional_annotation param.now.shape)) nothing }
 {
     match written_kind(classes, &param.shape) {
         Some(kind) => kind,
-        None => Kind {
+        None => StaticType {
             base: Base::Nothing,
             depth: 0,
         },
@@ -113,7 +113,7 @@ pub fn parameter_kinds(
     alloc: Global,
     classes: &ByNumber,
     params: &[Param],
-) -> Result<Seq<Kind>, NoMemory>
+) -> Result<Seq<StaticType>, NoMemory>
     ensures { IfOk result (λ kinds. kinds ≡ entry.parameter_kinds (value_at classes.now.values.items) (parameters params.now)) }
 {
     let mut kinds = Seq::new(alloc);
@@ -125,7 +125,7 @@ pub fn parameter_kinds(
 }
 
 /// Adds a declaration.
-pub fn add_entry(known: &mut Known, entry: Entry, kind: Option<Kind>) -> Result<(), NoMemory>
+pub fn add_entry(known: &mut Known, entry: Entry, kind: Option<StaticType>) -> Result<(), NoMemory>
     ensures { OnOk result (Adds known.old known.new (entry ∷ []) (kind ∷ []) []) }
 {
     known.entries.push(entry)?;
@@ -138,7 +138,7 @@ pub fn add_declared(
     classes: &ByNumber,
     known: &mut Known,
     owner: Owner,
-    sort: Sort,
+    sort: DeclarationKind,
     b: &Binding,
 ) -> Result<(), NoMemory>
     ensures { OnOk result (Adds known.old known.new (entry.declared_entry owner sort (declaration b.now) ∷ []) (entry.declared_kind (value_at classes.now.values.items) (declaration b.now) ∷ []) []) }
@@ -162,7 +162,7 @@ pub fn add_routine(
     known: &mut Known,
     owner: Owner,
     name: u32,
-    sort: Sort,
+    sort: DeclarationKind,
     body: &Body,
 ) -> Result<(), NoMemory>
     ensures { OnOk result (Adds known.old known.new (entry.routine_entry (value_at classes.now.values.items) owner name sort (routine body.now) ∷ []) (entry.routine_gives (value_at classes.now.values.items) (routine body.now) ∷ []) []) }

@@ -9,7 +9,9 @@ ghost use Rattle.sts_scope.specs.Known.{IsDeclared};
 
 use crate::build::{add_declared, add_entry, add_routine, number_classes, parameter_kinds};
 use crate::by_number::ByNumber;
-use crate::{ClassHead, Entry, Environment, Kind, Known, Owner, Sort, SymbolTable, Table};
+use crate::{
+    ClassHead, DeclarationKind, Entry, Environment, Known, Owner, StaticType, SymbolTable, Table,
+};
 use std::alloc::Global;
 use sts_base::{NoMemory, Seq};
 use sts_syntax::{Binding, Body, Form, Item, Member, Stmt, Unit};
@@ -30,7 +32,7 @@ fn add_globals(
             classes,
             known,
             Owner::Whole,
-            Sort::Global { fixed },
+            DeclarationKind::Global { fixed },
             &each[i],
         )?;
     }
@@ -74,9 +76,17 @@ fn add_member(
 {
     let owner = Owner::Class(class);
     match member {
-        Member::Field(b) => add_declared(alloc, classes, known, owner, Sort::Field, b),
+        Member::Field(b) => add_declared(alloc, classes, known, owner, DeclarationKind::Field, b),
         Member::Method { name, body } => {
-            add_routine(alloc, classes, known, owner, *name, Sort::Method, body)
+            add_routine(
+                alloc,
+                classes,
+                known,
+                owner,
+                *name,
+                DeclarationKind::Method,
+                body,
+            )
         }
         Member::Constructor(_) => Ok(()),
     }
@@ -100,7 +110,11 @@ fn add_members(
 
 /// What a constructor takes.
 #[tactic(auto, using(sts_syntax::proofs::Laws::routine_parts))]
-fn written_takes(alloc: Global, classes: &ByNumber, body: &Body) -> Result<Seq<Kind>, NoMemory>
+fn written_takes(
+    alloc: Global,
+    classes: &ByNumber,
+    body: &Body,
+) -> Result<Seq<StaticType>, NoMemory>
     ensures { IfOk result (λ takes. takes ≡ entry.routine_takes (value_at classes.now.values.items) (routine body.now)) }
 {
     parameter_kinds(alloc, classes, body.params.as_slice())
@@ -111,7 +125,7 @@ fn maker_takes(
     alloc: Global,
     classes: &ByNumber,
     members: &[Member],
-) -> Result<Option<Seq<Kind>>, NoMemory>
+) -> Result<Option<Seq<StaticType>>, NoMemory>
     ensures { IfOk result (λ takes. takes ≡ entry.maker_takes (value_at classes.now.values.items) (class_members members.now)) }
 {
     for i in 0..members.len() {
@@ -177,7 +191,7 @@ fn add_item(
                 at: *at,
                 owner: Owner::Whole,
                 name: *name,
-                sort: Sort::Class(class),
+                sort: DeclarationKind::Class(class),
                 takes: Seq::new(alloc),
             };
             add_entry(known, entry, None)?;
@@ -189,7 +203,7 @@ fn add_item(
             known,
             Owner::Whole,
             *name,
-            Sort::Function,
+            DeclarationKind::Function,
             body,
         ),
         Item::Stmt(s) => add_main(alloc, classes, known, s),

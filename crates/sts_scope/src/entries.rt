@@ -1,5 +1,5 @@
 // What a program declares by name.
-use crate::Kind;
+use crate::StaticType;
 use sts_base::Seq;
 
 /// What a declaration belongs to.
@@ -13,7 +13,7 @@ pub enum Owner {
 
 /// What a declaration is.
 #[derive(Clone, Copy)]
-pub enum Sort {
+pub enum DeclarationKind {
     /// a global
     Global {
         /// whether it is `const`
@@ -39,9 +39,9 @@ pub struct Entry {
     /// the name's number in `Tables::names`
     pub name: u32,
     /// what it is
-    pub sort: Sort,
+    pub sort: DeclarationKind,
     /// what a function or method takes; empty for the others
-    pub takes: Seq<Kind>,
+    pub takes: Seq<StaticType>,
 }
 
 /// The head of a class.
@@ -56,5 +56,5 @@ pub struct ClassHead {
     /// the number of its base, where there is a class of that name
     pub base: Option<u32>,
     /// what its written constructor takes, where there is one
-    pub takes: Option<Seq<Kind>>,
+    pub takes: Option<Seq<StaticType>>,
 }

@@ -6,7 +6,7 @@ ghost use Rattle.sts_scope.specs.Rules as rule;
 
 use crate::lines::{Line, has_no_end, is_below, lines_of, member_of, takes_of};
 use crate::lookup::{base_of, is_field, sort_of};
-use crate::{ClassHead, Kind, Known, SymbolTable, Table};
+use crate::{ClassHead, Known, StaticType, SymbolTable, Table};
 use persistent_maps::PersistentMaps;
 use std::alloc::Global;
 use std::marker::Model;
@@ -17,7 +17,7 @@ use sts_base::{NoMemory, Seq};
 pub struct Environment {
     entries: SymbolTable,
     classes: Seq<ClassHead>,
-    kinds: Table<Option<Kind>>,
+    kinds: Table<Option<StaticType>>,
     library: usize,
     maps: PersistentMaps,
     lines: Table<Option<Line>>,
@@ -69,7 +69,7 @@ impl Environment {
     }
 
     /// The type of each declaration.
-    pub fn kinds(&self) -> &Table<Option<Kind>>
+    pub fn kinds(&self) -> &Table<Option<StaticType>>
         ensures { result.now ≡ self.now.kinds }
     {
         &self.kinds
@@ -83,7 +83,7 @@ impl Environment {
     }
 
     /// Sets the type of a declaration.
-    pub fn set_kind(&mut self, d: usize, kind: Option<Kind>)
+    pub fn set_kind(&mut self, d: usize, kind: Option<StaticType>)
         requires { d < length self.old.kinds }
         ensures { self.new ≡ record { entries = self.old.entries; classes = self.old.classes; kinds = set self.old.kinds d kind; library = self.old.library } }
     {
@@ -91,7 +91,7 @@ impl Environment {
     }
 
     /// Sets the types of all declarations.
-    pub fn set_kinds(&mut self, kinds: Table<Option<Kind>>)
+    pub fn set_kinds(&mut self, kinds: Table<Option<StaticType>>)
         ensures { self.new ≡ record { entries = self.old.entries; classes = self.old.classes; kinds = kinds; library = self.old.library } }
     {
         self.kinds = kinds;
@@ -159,7 +159,7 @@ impl Environment {
     }
 
     /// What the nearest written constructor of a class takes.
-    pub fn maker_takes(&self, c: u32) -> &[Kind]
+    pub fn maker_takes(&self, c: u32) -> &[StaticType]
         ensures { result.now ≡ rule.maker_takes_of self.now.classes c }
     {
         takes_of(

@@ -4,13 +4,13 @@ ghost use Rattle.sts_scope.specs.Kinds as kind;
 ghost use Rattle.sts_scope.specs.Rules as rule;
 
 use crate::environment::Environment;
-use crate::kinds::{Base, Kind};
+use crate::kinds::{Base, StaticType};
 
 /// A type without `[]`.
-pub fn flat(base: Base) -> Kind
+pub fn flat(base: Base) -> StaticType
     ensures { result ≡ kind.flat base }
 {
-    Kind { base, depth: 0 }
+    StaticType { base, depth: 0 }
 }
 
 fn same_base(a: Base, b: Base) -> bool
@@ -30,7 +30,7 @@ fn same_base(a: Base, b: Base) -> bool
 
 /// Whether two types are the same.
 #[tactic(auto, unfolding(crate::specs::Kinds::same))]
-pub fn same(s: Kind, t: Kind) -> bool
+pub fn same(s: StaticType, t: StaticType) -> bool
     ensures { result ≡ kind.same s t }
 {
     same_base(s.base, t.base) && s.depth == t.depth
@@ -38,7 +38,7 @@ pub fn same(s: Kind, t: Kind) -> bool
 
 /// Whether a type is an array's.
 #[tactic(auto, unfolding(crate::specs::Kinds::is_array))]
-pub fn is_array(t: Kind) -> bool
+pub fn is_array(t: StaticType) -> bool
     ensures { result ≡ kind.is_array t }
 {
     t.depth != 0
@@ -46,7 +46,7 @@ pub fn is_array(t: Kind) -> bool
 
 /// The class of an object.
 #[tactic(auto, unfolding(crate::specs::Kinds::class_of))]
-pub fn class_of(t: Kind) -> Option<u32>
+pub fn class_of(t: StaticType) -> Option<u32>
     ensures { result ≡ kind.class_of t }
 {
     if t.depth == 0 {
@@ -61,7 +61,7 @@ pub fn class_of(t: Kind) -> Option<u32>
 
 /// Whether null goes to a type.
 #[tactic(auto, unfolding(crate::specs::Kinds::takes_null))]
-pub fn takes_null(t: Kind) -> bool
+pub fn takes_null(t: StaticType) -> bool
     ensures { result ≡ kind.takes_null t }
 {
     is_array(t)
@@ -73,21 +73,21 @@ pub fn takes_null(t: Kind) -> bool
 }
 
 /// The type of an array's items.
-pub fn item(t: Kind) -> Kind
+pub fn item(t: StaticType) -> StaticType
     ensures { result ≡ kind.item t }
 {
-    Kind {
+    StaticType {
         base: t.base,
         depth: t.depth.saturating_sub(1),
     }
 }
 
 /// The type of an array of items of a type. None exactly where it would have more `[]` than a type may have.
-pub fn array_of(t: Kind) -> Option<Kind>
+pub fn array_of(t: StaticType) -> Option<StaticType>
     ensures { result ≡ kind.array_of t }
 {
     if t.depth < u32::MAX {
-        Some(Kind {
+        Some(StaticType {
             base: t.base,
             depth: t.depth + 1,
         })
@@ -98,7 +98,7 @@ pub fn array_of(t: Kind) -> Option<Kind>
 
 /// Whether two types are classes of which the second is the first or a base of it.
 #[tactic(auto, unfolding(crate::specs::Rules::below))]
-pub fn below(known: &Environment, s: Kind, t: Kind) -> bool
+pub fn below(known: &Environment, s: StaticType, t: StaticType) -> bool
     ensures { result ≡ rule.below known.now.classes s t }
 {
     match class_of(s) {
@@ -112,7 +112,7 @@ pub fn below(known: &Environment, s: Kind, t: Kind) -> bool
 
 /// Whether a value of the first type goes where the second is given.
 #[tactic(auto, unfolding(crate::specs::Rules::goes))]
-pub fn goes(known: &Environment, s: Kind, t: Kind) -> bool
+pub fn goes(known: &Environment, s: StaticType, t: StaticType) -> bool
     ensures { result ≡ rule.goes known.now.classes s t }
 {
     same(s, t)

@@ -23,7 +23,7 @@ pub enum Base {
 
 /// A type: a base, and how many `[]` stand behind it.
 #[derive(Clone, Copy)]
-pub struct Kind {
+pub struct StaticType {
     /// what stands before the `[]`
     pub base: Base,
     /// how many `[]` there are

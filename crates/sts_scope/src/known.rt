@@ -1,5 +1,5 @@
 // What is known of a program, and what a name stands for.
-use crate::{ClassHead, Kind, SymbolTable, Table};
+use crate::{ClassHead, StaticType, SymbolTable, Table};
 use sts_base::Seq;
 
 /// All declarations of a library and a text, the library's first.
@@ -10,7 +10,7 @@ pub struct Known {
     /// the classes, in text order
     pub classes: Seq<ClassHead>,
     /// The type of each declaration: a global's and a field's own, a function's and method's result. None for a class, and where none is known.
-    pub kinds: Table<Option<Kind>>,
+    pub kinds: Table<Option<StaticType>>,
     /// how many declarations are the library's
     pub library: usize,
 }
@@ -21,7 +21,7 @@ pub struct Local {
     /// its name's number in `Tables::names`
     pub name: u32,
     /// its type, where one is known
-    pub kind: Option<Kind>,
+    pub kind: Option<StaticType>,
     /// whether it is `const`
     pub fixed: bool,
 }
@@ -64,9 +64,9 @@ pub enum Part {
     /// the length of an array
     Length,
     /// `push` of an array of items of this type
-    Push(Kind),
+    Push(StaticType),
     /// `pop` of an array of items of this type
-    Pop(Kind),
+    Pop(StaticType),
     /// nothing of that name
     Missing,
 }

@@ -12,7 +12,7 @@ ghost use Rattle.sts_scope.specs.Lines as lines;
 ghost use Rattle.sts_scope.specs.Lines.{IsLine, AreLines};
 
 use crate::lookup::{base_of, is_endless, maker_takes, reaches};
-use crate::{ClassHead, Kind, SymbolTable, Table};
+use crate::{ClassHead, StaticType, SymbolTable, Table};
 use persistent_maps::PersistentMaps;
 use std::alloc::Global;
 use std::collections::BTreeMap;
@@ -315,7 +315,7 @@ pub fn has_no_end(
 }
 
 /// What the written constructor of a class takes, if there is one.
-fn written_takes(classes: &[ClassHead], maker: Option<u32>) -> &[Kind]
+fn written_takes(classes: &[ClassHead], maker: Option<u32>) -> &[StaticType]
     ensures { result.now ≡ lines.takes_of classes.now maker }
 {
     let Some(m) = maker else {
@@ -338,7 +338,7 @@ pub fn takes_of<'a>(
     entries: &SymbolTable,
     classes: &'a [ClassHead],
     c: u32,
-) -> &'a [Kind]
+) -> &'a [StaticType]
     requires { AreLines entries.now classes.now maps.now all.now }
     ensures { result.now ≡ rule.maker_takes_of classes.now c }
 {

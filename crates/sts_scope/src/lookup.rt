@@ -5,7 +5,7 @@ ghost use Rattle.sts_scope.specs.Bases.{is_endless};
 ghost use Rattle.sts_scope.specs.Rules as rule;
 ghost use Rattle.sts_scope.specs.Globals.{is_dollar};
 
-use crate::{ClassHead, Entry, Kind, Sort};
+use crate::{ClassHead, DeclarationKind, Entry, StaticType};
 use sts_base::Tables;
 
 /// Whether a name begins with `$`.
@@ -32,7 +32,7 @@ pub fn base_of(classes: &[ClassHead], c: usize) -> Option<u32>
 }
 
 /// What a declaration is.
-pub fn sort_of(entries: &[Entry], d: usize) -> Option<Sort>
+pub fn sort_of(entries: &[Entry], d: usize) -> Option<DeclarationKind>
     ensures { result ≡ look.sort_of entries.now d }
 {
     match entries.get(d) {
@@ -42,16 +42,16 @@ pub fn sort_of(entries: &[Entry], d: usize) -> Option<Sort>
 }
 
 /// Whether it is a field.
-pub fn is_field(sort: Option<Sort>) -> bool
+pub fn is_field(sort: Option<DeclarationKind>) -> bool
     ensures { result ≡ look.is_field sort }
 {
     match sort {
         None => false,
-        Some(Sort::Field) => true,
-        Some(Sort::Method) => false,
-        Some(Sort::Function) => false,
-        Some(Sort::Class(_)) => false,
-        Some(Sort::Global { fixed: _ }) => false,
+        Some(DeclarationKind::Field) => true,
+        Some(DeclarationKind::Method) => false,
+        Some(DeclarationKind::Function) => false,
+        Some(DeclarationKind::Class(_)) => false,
+        Some(DeclarationKind::Global { fixed: _ }) => false,
     }
 }
 
@@ -88,7 +88,7 @@ pub fn reaches(classes: &[ClassHead], m: u32, n: u32) -> bool
 }
 
 /// What the nearest written constructor of a class takes.
-pub fn maker_takes(classes: &[ClassHead], c: u32) -> &[Kind]
+pub fn maker_takes(classes: &[ClassHead], c: u32) -> &[StaticType]
     ensures { result.now ≡ rule.maker_takes_of classes.now c }
 {
     let mut at = c;

@@ -5,7 +5,7 @@ ghost use Rattle.sts_scope.specs.Rules as rule;
 
 use crate::environment::Environment;
 use crate::kind_rules::{below, flat, goes, is_array, item, same, takes_null};
-use crate::kinds::{Base, Kind};
+use crate::kinds::{Base, StaticType};
 use sts_syntax::operators::{
     ADD, AT_LEAST, AT_MOST, BIT_AND, BIT_OR, BIT_XOR, COMPLEMENT, DIVIDE, EQUAL, GREATER, LESS,
     MULTIPLY, NEGATE, NOT, PLUS, REMAINDER, SHIFT_LEFT, SHIFT_RIGHT, SHIFT_RIGHT_UNSIGNED,
@@ -14,7 +14,7 @@ use sts_syntax::operators::{
 
 /// Whether values of types go where types are given, each to each.
 #[tactic(auto, unfolding(crate::specs::Rules::all_go))]
-pub fn all_go(known: &Environment, ss: &[Kind], ts: &[Kind]) -> bool
+pub fn all_go(known: &Environment, ss: &[StaticType], ts: &[StaticType]) -> bool
     ensures { result ≡ rule.all_go known.now.classes ss.now ts.now }
 {
     if ss.len() != ts.len() {
@@ -30,7 +30,7 @@ pub fn all_go(known: &Environment, ss: &[Kind], ts: &[Kind]) -> bool
 
 /// Whether values of types all go to one.
 #[tactic(auto, unfolding(crate::specs::Rules::all_go_to))]
-pub fn all_go_to(known: &Environment, t: Kind, ss: &[Kind]) -> bool
+pub fn all_go_to(known: &Environment, t: StaticType, ss: &[StaticType]) -> bool
     ensures { result ≡ rule.all_go_to known.now.classes t ss.now }
 {
     for i in 0..ss.len() {
@@ -43,7 +43,7 @@ pub fn all_go_to(known: &Environment, t: Kind, ss: &[Kind]) -> bool
 
 /// What `==` takes.
 #[tactic(auto, unfolding(crate::specs::Rules::comparable))]
-fn comparable(known: &Environment, s: Kind, t: Kind) -> bool
+fn comparable(known: &Environment, s: StaticType, t: StaticType) -> bool
     ensures { result ≡ rule.comparable known.now.classes s t }
 {
     (same(s, t) && !same(s, flat(Base::Nothing)))
@@ -83,7 +83,7 @@ fn is_order(op: u8) -> bool
 
 /// An operator between two operands.
 #[tactic(auto, unfolding(crate::specs::Rules::operate))]
-pub fn operate(known: &Environment, op: u8, s: Kind, t: Kind) -> Option<Kind>
+pub fn operate(known: &Environment, op: u8, s: StaticType, t: StaticType) -> Option<StaticType>
     ensures { result ≡ rule.operate known.now.classes op s t }
 {
     if is_equality(op) {
@@ -108,7 +108,7 @@ pub fn operate(known: &Environment, op: u8, s: Kind, t: Kind) -> Option<Kind>
 
 /// A prefix operator.
 #[tactic(auto, unfolding(crate::specs::Rules::prefix))]
-pub fn prefix(op: u8, s: Kind) -> Option<Kind>
+pub fn prefix(op: u8, s: StaticType) -> Option<StaticType>
     ensures { result ≡ rule.prefix op s }
 {
     if op == NOT {
@@ -126,7 +126,7 @@ pub fn prefix(op: u8, s: Kind) -> Option<Kind>
 
 /// `&&` and `||`.
 #[tactic(auto, unfolding(crate::specs::Rules::joined))]
-pub fn joined(s: Kind, t: Kind) -> Option<Kind>
+pub fn joined(s: StaticType, t: StaticType) -> Option<StaticType>
     ensures { result ≡ rule.joined s t }
 {
     let boolean = flat(Base::Boolean);
@@ -139,7 +139,7 @@ pub fn joined(s: Kind, t: Kind) -> Option<Kind>
 
 /// The type of which two types' values are.
 #[tactic(auto, unfolding(crate::specs::Rules::common))]
-fn common(known: &Environment, s: Kind, t: Kind) -> Option<Kind>
+fn common(known: &Environment, s: StaticType, t: StaticType) -> Option<StaticType>
     ensures { result ≡ rule.common known.now.classes s t }
 {
     let null = flat(Base::Null);
@@ -154,7 +154,12 @@ fn common(known: &Environment, s: Kind, t: Kind) -> Option<Kind>
 
 /// `?:`.
 #[tactic(auto, unfolding(crate::specs::Rules::choose))]
-pub fn choose(known: &Environment, q: Kind, s: Kind, t: Kind) -> Option<Kind>
+pub fn choose(
+    known: &Environment,
+    q: StaticType,
+    s: StaticType,
+    t: StaticType,
+) -> Option<StaticType>
     ensures { result ≡ rule.choose known.now.classes q s t }
 {
     if same(q, flat(Base::Boolean)) {
@@ -166,7 +171,12 @@ pub fn choose(known: &Environment, q: Kind, s: Kind, t: Kind) -> Option<Kind>
 
 /// An assignment to a target of the first type.
 #[tactic(auto, unfolding(crate::specs::Rules::assign))]
-pub fn assign(known: &Environment, op: Option<u8>, t: Kind, s: Kind) -> Option<Kind>
+pub fn assign(
+    known: &Environment,
+    op: Option<u8>,
+    t: StaticType,
+    s: StaticType,
+) -> Option<StaticType>
     ensures { result ≡ rule.assign known.now.classes op t s }
 {
     match op {
@@ -180,7 +190,7 @@ pub fn assign(known: &Environment, op: Option<u8>, t: Kind, s: Kind) -> Option<K
 
 /// `++` and `--`.
 #[tactic(auto, unfolding(crate::specs::Rules::counted))]
-pub fn counted(t: Kind) -> Option<Kind>
+pub fn counted(t: StaticType) -> Option<StaticType>
     ensures { result ≡ rule.counted t }
 {
     if same(t, flat(Base::Number)) {
@@ -192,7 +202,7 @@ pub fn counted(t: Kind) -> Option<Kind>
 
 /// An item of an array.
 #[tactic(auto, unfolding(crate::specs::Rules::element))]
-pub fn element(a: Kind, i: Kind) -> Option<Kind>
+pub fn element(a: StaticType, i: StaticType) -> Option<StaticType>
     ensures { result ≡ rule.element a i }
 {
     if is_array(a) && same(i, flat(Base::Number)) {

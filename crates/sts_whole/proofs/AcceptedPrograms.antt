@@ -8,7 +8,7 @@ use Rattle.sts_syntax.specs.Nodes.{NamesTexts}
 use Rattle.sts_syntax.specs.Programs.{Program}
 use Rattle.sts_syntax.specs.TypedTrees.{TypedProgram}
 use Rattle.sts_syntax.specs.Weights.{routines_weight}
-use Rattle.sts_scope.specs.declared.kinds.Kind.{Kind}
+use Rattle.sts_scope.specs.declared.kinds.StaticType.{StaticType}
 use Rattle.type_derive.specs.Accepted.{AreDerived, IsAccepted, typed}
 use Rattle.type_derive.specs.Libraries.{IsLibrary}
 use Rattle.type_derive.specs.Formed.{TextsBelow}
@@ -37,10 +37,10 @@ line_end zero d h = (omega arith, (omega arith, tt))
 line_end (suc n) d h = absurd (omega (arith, h))
 
 abbrev IsLight : Tables → Program → Program → Type 0
-IsLight tables library text = (kinds : List (Option Kind)) → AreDerived tables library text kinds → routines_weight (take library_size (typed tables library text kinds).functions) ≤ 600
+IsLight tables library text = (kinds : List (Option StaticType)) → AreDerived tables library text kinds → routines_weight (take library_size (typed tables library text kinds).functions) ≤ 600
 
 abbrev IsLibraryBefore : Tables → Program → Program → Type 0
-IsLibraryBefore tables library text = (kinds : List (Option Kind)) → AreDerived tables library text kinds → IsLibrary tables library text kinds
+IsLibraryBefore tables library text = (kinds : List (Option StaticType)) → AreDerived tables library text kinds → IsLibrary tables library text kinds
 
 pub buildable : Laws → (text : List ℕ) (tables : Tables) (P : TypedProgram) → Accepts text tables P → IsBuildable P tables.texts × (routines_weight (take library_size P.functions) ≤ 600)
 buildable laws text tables P h =

@@ -13,7 +13,7 @@ use Rattle.sts_syntax.specs.TypedTrees as e
 use Rattle.sts_syntax.specs.TypedTrees.{TypedTree, TypedTrees, TypedStatement, TypedStatements, TypedDeclaration, TypedRoutine}
 use Rattle.sts_syntax.specs.Trees.{Parameter, Tree, Num, Text, Truth, Null, This, Name, Unary, Binary, Both, Either, Choice, Set, Bump, Member, Item, Call, SuperCall, Make, Items, Handler, Trees, none, more, OptionalTree, absent, present, Statement, Block, Let, IfOnly, IfElse, While, DoWhile, For, ForOf, Return, Break, Continue, Plain, Empty, Statements, done, also, OptionalStatement, omitted, written, Declaration, Declare, Declarations, ended, next, Routine, Does}
 use Rattle.sts_syntax.specs.Programs.{ClassMember, Field, Method, Constructor, TopLevel, Class, Function, Main, Program}
-use Rattle.sts_scope.specs.declared.kinds.Kind.{Kind}
+use Rattle.sts_scope.specs.declared.kinds.StaticType.{StaticType}
 use Rattle.sts_scope.specs.declared.known.Known.{Known}
 use Rattle.sts_scope.specs.declared.known.This.TheVariants as this
 use Rattle.sts_scope.specs.Kinds.{nothing, value_type, value_types}
@@ -40,7 +40,7 @@ AtMost h f = (m n : ℕ) → length (f m n).locals + numbers_taken (f m n).routi
 least : (h : ℕ) → 0 ≤ h
 least h = omega arith
 
-types_long : (all : List Kind) → length (value_types all) ≡ length all
+types_long : (all : List StaticType) → length (value_types all) ≡ length all
 types_long [] = refl
 types_long (u ∷ us) = ap suc (types_long us)
 
@@ -86,7 +86,7 @@ object_taken : (names : Naming) (params : List Parameter) (ls : List ValueType) 
 object_taken names params ls rs h le = (let a = types_long (parameter_kinds names params) in let b = kinds_long names params in omega (arith, le, a, b))
 
 module _ (tables : Tables) (names : Naming) (k : Known) (numbers : Numbering) where
-  abbrev mk : Site → Option Kind → Tree → Making TypedTree
+  abbrev mk : Site → Option StaticType → Tree → Making TypedTree
   mk s g a = made_tree tables names k numbers s g a
 
   abbrev u_of : Site → Tree → ValueType
@@ -123,7 +123,7 @@ module _ (tables : Tables) (names : Naming) (k : Known) (numbers : Numbering) wh
   argument_at_most s (board.Handler ∷ ps) (SuperCall i m args) made h = λ m' n. least (tree_numbered (SuperCall i m args))
   argument_at_most s (board.Handler ∷ ps) (Make i x args) made h = λ m n. least (tree_numbered (Make i x args))
 
-  super_at_most : (s : Site) (args : Trees) (n : ValueType) (d : Option ℕ) → ((takes : List Kind) → AtMost (trees_numbered args) (made_given tables names k numbers s takes args))
+  super_at_most : (s : Site) (args : Trees) (n : ValueType) (d : Option ℕ) → ((takes : List StaticType) → AtMost (trees_numbered args) (made_given tables names k numbers s takes args))
       → AtMost (trees_numbered args) (elim d [ None ↦ pure amiss | Some j ↦ made_given tables names k numbers s (takes_at k.entries j) args >=> λ xs. pure (e.SuperCall n (routine_number numbers j) xs) ])
   super_at_most s args n None given = λ m n'. least (trees_numbered args)
   super_at_most s args n (Some j) given =
@@ -142,7 +142,7 @@ module _ (tables : Tables) (names : Naming) (k : Known) (numbers : Numbering) wh
   board_at_most s f args n None asked called = called
 
   mutual
-    tree_at_most : (s : Site) (g : Option Kind) (a : Tree) → AtMost (tree_numbered a) (mk s g a)
+    tree_at_most : (s : Site) (g : Option StaticType) (a : Tree) → AtMost (tree_numbered a) (mk s g a)
     tree_at_most s g (Num i n) = λ m n'. least 0
     tree_at_most s g (Text i n) = λ m n'. least 0
     tree_at_most s g (Truth i x) = λ m n. least 0
@@ -209,12 +209,12 @@ module _ (tables : Tables) (names : Naming) (k : Known) (numbers : Numbering) wh
     call_at_most s (Make j x xs) args n made given = λ m i. least (tree_numbered (Make j x xs) + trees_numbered args)
     call_at_most s (Handler j body) args n made given = λ m i. least (tree_numbered (Handler j body) + trees_numbered args)
 
-    given_at_most : (s : Site) (takes : List Kind) (args : Trees) → AtMost (trees_numbered args) (made_given tables names k numbers s takes args)
+    given_at_most : (s : Site) (takes : List StaticType) (args : Trees) → AtMost (trees_numbered args) (made_given tables names k numbers s takes args)
     given_at_most s takes none = λ m n. least 0
     given_at_most s takes (more a rest) =
         at_two (tree_numbered a) (trees_numbered rest) (mk s (next_given takes) a) (made_given tables names k numbers s (later_given takes) rest) (λ x xs. e.more x xs) (tree_at_most s (next_given takes) a) (given_at_most s (later_given takes) rest)
 
-    items_at_most : (s : Site) (u : Kind) (args : Trees) → AtMost (trees_numbered args) (made_items tables names k numbers s u args)
+    items_at_most : (s : Site) (u : StaticType) (args : Trees) → AtMost (trees_numbered args) (made_items tables names k numbers s u args)
     items_at_most s u none = λ m n. least 0
     items_at_most s u (more a rest) = at_two (tree_numbered a) (trees_numbered rest) (mk s (Some u) a) (made_items tables names k numbers s u rest) (λ x xs. e.more x xs) (tree_at_most s (Some u) a) (items_at_most s u rest)
 
@@ -232,7 +232,7 @@ module _ (tables : Tables) (names : Naming) (k : Known) (numbers : Numbering) wh
     optional_at_most s absent = λ m n. least 0
     optional_at_most s (present a) = at_one (tree_numbered a) (mk s None a) (λ x. Some x) (tree_at_most s None a)
 
-    value_at_most : (s : Site) (g : Option Kind) (a : OptionalTree) → AtMost (optional_numbered a) (made_value tables names k numbers s g a)
+    value_at_most : (s : Site) (g : Option StaticType) (a : OptionalTree) → AtMost (optional_numbered a) (made_value tables names k numbers s g a)
     value_at_most s g absent = λ m n. least 0
     value_at_most s g (present a) = at_one (tree_numbered a) (mk s g a) (λ x. Some x) (tree_at_most s g a)
 
@@ -303,13 +303,13 @@ module _ (tables : Tables) (names : Naming) (k : Known) (numbers : Numbering) wh
         at_two (statement_numbered a) (statements_numbered rest) (made_statement tables names k numbers s a) (made_statements tables names k numbers s1 rest) (λ x xs. e.also x xs) (statement_at_most s a) (statements_at_most s1 rest) m n
 
   -- functions, methods and fields
-  pub function_at_most : (library : Bool) (n : ℕ) (result : Option Kind) (r : Routine) → numbers_taken (function_made tables names k numbers library n result r) ≤ suc (routine_numbered r)
+  pub function_at_most : (library : Bool) (n : ℕ) (result : Option StaticType) (r : Routine) → numbers_taken (function_made tables names k numbers library n result r) ≤ suc (routine_numbered r)
   function_at_most library n result (Does i params gives all arrow) =
       let s : Site = site tables names k numbers this.Nowhere result library 0 params in
       let made : Made TypedStatements = made_statements tables names k numbers s all 0 (suc n) in
       function_taken names params made.locals made.routines (statements_numbered all) (statements_at_most s all 0 (suc n))
 
-  pub method_at_most : (c n : ℕ) (result : Option Kind) (r : Routine) → numbers_taken (method_made tables names k numbers c n result r) ≤ suc (suc (routine_numbered r))
+  pub method_at_most : (c n : ℕ) (result : Option StaticType) (r : Routine) → numbers_taken (method_made tables names k numbers c n result r) ≤ suc (suc (routine_numbered r))
   method_at_most c n result (Does i params gives all arrow) =
       let s : Site = site tables names k numbers (this.Object c) result false 1 params in
       let made : Made TypedStatements = made_statements tables names k numbers s all 0 (suc n) in

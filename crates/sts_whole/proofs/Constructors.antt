@@ -16,7 +16,7 @@ use Rattle.sts_syntax.specs.TypedTrees.{TypedStatement, TypedStatements, TypedRo
 use Rattle.sts_syntax.specs.TypedViews.{typed_statement, typed_statements, typed_routine, typed_routines}
 use Rattle.sts_syntax.specs.Views.{statement, statements, routine, parameters}
 use Rattle.sts_syntax.proofs.Laws.{routine_parts}
-use Rattle.sts_scope.specs.declared.kinds.Kind.{Kind}
+use Rattle.sts_scope.specs.declared.kinds.StaticType.{StaticType}
 use Rattle.sts_scope.specs.declared.known.This.TheVariants as this
 use Rattle.sts_scope.specs.Kinds as kind
 use Rattle.sts_scope.specs.Lookup.{base_of}
@@ -159,12 +159,12 @@ headed_is l st base inits args rest b0 c d ys first all is given built =
     (subst (λ (q : List TypedStatement). IsBuilt c d (w.behind_made l st q rest) all) is built)
 
 -- a type more
-pub value_next : (old new : List Ty) (a : Ty) (d : Kind) (ks : List Kind) (i : ℕ) (all : List ValueType) → i < length ks → value.value_type a ≡ kind.value_type (get_or ks i d) → new ≡ old ++ a ∷ []
+pub value_next : (old new : List Ty) (a : Ty) (d : StaticType) (ks : List StaticType) (i : ℕ) (all : List ValueType) → i < length ks → value.value_type a ≡ kind.value_type (get_or ks i d) → new ≡ old ++ a ∷ []
     → value.value_types old ++ kind.value_types (drop i ks) ≡ all → value.value_types new ++ kind.value_types (drop (i + 1) ks) ≡ all
 value_next old new a d ks i all less e h inv =
     let r = drop_next ks i less in
     let rest = kind.value_types (drop (i + 1) ks) in
-    let m : kind.value_types (drop i ks) ≡ kind.value_type (get_or ks i d) ∷ rest = ap (λ (q : List Kind). kind.value_types q) r.2 ∙ ap (λ (q : Kind). kind.value_type q ∷ rest) (sym (r.1 d)) in
+    let m : kind.value_types (drop i ks) ≡ kind.value_type (get_or ks i d) ∷ rest = ap (λ (q : List StaticType). kind.value_types q) r.2 ∙ ap (λ (q : StaticType). kind.value_type q ∷ rest) (sym (r.1 d)) in
     ap (λ (q : List Ty). value.value_types q ++ rest) h ∙ next_value old a (kind.value_type (get_or ks i d)) rest all (ap (λ q. value.value_types old ++ q) (sym m) ∙ inv) e
 
 pub list_before : (xs : List TypedStmt) → w.typed_list xs before e.done ≡ typed_statements xs

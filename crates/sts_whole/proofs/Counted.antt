@@ -6,11 +6,11 @@ use Rattle.std.specs.List.{list_all}
 use Rattle.sts_base.specs.declared.tables.Tables.{Tables}
 use Rattle.sts_base.specs.declared.refused.Code.TheVariants.{OverLimit}
 use Rattle.sts_scope.specs.declared.entries.Entry.{Entry}
-use Rattle.sts_scope.specs.declared.entries.Sort.{Sort}
+use Rattle.sts_scope.specs.declared.entries.DeclarationKind.{DeclarationKind}
 use Rattle.sts_scope.specs.declared.entries.ClassHead.{ClassHead}
 use Rattle.sts_scope.specs.declared.known.Known.{Known}
 use Rattle.sts_scope.specs.Entries.{Naming}
-use Rattle.sts_scope.specs.Faults.{Fault, unless}
+use Rattle.sts_scope.specs.Failures.{Failure, unless}
 use Rattle.sts_scope.specs.Lookup.{is_field}
 use Rattle.sts_scope.specs.Numbers.{Numbering, is_method, names_from, field_names, slot_names}
 use Rattle.sts_scope.specs.Rules.{kind_at}
@@ -21,7 +21,7 @@ use Rattle.typed_limits.specs.Limits.{class_fits, routine_fits, program_fits}
 use Rattle.sts_syntax.specs.Nodes.{text_bytes, text_weight}
 use Rattle.typed_numbers.specs.Building.{names_upto}
 use Rattle.typed_numbers.specs.Counts.{is_short, counts_fit}
-use Rattle.type_derive.specs.Limits.{limits_fault}
+use Rattle.type_derive.specs.Limits.{limits_failure}
 use Rattle.type_derive.specs.Programs as p
 
 both : (x y : Bool) → (x && y) ≡ true → (x ≡ true) × (y ≡ true)
@@ -35,7 +35,7 @@ one_more : (xs : List (List ℕ)) (x : List ℕ) → list_all is_short xs ≡ tr
 one_more [] x h e = and (is_short x) true e refl
 one_more (y ∷ ys) x h e = let r = both (is_short y) (list_all is_short ys) h in and (is_short y) (list_all is_short (ys ++ x ∷ [])) r.0 (one_more ys x r.1 e)
 
-short_upto : (which : Option Sort → Bool) (k : Known) (n : ℕ) → ((c : ℕ) → c < n → is_short (names_from which k (length k.classes) c) ≡ true) → list_all is_short (names_upto which k n) ≡ true
+short_upto : (which : Option DeclarationKind → Bool) (k : Known) (n : ℕ) → ((c : ℕ) → c < n → is_short (names_from which k (length k.classes) c) ≡ true) → list_all is_short (names_upto which k n) ≡ true
 short_upto which k zero h = refl
 short_upto which k (suc n) h =
     one_more (names_upto which k n) (names_from which k (length k.classes) n) (short_upto which k n (λ c l. h c (omega arith))) (h n (omega arith))
@@ -99,7 +99,7 @@ module _ (tables : Tables) (names : Naming) (k : Known) (numbers : Numbering) wh
 
   -- one that declares more passes a limit
   pub over_limit : (texts : List (List ℕ)) (P : TypedProgram) → P.classes ≡ p.class_entries tables names k numbers 0 k.classes → P.globals ≡ p.global_types tables names k numbers 0 k.entries →
-      (found : Fault) → unless (counts_fit k) OverLimit 0 ≡ Some found → limits_fault texts P ≡ Some found
+      (found : Failure) → unless (counts_fit k) OverLimit 0 ≡ Some found → limits_failure texts P ≡ Some found
   over_limit texts P hc hg found h = by (counts_fit k) (program_fits texts P) (counted texts P hc hg) h where
     by : (x y : Bool) → (y ≡ true → x ≡ true) → unless x OverLimit 0 ≡ Some found → unless y OverLimit 0 ≡ Some found
     by true y i e = cc

@@ -9,36 +9,36 @@ use Rattle.sts_syntax.specs.Annotations as annotations
 use Rattle.sts_syntax.specs.BoardTable.{BoardParameter, row_of}
 use Rattle.sts_syntax.specs.declared.board_calls.BoardCall.{BoardCall}
 use Rattle.sts_syntax.specs.Trees.{Parameter, Tree, Num, Text, Truth, Null, This, Name, Unary, Binary, Both, Either, Choice, Set, Bump, Member, Item, Call, SuperCall, Make, Items, Handler, Trees, none, more, OptionalTree, absent, present, Statement, Block, Let, IfOnly, IfElse, While, DoWhile, For, ForOf, Return, Break, Continue, Plain, Empty, Statements, done, also, OptionalStatement, omitted, written, Declaration, Declare, Declarations, ended, next, Routine, Does}
-use Rattle.sts_scope.specs.declared.kinds.Kind.{Kind}
+use Rattle.sts_scope.specs.declared.kinds.StaticType.{StaticType}
 use Rattle.sts_scope.specs.declared.known.Known.{Known}
 use Rattle.sts_scope.specs.declared.known.Found.{Found}
 use Rattle.sts_scope.specs.declared.known.Found.TheVariants as found
 use Rattle.sts_scope.specs.declared.known.Part.{Part}
-use Rattle.sts_scope.specs.Faults.{Fault, ◌then◌, fault_at, unless, own}
+use Rattle.sts_scope.specs.Failures.{Failure, ◌then◌, failure_at, unless, own}
 use Rattle.sts_scope.specs.Entries.{Naming, kind_of}
 use Rattle.sts_scope.specs.Globals.{is_dollar}
-use Rattle.sts_scope.specs.Headings.{type_name_fault, written_fault}
-use Rattle.sts_scope.specs.Places.{Place, inner, is_twice}
+use Rattle.sts_scope.specs.Headings.{type_name_failure, written_failure}
+use Rattle.sts_scope.specs.Places.{NameScope, inner, is_twice}
 use Rattle.sts_scope.specs.Rules.{this_kind, name_kind, part_of, part_kind, call_kind, kind_at, is_nothing, is_boolean, serves}
 use Rattle.sts_scope.specs.Codes.{why_name, why_this, why_part, why_call, why_make, why_super}
 use Rattle.type_derive.specs.declared.roles.Role.{Role}
 use Rattle.type_derive.specs.declared.roles.Role.TheVariants.{Free, Given, Called, Served}
 use Rattle.type_derive.specs.Typing.{◌>>=◌, Callee, finds, constant_of, board_callee, callee_of, part_callee, super_method, made, type_of, types_of, are_given, role_of, behind}
 use Rattle.type_derive.specs.Returns.{bound, after, after_first, looped}
-use Rattle.type_derive.specs.Nodes.{is_called, is_served, serves_itself, shape_role, kind_role, fits, parameter_types_fault, handler_place, own_name, own_part, own_member, own_called, own_super, own_make, lacks_handler, own_board, own_local, own_bound, waives, is_list, fault, faults, handler_fault, initial_fault, optional_fault, test_fault, declaration_fault, declarations_fault, statement_fault, first_fault, statements_fault}
+use Rattle.type_derive.specs.Nodes.{is_called, is_served, serves_itself, shape_role, kind_role, fits, parameter_types_failure, handler_place, own_name, own_part, own_member, own_called, own_super, own_make, lacks_handler, own_board, own_local, own_bound, waives, is_list, failure, failures, handler_failure, initial_failure, optional_failure, test_failure, declaration_failure, declarations_failure, statement_failure, first_failure, statements_failure}
 use Rattle.sts_whole.proofs.NodePlaces.{AnnotationAt, WrittenAt, ParametersAt, TreeAt, TreesAt, OptionAt, RoutineAt, DeclarationAt, DeclarationsAt, StatementAt, FirstAt, StatementsAt}
 
 -- A failure, if there is one, is at such a place.
-pub record FailsAt (P : ℕ → Type 0) (o : Option Fault) : Type 0 where
-  pub place : (f : Fault) → o ≡ Some f → P f.at
+pub record FailsAt (P : ℕ → Type 0) (o : Option Failure) : Type 0 where
+  pub place : (f : Failure) → o ≡ Some f → P f.at
 
 pub none_in : {P : ℕ → Type 0} → FailsAt P None
 none_in = record { place = λ f e. cc }
 
-pub at_in : {P : ℕ → Type 0} (code : Code) (at : ℕ) → P at → FailsAt P (fault_at code at)
+pub at_in : {P : ℕ → Type 0} (code : Code) (at : ℕ) → P at → FailsAt P (failure_at code at)
 at_in {P} code at h = record { place = λ f e. (let same : at ≡ f.at = cc in subst P same h) }
 
-pub then_in : {P : ℕ → Type 0} (a b : Option Fault) → FailsAt P a → FailsAt P b → FailsAt P (a then b)
+pub then_in : {P : ℕ → Type 0} (a b : Option Failure) → FailsAt P a → FailsAt P b → FailsAt P (a then b)
 then_in (Some x) b h g = h
 then_in None b h g = g
 
@@ -50,12 +50,12 @@ pub own_in : {P : ℕ → Type 0} {A : Type 0} (t : Option A) (code : Code) (at 
 own_in (Some t) code at h = none_in
 own_in None code at h = at_in code at h
 
-pub if_in : {P : ℕ → Type 0} (which : Bool) (a b : Option Fault) → FailsAt P a → FailsAt P b → FailsAt P (if which then a else b)
+pub if_in : {P : ℕ → Type 0} (which : Bool) (a b : Option Failure) → FailsAt P a → FailsAt P b → FailsAt P (if which then a else b)
 if_in true a b h g = h
 if_in false a b h g = g
 
 -- a type that is written
-type_name_in : {P : ℕ → Type 0} (names : Naming) (a : Annotation) → AnnotationAt P a → FailsAt P (type_name_fault names a)
+type_name_in : {P : ℕ → Type 0} (names : Naming) (a : Annotation) → AnnotationAt P a → FailsAt P (type_name_failure names a)
 type_name_in names (Named at x) h = own_in (names x) UnknownName at h
 type_name_in names (ListOf a) h = type_name_in names a h
 type_name_in names Number h = none_in
@@ -63,27 +63,27 @@ type_name_in names Boolean h = none_in
 type_name_in names annotations.Text h = none_in
 type_name_in names Nothing h = none_in
 
-pub written_in : {P : ℕ → Type 0} (names : Naming) (at : ℕ) (shape : Option Annotation) → P at → WrittenAt P shape → FailsAt P (written_fault names at shape)
+pub written_in : {P : ℕ → Type 0} (names : Naming) (at : ℕ) (shape : Option Annotation) → P at → WrittenAt P shape → FailsAt P (written_failure names at shape)
 written_in names at None here h = none_in
 written_in names at (Some a) here h =
-    then_in (type_name_fault names a) (own (kind_of names a) UnknownName at) (type_name_in names a h) (own_in (kind_of names a) UnknownName at here)
+    then_in (type_name_failure names a) (own (kind_of names a) UnknownName at) (type_name_in names a h) (own_in (kind_of names a) UnknownName at here)
 
-parameter_types_in : {P : ℕ → Type 0} (names : Naming) (params : List Parameter) → ParametersAt P params → FailsAt P (parameter_types_fault names params)
+parameter_types_in : {P : ℕ → Type 0} (names : Naming) (params : List Parameter) → ParametersAt P params → FailsAt P (parameter_types_failure names params)
 parameter_types_in names [] h = none_in
-parameter_types_in names (q ∷ rest) h = then_in (written_fault names q.at q.shape) (parameter_types_fault names rest) (written_in names q.at q.shape h.0 h.1) (parameter_types_in names rest h.2)
+parameter_types_in names (q ∷ rest) h = then_in (written_failure names q.at q.shape) (parameter_types_failure names rest) (written_in names q.at q.shape h.0 h.1) (parameter_types_in names rest h.2)
 
 module _ (P : ℕ → Type 0) (tables : Tables) (names : Naming) (k : Known) where
-  abbrev In : Option Fault → Type 0
+  abbrev In : Option Failure → Type 0
   In o = FailsAt P o
 
-  abbrev bad : Place → Role → Tree → Option Fault
-  bad p r e = fault tables names k p r e
+  abbrev bad : NameScope → Role → Tree → Option Failure
+  bad p r e = failure tables names k p r e
 
-  abbrev ty : Place → Role → Tree → Option Kind
+  abbrev ty : NameScope → Role → Tree → Option StaticType
   ty p r e = type_of tables k p r e
 
   -- a node's own failure
-  name_in : (r : Role) (p : Place) (f : Found) (at : ℕ) → P at → In (own_name tables names k r p f at)
+  name_in : (r : Role) (p : NameScope) (f : Found) (at : ℕ) → P at → In (own_name tables names k r p f at)
   name_in Free p f at h = own_in (name_kind k p f) (why_name f) at h
   name_in Given p f at h = own_in (name_kind k p f) (why_name f) at h
   name_in Called p (found.Function d) at h = none_in
@@ -104,185 +104,185 @@ module _ (P : ℕ → Type 0) (tables : Tables) (names : Naming) (k : Known) whe
   part_in r part at h =
       if_in (is_called r && is_some (part_callee tables k part)) None (own (part_kind k part) (why_part part) at) none_in (own_in (part_kind k part) (why_part part) at h)
 
-  own_member_in : (r : Role) (t : Option Kind) (m at : ℕ) → P at → In (own_member tables names k r t m at)
+  own_member_in : (r : Role) (t : Option StaticType) (m at : ℕ) → P at → In (own_member tables names k r t m at)
   own_member_in r None m at h = none_in
   own_member_in r (Some t) m at h = part_in r (part_of tables.names k t m) at h
 
-  called_in : (d : Option Callee) (ts : Option (List Kind)) (at : ℕ) → P at → In (own_called tables names k d ts at)
+  called_in : (d : Option Callee) (ts : Option (List StaticType)) (at : ℕ) → P at → In (own_called tables names k d ts at)
   called_in None ts at h = at_in Mismatch at h
   called_in (Some d) ts at h = own_in (ts >>= λ us. call_kind k.classes d.takes d.gives us) (why_call d.gives) at h
 
-  super_in : (p : Place) (m : ℕ) (d : Option ℕ) (u : Option Kind) (at : ℕ) → P at → In (own_super tables names k p m d u at)
+  super_in : (p : NameScope) (m : ℕ) (d : Option ℕ) (u : Option StaticType) (at : ℕ) → P at → In (own_super tables names k p m d u at)
   super_in p m None u at h = at_in (why_super k p.this m) at h
   super_in p m (Some d) u at h = own_in u (why_call (kind_at k d)) at h
 
-  make_in : (f : Found) (d : Option Callee) (u : Option Kind) (at : ℕ) → P at → In (own_make tables names k f d u at)
+  make_in : (f : Found) (d : Option Callee) (u : Option StaticType) (at : ℕ) → P at → In (own_make tables names k f d u at)
   make_in f None u at h = at_in (why_make f) at h
   make_in f (Some d) u at h = own_in u Mismatch at h
 
-  board_in : (p : Place) (takes : List BoardParameter) (args : Trees) (at : ℕ) → P at → In (own_board tables names k p takes args at)
+  board_in : (p : NameScope) (takes : List BoardParameter) (args : Trees) (at : ℕ) → P at → In (own_board tables names k p takes args at)
   board_in p takes args at h =
       then_in (unless (not (lacks_handler tables names k p takes args)) BadHandler at) (unless (are_given tables k p takes args) Mismatch at)
       (unless_in (not (lacks_handler tables names k p takes args)) BadHandler at h) (unless_in (are_given tables k p takes args) Mismatch at h)
 
-  local_in : (p : Place) (x at : ℕ) → P at → In (own_local tables names k p x at)
+  local_in : (p : NameScope) (x at : ℕ) → P at → In (own_local tables names k p x at)
   local_in p x at h =
       then_in (unless (not (is_dollar tables.names x)) UnknownName at) (unless (not (is_twice p x)) TwiceNamed at)
       (unless_in (not (is_dollar tables.names x)) UnknownName at h) (unless_in (not (is_twice p x)) TwiceNamed at h)
 
-  pub bound_in : (p : Place) (shape : Option Annotation) (first : OptionalTree) (at : ℕ) → P at → In (own_bound tables names k p shape first at)
+  pub bound_in : (p : NameScope) (shape : Option Annotation) (first : OptionalTree) (at : ℕ) → P at → In (own_bound tables names k p shape first at)
   bound_in p None first at h = own_in (bound tables names k p None first) NeedsType at h
   bound_in p (Some a) absent at h = none_in
   bound_in p (Some a) (present e) at h = unless_in (fits k (ty p Given e) (kind_of names a)) Mismatch at h
 
-  test_in : (p : Place) (test : OptionalTree) (at : ℕ) → P at → In (test_fault tables names k p test at)
+  test_in : (p : NameScope) (test : OptionalTree) (at : ℕ) → P at → In (test_failure tables names k p test at)
   test_in p absent at h = none_in
   test_in p (present e) at h = unless_in (is_boolean (ty p Free e)) Mismatch at h
 
   -- a member that is read, and a call
-  abbrev member_fault : Place → Role → ℕ → Tree → ℕ → Option ℤ → Option BoardCall → Option Fault
-  member_fault p r at a m z b = elim z [
+  abbrev member_failure : NameScope → Role → ℕ → Tree → ℕ → Option ℤ → Option BoardCall → Option Failure
+  member_failure p r at a m z b = elim z [
     | Some y ↦ None
     | None ↦ elim b [ Some call ↦ unless (is_called r) BadHandler at | None ↦ bad p Free a then own_member tables names k r (ty p Free a) m at ]
   ]
 
-  member_in : (p : Place) (r : Role) (at : ℕ) (a : Tree) (m : ℕ) (z : Option ℤ) (b : Option BoardCall) → P at → In (bad p Free a) → In (member_fault p r at a m z b)
+  member_in : (p : NameScope) (r : Role) (at : ℕ) (a : Tree) (m : ℕ) (z : Option ℤ) (b : Option BoardCall) → P at → In (bad p Free a) → In (member_failure p r at a m z b)
   member_in p r at a m (Some z) b h g = none_in
   member_in p r at a m None (Some call) h g = unless_in (is_called r) BadHandler at h
   member_in p r at a m None None h g = then_in (bad p Free a) (own_member tables names k r (ty p Free a) m at) g (own_member_in r (ty p Free a) m at h)
 
-  abbrev call_fault : Place → ℕ → Tree → Trees → Option BoardCall → Option Fault
-  call_fault p at f args b = elim b [
-    | Some call ↦ faults tables names k p (row_of call).takes args then own_board tables names k p (row_of call).takes args at
-    | None ↦ bad p Called f then faults tables names k p [] args then own_called tables names k (callee_of tables k p f) (types_of tables k p args) at
+  abbrev call_failure : NameScope → ℕ → Tree → Trees → Option BoardCall → Option Failure
+  call_failure p at f args b = elim b [
+    | Some call ↦ failures tables names k p (row_of call).takes args then own_board tables names k p (row_of call).takes args at
+    | None ↦ bad p Called f then failures tables names k p [] args then own_called tables names k (callee_of tables k p f) (types_of tables k p args) at
   ]
 
-  call_in : (p : Place) (at : ℕ) (f : Tree) (args : Trees) (b : Option BoardCall) → P at → In (bad p Called f) → ((takes : List BoardParameter) → In (faults tables names k p takes args))
-      → In (call_fault p at f args b)
+  call_in : (p : NameScope) (at : ℕ) (f : Tree) (args : Trees) (b : Option BoardCall) → P at → In (bad p Called f) → ((takes : List BoardParameter) → In (failures tables names k p takes args))
+      → In (call_failure p at f args b)
   call_in p at f args (Some call) h g each =
-      then_in (faults tables names k p (row_of call).takes args) (own_board tables names k p (row_of call).takes args at) (each (row_of call).takes) (board_in p (row_of call).takes args at h)
+      then_in (failures tables names k p (row_of call).takes args) (own_board tables names k p (row_of call).takes args at) (each (row_of call).takes) (board_in p (row_of call).takes args at h)
   call_in p at f args None h g each =
-      then_in (bad p Called f) (faults tables names k p [] args then own_called tables names k (callee_of tables k p f) (types_of tables k p args) at) g
-      (then_in (faults tables names k p [] args) (own_called tables names k (callee_of tables k p f) (types_of tables k p args) at) (each [])
+      then_in (bad p Called f) (failures tables names k p [] args then own_called tables names k (callee_of tables k p f) (types_of tables k p args) at) g
+      (then_in (failures tables names k p [] args) (own_called tables names k (callee_of tables k p f) (types_of tables k p args) at) (each [])
       (called_in (callee_of tables k p f) (types_of tables k p args) at h))
 
   -- parts, and then the node itself
-  one_in : (p : Place) (r : Role) (a e : Tree) (at : ℕ) → In (bad p Free a) → P at → In (bad p Free a then own (ty p r e) Mismatch at)
+  one_in : (p : NameScope) (r : Role) (a e : Tree) (at : ℕ) → In (bad p Free a) → P at → In (bad p Free a then own (ty p r e) Mismatch at)
   one_in p r a e at g h = then_in (bad p Free a) (own (ty p r e) Mismatch at) g (own_in (ty p r e) Mismatch at h)
 
-  two_in : (x y : Option Fault) (p : Place) (r : Role) (e : Tree) (at : ℕ) → In x → In y → P at → In (x then y then own (ty p r e) Mismatch at)
+  two_in : (x y : Option Failure) (p : NameScope) (r : Role) (e : Tree) (at : ℕ) → In x → In y → P at → In (x then y then own (ty p r e) Mismatch at)
   two_in x y p r e at f g h = then_in x (y then own (ty p r e) Mismatch at) f (then_in y (own (ty p r e) Mismatch at) g (own_in (ty p r e) Mismatch at h))
 
   mutual
-    pub fault_in : (p : Place) (r : Role) (e : Tree) → TreeAt P e → In (fault tables names k p r e)
-    fault_in p r (Num at n) h = none_in
-    fault_in p r (Text at n) h = none_in
-    fault_in p r (Truth at b) h = none_in
-    fault_in p r (Null at) h = none_in
-    fault_in p r (This at) h = own_in (this_kind p.this) (why_this p.this) at h
-    fault_in p r (Name at x) h = name_in r p (finds tables k p x) at h
-    fault_in p r (Unary at op a) h = one_in p r a (Unary at op a) at (fault_in p Free a h.1) h.0
-    fault_in p r (Binary at op a b) h = two_in (bad p Free a) (bad p Free b) p r (Binary at op a b) at (fault_in p Free a h.1) (fault_in p Free b h.2) h.0
-    fault_in p r (Both at a b) h = two_in (bad p Free a) (bad p Free b) p r (Both at a b) at (fault_in p Free a h.1) (fault_in p Free b h.2) h.0
-    fault_in p r (Either at a b) h = two_in (bad p Free a) (bad p Free b) p r (Either at a b) at (fault_in p Free a h.1) (fault_in p Free b h.2) h.0
-    fault_in p r (Choice at c a b) h =
-        then_in (bad p Free c) (bad p Free a then bad p Free b then own (ty p r (Choice at c a b)) Mismatch at) (fault_in p Free c h.1)
-        (two_in (bad p Free a) (bad p Free b) p r (Choice at c a b) at (fault_in p Free a h.2) (fault_in p Free b h.3) h.0)
-    fault_in p r (Set at op x e) h = two_in (bad p Free x) (bad p Given e) p r (Set at op x e) at (fault_in p Free x h.1) (fault_in p Given e h.2) h.0
-    fault_in p r (Bump at x by late) h = one_in p r x (Bump at x by late) at (fault_in p Free x h.1) h.0
-    fault_in p r (Member at a m) h = member_in p r at a m (constant_of tables k p a m) (board_callee tables k p (Member at a m)) h.0 (fault_in p Free a h.1)
-    fault_in p r (Item at a i) h = two_in (bad p Free a) (bad p Free i) p r (Item at a i) at (fault_in p Free a h.1) (fault_in p Free i h.2) h.0
-    fault_in p r (Items at none) h = own_in (ty p r (Items at none)) Mismatch at h.0
-    fault_in p r (Items at (more e rest)) h =
-        two_in (bad p Free e) (faults tables names k p [] rest) p r (Items at (more e rest)) at (fault_in p Free e h.1.0) (faults_in p [] rest h.1.1) h.0
-    fault_in p r (Call at f args) h = call_in p at f args (board_callee tables k p f) h.0 (fault_in p Called f h.1) (λ takes. faults_in p takes args h.2)
-    fault_in p r (SuperCall at None args) h = then_in (faults tables names k p [] args) (fault_at Mismatch at) (faults_in p [] args h.1) (at_in Mismatch at h.0)
-    fault_in p r (SuperCall at (Some m) args) h =
-        then_in (faults tables names k p [] args) (own_super tables names k p m (super_method tables k p.this m) (ty p r (SuperCall at (Some m) args)) at) (faults_in p [] args h.1)
+    pub failure_in : (p : NameScope) (r : Role) (e : Tree) → TreeAt P e → In (failure tables names k p r e)
+    failure_in p r (Num at n) h = none_in
+    failure_in p r (Text at n) h = none_in
+    failure_in p r (Truth at b) h = none_in
+    failure_in p r (Null at) h = none_in
+    failure_in p r (This at) h = own_in (this_kind p.this) (why_this p.this) at h
+    failure_in p r (Name at x) h = name_in r p (finds tables k p x) at h
+    failure_in p r (Unary at op a) h = one_in p r a (Unary at op a) at (failure_in p Free a h.1) h.0
+    failure_in p r (Binary at op a b) h = two_in (bad p Free a) (bad p Free b) p r (Binary at op a b) at (failure_in p Free a h.1) (failure_in p Free b h.2) h.0
+    failure_in p r (Both at a b) h = two_in (bad p Free a) (bad p Free b) p r (Both at a b) at (failure_in p Free a h.1) (failure_in p Free b h.2) h.0
+    failure_in p r (Either at a b) h = two_in (bad p Free a) (bad p Free b) p r (Either at a b) at (failure_in p Free a h.1) (failure_in p Free b h.2) h.0
+    failure_in p r (Choice at c a b) h =
+        then_in (bad p Free c) (bad p Free a then bad p Free b then own (ty p r (Choice at c a b)) Mismatch at) (failure_in p Free c h.1)
+        (two_in (bad p Free a) (bad p Free b) p r (Choice at c a b) at (failure_in p Free a h.2) (failure_in p Free b h.3) h.0)
+    failure_in p r (Set at op x e) h = two_in (bad p Free x) (bad p Given e) p r (Set at op x e) at (failure_in p Free x h.1) (failure_in p Given e h.2) h.0
+    failure_in p r (Bump at x by late) h = one_in p r x (Bump at x by late) at (failure_in p Free x h.1) h.0
+    failure_in p r (Member at a m) h = member_in p r at a m (constant_of tables k p a m) (board_callee tables k p (Member at a m)) h.0 (failure_in p Free a h.1)
+    failure_in p r (Item at a i) h = two_in (bad p Free a) (bad p Free i) p r (Item at a i) at (failure_in p Free a h.1) (failure_in p Free i h.2) h.0
+    failure_in p r (Items at none) h = own_in (ty p r (Items at none)) Mismatch at h.0
+    failure_in p r (Items at (more e rest)) h =
+        two_in (bad p Free e) (failures tables names k p [] rest) p r (Items at (more e rest)) at (failure_in p Free e h.1.0) (failures_in p [] rest h.1.1) h.0
+    failure_in p r (Call at f args) h = call_in p at f args (board_callee tables k p f) h.0 (failure_in p Called f h.1) (λ takes. failures_in p takes args h.2)
+    failure_in p r (SuperCall at None args) h = then_in (failures tables names k p [] args) (failure_at Mismatch at) (failures_in p [] args h.1) (at_in Mismatch at h.0)
+    failure_in p r (SuperCall at (Some m) args) h =
+        then_in (failures tables names k p [] args) (own_super tables names k p m (super_method tables k p.this m) (ty p r (SuperCall at (Some m) args)) at) (failures_in p [] args h.1)
         (super_in p m (super_method tables k p.this m) (ty p r (SuperCall at (Some m) args)) at h.0)
-    fault_in p r (Make at x args) h =
-        then_in (faults tables names k p [] args) (own_make tables names k (finds tables k p x) (made tables k (finds tables k p x)) (ty p r (Make at x args)) at) (faults_in p [] args h.1)
+    failure_in p r (Make at x args) h =
+        then_in (failures tables names k p [] args) (own_make tables names k (finds tables k p x) (made tables k (finds tables k p x)) (ty p r (Make at x args)) at) (failures_in p [] args h.1)
         (make_in (finds tables k p x) (made tables k (finds tables k p x)) (ty p r (Make at x args)) at h.0)
-    fault_in p r (Handler at body) h =
+    failure_in p r (Handler at body) h =
         let serves_so : Bool = is_served r && serves_itself tables names k p body in
-        then_in (handler_fault tables names k p body) (unless serves_so BadHandler at) (handler_in p body h.1) (unless_in serves_so BadHandler at h.0)
+        then_in (handler_failure tables names k p body) (unless serves_so BadHandler at) (handler_in p body h.1) (unless_in serves_so BadHandler at h.0)
 
-    pub faults_in : (p : Place) (takes : List BoardParameter) (args : Trees) → TreesAt P args → In (faults tables names k p takes args)
-    faults_in p takes none h = none_in
-    faults_in p takes (more e rest) h =
-        then_in (bad p (role_of takes) e) (faults tables names k p (behind takes) rest) (fault_in p (role_of takes) e h.0) (faults_in p (behind takes) rest h.1)
+    pub failures_in : (p : NameScope) (takes : List BoardParameter) (args : Trees) → TreesAt P args → In (failures tables names k p takes args)
+    failures_in p takes none h = none_in
+    failures_in p takes (more e rest) h =
+        then_in (bad p (role_of takes) e) (failures tables names k p (behind takes) rest) (failure_in p (role_of takes) e h.0) (failures_in p (behind takes) rest h.1)
 
-    handler_in : (p : Place) (body : Routine) → RoutineAt P body → In (handler_fault tables names k p body)
+    handler_in : (p : NameScope) (body : Routine) → RoutineAt P body → In (handler_failure tables names k p body)
     handler_in p (Does at params gives all arrow) h =
-        then_in (parameter_types_fault names params) (written_fault names at gives then statements_fault tables names k (handler_place tables names k p params gives all) all)
+        then_in (parameter_types_failure names params) (written_failure names at gives then statements_failure tables names k (handler_place tables names k p params gives all) all)
         (parameter_types_in names params h.1)
-        (then_in (written_fault names at gives) (statements_fault tables names k (handler_place tables names k p params gives all) all) (written_in names at gives h.0 h.2)
+        (then_in (written_failure names at gives) (statements_failure tables names k (handler_place tables names k p params gives all) all) (written_in names at gives h.0 h.2)
         (statements_in (handler_place tables names k p params gives all) all h.3))
 
-    pub initial_in : (p : Place) (shape : Option Annotation) (first : OptionalTree) → OptionAt P first → In (initial_fault tables names k p shape first)
+    pub initial_in : (p : NameScope) (shape : Option Annotation) (first : OptionalTree) → OptionAt P first → In (initial_failure tables names k p shape first)
     initial_in p shape absent h = none_in
-    initial_in p shape (present e) h = if_in (waives tables names k shape e) None (bad p (shape_role shape) e) none_in (fault_in p (shape_role shape) e h)
+    initial_in p shape (present e) h = if_in (waives tables names k shape e) None (bad p (shape_role shape) e) none_in (failure_in p (shape_role shape) e h)
 
-    optional_in : (p : Place) (e : OptionalTree) → OptionAt P e → In (optional_fault tables names k p e)
+    optional_in : (p : NameScope) (e : OptionalTree) → OptionAt P e → In (optional_failure tables names k p e)
     optional_in p absent h = none_in
-    optional_in p (present e) h = fault_in p Free e h
+    optional_in p (present e) h = failure_in p Free e h
 
-    declaration_in : (p : Place) (a : Declaration) → DeclarationAt P a → In (declaration_fault tables names k p a)
+    declaration_in : (p : NameScope) (a : Declaration) → DeclarationAt P a → In (declaration_failure tables names k p a)
     declaration_in p (Declare at x shape first) h =
-        then_in (written_fault names at shape) (initial_fault tables names k p shape first then own_local tables names k p x at then own_bound tables names k p shape first at) (written_in names at shape h.0 h.1)
-        (then_in (initial_fault tables names k p shape first) (own_local tables names k p x at then own_bound tables names k p shape first at) (initial_in p shape first h.2)
+        then_in (written_failure names at shape) (initial_failure tables names k p shape first then own_local tables names k p x at then own_bound tables names k p shape first at) (written_in names at shape h.0 h.1)
+        (then_in (initial_failure tables names k p shape first) (own_local tables names k p x at then own_bound tables names k p shape first at) (initial_in p shape first h.2)
         (then_in (own_local tables names k p x at) (own_bound tables names k p shape first at) (local_in p x at h.0) (bound_in p shape first at h.0)))
 
-    declarations_in : (p : Place) (fixed : Bool) (each : Declarations) → DeclarationsAt P each → In (declarations_fault tables names k p fixed each)
+    declarations_in : (p : NameScope) (fixed : Bool) (each : Declarations) → DeclarationsAt P each → In (declarations_failure tables names k p fixed each)
     declarations_in p fixed ended h = none_in
     declarations_in p fixed (next a rest) h =
-        then_in (declaration_fault tables names k p a) (declarations_fault tables names k (after tables names k p (Let 0 fixed (next a ended))) fixed rest) (declaration_in p a h.0)
+        then_in (declaration_failure tables names k p a) (declarations_failure tables names k (after tables names k p (Let 0 fixed (next a ended))) fixed rest) (declaration_in p a h.0)
         (declarations_in (after tables names k p (Let 0 fixed (next a ended))) fixed rest h.1)
 
-    pub statement_in : (p : Place) (a : Statement) → StatementAt P a → In (statement_fault tables names k p a)
+    pub statement_in : (p : NameScope) (a : Statement) → StatementAt P a → In (statement_failure tables names k p a)
     statement_in p (Block at all) h = statements_in (inner p) all h.1
     statement_in p (Let at fixed each) h = declarations_in p fixed each h.1
     statement_in p (IfOnly at test a) h =
-        then_in (bad p Free test) (statement_fault tables names k (inner p) a then unless (is_boolean (ty p Free test)) Mismatch at) (fault_in p Free test h.1)
-        (then_in (statement_fault tables names k (inner p) a) (unless (is_boolean (ty p Free test)) Mismatch at) (statement_in (inner p) a h.2) (unless_in (is_boolean (ty p Free test)) Mismatch at h.0))
+        then_in (bad p Free test) (statement_failure tables names k (inner p) a then unless (is_boolean (ty p Free test)) Mismatch at) (failure_in p Free test h.1)
+        (then_in (statement_failure tables names k (inner p) a) (unless (is_boolean (ty p Free test)) Mismatch at) (statement_in (inner p) a h.2) (unless_in (is_boolean (ty p Free test)) Mismatch at h.0))
     statement_in p (IfElse at test a b) h =
-        then_in (bad p Free test) (statement_fault tables names k (inner p) a then statement_fault tables names k (inner p) b then unless (is_boolean (ty p Free test)) Mismatch at) (fault_in p Free test h.1)
-        (then_in (statement_fault tables names k (inner p) a) (statement_fault tables names k (inner p) b then unless (is_boolean (ty p Free test)) Mismatch at) (statement_in (inner p) a h.2)
-        (then_in (statement_fault tables names k (inner p) b) (unless (is_boolean (ty p Free test)) Mismatch at) (statement_in (inner p) b h.3) (unless_in (is_boolean (ty p Free test)) Mismatch at h.0)))
+        then_in (bad p Free test) (statement_failure tables names k (inner p) a then statement_failure tables names k (inner p) b then unless (is_boolean (ty p Free test)) Mismatch at) (failure_in p Free test h.1)
+        (then_in (statement_failure tables names k (inner p) a) (statement_failure tables names k (inner p) b then unless (is_boolean (ty p Free test)) Mismatch at) (statement_in (inner p) a h.2)
+        (then_in (statement_failure tables names k (inner p) b) (unless (is_boolean (ty p Free test)) Mismatch at) (statement_in (inner p) b h.3) (unless_in (is_boolean (ty p Free test)) Mismatch at h.0)))
     statement_in p (While at test a) h =
-        then_in (bad p Free test) (statement_fault tables names k (inner p) a then unless (is_boolean (ty p Free test)) Mismatch at) (fault_in p Free test h.1)
-        (then_in (statement_fault tables names k (inner p) a) (unless (is_boolean (ty p Free test)) Mismatch at) (statement_in (inner p) a h.2) (unless_in (is_boolean (ty p Free test)) Mismatch at h.0))
+        then_in (bad p Free test) (statement_failure tables names k (inner p) a then unless (is_boolean (ty p Free test)) Mismatch at) (failure_in p Free test h.1)
+        (then_in (statement_failure tables names k (inner p) a) (unless (is_boolean (ty p Free test)) Mismatch at) (statement_in (inner p) a h.2) (unless_in (is_boolean (ty p Free test)) Mismatch at h.0))
     statement_in p (DoWhile at a test) h =
-        then_in (statement_fault tables names k (inner p) a) (bad p Free test then unless (is_boolean (ty p Free test)) Mismatch at) (statement_in (inner p) a h.1)
-        (then_in (bad p Free test) (unless (is_boolean (ty p Free test)) Mismatch at) (fault_in p Free test h.2) (unless_in (is_boolean (ty p Free test)) Mismatch at h.0))
+        then_in (statement_failure tables names k (inner p) a) (bad p Free test then unless (is_boolean (ty p Free test)) Mismatch at) (statement_in (inner p) a h.1)
+        (then_in (bad p Free test) (unless (is_boolean (ty p Free test)) Mismatch at) (failure_in p Free test h.2) (unless_in (is_boolean (ty p Free test)) Mismatch at h.0))
     statement_in p (For at first test step a) h =
         let q = after_first tables names k (inner p) first in
-        then_in (first_fault tables names k (inner p) first)
-        (optional_fault tables names k q test then optional_fault tables names k q step then statement_fault tables names k (inner q) a then test_fault tables names k q test at)
+        then_in (first_failure tables names k (inner p) first)
+        (optional_failure tables names k q test then optional_failure tables names k q step then statement_failure tables names k (inner q) a then test_failure tables names k q test at)
         (first_in (inner p) first h.1)
-        (then_in (optional_fault tables names k q test) (optional_fault tables names k q step then statement_fault tables names k (inner q) a then test_fault tables names k q test at) (optional_in q test h.2)
-        (then_in (optional_fault tables names k q step) (statement_fault tables names k (inner q) a then test_fault tables names k q test at) (optional_in q step h.3)
-        (then_in (statement_fault tables names k (inner q) a) (test_fault tables names k q test at) (statement_in (inner q) a h.4) (test_in q test at h.0))))
+        (then_in (optional_failure tables names k q test) (optional_failure tables names k q step then statement_failure tables names k (inner q) a then test_failure tables names k q test at) (optional_in q test h.2)
+        (then_in (optional_failure tables names k q step) (statement_failure tables names k (inner q) a then test_failure tables names k q test at) (optional_in q step h.3)
+        (then_in (statement_failure tables names k (inner q) a) (test_failure tables names k q test at) (statement_in (inner q) a h.4) (test_in q test at h.0))))
     statement_in p (ForOf at fixed x list a) h =
         let q = inner (looped tables names k p fixed x list) in
-        then_in (bad p Free list) (statement_fault tables names k q a then unless (not (is_dollar tables.names x)) UnknownName at then unless (is_list tables names k (ty p Free list)) Mismatch at) (fault_in p Free list h.1)
-        (then_in (statement_fault tables names k q a) (unless (not (is_dollar tables.names x)) UnknownName at then unless (is_list tables names k (ty p Free list)) Mismatch at) (statement_in q a h.2)
+        then_in (bad p Free list) (statement_failure tables names k q a then unless (not (is_dollar tables.names x)) UnknownName at then unless (is_list tables names k (ty p Free list)) Mismatch at) (failure_in p Free list h.1)
+        (then_in (statement_failure tables names k q a) (unless (not (is_dollar tables.names x)) UnknownName at then unless (is_list tables names k (ty p Free list)) Mismatch at) (statement_in q a h.2)
         (then_in (unless (not (is_dollar tables.names x)) UnknownName at) (unless (is_list tables names k (ty p Free list)) Mismatch at) (unless_in (not (is_dollar tables.names x)) UnknownName at h.0)
         (unless_in (is_list tables names k (ty p Free list)) Mismatch at h.0)))
     statement_in p (Return at absent) h = unless_in (is_nothing p.gives) Mismatch at h.0
     statement_in p (Return at (present e)) h =
-        then_in (bad p (kind_role p.gives) e) (unless (fits k (ty p (kind_role p.gives) e) p.gives) Mismatch at) (fault_in p (kind_role p.gives) e h.1)
+        then_in (bad p (kind_role p.gives) e) (unless (fits k (ty p (kind_role p.gives) e) p.gives) Mismatch at) (failure_in p (kind_role p.gives) e h.1)
         (unless_in (fits k (ty p (kind_role p.gives) e) p.gives) Mismatch at h.0)
     statement_in p (Break at) h = none_in
     statement_in p (Continue at) h = none_in
-    statement_in p (Plain at e) h = fault_in p Free e h.1
+    statement_in p (Plain at e) h = failure_in p Free e h.1
     statement_in p (Empty at) h = none_in
 
-    first_in : (p : Place) (first : OptionalStatement) → FirstAt P first → In (first_fault tables names k p first)
+    first_in : (p : NameScope) (first : OptionalStatement) → FirstAt P first → In (first_failure tables names k p first)
     first_in p omitted h = none_in
     first_in p (written a) h = statement_in p a h
 
-    pub statements_in : (p : Place) (all : Statements) → StatementsAt P all → In (statements_fault tables names k p all)
+    pub statements_in : (p : NameScope) (all : Statements) → StatementsAt P all → In (statements_failure tables names k p all)
     statements_in p done h = none_in
     statements_in p (also s rest) h =
-        then_in (statement_fault tables names k p s) (statements_fault tables names k (after tables names k p s) rest) (statement_in p s h.0) (statements_in (after tables names k p s) rest h.1)
+        then_in (statement_failure tables names k p s) (statements_failure tables names k (after tables names k p s) rest) (statement_in p s h.0) (statements_in (after tables names k p s) rest h.1)

@@ -6,7 +6,7 @@ use Rattle.sts_lexer.specs.Bytes.{most_bytes}
 use Rattle.sts_syntax.specs.Programs.{TopLevel, Class, Function, Main, Program}
 use Rattle.sts_grammar.specs.Texts.{source, no_entries}
 use Rattle.sts_grammar.specs.Units.{IsProgram}
-use Rattle.sts_prelude.specs.Spelled.{IsLibrary}
+use Rattle.sts_prelude.specs.Spelled.{IsLibraryTree}
 use Rattle.sts_scope.specs.declared.collect.Declared.{Declared}
 use Rattle.sts_scope.specs.declared.known.Known.{Known}
 use Rattle.sts_scope.specs.Entries.{Naming, classes_in, item_class, class_names, item_entries, entries_from}
@@ -24,7 +24,7 @@ spelled_few tables tokens p few h =
       declarations = λ names first. (let a = few_declarations (source tokens tables) p h names first in omega (arith, a, few));
     }
 
-pub library_few : (first : Tables) (p : Program) → IsLibrary no_entries first p → HasFewParts p
+pub library_few : (first : Tables) (p : Program) → IsLibraryTree no_entries first p → HasFewParts p
 library_few first p h = spelled_few first h.tokens p (most_tokens first _ h.tokens h.read) h.spelled
 
 item_declares : (names : Naming) (c : ℕ) (i : TopLevel) → classes_in i ≤ length (item_entries names c i)

@@ -5,10 +5,10 @@ use Rattle.sts_syntax.specs.declared.units.Item.{Item}
 use Rattle.sts_syntax.specs.Programs.{TopLevel, Class, Function, Main, Program, top_level, top_levels}
 use Rattle.sts_syntax.specs.TypedTrees.{TypedRoutine}
 use Rattle.sts_scope.proofs.Laws.{drop_at}
-use Rattle.sts_scope.specs.declared.kinds.Kind.{Kind}
+use Rattle.sts_scope.specs.declared.kinds.StaticType.{StaticType}
 use Rattle.sts_scope.specs.declared.known.Known.{Known}
 use Rattle.sts_scope.specs.Entries.{Naming, class_names, classes_in, item_class, item_entries, entries_from}
-use Rattle.sts_scope.specs.Faults.{unless}
+use Rattle.sts_scope.specs.Failures.{unless}
 use Rattle.sts_scope.specs.Handlers.{item_routines, all_routines}
 use Rattle.sts_scope.specs.Scopes.{all_names, library_entries, library_classes}
 use Rattle.text_sizes.specs.Numbered.{item_numbered, all_numbered}
@@ -131,7 +131,7 @@ entries_long f c (i ∷ xs) ys =
     sum ∙ ap (λ (q : ℕ). length (here ++ behind) + length (entries_from f q ys)) z
 
 -- the declarations of a text stand behind those of the library, and both are all
-pub text_declared : (l : Plan) (c : ℕ) (library text : Program) (kinds : List (Option Kind)) → naming l ≡ all_names library text → l.known.now ≡ known library text kinds → c ≡ library_classes library text
+pub text_declared : (l : Plan) (c : ℕ) (library text : Program) (kinds : List (Option StaticType)) → naming l ≡ all_names library text → l.known.now ≡ known library text kinds → c ≡ library_classes library text
     → l.known.now.library + length (entries_from (naming l) c text) ≡ length l.known.now.entries
 text_declared l c library text kinds en ek ec =
     let f = all_names library text in

@@ -17,8 +17,8 @@ use Rattle.sts_grammar.specs.Source.{Source}
 use Rattle.sts_grammar.specs.Texts.{source}
 use Rattle.sts_grammar.specs.Texts as grammar
 use Rattle.sts_grammar.specs.Units.{IsProgram}
-use Rattle.sts_scope.specs.declared.kinds.Kind.{Kind}
-use Rattle.sts_scope.specs.Faults.{Fault}
+use Rattle.sts_scope.specs.declared.kinds.StaticType.{StaticType}
+use Rattle.sts_scope.specs.Failures.{Failure}
 use Rattle.type_derive.specs.Accepted.{AreDerived, derivation, refusal, typed, IsAccepted, IsRefused}
 use Rattle.type_derive.specs.Laws.{IsOne}
 use Rattle.typed_laws.specs.LibraryLaws.{LibraryLeavesFirst}
@@ -29,7 +29,7 @@ use Rattle.sts_whole.proofs.LibraryBehind.{AreOne, one_reading}
 not_deep : (tokens : List Token) (at : ℕ) → NoneDeep tokens → IsFirstDeep tokens at → ⊥
 not_deep tokens at none h = absurd (omega (arith, h.deep, none h.at (slice_get_within tokens h.at h.token h.is)))
 
-not_refused : (s : Source) (p : Program) (why : Code) (at : ℕ) → NoneDeep s.tokens → IsProgram s p → grammar.Refuses s why at → ⊥
+not_refused : (s : Source) (p : Program) (why : Code) (at : ℕ) → NoneDeep s.tokens → IsProgram s p → grammar.RefusesSource s why at → ⊥
 not_refused s p code.TooDeep at shallow spelled r = not_deep s.tokens at shallow r
 not_refused s p code.Syntax at shallow spelled r = r.1 p spelled
 not_refused s p other at shallow spelled r = r
@@ -49,7 +49,7 @@ deep_same tokens at at' h j =
           ]
     ]
 
-refusal_same : (s : Source) (why why' : Code) (at at' : ℕ) → grammar.Refuses s why at → grammar.Refuses s why' at' → (why ≡ why') × (why ≢ code.Syntax → at ≡ at')
+refusal_same : (s : Source) (why why' : Code) (at at' : ℕ) → grammar.RefusesSource s why at → grammar.RefusesSource s why' at' → (why ≡ why') × (why ≢ code.Syntax → at ≡ at')
 refusal_same s code.TooDeep code.TooDeep at at' h j = (refl, λ other. deep_same s.tokens at at' h j)
 refusal_same s code.TooDeep code.Syntax at at' h j = absurd (not_deep s.tokens at j.0 h)
 refusal_same s code.TooDeep other at at' h j = absurd j
@@ -59,7 +59,7 @@ refusal_same s code.Syntax other at at' h j = absurd j
 refusal_same s other why' at at' h j = absurd h
 
 -- the types of declarations are determined
-types_same : IsOne → (tables : Tables) (library text : Program) (xs ys : List (Option Kind)) → AreDerived tables library text xs → AreDerived tables library text ys → xs ≡ ys
+types_same : IsOne → (tables : Tables) (library text : Program) (xs ys : List (Option StaticType)) → AreDerived tables library text xs → AreDerived tables library text ys → xs ≡ ys
 types_same one tables library text xs ys h j =
     let size = h.each ∙ sym j.each in
     ext_get_or None xs ys size (λ d lt. one (derivation tables library text) xs ys size h.least j.least d)
@@ -67,21 +67,21 @@ types_same one tables library text xs ys h j =
 module _ (reading : OneReading) (leaves : LibraryLeavesFirst) (one : IsOne) (program : OneProgram) where
   accepted_same : (tables : Tables) (library text : Program) (P P' : TypedProgram) → IsAccepted tables library text P → IsAccepted tables library text P' → P ≡ P'
   accepted_same tables library text P P' h j =
-      h.3 ∙ (ap (λ (kinds : List (Option Kind)). typed tables library text kinds) (types_same one tables library text h.0 j.0 h.1 j.1) ∙ sym j.3)
+      h.3 ∙ (ap (λ (kinds : List (Option StaticType)). typed tables library text kinds) (types_same one tables library text h.0 j.0 h.1 j.1) ∙ sym j.3)
 
-  accepted_refused : (tables : Tables) (library text : Program) (P : TypedProgram) (f : Fault) → IsAccepted tables library text P → IsRefused tables library text f → ⊥
+  accepted_refused : (tables : Tables) (library text : Program) (P : TypedProgram) (f : Failure) → IsAccepted tables library text P → IsRefused tables library text f → ⊥
   accepted_refused tables library text P f h r =
       let same : refusal tables library text h.0 ≡ refusal tables library text r.0 =
-      ap (λ (kinds : List (Option Kind)). refusal tables library text kinds) (types_same one tables library text h.0 r.0 h.1 r.1) in
-      let e : ◌≡◌ {A = Option Fault} None (Some f) = sym h.2 ∙ (same ∙ r.2) in
+      ap (λ (kinds : List (Option StaticType)). refusal tables library text kinds) (types_same one tables library text h.0 r.0 h.1 r.1) in
+      let e : ◌≡◌ {A = Option Failure} None (Some f) = sym h.2 ∙ (same ∙ r.2) in
       cc
 
   tokens_refused : (text : List ℕ) (tables : Tables) (P : TypedProgram) (why : Code) (at : ℕ) → Accepts text tables P → SpellsNoProgram text why at → ⊥
   tokens_refused text tables P why at h r =
       let same = one_reading leaves text r.tables tables r.library h.library r.tokens h.tokens r.read h.read in
       not_refused (source h.tokens tables) h.program why at h.shallow h.spelled
-      (subst (λ (t : Tables). grammar.Refuses (source h.tokens t) why at) same.tables_same
-      (subst (λ (ts : List Token). grammar.Refuses (source ts r.tables) why at) same.tokens_same r.refused))
+      (subst (λ (t : Tables). grammar.RefusesSource (source h.tokens t) why at) same.tables_same
+      (subst (λ (ts : List Token). grammar.RefusesSource (source ts r.tables) why at) same.tokens_same r.refused))
 
   -- two programs of one text are one
   spelled_same : (tables tables' : Tables) (library library' : Program) (tokens tokens' : List Token) (p p' : Program) → AreOne tables tables' library library' tokens tokens'
@@ -93,7 +93,7 @@ module _ (reading : OneReading) (leaves : LibraryLeavesFirst) (one : IsOne) (pro
 
   program_refused : (text : List ℕ) (tables : Tables) (P : TypedProgram) (why : Code) (at : ℕ) → Accepts text tables P → RefusesProgram text why at → ⊥
   program_refused text tables P why at h r =
-      let f : Fault = record { code = why; at = at } in
+      let f : Failure = record { code = why; at = at } in
       let same = one_reading leaves text r.tables tables r.library h.library r.tokens h.tokens r.read h.read in
       let trees = spelled_same r.tables tables r.library h.library r.tokens h.tokens r.program h.program same r.spelled h.spelled in
       accepted_refused tables h.library h.program P f h.accepted
@@ -118,29 +118,29 @@ module _ (reading : OneReading) (leaves : LibraryLeavesFirst) (one : IsOne) (pro
             j.accepted,
       )
 
-  failure_same : (tables : Tables) (library text : Program) (f g : Fault) → IsRefused tables library text f → IsRefused tables library text g → f ≡ g
+  failure_same : (tables : Tables) (library text : Program) (f g : Failure) → IsRefused tables library text f → IsRefused tables library text g → f ≡ g
   failure_same tables library text f g h j =
-      same_Some f g (sym h.2 ∙ (ap (λ (kinds : List (Option Kind)). refusal tables library text kinds) (types_same one tables library text h.0 j.0 h.1 j.1) ∙ j.2))
+      same_Some f g (sym h.2 ∙ (ap (λ (kinds : List (Option StaticType)). refusal tables library text kinds) (types_same one tables library text h.0 j.0 h.1 j.1) ∙ j.2))
 
   both_tokens : (text : List ℕ) (why why' : Code) (at at' : ℕ) → SpellsNoProgram text why at → SpellsNoProgram text why' at' → (why ≡ why') × (why ≢ code.Syntax → at ≡ at')
   both_tokens text why why' at at' h j =
       let same = one_reading leaves text h.tables j.tables h.library j.library h.tokens j.tokens h.read j.read in
       refusal_same (source j.tokens j.tables) why why' at at'
-      (subst (λ (t : Tables). grammar.Refuses (source j.tokens t) why at) same.tables_same
-      (subst (λ (ts : List Token). grammar.Refuses (source ts h.tables) why at) same.tokens_same h.refused))
+      (subst (λ (t : Tables). grammar.RefusesSource (source j.tokens t) why at) same.tables_same
+      (subst (λ (ts : List Token). grammar.RefusesSource (source ts h.tables) why at) same.tokens_same h.refused))
       j.refused
 
   tokens_program : (text : List ℕ) (why why' : Code) (at at' : ℕ) → SpellsNoProgram text why at → RefusesProgram text why' at' → ⊥
   tokens_program text why why' at at' h j =
       let same = one_reading leaves text h.tables j.tables h.library j.library h.tokens j.tokens h.read j.read in
       not_refused (source j.tokens j.tables) j.program why at j.shallow j.spelled
-      (subst (λ (t : Tables). grammar.Refuses (source j.tokens t) why at) same.tables_same
-      (subst (λ (ts : List Token). grammar.Refuses (source ts h.tables) why at) same.tokens_same h.refused))
+      (subst (λ (t : Tables). grammar.RefusesSource (source j.tokens t) why at) same.tables_same
+      (subst (λ (ts : List Token). grammar.RefusesSource (source ts h.tables) why at) same.tokens_same h.refused))
 
   both_programs : (text : List ℕ) (why why' : Code) (at at' : ℕ) → RefusesProgram text why at → RefusesProgram text why' at' → (why ≡ why') × (at ≡ at')
   both_programs text why why' at at' h j =
-      let f : Fault = record { code = why; at = at } in
-      let g : Fault = record { code = why'; at = at' } in
+      let f : Failure = record { code = why; at = at } in
+      let g : Failure = record { code = why'; at = at' } in
       let same = one_reading leaves text h.tables j.tables h.library j.library h.tokens j.tokens h.read j.read in
       let trees = spelled_same h.tables j.tables h.library j.library h.tokens j.tokens h.program j.program same h.spelled j.spelled in
       let one : f ≡ g =
@@ -149,7 +149,7 @@ module _ (reading : OneReading) (leaves : LibraryLeavesFirst) (one : IsOne) (pro
       (subst (λ (p : Program). IsRefused h.tables p j.program f) same.library_same
       (subst (λ (p : Program). IsRefused h.tables h.library p f) trees h.refused)))
       j.refused in
-      (ap (λ (x : Fault). x.code) one, ap (λ (x : Fault). x.at) one)
+      (ap (λ (x : Failure). x.code) one, ap (λ (x : Failure). x.at) one)
 
   one_refusal : (text : List ℕ) (why why' : Code) (at at' : ℕ) → IsRefusedFor text why at → IsRefusedFor text why' at' → (why ≡ why') × (why ≢ code.Syntax → at ≡ at')
   one_refusal text why why' at at' (inl h) (inl j) = let same = reading.refusal text why why' at at' h j in (same.0, λ other. same.1)

@@ -7,8 +7,8 @@ use Rattle.sts_base.specs.declared.tables.Tables.{Tables}
 use Rattle.sts_lexer.specs.declared.token.Token.{Token}
 use Rattle.sts_syntax.specs.Programs.{Program}
 use Rattle.sts_syntax.specs.TypedTrees.{TypedProgram}
-use Rattle.sts_scope.specs.declared.kinds.Kind.{Kind}
-use Rattle.sts_scope.specs.Faults.{Fault}
+use Rattle.sts_scope.specs.declared.kinds.StaticType.{StaticType}
+use Rattle.sts_scope.specs.Failures.{Failure}
 use Rattle.sts_grammar.specs.Brackets.{open_at}
 use Rattle.sts_grammar.specs.Deep.{NoneDeepBefore, NoneDeep, IsFirstDeep}
 use Rattle.sts_grammar.specs.Limits.{most_open}
@@ -60,7 +60,7 @@ module _ (reading : ProgramIsRead) (types : DerivedTypesExist) (text : List ℕ)
 
   module _ (shallow : NoneDeep tokens) where
     module _ (program : Program) (spelled : IsProgram (source tokens tables) program) where
-      by_refusal : (kinds : List (Option Kind)) → AreDerived tables library program kinds → (found : Option Fault) → refusal tables library program kinds ≡ found → Answer
+      by_refusal : (kinds : List (Option StaticType)) → AreDerived tables library program kinds → (found : Option Failure) → refusal tables library program kinds ≡ found → Answer
       by_refusal kinds derived None e =
           inl (
             typed tables library program kinds,

@@ -3,7 +3,7 @@ use Rattle.std.proofs.Common.{◌≡◌, ℕ, zero, suc, ◌+◌, ◌≤◌, Opt
 use Rattle.std.specs.Prelude.{slice_get}
 use Rattle.sts_syntax.specs.Trees.{Does}
 use Rattle.sts_syntax.specs.Programs.{ClassMember, Field, Method, Constructor, TopLevel, Class, Function, Main, Program}
-use Rattle.sts_scope.specs.declared.kinds.Kind.{Kind}
+use Rattle.sts_scope.specs.declared.kinds.StaticType.{StaticType}
 use Rattle.sts_scope.specs.declared.entries.ClassHead.{ClassHead}
 use Rattle.sts_scope.specs.Entries.{Naming, maker_takes, item_heads, heads_of}
 use Rattle.sts_scope.specs.Rules.{maker_from, maker_takes_of}
@@ -12,7 +12,7 @@ use Rattle.text_sizes.specs.Numbered.{members_numbered, item_numbered, all_numbe
 use Rattle.type_derive.specs.Accepted.{known}
 use Rattle.sts_whole.proofs.AtMost.{kinds_long}
 
-abbrev takes : Option (List Kind) → ℕ
+abbrev takes : Option (List StaticType) → ℕ
 takes None = 0
 takes (Some kinds) = length kinds
 
@@ -35,14 +35,14 @@ one_takes (x ∷ rest) zero class is =
 one_takes (x ∷ rest) (suc c) class is = (let a = one_takes rest c class is in omega (arith, a))
 
 -- the nearest one that is written takes no more, from a class or one of its bases on
-from_class : (all : List ClassHead) (n : ℕ) (o : Option (List Kind)) (base : Option ℕ) → takes o ≤ all_take all → ((b : ℕ) → length (maker_from all n b) ≤ all_take all)
-    → length {A = Kind} (elim o [ Some kinds ↦ kinds | None ↦ elim base [ None ↦ [] | Some b ↦ maker_from all n b ] ]) ≤ all_take all
+from_class : (all : List ClassHead) (n : ℕ) (o : Option (List StaticType)) (base : Option ℕ) → takes o ≤ all_take all → ((b : ℕ) → length (maker_from all n b) ≤ all_take all)
+    → length {A = StaticType} (elim o [ Some kinds ↦ kinds | None ↦ elim base [ None ↦ [] | Some b ↦ maker_from all n b ] ]) ≤ all_take all
 from_class all n (Some kinds) base here above = here
 from_class all n None None here above = omega arith
 from_class all n None (Some b) here above = above b
 
 from_found : (all : List ClassHead) (n : ℕ) (o : Option ClassHead) → ((class : ClassHead) → o ≡ Some class → takes class.takes ≤ all_take all) → ((b : ℕ) → length (maker_from all n b) ≤ all_take all)
-    → length {A = Kind} (elim o [ None ↦ [] | Some class ↦ elim class.takes [ Some kinds ↦ kinds | None ↦ elim class.base [ None ↦ [] | Some b ↦ maker_from all n b ] ] ]) ≤ all_take all
+    → length {A = StaticType} (elim o [ None ↦ [] | Some class ↦ elim class.takes [ Some kinds ↦ kinds | None ↦ elim class.base [ None ↦ [] | Some b ↦ maker_from all n b ] ] ]) ≤ all_take all
 from_found all n None each above = omega arith
 from_found all n (Some class) each above = from_class all n class.takes class.base (each class refl) above
 
@@ -70,7 +70,7 @@ heads_take names (i ∷ rest) =
     let both = all_take_append (item_heads names i) (heads_of names rest) in
     omega (arith, here, behind, both)
 
-pub makers_take : (library text : Program) (kinds : List (Option Kind)) (c : ℕ) → length (maker_takes_of (known library text kinds).classes c) ≤ all_numbered (library ++ text)
+pub makers_take : (library text : Program) (kinds : List (Option StaticType)) (c : ℕ) → length (maker_takes_of (known library text kinds).classes c) ≤ all_numbered (library ++ text)
 makers_take library text kinds c =
     let names : Naming = all_names library text in
     let all : List ClassHead = heads_of names (library ++ text) in

@@ -17,8 +17,8 @@ use Rattle.sts_lexer.specs.Spaces.{start_of}
 use Rattle.sts_lexer.specs.Tables.{Extends}
 use Rattle.sts_lexer.specs.Tokens.{IsKindOf, AreTokens, IsTokenization}
 use Rattle.sts_lexer.specs.Uses.{text_entry, TakesUp, TakeUp}
-use Rattle.sts_lexer.specs.declared.token.Kind.{Kind}
-use Rattle.sts_lexer.specs.declared.token.Kind.TheVariants as k
+use Rattle.sts_lexer.specs.declared.token.TokenKind.{TokenKind}
+use Rattle.sts_lexer.specs.declared.token.TokenKind.TheVariants as k
 use Rattle.sts_lexer.specs.declared.token.Token.{Token}
 
 -- bytes
@@ -114,7 +114,7 @@ body_bytes text (byte ∷ bytes) quote i j h b = (
 NamesBytes : Tables → ℕ → Type 0
 NamesBytes tables e = (value : List ℕ) × (slice_get tables.texts e ≡ Some value) × Bytes value
 
-kind_bytes : (tables : Tables) (text : List ℕ) (lexeme : Lexeme) (kind : Kind) (i j e : ℕ) → Bytes text → Spells text lexeme i j → IsKindOf tables lexeme kind → text_entry kind ≡ Some e → NamesBytes tables e
+kind_bytes : (tables : Tables) (text : List ℕ) (lexeme : Lexeme) (kind : TokenKind) (i j e : ℕ) → Bytes text → Spells text lexeme i j → IsKindOf tables lexeme kind → text_entry kind ≡ Some e → NamesBytes tables e
 unfolding NamesBytes
 kind_bytes tables text (quoted value) (k.Text entry) i j e b h is here =
     (value, subst (λ (x : ℕ). slice_get tables.texts x ≡ Some value) (same_Some entry e here) is, body_bytes text value (slice_index text i) (i + 1) h.close b h.body)

@@ -52,7 +52,7 @@ lexed_within text code.TextTooLong at r = (omega (arith, r.1), omega (arith, r.1
 lexed_within text code.NotUtf8 at r = (omega (arith, r.1.short), omega (arith, r.0, r.1.short))
 lexed_within text other at r = let here : at < length text = r.2.stuck.here in (omega (arith, here), omega (arith, here, r.0))
 
-parsed_within : (text : List ℕ) (tables : Tables) (tokens : List Token) (why : Code) (at : ℕ) → IsTokenization tables text tokens → grammar.Refuses (source tokens tables) why at → Within text at
+parsed_within : (text : List ℕ) (tables : Tables) (tokens : List Token) (why : Code) (at : ℕ) → IsTokenization tables text tokens → grammar.RefusesSource (source tokens tables) why at → Within text at
 parsed_within text tables tokens code.TooDeep at t r = token_place tables text tokens r.at at r.token t r.is r.begins
 parsed_within text tables tokens code.Syntax at t r = token_place tables text tokens r.2.at at r.2.token t r.2.is r.2.begins
 parsed_within text tables tokens other at t r = absurd r

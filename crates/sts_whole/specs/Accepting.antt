@@ -16,14 +16,14 @@ use Rattle.sts_grammar.specs.Deep.{NoneDeep}
 use Rattle.sts_grammar.specs.Texts.{source, no_entries}
 use Rattle.sts_grammar.specs.Texts as grammar
 use Rattle.sts_grammar.specs.Units.{IsProgram}
-use Rattle.sts_prelude.specs.Spelled.{IsLibrary}
+use Rattle.sts_prelude.specs.Spelled.{IsLibraryTree}
 use Rattle.type_derive.specs.Accepted.{IsAccepted, IsRefused}
 
 -- The tree of the library of the board's interface, and the tokens of a text behind it: the tables have the library's names and texts first, and then those that the text
 -- adds, each numbered in the order in which it first appears.
 pub record ReadsText (text : List ℕ) (tables : Tables) (library : Program) (tokens : List Token) : Type 0 where
   pub first : Tables
-  pub library_is : IsLibrary no_entries first library
+  pub library_is : IsLibraryTree no_entries first library
   pub tokenization : IsTokenization tables text tokens
   pub in_order : NumbersInOrder first tables tokens
   pub names : Extends first.names tables.names
@@ -47,7 +47,7 @@ pub record SpellsNoProgram (text : List ℕ) (code : Code) (at : ℕ) : Type 0 w
   pub library : Program
   pub tokens : List Token
   pub read : ReadsText text tables library tokens
-  pub refused : grammar.Refuses (source tokens tables) code at
+  pub refused : grammar.RefusesSource (source tokens tables) code at
 
 -- The program that they spell has this first failure of names, types and limits.
 pub record RefusesProgram (text : List ℕ) (code : Code) (at : ℕ) : Type 0 where
@@ -65,6 +65,6 @@ abbrev pub IsRefusedFor : List ℕ → Code → ℕ → Type 0
 IsRefusedFor text code at = IsRefusal text code at ⊎ (SpellsNoProgram text code at ⊎ RefusesProgram text code at)
 
 -- why a text is refused; want of memory has no cause
-abbrev pub Refuses : List ℕ → Refused → Type 0
-Refuses text (why.Program code at) = IsRefusedFor text code at
-Refuses text why.NoMemory = Unit {0}
+abbrev pub RefusesText : List ℕ → Refused → Type 0
+RefusesText text (why.Program code at) = IsRefusedFor text code at
+RefusesText text why.NoMemory = Unit {0}

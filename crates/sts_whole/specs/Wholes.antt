@@ -12,7 +12,7 @@ use Rattle.sts_syntax.specs.declared.typed.TypedStmt.{TypedStmt}
 use Rattle.sts_syntax.specs.TypedViews.{typed_tree, typed_statement, typed_routines}
 use Rattle.sts_syntax.specs.TypedTrees as e
 use Rattle.sts_syntax.specs.TypedTrees.{TypedTree, TypedTrees, more, TypedStatement, TypedStatements, TypedDeclaration, TypedRoutine, ClassEntry, TypedProgram}
-use Rattle.sts_scope.specs.declared.kinds.Kind.{Kind}
+use Rattle.sts_scope.specs.declared.kinds.StaticType.{StaticType}
 use Rattle.sts_scope.specs.declared.entries.Entry.{Entry}
 use Rattle.sts_scope.specs.declared.entries.ClassHead.{ClassHead}
 use Rattle.sts_scope.specs.declared.known.This.{This}
@@ -136,7 +136,7 @@ maker_statements l = p.made_statements_of l.tables.now (naming l) l.known.now (n
 abbrev pub constructor_made : Plan → ℕ → ℕ → List TypedStatement → Routine → List TypedRoutine
 constructor_made l = p.constructor_made l.tables.now (naming l) l.known.now (numbering_of l.numbers.now)
 
-abbrev pub passes_on : Plan → Option ℕ → List Kind → List TypedStatement
+abbrev pub passes_on : Plan → Option ℕ → List StaticType → List TypedStatement
 passes_on l = p.passes_on l.tables.now (naming l) l.known.now (numbering_of l.numbers.now)
 
 abbrev pub constructor_unwritten : Plan → ℕ → List TypedStatement → TypedRoutine
@@ -185,7 +185,7 @@ item_made l c d m n (Function x r) = record { it = []; locals = []; routines = f
 item_made l c d m n (Main a) = let here = main_made l d a m n in record { it = here.it ∷ []; locals = here.locals; routines = here.routines }
 
 -- what a function takes that is written
-abbrev pub written_takes : Plan → List Param → List Kind
+abbrev pub written_takes : Plan → List Param → List StaticType
 written_takes l params = parameter_kinds (naming l) (parameters params)
 
 -- the same, from where a text is built so far

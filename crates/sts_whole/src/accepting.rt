@@ -3,7 +3,7 @@ ghost use Rattle.std.specs.Prelude.{ℕ, List, ◌+◌, ◌<◌, ◌≤◌, leng
 ghost use Rattle.sts_lexer.specs.Bytes.{most_bytes};
 ghost use Rattle.sts_syntax.specs.Programs.{program};
 ghost use Rattle.sts_syntax.specs.TypedViews.{typed_program};
-ghost use Rattle.sts_whole.specs.Accepting.{ReadsText, Accepts, Refuses};
+ghost use Rattle.sts_whole.specs.Accepting.{ReadsText, Accepts, RefusesText};
 ghost use Rattle.sts_whole.specs.Few.{HasFewParts};
 
 use crate::checking::check;
@@ -25,7 +25,7 @@ fn accept_tokens(
     requires few { length tokens.now ≤ most_bytes + 1 }
     requires library { HasFewParts (program library.now) }
     ensures accepted { IfOk result (λ typed. (text : List ℕ) → ReadsText text tables.now (program library.now) tokens.now → Accepts text tables.now (typed_program typed)) }
-    ensures refused { IfErr result (λ why. (text : List ℕ) → ReadsText text tables.now (program library.now) tokens.now → Refuses text why) }
+    ensures refused { IfErr result (λ why. (text : List ℕ) → ReadsText text tables.now (program library.now) tokens.now → RefusesText text why) }
 {
     let text = parse(alloc, tokens, tables)?;
     check(alloc, library, &text, tables)
@@ -36,7 +36,7 @@ fn accept_tokens(
 /// Refused by the first of the stages that fails: tokens, brackets, trees, names, types and limits, with that stage's code and place.
 pub fn accept(alloc: Global, text: &[u8]) -> Result<(Typed, Tables), Refused>
     ensures accepted { IfOk result (λ both. Accepts text.now both.1 (typed_program both.0)) }
-    ensures refused { IfErr result (Refuses text.now) }
+    ensures refused { IfErr result (RefusesText text.now) }
 {
     let mut tables = Tables {
         names: Seq::new(alloc),

@@ -23,7 +23,9 @@ use sts_scope::Entry;
 use sts_syntax::{Binding, Member, Ty, TypedBody, TypedClass};
 use type_derive::kind_at;
 use typed_numbers::{base_of, is_global, unwritten};
-use typed_trees::{Gathered, Plan, add_method, maker_number, names_at, noted_type, routine_number};
+use typed_trees::{
+    Accumulator, Plan, add_method, maker_number, names_at, noted_type, routine_number,
+};
 
 /// The declaration of a class's member of a name, the nearest one.
 fn member(plan: &Plan, class: u32, name: u32) -> Option<usize>
@@ -129,7 +131,7 @@ pub fn global_types(plan: &Plan) -> Result<Seq<Ty>, NoMemory>
 #[tactic(auto, using(typed_trees::proofs::Laws::routines_append))]
 fn add_inner(
     plan: &Plan,
-    routines: &mut Gathered<TypedBody>,
+    routines: &mut Accumulator<TypedBody>,
     class: u32,
     n: u32,
     a: &Binding,
@@ -145,7 +147,7 @@ fn add_inner(
 /// The functions of a member, from these numbers on.
 fn add_member(
     plan: &Plan,
-    routines: &mut Gathered<TypedBody>,
+    routines: &mut Accumulator<TypedBody>,
     parts: &ClassParts,
     next: Next,
     member: &Member,
@@ -171,7 +173,7 @@ fn add_member(
 #[tactic(auto, using(crate::proofs::ClassParts::members_next, crate::proofs::ClassParts::members_behind))]
 fn add_members(
     plan: &Plan,
-    routines: &mut Gathered<TypedBody>,
+    routines: &mut Accumulator<TypedBody>,
     parts: &ClassParts,
 ) -> Result<Next, NoMemory>
     requires plan { IsPlan plan.now }
@@ -191,7 +193,7 @@ fn add_members(
 /// The functions of a class, whose own declaration and first function these are. What comes behind them.
 pub fn add_class(
     plan: &Plan,
-    routines: &mut Gathered<TypedBody>,
+    routines: &mut Accumulator<TypedBody>,
     class: u32,
     next: Next,
     members: &[Member],

@@ -15,11 +15,11 @@ ghost use Rattle.sts_whole.specs.Wholes as w;
 
 use crate::build_parts::{ClassParts, Next, next_member};
 use sts_base::{NoMemory, Seq};
-use sts_scope::{Kind, This};
+use sts_scope::{StaticType, This};
 use sts_syntax::{Binding, Member, Ty, TypedBody, TypedExpr, TypedNode, TypedStmt};
 use type_derive::{kind_at, outer_scope};
 use typed_trees::{
-    Gathered, Plan, Site, Spots, beside, boxed, build_first, field_number, noted_type,
+    Accumulator, Plan, Site, Spots, beside, boxed, build_first, field_number, noted_type,
     nothing_built,
 };
 
@@ -27,7 +27,7 @@ use typed_trees::{
 #[derive(Drop)]
 pub struct Initial {
     pub first: Option<TypedExpr>,
-    pub inner: Gathered<TypedBody>,
+    pub inner: Accumulator<TypedBody>,
 }
 
 /// Outside all functions, where no local is in scope.
@@ -58,7 +58,12 @@ pub fn build_field(plan: &Plan, class: u32, n: u32, a: &Binding) -> Result<Initi
 }
 
 /// A class's field of `this`.
-fn own_field(plan: &Plan, class: u32, of: Option<Kind>, name: u32) -> Result<TypedExpr, NoMemory>
+fn own_field(
+    plan: &Plan,
+    class: u32,
+    of: Option<StaticType>,
+    name: u32,
+) -> Result<TypedExpr, NoMemory>
     requires { IsPlan plan.now }
     ensures { IfOk result (λ r. typed_tree r ≡ e.Field (s.noted of) (e.This (value.Object class)) (number.place_among (number.field_names plan.now.known.now class) name)) }
 {

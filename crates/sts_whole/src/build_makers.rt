@@ -20,17 +20,21 @@ use crate::build_initials::{add_initials, add_statement};
 use crate::build_parts::ClassParts;
 use std::alloc::Global;
 use sts_base::{NoMemory, Seq};
-use sts_scope::{Base, Kind, This, flat};
+use sts_scope::{Base, StaticType, This, flat};
 use sts_syntax::{Body, Expr, Param, Spot, Stmt, Ty, TypedBody, TypedExpr, TypedNode, TypedStmt};
 use type_derive::head_of;
 use typed_numbers::base_of;
 use typed_trees::{
-    Builder, Function, Gathered, Plan, Site, add, add_types, build_given, build_statement,
+    Accumulator, Builder, Function, Plan, Site, add, add_types, build_given, build_statement,
     function_site, maker_number, nothing_built, one_more, type_of_values,
 };
 
 /// Parameters of some types that are passed on, from one on.
-pub fn passed_on(alloc: Global, first: u32, takes: &[Kind]) -> Result<Seq<TypedExpr>, NoMemory>
+pub fn passed_on(
+    alloc: Global,
+    first: u32,
+    takes: &[StaticType],
+) -> Result<Seq<TypedExpr>, NoMemory>
     requires { first + length takes.now < 2 ^ 32 }
     ensures { IfOk result (λ all. typed_trees all ≡ passes first takes.now) }
 {
@@ -226,7 +230,7 @@ fn written_types(plan: &Plan, class: u32, params: &[Param]) -> Result<Seq<Ty>, N
 /// A written constructor, whose number is n, and the functions that stand in it.
 pub fn add_constructor(
     plan: &Plan,
-    routines: &mut Gathered<TypedBody>,
+    routines: &mut Accumulator<TypedBody>,
     parts: &ClassParts,
     n: u32,
     body: &Body,
@@ -249,7 +253,7 @@ pub fn add_constructor(
 
 /// Types of values behind others.
 #[tactic(auto, using(crate::proofs::Constructors::value_next))]
-fn add_kinds(all: &mut Seq<Ty>, takes: &[Kind]) -> Result<(), NoMemory>
+fn add_kinds(all: &mut Seq<Ty>, takes: &[StaticType]) -> Result<(), NoMemory>
     ensures { OnOk result (value_types all.new ≡ value_types all.old ++ kind.value_types takes.now) }
 {
     for kind in takes {
@@ -263,7 +267,7 @@ fn add_passed(
     plan: &Plan,
     all: &mut Seq<TypedStmt>,
     base: Option<u32>,
-    takes: &[Kind],
+    takes: &[StaticType],
 ) -> Result<(), NoMemory>
     requires { 1 + length takes.now < 2 ^ 32 }
     ensures { OnOk result (w.typed_list all.new ≡ w.typed_list all.old ++ w.passes_on plan.now base takes.now) }
@@ -303,7 +307,7 @@ fn unwritten_constructor(plan: &Plan, parts: &ClassParts) -> Result<TypedBody, N
 #[tactic(auto, using(typed_trees::proofs::Laws::routines_append))]
 pub fn add_unwritten(
     plan: &Plan,
-    routines: &mut Gathered<TypedBody>,
+    routines: &mut Accumulator<TypedBody>,
     parts: &ClassParts,
     count: u32,
 ) -> Result<(), NoMemory>

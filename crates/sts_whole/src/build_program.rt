@@ -30,12 +30,12 @@ use sts_syntax::{Body, Item, Member, Stmt, Ty, Typed, TypedBody, Unit};
 use text_headings::globals_in;
 use type_derive::kind_at;
 use typed_numbers::{names_of, numbering, routine_handlers, statement_handlers};
-use typed_trees::{Builder, Gathered, Plan, add_function};
+use typed_trees::{Accumulator, Builder, Plan, add_function};
 
 /// A part of the library: a function of it, and those that stand in it; other parts add none.
 fn add_library_item(
     plan: &Plan,
-    routines: &mut Gathered<TypedBody>,
+    routines: &mut Accumulator<TypedBody>,
     item: &Item,
     next: Next,
 ) -> Result<Next, NoMemory>
@@ -60,7 +60,7 @@ fn add_library_item(
 /// The functions of the library.
 pub fn add_library(
     plan: &Plan,
-    routines: &mut Gathered<TypedBody>,
+    routines: &mut Accumulator<TypedBody>,
     items: &[Item],
 ) -> Result<(), NoMemory>
     requires plan { IsPlan plan.now }
@@ -204,7 +204,7 @@ fn with_main(plan: &Plan, whole: Whole) -> Result<Seq<TypedBody>, NoMemory>
 
 /// How many functions there are, which is the number of the next.
 #[tactic(auto, using(crate::proofs::Items::routines_long))]
-fn count(routines: &Gathered<TypedBody>) -> u32
+fn count(routines: &Accumulator<TypedBody>) -> u32
     requires { length (typed_routines routines.now) < 2 ^ 32 }
     ensures { result ≡ length (typed_routines routines.now) }
 {
@@ -228,7 +228,7 @@ fn build_whole(
     ensures locals { IfOk result (λ r. value_types r.builder.locals ≡ (w.text_made plan.now first_class (top_levels library.now) (top_levels text.now)).locals) }
     ensures routines { IfOk result (λ r. typed_routines r.builder.routines ≡ w.library_made plan.now 0 0 (top_levels library.now) ++ (w.text_made plan.now first_class (top_levels library.now) (top_levels text.now)).routines) }
 {
-    let mut routines = Gathered::new(plan.alloc);
+    let mut routines = Accumulator::new(plan.alloc);
     add_library(plan, &mut routines, library)?;
     let builder = Builder {
         locals: Seq::new(plan.alloc),

@@ -3,11 +3,11 @@ ghost use Rattle.std.specs.Prelude.{IfOk, IfErr};
 ghost use Rattle.sts_syntax.specs.Programs.{program};
 ghost use Rattle.sts_syntax.specs.TypedViews.{typed_program};
 ghost use Rattle.sts_base.specs.declared.refused.Code.TheVariants.{OverLimit};
-ghost use Rattle.sts_scope.specs.Faults.{Finds, unless};
+ghost use Rattle.sts_scope.specs.Failures.{Finds, unless};
 ghost use Rattle.typed_numbers.specs.Counts.{counts_fit};
-ghost use Rattle.type_derive.specs.Limits.{limits_fault};
+ghost use Rattle.type_derive.specs.Limits.{limits_failure};
 ghost use Rattle.type_derive.specs.Accepted.{IsAccepted};
-ghost use Rattle.sts_whole.specs.Checking.{Refuses};
+ghost use Rattle.sts_whole.specs.Checking.{RefusesTrees};
 ghost use Rattle.sts_whole.specs.Few.{AreFew};
 
 use crate::build_program::typed_of;
@@ -23,7 +23,7 @@ use typed_numbers::counts_fit;
 
 /// The counted limits.
 fn check_limits(alloc: Global, typed: &Typed, tables: &Tables) -> Result<(), Refused>
-    ensures { Finds result (limits_fault tables.now.texts (typed_program typed.now)) }
+    ensures { Finds result (limits_failure tables.now.texts (typed_program typed.now)) }
 {
     let fits = or_no_memory(program_fits(alloc, typed, tables.texts.as_slice()))?;
     unless(fits, Code::OverLimit, 0)
@@ -45,7 +45,7 @@ fn check_counts(alloc: Global, known: &Environment) -> Result<(), Refused>
 pub fn check(alloc: Global, library: &Unit, text: &Unit, tables: &Tables) -> Result<Typed, Refused>
     requires few { AreFew (program library.now) (program text.now) }
     ensures accepted { IfOk result (λ t. IsAccepted tables.now (program library.now) (program text.now) (typed_program t)) }
-    ensures refused { IfErr result (λ why. Refuses why tables.now (program library.now) (program text.now)) }
+    ensures refused { IfErr result (λ why. RefusesTrees why tables.now (program library.now) (program text.now)) }
 {
     let mut declared = headings(alloc, library, text, tables)?;
     or_no_memory(solve(alloc, library, text, tables, &mut declared))?;

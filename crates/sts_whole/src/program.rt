@@ -1,7 +1,7 @@
 //! Programs: built from their texts, and run.
 ghost use Rattle.std.specs.Prelude.{◌≡◌, ◌≤◌, [], List, ℕ, IfOk, IfErr, OnErr};
 ghost use Rattle.tool_io.specs.Putting.{Took};
-ghost use Rattle.sts_whole.specs.Accepting.{Refuses};
+ghost use Rattle.sts_whole.specs.Accepting.{RefusesText};
 ghost use Rattle.event_script.specs.Sound.{IsSound};
 ghost use Rattle.sts_whole.specs.Built.{Builds};
 ghost use Rattle.board_run.specs.Outside.{outside_of};
@@ -25,7 +25,7 @@ use tool_io::Sink;
 /// Refused exactly where `accept` is, with the same code and place.
 pub fn build(alloc: Global, text: &[u8]) -> Result<Vec<u8>, Refused>
     ensures built { IfOk result (λ image. Builds text.now image.items) }
-    ensures refused { IfErr result (Refuses text.now) }
+    ensures refused { IfErr result (RefusesText text.now) }
 {
     accepted_programs_are_buildable();
     compiled_images_implement_their_programs();
@@ -56,7 +56,7 @@ pub fn run_text<K: Sink, D: Device>(
         (outside_of K.taken K.faults out.old places.old.items) (outside_of K.taken K.faults out.new places.new.items) r.0 r.1) }
     ensures counted { IfOk result (λ r. r.1.instructions ≤ budget) }
     ensures faultless { IfOk result (λ r. IsFaultless r.0) }
-    ensures refused { IfErr result (Refuses text.now) }
+    ensures refused { IfErr result (RefusesText text.now) }
     ensures nothing { OnErr result (Took (K.taken out.old) (K.taken out.new) []) }
     ensures unchanged { OnErr result (places.new.items ≡ places.old.items) }
     ensures later { K.faults out.old ≤ K.faults out.new }

@@ -7,9 +7,9 @@ use Rattle.sts_syntax.specs.declared.trees.Param.{Param}
 use Rattle.sts_syntax.specs.declared.trees.Body.{Body, out-Body}
 use Rattle.sts_syntax.specs.Views.{parameter, parameters, routine, optional_annotation}
 use Rattle.sts_syntax.proofs.Laws.{routine_parts}
-use Rattle.sts_scope.specs.Faults.{◌then◌, own, unless}
+use Rattle.sts_scope.specs.Failures.{◌then◌, own, unless}
 use Rattle.sts_scope.specs.Entries.{Naming}
-use Rattle.sts_scope.specs.Headings.{takes_name, written_fault, parameters_fault, routine_at}
+use Rattle.sts_scope.specs.Headings.{takes_name, written_failure, parameters_failure, routine_at}
 use Rattle.sts_scope.proofs.Laws.{drop_at}
 
 parameters_take : (ps : List Param) (i : ℕ) → take i (parameters ps) ≡ parameters (take i ps)
@@ -19,23 +19,23 @@ parameters_take (p ∷ ps) zero = refl
 parameters_take (p ∷ ps) (suc i) = ap (λ xs. parameter p ∷ xs) (parameters_take ps i)
 
 parameters_step : (names : Naming) (ps : List Param) (i : ℕ) (p : Param) → i < length ps → p ≡ get_or ps i p →
-    parameters_fault names (parameters ps) i (parameters (drop i ps))
-    ≡ ((own (optional_annotation p.shape) NeedsType p.at then unless (not (takes_name (parameters (take i ps)) p.name)) TwiceNamed p.at then written_fault names p.at (optional_annotation p.shape))
-    then parameters_fault names (parameters ps) (i + 1) (parameters (drop (i + 1) ps)))
+    parameters_failure names (parameters ps) i (parameters (drop i ps))
+    ≡ ((own (optional_annotation p.shape) NeedsType p.at then unless (not (takes_name (parameters (take i ps)) p.name)) TwiceNamed p.at then written_failure names p.at (optional_annotation p.shape))
+    then parameters_failure names (parameters ps) (i + 1) (parameters (drop (i + 1) ps)))
 parameters_step names ps i p lt is =
-    ap (λ xs. parameters_fault names (parameters ps) i (parameters xs)) (drop_at ps i p lt is)
-    ∙ ap (λ qs. (own (optional_annotation p.shape) NeedsType p.at then unless (not (takes_name qs p.name)) TwiceNamed p.at then written_fault names p.at (optional_annotation p.shape))
-    then parameters_fault names (parameters ps) (i + 1) (parameters (drop (i + 1) ps))) (parameters_take ps i)
+    ap (λ xs. parameters_failure names (parameters ps) i (parameters xs)) (drop_at ps i p lt is)
+    ∙ ap (λ qs. (own (optional_annotation p.shape) NeedsType p.at then unless (not (takes_name qs p.name)) TwiceNamed p.at then written_failure names p.at (optional_annotation p.shape))
+    then parameters_failure names (parameters ps) (i + 1) (parameters (drop (i + 1) ps))) (parameters_take ps i)
 
 -- the same by what is known of the name
 pub parameter_step : (names : Naming) (ps : List Param) (i : ℕ) (p : Param) (twice : Bool) → i < length ps → p ≡ get_or ps i p → twice ≡ takes_name (parameters (take i ps)) p.name →
-    parameters_fault names (parameters ps) i (parameters (drop i ps))
-    ≡ ((own (optional_annotation p.shape) NeedsType p.at then unless (not twice) TwiceNamed p.at then written_fault names p.at (optional_annotation p.shape))
-    then parameters_fault names (parameters ps) (i + 1) (parameters (drop (i + 1) ps)))
+    parameters_failure names (parameters ps) i (parameters (drop i ps))
+    ≡ ((own (optional_annotation p.shape) NeedsType p.at then unless (not twice) TwiceNamed p.at then written_failure names p.at (optional_annotation p.shape))
+    then parameters_failure names (parameters ps) (i + 1) (parameters (drop (i + 1) ps)))
 parameter_step names ps i p twice lt is h =
     parameters_step names ps i p lt is
-    ∙ ap (λ b. (own (optional_annotation p.shape) NeedsType p.at then unless (not b) TwiceNamed p.at then written_fault names p.at (optional_annotation p.shape))
-    then parameters_fault names (parameters ps) (i + 1) (parameters (drop (i + 1) ps))) (sym h)
+    ∙ ap (λ b. (own (optional_annotation p.shape) NeedsType p.at then unless (not b) TwiceNamed p.at then written_failure names p.at (optional_annotation p.shape))
+    then parameters_failure names (parameters ps) (i + 1) (parameters (drop (i + 1) ps))) (sym h)
 
 either_first : (a b c : Bool) → (a || (b || c)) ≡ (b || (a || c))
 either_first true true c = refl

@@ -6,10 +6,10 @@ use Rattle.std.proofs.lemmas.List.{take_more}
 use Rattle.sts_scope.specs.declared.entries.Owner.{Owner}
 use Rattle.sts_scope.specs.declared.entries.Owner.TheVariants as o
 use Rattle.sts_scope.specs.declared.entries.Entry.{Entry}
-use Rattle.sts_scope.specs.Faults.{Fault, ◌then◌}
+use Rattle.sts_scope.specs.Failures.{Failure, ◌then◌}
 use Rattle.sts_scope.specs.Values.{value_at, or_else}
 use Rattle.sts_scope.specs.Lookup.{declares, entry_number, is_second}
-use Rattle.sts_scope.specs.Globals.{name_fault, names_fault}
+use Rattle.sts_scope.specs.Globals.{name_failure, names_failure}
 use Rattle.text_headings.specs.Seen.{AreSeen}
 use Rattle.sts_scope.proofs.Laws.{position-append, drop_at}
 
@@ -32,13 +32,13 @@ pub seen_step : (old new : List (Option ℕ)) (es : List Entry) (d : ℕ) (e : E
 seen_step old new es d e lt is a h = record { each = λ y. h y ∙ ap (λ b. declares o.Whole y e || b) (a.each y) ∙ sym (seen_more es d e y lt is) }
 
 same_name : (names : List (List ℕ)) (seen : List (Option ℕ)) (es : List Entry) (d : ℕ) (owner : Owner) (x at : ℕ) → AreSeen seen es d →
-    name_fault names owner x at (is_second es d owner x) ≡ name_fault names owner x at (is_some (value_at seen x))
-same_name names seen es d o.Whole x at a = ap (name_fault names o.Whole x at) (sym (a.each x))
+    name_failure names owner x at (is_second es d owner x) ≡ name_failure names owner x at (is_some (value_at seen x))
+same_name names seen es d o.Whole x at a = ap (name_failure names o.Whole x at) (sym (a.each x))
 same_name names seen es d (o.Class c) x at a = refl
 
-pub found_step : (names : List (List ℕ)) (seen : List (Option ℕ)) (es : List Entry) (d : ℕ) (e : Entry) (all : Option Fault) → d < length es → e ≡ get_or es d e →
-    AreSeen seen es d → name_fault names e.owner e.name e.at (is_some (value_at seen e.name)) ≡ None →
-    names_fault names es d (drop d es) ≡ all → names_fault names es (d + 1) (drop (d + 1) es) ≡ all
+pub found_step : (names : List (List ℕ)) (seen : List (Option ℕ)) (es : List Entry) (d : ℕ) (e : Entry) (all : Option Failure) → d < length es → e ≡ get_or es d e →
+    AreSeen seen es d → name_failure names e.owner e.name e.at (is_some (value_at seen e.name)) ≡ None →
+    names_failure names es d (drop d es) ≡ all → names_failure names es (d + 1) (drop (d + 1) es) ≡ all
 found_step names seen es d e all lt is a h f =
-    sym (ap (names_fault names es d) (drop_at es d e lt is)
-    ∙ ap (λ o. o then names_fault names es (d + 1) (drop (d + 1) es)) (same_name names seen es d e.owner e.name e.at a ∙ h)) ∙ f
+    sym (ap (names_failure names es d) (drop_at es d e lt is)
+    ∙ ap (λ o. o then names_failure names es (d + 1) (drop (d + 1) es)) (same_name names seen es d e.owner e.name e.at a ∙ h)) ∙ f

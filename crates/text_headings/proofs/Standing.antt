@@ -11,11 +11,11 @@ use Rattle.sts_syntax.specs.Programs.{ClassMember, Field, Method, Constructor, T
 use Rattle.sts_scope.specs.declared.collect.Declared.{Declared}
 use Rattle.sts_scope.specs.declared.entries.Entry.{Entry}
 use Rattle.sts_scope.specs.declared.entries.Owner.TheVariants as o
-use Rattle.sts_scope.specs.declared.entries.Sort.TheVariants as sort
+use Rattle.sts_scope.specs.declared.entries.DeclarationKind.TheVariants as sort
 use Rattle.sts_scope.specs.Values.{value_at}
-use Rattle.sts_scope.specs.Faults.{Fault, ◌then◌}
+use Rattle.sts_scope.specs.Failures.{Failure, ◌then◌}
 use Rattle.sts_scope.specs.Lookup.{sort_of}
-use Rattle.sts_scope.specs.Entries.{Naming, entry, class_names, item_class, classes_in, global_entries, main_entries, member_entry, member_entries, item_entries, entries_from}
+use Rattle.sts_scope.specs.Entries.{Naming, new_entry, class_names, item_class, classes_in, global_entries, main_entries, member_entry, member_entries, item_entries, entries_from}
 use Rattle.sts_scope.specs.Scopes.{is_class, names_of, all_names, all_entries, library_entries, library_classes}
 use Rattle.sts_scope.proofs.Laws.{drop_at}
 use Rattle.text_headings.specs.Standing.{classes_before, AreDeclaredFrom, IsItemAt, IsTextAt, IsTextDeclared}
@@ -108,7 +108,7 @@ some_sort all d e h = ap (λ (o : Option Entry). elim o [ None ↦ None | Some y
 pub class_declared : (names : Naming) (all : List Entry) (d : ℕ) (i : TopLevel) → classes_in i ≡ 1 → IsItemAt names all d i → sort_of all d ≡ Some (sort.Class (classes_before all d))
 class_declared names all d (Class at x base base_at members) one h =
     let c = classes_before all d in
-    let e : Entry = entry at o.Whole x (sort.Class c) [] in
+    let e : Entry = new_entry at o.Whole x (sort.Class c) [] in
     let xs = member_entries names c members in
     some_sort all d e
     (ap (slice_get all) h.counted ∙ ap (λ zs. slice_get zs (length h.before)) (h.split ∙ append_assoc h.before (e ∷ xs) h.behind)
@@ -128,10 +128,10 @@ module _ (names : Naming) (all : List Entry) (d : ℕ) (items : List Item) (i : 
   here = item_entries names c (top_level x)
 
   -- the failures of a text, by those of its parts
-  pub faults_step : (whole : ℕ → ℕ → Program → Option Fault) (part : ℕ → ℕ → TopLevel → Option Fault)
+  pub failures_step : (whole : ℕ → ℕ → Program → Option Failure) (part : ℕ → ℕ → TopLevel → Option Failure)
       → ((c d : ℕ) (y : TopLevel) (ys : Program) → whole c d (y ∷ ys) ≡ (part c d y then whole (c + classes_in y) (d + length (item_entries names c y)) ys))
       → whole c d (top_levels (drop i items)) ≡ (part c d (top_level x) then whole (c + classes_in (top_level x)) (d + length here) rest)
-  faults_step whole part step = ap (λ xs. whole c d (top_levels xs)) (drop_at items i x lt is) ∙ step c d (top_level x) rest
+  failures_step whole part step = ap (λ xs. whole c d (top_levels xs)) (drop_at items i x lt is) ∙ step c d (top_level x) rest
 
   module _ (h : IsTextAt names all d (top_levels (drop i items))) where
     both : AreDeclaredFrom d (here ++ entries_from names (c + classes_in (top_level x)) rest) all
@@ -156,12 +156,12 @@ module _ (names : Naming) (all : List Entry) (d : ℕ) (items : List Item) (i : 
           (subst (λ k. AreDeclaredFrom k ys all) (sym behind) (rest_declared d here ys all both))
 
       -- the first failure is that of what is left, where the part has none
-      pub faults_kept : (whole : ℕ → ℕ → Program → Option Fault) (part : ℕ → ℕ → TopLevel → Option Fault)
+      pub failures_kept : (whole : ℕ → ℕ → Program → Option Failure) (part : ℕ → ℕ → TopLevel → Option Failure)
           → ((c d : ℕ) (y : TopLevel) (ys : Program) → whole c d (y ∷ ys) ≡ (part c d y then whole (c + classes_in y) (d + length (item_entries names c y)) ys))
-          → (found : Option Fault) → part c d (top_level x) ≡ None → whole c d (top_levels (drop i items)) ≡ found → whole (classes_before all n) n rest ≡ found
-      faults_kept whole part step found none kept =
+          → (found : Option Failure) → part c d (top_level x) ≡ None → whole c d (top_levels (drop i items)) ≡ found → whole (classes_before all n) n rest ≡ found
+      failures_kept whole part step found none kept =
           ap (λ k. whole k n rest) classes_behind ∙ ap (λ k. whole (c + classes_in (top_level x)) k rest) behind
-          ∙ ap (λ f. f then whole (c + classes_in (top_level x)) (d + length here) rest) (sym none) ∙ sym (faults_step whole part step) ∙ kept
+          ∙ ap (λ f. f then whole (c + classes_in (top_level x)) (d + length here) rest) (sym none) ∙ sym (failures_step whole part step) ∙ kept
 
 -- a member of a class is declared where there is room for all that are left
 pub member_room : (names : Naming) (c d : ℕ) (members : List Member) (i : ℕ) (x : Member) (end : ℕ) → i < length members → x ≡ get_or members i x →

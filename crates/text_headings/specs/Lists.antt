@@ -1,13 +1,13 @@
 -- The lists of names that `resolve` gives.
 use Rattle.std.specs.Prelude.{◌≡◌, Bool, List}
-use Rattle.sts_scope.specs.declared.entries.Sort.{Sort}
+use Rattle.sts_scope.specs.declared.entries.DeclarationKind.{DeclarationKind}
 use Rattle.sts_scope.specs.declared.entries.Entry.{Entry}
 use Rattle.text_headings.specs.declared.resolution.Which.{Which}
 use Rattle.text_headings.specs.declared.resolution.Which.TheVariants as which
 use Rattle.text_headings.specs.declared.resolution.Scopes.{Scopes}
 use Rattle.sts_scope.specs.Scopes.{is_global, is_function, is_class, names_of}
 
-abbrev pub is_one : Which → Sort → Bool
+abbrev pub is_one : Which → DeclarationKind → Bool
 is_one which.Globals s = is_global s
 is_one which.Functions s = is_function s
 is_one which.Classes s = is_class s

@@ -6,7 +6,7 @@ ghost use Rattle.sts_syntax.specs.Annotations.{annotation};
 ghost use Rattle.sts_syntax.specs.Views.{declaration, declarations, routine, parameter, parameters, optional_annotation, optional_expression, statement};
 ghost use Rattle.sts_syntax.specs.Programs.{class_member, class_members, top_level, top_levels};
 ghost use Rattle.sts_scope.specs.Values.{value_at};
-ghost use Rattle.sts_scope.specs.Faults.{Finds, ◌then◌, own, unless};
+ghost use Rattle.sts_scope.specs.Failures.{Finds, ◌then◌, own, unless};
 ghost use Rattle.sts_scope.specs.Entries as entry;
 ghost use Rattle.sts_scope.specs.Lookup as look;
 ghost use Rattle.sts_scope.specs.Headings as heading;
@@ -22,7 +22,7 @@ use sts_syntax::{Binding, Body, Item, Member, Param, Shape};
 
 /// The name of a type is known.
 fn check_type_name(classes: &ByNumber, shape: &Shape) -> Result<(), Refused>
-    ensures { Finds result (heading.type_name_fault (value_at classes.now.values.items) (annotation shape.now)) }
+    ensures { Finds result (heading.type_name_failure (value_at classes.now.values.items) (annotation shape.now)) }
 {
     let mut inner = shape;
     loop {
@@ -41,7 +41,7 @@ fn check_type_name(classes: &ByNumber, shape: &Shape) -> Result<(), Refused>
 
 /// A type is known: its name is, and it hasn't too many `[]`. What has it stands at this place.
 fn check_type(classes: &ByNumber, at: u32, shape: &Shape) -> Result<(), Refused>
-    ensures { Finds result (heading.type_fault (value_at classes.now.values.items) at (annotation shape.now)) }
+    ensures { Finds result (heading.type_failure (value_at classes.now.values.items) at (annotation shape.now)) }
 {
     check_type_name(classes, shape)?;
     unless(kind_of(classes, shape).is_some(), Code::UnknownName, at)
@@ -49,7 +49,7 @@ fn check_type(classes: &ByNumber, at: u32, shape: &Shape) -> Result<(), Refused>
 
 /// The type that is written at what stands at this place is known.
 pub fn check_written(classes: &ByNumber, at: u32, shape: &Option<Shape>) -> Result<(), Refused>
-    ensures { Finds result (heading.written_fault (value_at classes.now.values.items) at (optional_annotation shape.now)) }
+    ensures { Finds result (heading.written_failure (value_at classes.now.values.items) at (optional_annotation shape.now)) }
 {
     match shape {
         None => Ok(()),
@@ -71,7 +71,7 @@ fn note(seen: &mut BTreeSet<u32>, x: u32) -> Result<bool, Refused>
 
 /// A parameter, whose name stands before it already or doesn't.
 fn check_parameter(classes: &ByNumber, twice: bool, p: &Param) -> Result<(), Refused>
-    ensures { Finds result (own (optional_annotation p.now.shape) code.NeedsType p.now.at then unless (not twice) code.TwiceNamed p.now.at then heading.written_fault (value_at classes.now.values.items) p.now.at (optional_annotation p.now.shape)) }
+    ensures { Finds result (own (optional_annotation p.now.shape) code.NeedsType p.now.at then unless (not twice) code.TwiceNamed p.now.at then heading.written_failure (value_at classes.now.values.items) p.now.at (optional_annotation p.now.shape)) }
 {
     unless(p.shape.is_some(), Code::NeedsType, p.at)?;
     unless(!twice, Code::TwiceNamed, p.at)?;
@@ -80,7 +80,7 @@ fn check_parameter(classes: &ByNumber, twice: bool, p: &Param) -> Result<(), Ref
 
 /// The parameters of a function.
 fn check_parameters(alloc: Global, classes: &ByNumber, params: &[Param]) -> Result<(), Refused>
-    ensures { Finds result (heading.parameters_fault (value_at classes.now.values.items) (parameters params.now) 0 (parameters params.now)) }
+    ensures { Finds result (heading.parameters_failure (value_at classes.now.values.items) (parameters params.now) 0 (parameters params.now)) }
 {
     let mut seen = BTreeSet::new(alloc);
     for i in 0..params.len() {
@@ -93,7 +93,7 @@ fn check_parameters(alloc: Global, classes: &ByNumber, params: &[Param]) -> Resu
 /// The heading of a function.
 #[tactic(auto, using(sts_syntax::proofs::Laws::routine_parts))]
 fn check_routine(alloc: Global, classes: &ByNumber, body: &Body) -> Result<(), Refused>
-    ensures { Finds result (heading.routine_fault (value_at classes.now.values.items) (routine body.now)) }
+    ensures { Finds result (heading.routine_failure (value_at classes.now.values.items) (routine body.now)) }
 {
     check_parameters(alloc, classes, body.params.as_slice())?;
     check_written(classes, body.at, &body.gives)
@@ -108,7 +108,7 @@ fn check_field(
     d: usize,
     b: &Binding,
 ) -> Result<(), Refused>
-    ensures { Finds result (heading.field_fault (value_at classes.now.values.items) known.now.entries known.now.classes c d (declaration b.now)) }
+    ensures { Finds result (heading.field_failure (value_at classes.now.values.items) known.now.entries known.now.classes c d (declaration b.now)) }
 {
     unless(
         !known.entries().is_second(d, Owner::Class(c), b.name),
@@ -135,7 +135,7 @@ fn check_method(
     x: u32,
     body: &Body,
 ) -> Result<(), Refused>
-    ensures { Finds result (heading.method_fault (value_at classes.now.values.items) known.now.entries known.now.classes c d x (routine body.now)) }
+    ensures { Finds result (heading.method_failure (value_at classes.now.values.items) known.now.entries known.now.classes c d x (routine body.now)) }
 {
     let at = body.at;
     unless(
@@ -155,7 +155,7 @@ fn check_constructor(
     made: bool,
     body: &Body,
 ) -> Result<(), Refused>
-    ensures { Finds result (unless (not made) code.TwiceNamed (heading.routine_at (routine body.now)) then heading.routine_fault (value_at classes.now.values.items) (routine body.now)) }
+    ensures { Finds result (unless (not made) code.TwiceNamed (heading.routine_at (routine body.now)) then heading.routine_failure (value_at classes.now.values.items) (routine body.now)) }
 {
     let at = body.at;
     unless(!made, Code::TwiceNamed, at)?;
@@ -173,7 +173,7 @@ fn check_member(
     member: &Member,
 ) -> Result<usize, Refused>
     requires { d + length (entry.member_entry (value_at classes.now.values.items) c (class_member member.now)) < 2 ^ 64 }
-    ensures found { Finds result (heading.member_fault (value_at classes.now.values.items) known.now.entries known.now.classes c d made (class_member member.now)) }
+    ensures found { Finds result (heading.member_failure (value_at classes.now.values.items) known.now.entries known.now.classes c d made (class_member member.now)) }
     ensures next { IfOk result (λ n. n ≡ d + length (entry.member_entry (value_at classes.now.values.items) c (class_member member.now))) }
 {
     match member {
@@ -213,7 +213,7 @@ fn check_members(
     members: &[Member],
 ) -> Result<usize, Refused>
     requires { first + length (entry.member_entries (value_at classes.now.values.items) c (class_members members.now)) < 2 ^ 64 }
-    ensures found { Finds result (heading.members_fault (value_at classes.now.values.items) known.now.entries known.now.classes c first false (class_members members.now)) }
+    ensures found { Finds result (heading.members_failure (value_at classes.now.values.items) known.now.entries known.now.classes c first false (class_members members.now)) }
     ensures next { IfOk result (λ n. n ≡ first + length (entry.member_entries (value_at classes.now.values.items) c (class_members members.now))) }
 {
     let mut d = first;
@@ -235,7 +235,7 @@ fn check_item(
 ) -> Result<usize, Refused>
     requires room { d + length (entry.item_entries (value_at classes.now.values.items) (classes_before known.now.entries d) (top_level item.now)) < 2 ^ 64 }
     requires stands { IsItemAt (value_at classes.now.values.items) known.now.entries d (top_level item.now) }
-    ensures found { Finds result (heading.item_fault (value_at classes.now.values.items) known.now.entries known.now.classes (classes_before known.now.entries d) d (top_level item.now)) }
+    ensures found { Finds result (heading.item_failure (value_at classes.now.values.items) known.now.entries known.now.classes (classes_before known.now.entries d) d (top_level item.now)) }
     ensures next { IfOk result (λ n. n ≡ d + length (entry.item_entries (value_at classes.now.values.items) (classes_before known.now.entries d) (top_level item.now))) }
 {
     match item {
@@ -266,7 +266,7 @@ pub fn check_headings(
     items: &[Item],
 ) -> Result<(), Refused>
     requires { IsTextAt (value_at classes.now.values.items) known.now.entries first (top_levels items.now) }
-    ensures { Finds result (heading.headings_fault (value_at classes.now.values.items) known.now.entries known.now.classes (classes_before known.now.entries first) first (top_levels items.now)) }
+    ensures { Finds result (heading.headings_failure (value_at classes.now.values.items) known.now.entries known.now.classes (classes_before known.now.entries first) first (top_levels items.now)) }
 {
     // (all of them are in memory: that bounds every number of one)
     let _count = known.entries().len();

@@ -2,10 +2,10 @@
 ghost use Rattle.std.specs.Prelude.{◌≡◌, ℕ, ◌≤◌, ◌||◌, length, drop, is_some, OnOk, IfErr};
 ghost use Rattle.sts_scope.specs.declared.entries.Owner.TheVariants as o;
 ghost use Rattle.sts_scope.specs.Values.{value_at};
-ghost use Rattle.sts_scope.specs.Faults.{Finds};
+ghost use Rattle.sts_scope.specs.Failures.{Finds};
 ghost use Rattle.sts_scope.specs.Lookup.{declares};
-ghost use Rattle.sts_scope.specs.Globals.{name_fault, names_fault};
-ghost use Rattle.sts_scope.specs.Bases.{base_fault, bases_fault, chain_fault, chains_fault};
+ghost use Rattle.sts_scope.specs.Globals.{name_failure, names_failure};
+ghost use Rattle.sts_scope.specs.Bases.{base_failure, bases_failure, chain_failure, chains_failure};
 
 use std::alloc::Global;
 use sts_base::{Code, Refused, Tables};
@@ -24,7 +24,7 @@ fn note(seen: &mut ByNumber, e: &Entry) -> Result<(), Refused>
 
 /// A declared name of the whole text begins with no `$` and is no second one.
 fn check_name(tables: &Tables, seen: &ByNumber, e: &Entry) -> Result<(), Refused>
-    ensures { Finds result (name_fault tables.now.names e.now.owner e.now.name e.now.at (is_some (value_at seen.now.values.items e.now.name))) }
+    ensures { Finds result (name_failure tables.now.names e.now.owner e.now.name e.now.at (is_some (value_at seen.now.values.items e.now.name))) }
 {
     match e.owner {
         Owner::Whole => {
@@ -38,7 +38,7 @@ fn check_name(tables: &Tables, seen: &ByNumber, e: &Entry) -> Result<(), Refused
 /// All declared names of the text, behind those of the library.
 pub fn check_names(alloc: Global, tables: &Tables, known: &Environment) -> Result<(), Refused>
     requires { known.now.library ≤ length known.now.entries }
-    ensures { Finds result (names_fault tables.now.names known.now.entries known.now.library (drop known.now.library known.now.entries)) }
+    ensures { Finds result (names_failure tables.now.names known.now.entries known.now.library (drop known.now.library known.now.entries)) }
 {
     let mut seen = ByNumber::new(alloc);
     let entries = known.entries().as_slice();
@@ -54,7 +54,7 @@ pub fn check_names(alloc: Global, tables: &Tables, known: &Environment) -> Resul
 
 /// A base that is written is a class.
 fn check_base(class: &ClassHead) -> Result<(), Refused>
-    ensures { Finds result (base_fault class.now) }
+    ensures { Finds result (base_failure class.now) }
 {
     match class.base_name {
         None => Ok(()),
@@ -65,7 +65,7 @@ fn check_base(class: &ClassHead) -> Result<(), Refused>
 /// The bases of the classes from one on.
 pub fn check_bases(classes: &[ClassHead], from: usize) -> Result<(), Refused>
     requires { from ≤ length classes.now }
-    ensures { Finds result (bases_fault (drop from classes.now)) }
+    ensures { Finds result (bases_failure (drop from classes.now)) }
 {
     for c in from..classes.len() {
         check_base(&classes[c])?;
@@ -76,7 +76,7 @@ pub fn check_bases(classes: &[ClassHead], from: usize) -> Result<(), Refused>
 /// No chain of bases comes back, of the classes from one on.
 pub fn check_chains(known: &Environment, from: usize) -> Result<(), Refused>
     requires { from ≤ length known.now.classes }
-    ensures { Finds result (chains_fault known.now.classes from (drop from known.now.classes)) }
+    ensures { Finds result (chains_failure known.now.classes from (drop from known.now.classes)) }
 {
     let classes = known.classes();
     for c in from..classes.len() {

@@ -3,10 +3,10 @@ ghost use Rattle.std.specs.Prelude.{◌≡◌, Some, length};
 ghost use Rattle.sts_syntax.specs.Views.{statement};
 ghost use Rattle.sts_scope.specs.Entries as entry;
 ghost use Rattle.sts_scope.specs.Lookup as look;
-ghost use Rattle.sts_scope.specs.declared.entries.Sort.TheVariants as sort;
+ghost use Rattle.sts_scope.specs.declared.entries.DeclarationKind.TheVariants as sort;
 ghost use Rattle.text_headings.specs.Standing.{classes_before};
 
-use sts_scope::{Environment, Sort, sort_of};
+use sts_scope::{DeclarationKind, Environment, sort_of};
 use sts_syntax::{Form, Stmt};
 
 /// The number of the class that is the d-th declaration, by that declaration: as many classes stand before it.
@@ -15,7 +15,7 @@ pub fn class_at(known: &Environment, d: usize) -> u32
     ensures { result ≡ classes_before known.now.entries d }
 {
     match sort_of(known.entries().as_slice(), d) {
-        Some(Sort::Class(c)) => c,
+        Some(DeclarationKind::Class(c)) => c,
         _ => unreachable!(),
     }
 }

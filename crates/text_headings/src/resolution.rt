@@ -2,7 +2,7 @@
 ghost use Rattle.std.specs.Prelude.{◌≡◌, ◌++◌, ◌<◌, ◌≤◌, ◌^◌, length, IfOk, IfErr};
 ghost use Rattle.sts_scope.specs.Values.{value_at};
 ghost use Rattle.sts_syntax.specs.Programs.{program};
-ghost use Rattle.sts_scope.specs.Faults.{Finds};
+ghost use Rattle.sts_scope.specs.Failures.{Finds};
 ghost use Rattle.sts_scope.specs.Entries.{class_names};
 ghost use Rattle.sts_scope.specs.Known.{IsDeclared};
 ghost use Rattle.sts_scope.specs.Scopes as scope;
@@ -13,7 +13,7 @@ use crate::heading_checks::check_headings;
 use crate::names::{check_bases, check_chains, check_names};
 use std::alloc::Global;
 use sts_base::{NoMemory, Refused, Seq, Tables};
-use sts_scope::{Declared, Entry, Sort, declarations_of, or_no_memory};
+use sts_scope::{DeclarationKind, Declared, Entry, declarations_of, or_no_memory};
 use sts_syntax::Unit;
 
 /// The names of the globals, functions and classes of a library and a text, by their numbers in `Tables::names`: in text order, the library's first.
@@ -88,13 +88,13 @@ enum Which {
     Classes,
 }
 
-fn is_one(which: Which, sort: Sort) -> bool
+fn is_one(which: Which, sort: DeclarationKind) -> bool
     ensures { result ≡ is_one which sort }
 {
     match (which, sort) {
-        (Which::Globals, Sort::Global { fixed: _ }) => true,
-        (Which::Functions, Sort::Function) => true,
-        (Which::Classes, Sort::Class(_)) => true,
+        (Which::Globals, DeclarationKind::Global { fixed: _ }) => true,
+        (Which::Functions, DeclarationKind::Function) => true,
+        (Which::Classes, DeclarationKind::Class(_)) => true,
         (Which::Globals, _) => false,
         (Which::Functions, _) => false,
         (Which::Classes, _) => false,

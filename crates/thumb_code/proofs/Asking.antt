@@ -7,7 +7,7 @@ use Rattle.thumb_code.specs.RegisterFile.{is_odd, listed, filled, word}
 use Rattle.thumb_code.specs.Conditions.{holds}
 use Rattle.thumb_code.specs.Effect.{effect, Effect, Outcome, Goes, Asks, Stops, jumps, go, target}
 use Rattle.thumb_code.specs.Memory.{Memory, Executed, Done, Asked, Stopped, or_else, first_fault, load_all, finished, execute}
-use Rattle.thumb_code.specs.Step.{Fetched, Found, Missed, fetched, placed, ran}
+use Rattle.thumb_code.specs.Step.{Fetched, Found, Missed, fetched, stepped_at, ran}
 use Rattle.thumb_code.specs.Ram.{ram_memory}
 use Rattle.thumb_code.specs.Machine.{State, step}
 use Rattle.thumb_code.specs.Asking.{AsksOnly, ServesOnly}
@@ -61,7 +61,7 @@ module _ {S : Type 0} (w : Memory S) (s : Registers) (m : S) where
   asks_only (BCond c offset) next = either_effect (holds s.flags c) (go (target s offset) s) (go next s) (calm (go (target s offset) s) (λ ws. tt)) (calm (go next s) (λ ws. tt))
   asks_only i next = calm (effect next s i) (λ ws. tt)
 
-  placed_asks : (x : Executed S) → AsksOnly s m x → ServesOnly s m (placed s.pc x)
+  placed_asks : (x : Executed S) → AsksOnly s m x → ServesOnly s m (stepped_at s.pc x)
   placed_asks (Done r t) h = tt
   placed_asks (Asked n r t) h = h
   placed_asks (Stopped k) h = tt

@@ -3,7 +3,7 @@ use Rattle.std.proofs.Common.{◌≡◌, ℕ, ◌%◌, ◌<◌, ◌≤◌, min, 
 use Rattle.std.proofs.lemmas.Bool.Decides.{nat_tests}
 use Rattle.thumb_code.specs.Effect.{Outcome, Goes, Asks, Stops, Access, Effect}
 use Rattle.thumb_code.specs.Memory.{Memory, Executed, Done, Asked, Stopped, first_of, first_fault, load_all, store_all, finished, accessed, execute, after_move, execute_moving}
-use Rattle.thumb_code.specs.Refines.{Refines, Follows}
+use Rattle.thumb_code.specs.Refines.{Refines, DoesTheSame}
 
 both_none : (o p : Option ℕ) → first_of o p ≡ None → (o ≡ None) × (p ≡ None)
 both_none (Some k) p h = cc
@@ -61,7 +61,7 @@ stores_keep_sp m w mv R r (p ∷ ps) s n = stores_keep_sp m w mv R r ps (m.store
 
 -- the end of an instruction
 finish_follows : {S U : Type 0} (m : Memory S) (w : Memory (U × List ℕ)) (mv : U × List ℕ → ℕ → U × List ℕ) (R : ℕ → S → U → Type 0) → Refines m w mv R → (o : Outcome) (at : ℕ) (s : S) (u : U) (n : ℕ) → R at s u → m.has_sp s n ≡ true → n % 4 ≡ 0
-    → (used : List ℕ) × Follows R (finished s n o) (λ rest. after_move mv (finished (u, used ++ rest) n o))
+    → (used : List ℕ) × DoesTheSame R (finished s n o) (λ rest. after_move mv (finished (u, used ++ rest) n o))
 finish_follows m w mv R r (Goes q) at s u n h p d =
     let l = r.move at s u h n p d in
     (l.0, (l.1, l.3, λ rest. let e = l.2 rest in rw e refl))
@@ -70,14 +70,14 @@ finish_follows m w mv R r (Asks k q) at s u n h p d =
     (l.0, (l.1, l.3, λ rest. let e = l.2 rest in rw e refl))
 finish_follows m w mv R r (Stops k) at s u n h p d = ([], λ rest. refl)
 
-follows_along : {S U : Type 0} (R : ℕ → S → U → Type 0) (x : Executed S) (f g : List ℕ → Executed (U × List ℕ)) → ((rest : List ℕ) → g rest ≡ f rest) → Follows R x f → Follows R x g
+follows_along : {S U : Type 0} (R : ℕ → S → U → Type 0) (x : Executed S) (f g : List ℕ → Executed (U × List ℕ)) → ((rest : List ℕ) → g rest ≡ f rest) → DoesTheSame R x f → DoesTheSame R x g
 follows_along R (Done q s) f g e h = (h.0, h.1, λ rest. e rest ∙ h.2 rest)
 follows_along R (Asked n q s) f g e h = (h.0, h.1, λ rest. e rest ∙ h.2 rest)
 follows_along R (Stopped k) f g e h = λ rest. e rest ∙ h rest
 
 accessed_cases : {S U : Type 0} (m : Memory S) (w : Memory (U × List ℕ)) (mv : U × List ℕ → ℕ → U × List ℕ) (R : ℕ → S → U → Type 0) → Refines m w mv R → (e : Effect) (at : ℕ) (s : S) (u : U) → R at s u → m.has_sp s e.sp ≡ true → e.sp % 4 ≡ 0
     → (o1 o2 : Option ℕ) → first_fault m s false e.loads ≡ o1 → first_fault m s true (addresses e.stores) ≡ o2
-    → (used : List ℕ) × Follows R (accessed m s e) (λ rest. after_move mv (accessed w (u, used ++ rest) e))
+    → (used : List ℕ) × DoesTheSame R (accessed m s e) (λ rest. after_move mv (accessed w (u, used ++ rest) e))
 accessed_cases m w mv R r e at s u h p d (Some k) o2 q1 q2 =
     ([], rw q1 (λ rest. let f = faults_same m w mv R r e.loads false at s u rest h in rw (f, q1) refl))
 accessed_cases m w mv R r e at s u h p d None (Some k) q1 q2 =
@@ -108,13 +108,13 @@ lower_sp P a b p q = elim (nat_lt a b) as (λ t. nat_lt a b ≡ t → P (min a b
 
 composed : {S U : Type 0} (w : Memory (U × List ℕ)) (mv : U × List ℕ → ℕ → U × List ℕ) (R : ℕ → S → U → Type 0) (e : Effect) (u v : U) (sp : ℕ) (lu au : List ℕ) (x y : Executed S) → y ≡ x
     → ((free : List ℕ) → w.has_sp (u, free) e.sp ≡ true) → ((rest : List ℕ) → mv (u, lu ++ rest) (min sp e.sp) ≡ (v, rest))
-    → Follows R x (λ rest. after_move mv (accessed w (v, au ++ rest) e)) → Follows R y (λ rest. execute_moving w mv (u, (lu ++ au) ++ rest) sp e)
-composed w mv R e u v sp lu au x y same f g h = subst (λ z. Follows R z (λ rest. execute_moving w mv (u, (lu ++ au) ++ rest) sp e)) (sym same) (follows_along R x (λ rest. after_move mv (accessed w (v, au ++ rest) e)) (λ rest. execute_moving w mv (u, (lu ++ au) ++ rest) sp e)
+    → DoesTheSame R x (λ rest. after_move mv (accessed w (v, au ++ rest) e)) → DoesTheSame R y (λ rest. execute_moving w mv (u, (lu ++ au) ++ rest) sp e)
+composed w mv R e u v sp lu au x y same f g h = subst (λ z. DoesTheSame R z (λ rest. execute_moving w mv (u, (lu ++ au) ++ rest) sp e)) (sym same) (follows_along R x (λ rest. after_move mv (accessed w (v, au ++ rest) e)) (λ rest. execute_moving w mv (u, (lu ++ au) ++ rest) sp e)
     (λ rest. let p = f ((lu ++ au) ++ rest) in let c = g (au ++ rest) in rw (p, append_assoc lu au rest, c) refl) h)
 
 refined_cases : {S U : Type 0} (m : Memory S) (w : Memory (U × List ℕ)) (mv : U × List ℕ → ℕ → U × List ℕ) (R : ℕ → S → U → Type 0) → Refines m w mv R → (e : Effect) (sp : ℕ) (s : S) (u : U) → R sp s u
     → m.has_sp s sp ≡ true → sp % 4 ≡ 0 → e.sp % 4 ≡ 0 → (b : Bool) → m.has_sp s e.sp ≡ b
-    → (used : List ℕ) × Follows R (execute m s e) (λ rest. execute_moving w mv (u, used ++ rest) sp e)
+    → (used : List ℕ) × DoesTheSame R (execute m s e) (λ rest. execute_moving w mv (u, used ++ rest) sp e)
 refined_cases m w mv R r e sp s u h p d d' false q =
     ([], rw q (λ rest. let f = r.has_sp sp s u rest h e.sp in rw (f, q) refl))
 refined_cases m w mv R r e sp s u h p d d' true q =
@@ -127,5 +127,5 @@ refined_cases m w mv R r e sp s u h p d d' true q =
 -- an effect that leaves SP a multiple of 4
 pub refined : {S U : Type 0} (m : Memory S) (w : Memory (U × List ℕ)) (mv : U × List ℕ → ℕ → U × List ℕ) (R : ℕ → S → U → Type 0) → Refines m w mv R → (e : Effect) (sp : ℕ) (s : S) (u : U) → R sp s u
     → m.has_sp s sp ≡ true → sp % 4 ≡ 0 → e.sp % 4 ≡ 0
-    → (used : List ℕ) × Follows R (execute m s e) (λ rest. execute_moving w mv (u, used ++ rest) sp e)
+    → (used : List ℕ) × DoesTheSame R (execute m s e) (λ rest. execute_moving w mv (u, used ++ rest) sp e)
 refined m w mv R r e sp s u h p d d' = refined_cases m w mv R r e sp s u h p d d' (m.has_sp s e.sp) refl

@@ -6,9 +6,9 @@ use Rattle.thumb_code.specs.declared.register_file.Registers.{Registers}
 use Rattle.thumb_code.specs.RegisterFile.{reg, put_reg, word}
 use Rattle.thumb_code.specs.Effect.{Effect, effect}
 use Rattle.thumb_code.specs.Memory.{Memory, Executed, Done, Asked, Stopped, execute, execute_moving}
-use Rattle.thumb_code.specs.Step.{Fetched, Found, Missed, ran, placed}
+use Rattle.thumb_code.specs.Step.{Fetched, Found, Missed, ran, stepped_at}
 use Rattle.thumb_code.specs.Run.{Ran, Still, AskedAfter, Broke, runs, from_step}
-use Rattle.thumb_code.specs.Refines.{Refines, Follows, FollowsRan, over, over_moving}
+use Rattle.thumb_code.specs.Refines.{Refines, DoesTheSame, RunsTheSame, over, over_moving}
 use Rattle.thumb_code.proofs.Refine.{refined}
 
 cond_sp : (b : Bool) (x y : Effect) → x.sp % 4 ≡ 0 → y.sp % 4 ≡ 0 → (cond b x y).sp % 4 ≡ 0
@@ -35,27 +35,27 @@ aligned_sp (Pop a b) next s h = omega arith
 aligned_sp (BCond a b) next s h = cond_sp _ _ _ h h
 aligned_sp _ next s h = h
 
-follows_ran_along : {S U : Type 0} (R : ℕ → S → U → Type 0) (x : Ran S) (f g : List ℕ → Ran (U × List ℕ)) → ((rest : List ℕ) → g rest ≡ f rest) → FollowsRan R x f → FollowsRan R x g
+follows_ran_along : {S U : Type 0} (R : ℕ → S → U → Type 0) (x : Ran S) (f g : List ℕ → Ran (U × List ℕ)) → ((rest : List ℕ) → g rest ≡ f rest) → RunsTheSame R x f → RunsTheSame R x g
 follows_ran_along R (Still q s) f g e h = (h.0, h.1, λ rest. e rest ∙ h.2 rest)
 follows_ran_along R (AskedAfter n k q s) f g e h = (h.0, h.1, λ rest. e rest ∙ h.2 rest)
 follows_ran_along R (Broke k at) f g e h = λ rest. e rest ∙ h rest
 
 -- one instruction and then the rest of the run
 after_one : {S U : Type 0} (m : Memory S) (w : Memory (U × List ℕ)) (mv : U × List ℕ → ℕ → U × List ℕ) (R : ℕ → S → U → Type 0) (fetch : ℕ → Fetched) (n pc : ℕ)
-    → ((q : Registers) (s : S) (u : U) → R q.sp s u → (used : List ℕ) × FollowsRan R (runs (over m) fetch n q s) (λ rest. runs (over_moving w mv) fetch n q (u, used ++ rest)))
-    → (t : Executed S) (f : List ℕ → Executed (U × List ℕ)) → Follows R t f
-    → (used : List ℕ) × FollowsRan R (from_step (runs (over m) fetch n) n (placed pc t)) (λ rest. from_step (runs (over_moving w mv) fetch n) n (placed pc (f (used ++ rest))))
+    → ((q : Registers) (s : S) (u : U) → R q.sp s u → (used : List ℕ) × RunsTheSame R (runs (over m) fetch n q s) (λ rest. runs (over_moving w mv) fetch n q (u, used ++ rest)))
+    → (t : Executed S) (f : List ℕ → Executed (U × List ℕ)) → DoesTheSame R t f
+    → (used : List ℕ) × RunsTheSame R (from_step (runs (over m) fetch n) n (stepped_at pc t)) (λ rest. from_step (runs (over_moving w mv) fetch n) n (stepped_at pc (f (used ++ rest))))
 after_one m w mv R fetch n pc go (Done q s) f h =
     let i = go q s h.0 h.1 in
-    (i.0, follows_ran_along R (runs (over m) fetch n q s) (λ rest. runs (over_moving w mv) fetch n q (h.0, i.0 ++ rest)) (λ rest. from_step (runs (over_moving w mv) fetch n) n (placed pc (f (i.0 ++ rest)))) (λ rest. let e = h.2 (i.0 ++ rest) in rw e refl) i.1)
+    (i.0, follows_ran_along R (runs (over m) fetch n q s) (λ rest. runs (over_moving w mv) fetch n q (h.0, i.0 ++ rest)) (λ rest. from_step (runs (over_moving w mv) fetch n) n (stepped_at pc (f (i.0 ++ rest)))) (λ rest. let e = h.2 (i.0 ++ rest) in rw e refl) i.1)
 after_one m w mv R fetch n pc go (Asked k q s) f h = ([], (h.0, h.1, λ rest. let e = h.2 rest in rw e refl))
 after_one m w mv R fetch n pc go (Stopped k) f h = ([], λ rest. let e = h rest in rw e refl)
 
 -- the step at what was fetched
 fetched_follows : {S U : Type 0} (m : Memory S) (w : Memory (U × List ℕ)) (mv : U × List ℕ → ℕ → U × List ℕ) (R : ℕ → S → U → Type 0) → Refines m w mv R → (fetch : ℕ → Fetched) (n : ℕ)
-    → ((q : Registers) (s : S) (u : U) → R q.sp s u → (used : List ℕ) × FollowsRan R (runs (over m) fetch n q s) (λ rest. runs (over_moving w mv) fetch n q (u, used ++ rest)))
+    → ((q : Registers) (s : S) (u : U) → R q.sp s u → (used : List ℕ) × RunsTheSame R (runs (over m) fetch n q s) (λ rest. runs (over_moving w mv) fetch n q (u, used ++ rest)))
     → (x : Fetched) (q : Registers) (s : S) (u : U) → R q.sp s u
-    → (used : List ℕ) × FollowsRan R (from_step (runs (over m) fetch n) n (ran (over m q s) q x)) (λ rest. from_step (runs (over_moving w mv) fetch n) n (ran (over_moving w mv q (u, used ++ rest)) q x))
+    → (used : List ℕ) × RunsTheSame R (from_step (runs (over m) fetch n) n (ran (over m q s) q x)) (λ rest. from_step (runs (over_moving w mv) fetch n) n (ran (over_moving w mv q (u, used ++ rest)) q x))
 fetched_follows m w mv R r fetch n go (Missed k at) q s u h = ([], λ rest. refl)
 fetched_follows m w mv R r fetch n go (Found i next) q s u h =
     let d = (r.sp_in q.sp s u h) in
@@ -63,13 +63,13 @@ fetched_follows m w mv R r fetch n go (Found i next) q s u h =
     let a = after_one m w mv R fetch n q.pc go (execute m s (effect next q i)) (λ rest. execute_moving w mv (u, f.0 ++ rest) q.sp (effect next q i)) f.1 in (
       f.0 ++ a.0,
       follows_ran_along R (from_step (runs (over m) fetch n) n (ran (over m q s) q (Found i next)))
-          (λ rest. from_step (runs (over_moving w mv) fetch n) n (placed q.pc (execute_moving w mv (u, f.0 ++ (a.0 ++ rest)) q.sp (effect next q i))))
+          (λ rest. from_step (runs (over_moving w mv) fetch n) n (stepped_at q.pc (execute_moving w mv (u, f.0 ++ (a.0 ++ rest)) q.sp (effect next q i))))
           (λ rest. from_step (runs (over_moving w mv) fetch n) n (ran (over_moving w mv q (u, (f.0 ++ a.0) ++ rest)) q (Found i next)))
-          (λ rest. ap (λ l. from_step (runs (over_moving w mv) fetch n) n (placed q.pc (execute_moving w mv (u, l) q.sp (effect next q i)))) (append_assoc f.0 a.0 rest)) a.1,
+          (λ rest. ap (λ l. from_step (runs (over_moving w mv) fetch n) n (stepped_at q.pc (execute_moving w mv (u, l) q.sp (effect next q i)))) (append_assoc f.0 a.0 rest)) a.1,
     )
 
 -- For each run over the one memory there is a list of free words with which the other does the same, whatever follows it.
 pub runs_follow : {S U : Type 0} (m : Memory S) (w : Memory (U × List ℕ)) (mv : U × List ℕ → ℕ → U × List ℕ) (R : ℕ → S → U → Type 0) → Refines m w mv R → (fetch : ℕ → Fetched) (n : ℕ) (q : Registers) (s : S) (u : U) → R q.sp s u
-    → (used : List ℕ) × FollowsRan R (runs (over m) fetch n q s) (λ rest. runs (over_moving w mv) fetch n q (u, used ++ rest))
+    → (used : List ℕ) × RunsTheSame R (runs (over m) fetch n q s) (λ rest. runs (over_moving w mv) fetch n q (u, used ++ rest))
 runs_follow m w mv R r fetch zero q s u h = ([], (u, h, λ rest. refl))
 runs_follow m w mv R r fetch (suc n) q s u h = fetched_follows m w mv R r fetch n (λ q' s' u' h'. runs_follow m w mv R r fetch n q' s' u' h') (fetch q.pc) q s u h

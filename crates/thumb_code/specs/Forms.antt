@@ -99,9 +99,9 @@ abbrev pub stores : ℕ → Registers → ℕ → ℕ → ℕ → Effect
 stores next s rt at bytes = record { sp = s.sp; loads = []; stores = (access at bytes, low s rt % 2 ^ (bytes * 8)) ∷ []; after = λ _. Goes (record s { pc = next }) }
 
 -- So many words from an address on.
-abbrev pub words_from : ℕ → ℕ → List Access
-words_from at zero = []
-words_from at (suc n) = access at 4 ∷ words_from (at + 4) n
+abbrev pub word_accesses : ℕ → ℕ → List Access
+word_accesses at zero = []
+word_accesses at (suc n) = access at 4 ∷ word_accesses (at + 4) n
 
 -- These words to an address and on.
 abbrev pub words_to : ℕ → List ℕ → List (Access × ℕ)
@@ -122,7 +122,7 @@ pops next s ks p =
     let sp = word (s.sp + 4 * all) in
     record {
       sp = sp;
-      loads = words_from s.sp all;
+      loads = word_accesses s.sp all;
       stores = [];
       after = λ ws.
           let t = record s { r = filled s.r ks ws; sp = sp; pc = next } in
@@ -138,4 +138,4 @@ stores_many next s rn ks =
 abbrev pub loads_many : ℕ → Registers → ℕ → List ℕ → Bool → Effect
 loads_many next s rn ks loads_base =
     let r = if loads_base then s.r else slice_set s.r rn (word (low s rn + 4 * length ks)) in
-    record { sp = s.sp; loads = words_from (low s rn) (length ks); stores = []; after = λ ws. Goes (record s { r = filled r ks ws; pc = next }) }
+    record { sp = s.sp; loads = word_accesses (low s rn) (length ks); stores = []; after = λ ws. Goes (record s { r = filled r ks ws; pc = next }) }

@@ -30,13 +30,13 @@ pub record Refines {S U : Type 0} (m : Memory S) (w : Memory (U × List ℕ)) (m
       (used : List ℕ) × (u' : U) × ((rest : List ℕ) → moved (u, used ++ rest) n ≡ (u', rest)) × R n s u'
 
 -- The second does what the first did, and leaves the rest of the free words.
-abbrev pub Follows : {S U : Type 0} → (ℕ → S → U → Type 0) → Executed S → (List ℕ → Executed (U × List ℕ)) → Type 0
-Follows R (Done r s) f = (u : _) × R r.sp s u × ((rest : List ℕ) → f rest ≡ Done r (u, rest))
-Follows R (Asked n r s) f = (u : _) × R r.sp s u × ((rest : List ℕ) → f rest ≡ Asked n r (u, rest))
-Follows R (Stopped k) f = (rest : List ℕ) → f rest ≡ Stopped k
+abbrev pub DoesTheSame : {S U : Type 0} → (ℕ → S → U → Type 0) → Executed S → (List ℕ → Executed (U × List ℕ)) → Type 0
+DoesTheSame R (Done r s) f = (u : _) × R r.sp s u × ((rest : List ℕ) → f rest ≡ Done r (u, rest))
+DoesTheSame R (Asked n r s) f = (u : _) × R r.sp s u × ((rest : List ℕ) → f rest ≡ Asked n r (u, rest))
+DoesTheSame R (Stopped k) f = (rest : List ℕ) → f rest ≡ Stopped k
 
 -- The same of a run.
-abbrev pub FollowsRan : {S U : Type 0} → (ℕ → S → U → Type 0) → Ran S → (List ℕ → Ran (U × List ℕ)) → Type 0
-FollowsRan R (Still r s) f = (u : _) × R r.sp s u × ((rest : List ℕ) → f rest ≡ Still r (u, rest))
-FollowsRan R (AskedAfter n k r s) f = (u : _) × R r.sp s u × ((rest : List ℕ) → f rest ≡ AskedAfter n k r (u, rest))
-FollowsRan R (Broke k at) f = (rest : List ℕ) → f rest ≡ Broke k at
+abbrev pub RunsTheSame : {S U : Type 0} → (ℕ → S → U → Type 0) → Ran S → (List ℕ → Ran (U × List ℕ)) → Type 0
+RunsTheSame R (Still r s) f = (u : _) × R r.sp s u × ((rest : List ℕ) → f rest ≡ Still r (u, rest))
+RunsTheSame R (AskedAfter n k r s) f = (u : _) × R r.sp s u × ((rest : List ℕ) → f rest ≡ AskedAfter n k r (u, rest))
+RunsTheSame R (Broke k at) f = (rest : List ℕ) → f rest ≡ Broke k at

@@ -45,12 +45,12 @@ fetched flash base pc =
     else Missed stack_range base
 
 -- The address of a fault is that of the instruction.
-abbrev pub placed : {S : Type 0} → ℕ → Executed S → Stepped S
-placed at (Done r t) = On r t
-placed at (Asked n r t) = Served n r t
-placed at (Stopped k) = Faulted k at
+abbrev pub stepped_at : {S : Type 0} → ℕ → Executed S → Stepped S
+stepped_at at (Done r t) = On r t
+stepped_at at (Asked n r t) = Served n r t
+stepped_at at (Stopped k) = Faulted k at
 
 -- The step from these registers, by what stands at PC and what an effect comes to over a memory.
 abbrev pub ran : {S : Type 0} → (Effect → Executed S) → Registers → Fetched → Stepped S
-ran over s (Found i next) = placed s.pc (over (effect next s i))
+ran over s (Found i next) = stepped_at s.pc (over (effect next s i))
 ran over s (Missed k at) = Faulted k at

@@ -6,7 +6,7 @@ use Rattle.thumb_code.specs.Map.{stack_at, is_base}
 use Rattle.thumb_code.specs.Step.{Fetched, fetched}
 use Rattle.thumb_code.specs.Run.{Executor, Still, runs, from_step}
 use Rattle.thumb_code.specs.Refines.{over_moving}
-use Rattle.thumb_layout.specs.Holds.{Reads, Reaches, Silent}
+use Rattle.thumb_layout.specs.Holds.{Reads, ComesSilently, Silent}
 use Rattle.bank_model.specs.Bank.{Bank, bank_sp, bank_memory, bank_move}
 use Rattle.thumb_divide.specs.Routine.{HasRoutine}
 use Rattle.thumb_divide.specs.Steady.{IsQuiet, Steps, Within}
@@ -31,7 +31,7 @@ steps_silent over fetch t zero r q e = ap (λ x. Still x t) e
 steps_silent over fetch t (suc n) r q (m, first, others) = ap (from_step (runs over fetch n) n) first ∙ steps_silent over fetch t n m q others
 
 -- the same as a run of silent instructions
-pub within_reaches : {S : Type 0} (over : Executor S) (fetch : ℕ → Fetched) (t : S) (most : ℕ) (r q : Registers) → Within over fetch t most r q → Reaches over fetch 0 most r t q t
+pub within_reaches : {S : Type 0} (over : Executor S) (fetch : ℕ → Fetched) (t : S) (most : ℕ) (r q : Registers) → Within over fetch t most r q → ComesSilently over fetch 0 most r t q t
 within_reaches over fetch t most r q w = record { count = w.count; some = omega arith; few = w.few; silent = steps_silent over fetch t w.count r q w.steps }
 
 no : (x y : ℕ) → y ≤ x → nat_lt x y ≡ false

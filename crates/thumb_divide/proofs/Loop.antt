@@ -10,7 +10,7 @@ use Rattle.thumb_code.specs.Arithmetic.{sum_flags, inverted, nzc, nz, carry}
 use Rattle.thumb_code.specs.Conditions.{holds}
 use Rattle.thumb_code.specs.Forms.{ends, Goes}
 use Rattle.thumb_code.specs.Effect.{effect}
-use Rattle.thumb_code.specs.Step.{Fetched, ran, placed}
+use Rattle.thumb_code.specs.Step.{Fetched, ran, stepped_at}
 use Rattle.thumb_code.specs.Run.{Executor}
 use Rattle.thumb_divide.specs.Routine.{routine, HoldsRoutine}
 use Rattle.thumb_divide.specs.Steady.{IsQuiet, One, Steps, Within}
@@ -28,8 +28,8 @@ module _ {S : Type 0} (over : Executor S) (fetch : ℕ → Fetched) (t : S) (sp 
   one i x r q e p u v w =
       ap (λ a. ran (over r t) r (fetch a)) p
       ∙ (ap (ran (over r t) r) (code.each i x e)
-      ∙ (ap (λ y. placed r.pc (over r t y)) w
-      ∙ ap (placed r.pc) (quiet r q u v)))
+      ∙ (ap (λ y. stepped_at r.pc (over r t y)) w
+      ∙ ap (stepped_at r.pc) (quiet r q u v)))
 
   step : (r m q : Registers) (n : ℕ) → One over fetch t r m → Most n m q → Most (n + 1) r q
   step r m q n o w = let f = w.few in record { count = suc w.count; few = omega arith; steps = (m, o, w.steps) }

@@ -10,7 +10,7 @@ use Rattle.thumb_layout.specs.declared.pieces.Piece.TheVariants.{Plain, Label, G
 use Rattle.thumb_layout.specs.declared.pieces.Entry.{Entry}
 use Rattle.thumb_layout.specs.declared.pieces.Entry.TheVariants.{Value}
 use Rattle.thumb_layout.specs.declared.laid.Laid.{Laid}
-use Rattle.thumb_layout.specs.declared.places.Place.{Place}
+use Rattle.thumb_layout.specs.declared.places.PieceOffsets.{PieceOffsets}
 use Rattle.thumb_layout.specs.Pieces.{goes_on, is_small}
 use Rattle.thumb_layout.specs.Soundness.{IsSoundPiece, IsSound}
 use Rattle.thumb_layout.specs.Layout.{Wait, Chunk, loads_at, up, over_pool, end_of, chunk, form_of, rest_of, pass, nth, label_at}
@@ -126,7 +126,7 @@ drop_pool n at P rest [] e = let z : n + 0 ≡ n = omega arith in rw z e
 drop_pool n at P rest (w ∷ ws) e = drop_more n P (up at) rest e
 
 -- the loop that writes: what is written, and what is left to write, is the whole
-pub record WriteLoop (xs : List Piece) (rest : List Piece) (left : List ℕ) (places : List Place) (starts : List ℕ) (code : Laid) (waiting : List Entry) (passed : ℕ) : Type 0 where
+pub record WriteLoop (xs : List Piece) (rest : List Piece) (left : List ℕ) (places : List PieceOffsets) (starts : List ℕ) (code : Laid) (waiting : List Entry) (passed : ℕ) : Type 0 where
   pub waits : List Wait
   pub at : ℕ
   pub waiting_is : waiting ≡ entries waits
@@ -175,11 +175,11 @@ has_few (Address rd w) = omega arith
 abbrev to_of : List Piece → ℕ → ℕ
 to_of xs l = label_at xs (layout xs) l
 
-head_place : (p q : Place) (ps qs : List Place) → p ∷ ps ≡ q ∷ qs → (p ≡ q) × (ps ≡ qs)
+head_place : (p q : PieceOffsets) (ps qs : List PieceOffsets) → p ∷ ps ≡ q ∷ qs → (p ≡ q) × (ps ≡ qs)
 head_place p q ps qs e = (cc, cc)
 
 -- before a piece
-module _ (xs rest : List Piece) (x : Piece) (f : ℕ) (left : List ℕ) (place : Place) (places : List Place) (P : List ℕ) (n : ℕ) (code : Laid) (waiting : List Entry)
+module _ (xs rest : List Piece) (x : Piece) (f : ℕ) (left : List ℕ) (place : PieceOffsets) (places : List PieceOffsets) (P : List ℕ) (n : ℕ) (code : Laid) (waiting : List Entry)
     (few : counted xs ≤ 32768) (h : WriteLoop xs (x ∷ rest) (f ∷ left) (place ∷ places) (drop n P) code waiting n) where
   abbrev ws : List Wait
   ws = h.waits
@@ -334,7 +334,7 @@ module _ (xs rest : List Piece) (x : Piece) (f : ℕ) (left : List ℕ) (place :
           (e8 ∙ ap entries (sym off.1)) (e9 ∙ ap (λ z. n2 + pools_in z) w)
 
 -- from places in lists to lists
-pub open_at : (xs : List Piece) (fs : List ℕ) (all : List Place) (starts : List ℕ) (i : ℕ) (d : Piece) (e : Place) (code : Laid) (waiting : List Entry) (n : ℕ) → i < length xs → length fs ≡ length xs → length all ≡ length xs + 1
+pub open_at : (xs : List Piece) (fs : List ℕ) (all : List PieceOffsets) (starts : List ℕ) (i : ℕ) (d : Piece) (e : PieceOffsets) (code : Laid) (waiting : List Entry) (n : ℕ) → i < length xs → length fs ≡ length xs → length all ≡ length xs + 1
     → WriteLoop xs (drop i xs) (drop i fs) (drop i all) starts code waiting n
     → WriteLoop xs (get_or xs i d ∷ drop (i + 1) xs) (get_or fs i 0 ∷ drop (i + 1) fs) (get_or all i e ∷ drop (i + 1) all) starts code waiting n
 open_at xs fs all starts i d e code waiting n l a b h =
@@ -345,7 +345,7 @@ open_at xs fs all starts i d e code waiting n l a b h =
 small_enough : (xs : List Piece) → counted xs ≤ 32768 → bytes_of xs + 8 < 2 ^ 20
 small_enough xs f = let a = bytes_most xs in let b = most_counted xs in omega arith
 
-pub write_init : (xs : List Piece) (fs : List ℕ) (places : List Place) (starts : List ℕ) (code : Laid) (waiting : List Entry) (n : ℕ) → IsSound xs → counted xs ≤ 32768 → fs ≡ forms xs → places ≡ map place_of (layout xs) → starts ≡ pools (layout xs)
+pub write_init : (xs : List Piece) (fs : List ℕ) (places : List PieceOffsets) (starts : List ℕ) (code : Laid) (waiting : List Entry) (n : ℕ) → IsSound xs → counted xs ≤ 32768 → fs ≡ forms xs → places ≡ map place_of (layout xs) → starts ≡ pools (layout xs)
     → code ≡ nothing → waiting ≡ [] → n ≡ 0 → WriteLoop xs xs fs places starts code waiting n
 write_init xs fs places starts code waiting n s few e p q a b z =
     subst (λ g. WriteLoop xs xs g places starts code waiting n) (sym e)
@@ -366,12 +366,12 @@ write_init xs fs places starts code waiting n s few e p q a b z =
       whole = ap (λ g. with_cells g (cells_of xs)) a;
     }
 
-pub write_end : (xs : List Piece) (left : List ℕ) (places : List Place) (starts : List ℕ) (code code' : Laid) (waiting : List Entry) (n : ℕ) → WriteLoop xs [] left places starts code waiting n
+pub write_end : (xs : List Piece) (left : List ℕ) (places : List PieceOffsets) (starts : List ℕ) (code code' : Laid) (waiting : List Entry) (n : ℕ) → WriteLoop xs [] left places starts code waiting n
     → code' ≡ with_cells code (entry_pool (length code.bytes) waiting) → code' ≡ laid xs
 write_end xs left places starts code code' waiting n h e =
     e ∙ (ap (λ q. with_cells code (entry_pool q waiting)) h.here ∙ (ap (λ q. with_cells code (entry_pool h.at q)) h.waiting_is ∙ (ap (with_cells code) (sym (pool_same h.at h.waits)) ∙ h.whole)))
 
-pub end_small : (xs rest : List Piece) (left : List ℕ) (places : List Place) (starts : List ℕ) (code : Laid) (waiting : List Entry) (n : ℕ) → counted xs ≤ 32768 → WriteLoop xs rest left places starts code waiting n
+pub end_small : (xs rest : List Piece) (left : List ℕ) (places : List PieceOffsets) (starts : List ℕ) (code : Laid) (waiting : List Entry) (n : ℕ) → counted xs ≤ 32768 → WriteLoop xs rest left places starts code waiting n
     → (length code.bytes < 2 ^ 20) × (length waiting < 2 ^ 18) × (n < 2 ^ 20)
 end_small xs rest left places starts code waiting n f h =
     let m = most_counted xs in let b = h.bound in let a = h.here in let k = h.few in
@@ -379,7 +379,7 @@ end_small xs rest left places starts code waiting n f h =
     (omega arith, omega arith, omega arith)
 
 -- where a branch goes
-pub lead_at : (xs : List Piece) (all : List Place) (targets : List ℕ) (i : ℕ) (d : Piece) (e : Place) → all ≡ map place_of (layout xs) → targets ≡ targets_of xs → i < length xs
+pub lead_at : (xs : List Piece) (all : List PieceOffsets) (targets : List ℕ) (i : ℕ) (d : Piece) (e : PieceOffsets) → all ≡ map place_of (layout xs) → targets ≡ targets_of xs → i < length xs
     → (c l : ℕ) → get_or xs i d ≡ Go c l → (get_or all (get_or targets i 0) e).at ≡ to_of xs l
 lead_at xs all targets i d e p t b c l g =
     let k : get_or targets i 0 ≡ target_of xs (Go c l) = ap (λ q. get_or q i 0) t ∙ (target_at xs i d b ∙ ap (target_of xs) g) in
@@ -387,7 +387,7 @@ lead_at xs all targets i d e p t b c l g =
     let n = pass_length xs (forms xs) [] 0 in
     ap (λ q. (get_or all q e).at) k ∙ (ap (λ q. (get_or q (target_of xs (Go c l)) e).at) p ∙ ap (λ q. q.at) (place_at (layout xs) (target_of xs (Go c l)) e (omega arith)))
 
-pub lead_small : (xs : List Piece) (all : List Place) (j : ℕ) (e : Place) → all ≡ map place_of (layout xs) → counted xs ≤ 32768 → j < length all → (get_or all j e).at < 2 ^ 20
+pub lead_small : (xs : List Piece) (all : List PieceOffsets) (j : ℕ) (e : PieceOffsets) → all ≡ map place_of (layout xs) → counted xs ≤ 32768 → j < length all → (get_or all j e).at < 2 ^ 20
 lead_small xs all j e p f l =
     let n : length all ≡ length (layout xs) = ap length p ∙ length-map (layout xs) place_of in
     let a : (get_or all j e).at ≡ (nth (layout xs) j).at = ap (λ q. (get_or q j e).at) p ∙ ap (λ q. q.at) (place_at (layout xs) j e (omega arith)) in
@@ -405,7 +405,7 @@ pub no_start : (P : List ℕ) (n : ℕ) → length P ≤ n → 0 ≡ first (drop
 no_start P n l = sym (ap first (drop_all n P l))
 
 -- the same by the index of the piece
-module _ (xs : List Piece) (fs : List ℕ) (all : List Place) (P : List ℕ) (i : ℕ) (d : Piece) (e : Place) (n : ℕ) (code : Laid) (waiting : List Entry)
+module _ (xs : List Piece) (fs : List ℕ) (all : List PieceOffsets) (P : List ℕ) (i : ℕ) (d : Piece) (e : PieceOffsets) (n : ℕ) (code : Laid) (waiting : List Entry)
     (few : counted xs ≤ 32768) (l : i < length xs) (a : fs ≡ forms xs) (b : all ≡ map place_of (layout xs)) (h : WriteLoop xs (drop i xs) (drop i fs) (drop i all) (drop n P) code waiting n) where
   abbrev rest : List Piece
   rest = drop (i + 1) xs
@@ -419,10 +419,10 @@ module _ (xs : List Piece) (fs : List ℕ) (all : List Place) (P : List ℕ) (i 
   abbrev left : List ℕ
   left = drop (i + 1) fs
 
-  abbrev place : Place
+  abbrev place : PieceOffsets
   place = get_or all i e
 
-  abbrev places' : List Place
+  abbrev places' : List PieceOffsets
   places' = drop (i + 1) all
 
   pub all_long : length all ≡ length xs + 1

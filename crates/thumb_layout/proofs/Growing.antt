@@ -6,7 +6,7 @@ use Rattle.thumb_layout.proofs.Settling.{limit_two, short_proper, proper_round, 
 use Rattle.std.proofs.lemmas.Option.{slice_get-get_or}
 use Rattle.thumb_layout.specs.declared.pieces.Piece.{Piece}
 use Rattle.thumb_layout.specs.declared.pieces.Piece.TheVariants.{Plain, Label, Go, CallTo, Number, Address}
-use Rattle.thumb_layout.specs.declared.places.Place.{Place}
+use Rattle.thumb_layout.specs.declared.places.PieceOffsets.{PieceOffsets}
 use Rattle.thumb_layout.specs.Soundness.{times, IsSound}
 use Rattle.thumb_layout.specs.Layout.{Wait, Chunk, nowhere, nth, end_of, chunk, form_of, rest_of, pass, chunks, label_index, label_at}
 use Rattle.thumb_layout.specs.Rounds.{fits, lengthened, round, rounds, short, forms, IsLimited, total}
@@ -45,7 +45,7 @@ nth_get [] i = refl
 nth_get (c ∷ cs) zero = refl
 nth_get (c ∷ cs) (suc i) = nth_get cs i
 
-pub place_at : (cs : List Chunk) (i : ℕ) (d : Place) → i < length cs → get_or (map place_of cs) i d ≡ place_of (nth cs i)
+pub place_at : (cs : List Chunk) (i : ℕ) (d : PieceOffsets) → i < length cs → get_or (map place_of cs) i d ≡ place_of (nth cs i)
 place_at cs i d h = get_or-map place_of cs i nowhere d h ∙ ap place_of (nth_get cs i)
 
 -- where a branch goes
@@ -70,7 +70,7 @@ fits_same to (Number rd v) c f b t e g = refl
 fits_same to (Address rd w) c f b t e g = refl
 
 -- what the code tests of piece i is whether it fits
-pub fits_at : (xs : List Piece) (cs : List Chunk) (i : ℕ) (x : Piece) (f : ℕ) (dp dt : Place) (places : List Place) (targets : List ℕ) → places ≡ map place_of cs → length cs ≡ length xs + 1 → i < length xs
+pub fits_at : (xs : List Piece) (cs : List Chunk) (i : ℕ) (x : Piece) (f : ℕ) (dp dt : PieceOffsets) (places : List PieceOffsets) (targets : List ℕ) → places ≡ map place_of cs → length cs ≡ length xs + 1 → i < length xs
     → get_or targets i 0 ≡ target_of xs x
     → fits (λ l. (get_or places (get_or targets i 0) dt).at) x (record nowhere { body = (get_or places i dp).body }) f ≡ fits (label_at xs cs) x (nth cs i) f
 fits_at xs cs i x f dp dt places targets p n l t =
@@ -201,10 +201,10 @@ pub targets_step : (xs : List Piece) (i : ℕ) (d : Piece) (out out' : List ℕ)
 targets_step xs i d out out' t l o e h =
     o ∙ (ap (λ q. q ++ t ∷ []) h ∙ (ap (λ q. map (target_of xs) (take i xs) ++ q ∷ []) e ∙ (sym (map-append (target_of xs) (take i xs) (get_or xs i d ∷ [])) ∙ sym (ap (map (target_of xs)) (take_more xs i d l)))))
 
-pub places_long : (xs : List Piece) (fs : List ℕ) (places : List Place) → places ≡ map place_of (chunks xs fs) → length places ≡ length xs + 1
+pub places_long : (xs : List Piece) (fs : List ℕ) (places : List PieceOffsets) → places ≡ map place_of (chunks xs fs) → length places ≡ length xs + 1
 places_long xs fs places p = ap length p ∙ (length-map (chunks xs fs) place_of ∙ pass_length xs fs [] 0)
 
-pub target_bound : (xs : List Piece) (fs : List ℕ) (places : List Place) (targets : List ℕ) (i : ℕ) (d : Piece) → places ≡ map place_of (chunks xs fs) → targets ≡ targets_of xs → i < length xs → get_or targets i 0 < length places
+pub target_bound : (xs : List Piece) (fs : List ℕ) (places : List PieceOffsets) (targets : List ℕ) (i : ℕ) (d : Piece) → places ≡ map place_of (chunks xs fs) → targets ≡ targets_of xs → i < length xs → get_or targets i 0 < length places
 target_bound xs fs places targets i d p t l =
     let a = places_long xs fs places p in
     let b : get_or targets i 0 ≡ target_of xs (get_or xs i d) = ap (λ q. get_or q i 0) t ∙ target_at xs i d l in

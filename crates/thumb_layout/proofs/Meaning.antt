@@ -8,13 +8,13 @@ use Rattle.thumb_code.specs.RegisterFile.{is_odd}
 use Rattle.thumb_code.specs.Conditions.{holds, is_met, is_not}
 use Rattle.thumb_code.specs.Effect.{Effect, effect, go, puts_with}
 use Rattle.thumb_code.specs.Memory.{Done}
-use Rattle.thumb_code.specs.Step.{Fetched, Found, Stepped, On, Served, Faulted, placed, ran}
+use Rattle.thumb_code.specs.Step.{Fetched, Found, Stepped, On, Served, Faulted, stepped_at, ran}
 use Rattle.thumb_code.specs.Run.{Executor, Ran, Still, AskedAfter, Broke, runs, from_step}
 use Rattle.thumb_layout.specs.declared.pieces.Piece.{Piece}
 use Rattle.thumb_layout.specs.declared.pieces.Piece.TheVariants.{Plain, Label, Go, CallTo, Number, Address}
 use Rattle.thumb_layout.specs.Pieces.{Places, piece_effect}
 use Rattle.thumb_layout.specs.Cells.{opposite}
-use Rattle.thumb_layout.specs.Holds.{moved, Enters, AtOnce, Over, Branches, Short, Middle, Far, Always, AlwaysFar, loaded_from, Loads, Small, Large, PieceAt, Holds, Reads, IgnoresPc, cost, Silent, Means, Reaches}
+use Rattle.thumb_layout.specs.Holds.{moved, Enters, AtOnce, Over, Branches, Short, Middle, Far, Always, AlwaysFar, loaded_from, Loads, Small, Large, PieceAt, Holds, Reads, IgnoresPc, cost, Silent, Means, ComesSilently}
 
 abbrev still_registers : {S : Type 0} → Registers → Ran S → Registers
 still_registers d (Still q t) = q
@@ -57,7 +57,7 @@ entered over flash At m fetch at a s t h e (Over o n f g) = (
   1,
   omega arith,
   silent_one over fetch s t (record s { pc = a }) t
-      (ap (λ k. ran (over s t) s (fetch k)) e ∙ (ap (ran (over s t) s) f ∙ (ap (placed s.pc) (m.goes (moved s.pc o) s t h) ∙ ap (λ k. On (record s { pc = k }) t) (ap (λ k. moved k o) e ∙ g)))),
+      (ap (λ k. ran (over s t) s (fetch k)) e ∙ (ap (ran (over s t) s) f ∙ (ap (stepped_at s.pc) (m.goes (moved s.pc o) s t h) ∙ ap (λ k. On (record s { pc = k }) t) (ap (λ k. moved k o) e ∙ g)))),
 )
 
 not_not : (b : Bool) → b ≡ is_not (is_not b)
@@ -79,11 +79,11 @@ holds_opposite f c = opposite_from f c (is_odd c) refl
 
 -- From an address on, the machine comes to one step with this effect.
 abbrev Ends : {S : Type 0} → Executor S → (ℕ → Fetched) → ℕ → ℕ → Registers → S → Effect → Type 0
-Ends over fetch c a s t e = (n : ℕ) × (n + 1 < c) × (q : Registers) × Silent over fetch n (record s { pc = a }) t q t × (ran (over q t) q (fetch q.pc) ≡ placed q.pc (over s t e))
+Ends over fetch c a s t e = (n : ℕ) × (n + 1 < c) × (q : Registers) × Silent over fetch n (record s { pc = a }) t q t × (ran (over q t) q (fetch q.pc) ≡ stepped_at q.pc (over s t e))
 
 direct : {S : Type 0} (over : Executor S) (flash : List ℕ) (At : ℕ → S → Type 0) → Reads over flash At → (fetch : ℕ → Fetched) (c a b : ℕ) (x : Instr) (s : Registers) (t : S) (e : Effect) → 1 < c → fetch a ≡ Found x b → effect b (record s { pc = a }) x ≡ e → Ends over fetch c a s t e
 direct over flash At m fetch c a b x s t e l f g =
-    (0, l, record s { pc = a }, refl, ap (ran (over (record s { pc = a }) t) (record s { pc = a })) f ∙ ap (λ y. placed a (over (record s { pc = a }) t y)) g ∙ ap (placed a) (m.same (record s { pc = a }) s t e refl))
+    (0, l, record s { pc = a }, refl, ap (ran (over (record s { pc = a }) t) (record s { pc = a })) f ∙ ap (λ y. stepped_at a (over (record s { pc = a }) t y)) g ∙ ap (stepped_at a) (m.same (record s { pc = a }) s t e refl))
 
 -- a silent instruction without accesses, and then one more
 twice : {S : Type 0} (over : Executor S) (flash : List ℕ) (At : ℕ → S → Type 0) → Reads over flash At → (fetch : ℕ → Fetched) (a b to b' : ℕ) (x y : Instr) (s : Registers) (t : S) (e : Effect) → At s.sp t
@@ -93,8 +93,8 @@ twice over flash At m fetch a b to b' x y s t e h f g f' g' = (
   omega arith,
   record s { pc = to },
   silent_one over fetch (record s { pc = a }) t (record s { pc = to }) t
-      (ap (ran (over (record s { pc = a }) t) (record s { pc = a })) f ∙ (ap (λ y. placed a (over (record s { pc = a }) t y)) g ∙ ap (placed a) (m.same (record s { pc = a }) s t (go to s) refl ∙ m.goes to s t h))),
-  ap (ran (over (record s { pc = to }) t) (record s { pc = to })) f' ∙ (ap (λ y. placed to (over (record s { pc = to }) t y)) g' ∙ ap (placed to) (m.same (record s { pc = to }) s t e refl)),
+      (ap (ran (over (record s { pc = a }) t) (record s { pc = a })) f ∙ (ap (λ y. stepped_at a (over (record s { pc = a }) t y)) g ∙ ap (stepped_at a) (m.same (record s { pc = a }) s t (go to s) refl ∙ m.goes to s t h))),
+  ap (ran (over (record s { pc = to }) t) (record s { pc = to })) f' ∙ (ap (λ y. stepped_at to (over (record s { pc = to }) t y)) g' ∙ ap (stepped_at to) (m.same (record s { pc = to }) s t e refl)),
 )
 
 -- a branch from a place on means its effect
@@ -139,7 +139,7 @@ loads_word over flash At m fetch a rd v b s t h f =
       s',
       refl,
       ap (ran (over s' t) s') f.stands
-          ∙ ap (placed a) (m.loads b rd (loaded_from a f.imm) s' t h f.inside f.whole
+          ∙ ap (stepped_at a) (m.loads b rd (loaded_from a f.imm) s' t h f.inside f.whole
           ∙ (ap (λ w. Done (record s { r = slice_set s.r rd w; pc = b }) t) f.entry
           ∙ (sym (m.goes b (record s { r = slice_set s.r rd v }) t h) ∙ m.same (record s { r = slice_set s.r rd v }) s t (puts_with b s rd v s.flags) refl))),
     )
@@ -165,11 +165,11 @@ laid_means over flash At m fetch p xs h i x e g l s t f a =
     record { before = n.0 + q.0; few = omega arith; last = q.2; silent = silent_add over fetch n.0 q.0 s t (record s { pc = d.0 }) t q.2 t n.2 q.3; does = q.4 }
 
 -- nothing, and one after another
-pub reaches_none : {S : Type 0} (over : Executor S) (fetch : ℕ → Fetched) (s : Registers) (t : S) → Reaches over fetch 0 0 s t s t
+pub reaches_none : {S : Type 0} (over : Executor S) (fetch : ℕ → Fetched) (s : Registers) (t : S) → ComesSilently over fetch 0 0 s t s t
 reaches_none over fetch s t = record { count = 0; some = omega arith; few = omega arith; silent = refl }
 
 pub reaches_add : {S : Type 0} (over : Executor S) (fetch : ℕ → Fetched) (l h l' h' : ℕ) (s : Registers) (t : S) (q : Registers) (t' : S) (r : Registers) (t'' : S)
-    → Reaches over fetch l h s t q t' → Reaches over fetch l' h' q t' r t'' → Reaches over fetch (l + l') (h + h') s t r t''
+    → ComesSilently over fetch l h s t q t' → ComesSilently over fetch l' h' q t' r t'' → ComesSilently over fetch (l + l') (h + h') s t r t''
 reaches_add over fetch l h l' h' s t q t' r t'' x y =
     let a = x.some in let b = x.few in let c = y.some in let d = y.few in
     record { count = x.count + y.count; some = omega arith; few = omega arith; silent = silent_add over fetch x.count y.count s t q t' r t'' x.silent y.silent }
@@ -177,7 +177,7 @@ reaches_add over fetch l h l' h' s t q t' r t'' x y =
 -- a piece whose effect goes on is gone through
 pub piece_goes : {S : Type 0} (over : Executor S) (flash : List ℕ) (At : ℕ → S → Type 0) → Reads over flash At → (fetch : ℕ → Fetched) (p : Places) (xs : List Piece) → Holds fetch flash p xs
     → (i : ℕ) (x : Piece) → slice_get xs i ≡ Some x → ((y : Instr) → x ≡ Plain y → IgnoresPc y) → 0 < cost x → (s : Registers) (t : S) → s.pc ≡ p.at i → At s.sp t
-    → (q : Registers) (t' : S) → over s t (piece_effect p i s x) ≡ Done q t' → Reaches over fetch 1 (cost x) s t q t'
+    → (q : Registers) (t' : S) → over s t (piece_effect p i s x) ≡ Done q t' → ComesSilently over fetch 1 (cost x) s t q t'
 piece_goes over flash At m fetch p xs h i x e g l s t f a q t' w =
     let y = laid_means over flash At m fetch p xs h i x e g l s t f a in
     let k = y.few in
@@ -185,7 +185,7 @@ piece_goes over flash At m fetch p xs h i x e g l s t f a q t' w =
       count = y.before + 1;
       some = omega arith;
       few = omega arith;
-      silent = silent_add over fetch y.before 1 s t y.last t q t' y.silent (silent_one over fetch y.last t q t' (y.does ∙ ap (placed y.last.pc) w));
+      silent = silent_add over fetch y.before 1 s t y.last t q t' y.silent (silent_one over fetch y.last t q t' (y.does ∙ ap (stepped_at y.last.pc) w));
     }
 
 -- a label is gone through in no instruction

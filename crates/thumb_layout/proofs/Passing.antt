@@ -2,7 +2,7 @@
 use Rattle.std.proofs.Common.{suc, ◌≡◌, ℕ, ◌+◌, ◌*◌, ◌%◌, ◌≤◌, ◌<◌, List, [], ◌∷◌, ◌++◌, length, drop, get_or, drop-cons, map, Bool, true, false, cond, refl, sym, ap, ◌∙◌, subst, arith}
 use Rattle.thumb_layout.specs.declared.pieces.Piece.{Piece}
 use Rattle.thumb_layout.specs.declared.waits.Waits.{Waits}
-use Rattle.thumb_layout.specs.declared.places.Place.{Place}
+use Rattle.thumb_layout.specs.declared.places.PieceOffsets.{PieceOffsets}
 use Rattle.thumb_layout.specs.Pieces.{goes_on}
 use Rattle.thumb_layout.specs.Layout.{Wait, Chunk, size, loads_at, over_pool, end_of, chunk, form_of, rest_of, pass, chunks}
 use Rattle.thumb_layout.specs.Rounds.{IsLimited, total_most}
@@ -22,7 +22,7 @@ late_by false e = refl
 pub late_is : (x : Piece) (f : ℕ) (ws : List Wait) (at : ℕ) → Test x f ws at ≡ false → is_late x f ws at ≡ true
 late_is x f ws at e = late_by (Test x f ws at) e
 
-abbrev Passed : Chunk → Place → ℕ → Waits → List ℕ → List ℕ → Type 0
+abbrev Passed : Chunk → PieceOffsets → ℕ → Waits → List ℕ → List ℕ → Type 0
 Passed c place at w old new = IsPassed c place at w × (new ≡ old ++ chunk_pools c)
 
 on_by : (b : Bool) (x : Piece) (f : ℕ) (ws : List Wait) (at body : ℕ) (w : Waits) (old new : List ℕ)
@@ -58,7 +58,7 @@ pub passed_off : (x : Piece) (f : ℕ) (ws : List Wait) (at body : ℕ) (w w' : 
 passed_off x f ws at body w w' old mid new end g h p k z = subst (λ q. Passed (chunk_by (Test x f ws at) q x f ws at) (record { at = at; body = body }) end w' old new) (sym g) (off_by (Test x f ws at) x f ws at body w w' old mid new end h.0 h.1 p k z)
 
 -- The loop over pieces: what is placed, and what is left to place, is the whole.
-pub record PlaceLoop (xs : List Piece) (fs : List ℕ) (rest : List Piece) (left : List ℕ) (places : List Place) (starts : List ℕ) (at : ℕ) (w : Waits) : Type 0 where
+pub record PlaceLoop (xs : List Piece) (fs : List ℕ) (rest : List Piece) (left : List ℕ) (places : List PieceOffsets) (starts : List ℕ) (at : ℕ) (w : Waits) : Type 0 where
   pub waits : List Wait
   pub counts : Counts w waits
   pub even : at % 2 ≡ 0
@@ -72,8 +72,8 @@ pub record PlaceLoop (xs : List Piece) (fs : List ℕ) (rest : List Piece) (left
 pub place_init : (xs : List Piece) (fs : List ℕ) (w : Waits) → IsLimited xs fs → Counts w [] → PlaceLoop xs fs xs fs [] [] 0 w
 place_init xs fs w l h = record { waits = []; counts = h; even = refl; behind = tt; bound = omega arith; limited = l; placed = refl; pooled = refl; ended = refl }
 
-pub place_step : (xs : List Piece) (fs : List ℕ) (x : Piece) (rest : List Piece) (left : List ℕ) (places : List Place) (starts : List ℕ) (at : ℕ) (w : Waits) (h : PlaceLoop xs fs (x ∷ rest) left places starts at w)
-    → (place : Place) (at' : ℕ) (w' : Waits) (starts' : List ℕ) → Passed (chunk x (form_of left) h.waits at) place at' w' starts starts'
+pub place_step : (xs : List Piece) (fs : List ℕ) (x : Piece) (rest : List Piece) (left : List ℕ) (places : List PieceOffsets) (starts : List ℕ) (at : ℕ) (w : Waits) (h : PlaceLoop xs fs (x ∷ rest) left places starts at w)
+    → (place : PieceOffsets) (at' : ℕ) (w' : Waits) (starts' : List ℕ) → Passed (chunk x (form_of left) h.waits at) place at' w' starts starts'
     → PlaceLoop xs fs rest (rest_of left) (places ++ place ∷ []) starts' at' w'
 place_step xs fs x rest left places starts at w h place at' w' starts' p =
     let c = chunk x (form_of left) h.waits at in
@@ -97,8 +97,8 @@ place_step xs fs x rest left places starts at w h place at' w' starts' p =
 drop_cons : {A : Type 0} (l : List A) (i : ℕ) (d : A) → i < length l → drop i l ≡ get_or l i d ∷ drop (i + 1) l
 drop_cons l i d h = let e : i + 1 ≡ suc i = omega arith in rw e (drop-cons l i d h)
 
-pub place_step_at : (xs : List Piece) (fs : List ℕ) (i : ℕ) (d : Piece) (places : List Place) (starts : List ℕ) (at : ℕ) (w : Waits) → i < length xs → length fs ≡ length xs
-    → PlaceLoop xs fs (drop i xs) (drop i fs) places starts at w → (place : Place) (at' : ℕ) (w' : Waits) (starts' : List ℕ)
+pub place_step_at : (xs : List Piece) (fs : List ℕ) (i : ℕ) (d : Piece) (places : List PieceOffsets) (starts : List ℕ) (at : ℕ) (w : Waits) → i < length xs → length fs ≡ length xs
+    → PlaceLoop xs fs (drop i xs) (drop i fs) places starts at w → (place : PieceOffsets) (at' : ℕ) (w' : Waits) (starts' : List ℕ)
     → ((ws : List Wait) → Counts w ws → IsPassed (chunk (get_or xs i d) (get_or fs i 0) ws at) place at' w')
     → ((ws : List Wait) → Counts w ws → starts' ≡ starts ++ chunk_pools (chunk (get_or xs i d) (get_or fs i 0) ws at))
     → PlaceLoop xs fs (drop (i + 1) xs) (drop (i + 1) fs) (places ++ place ∷ []) starts' at' w'

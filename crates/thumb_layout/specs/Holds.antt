@@ -7,7 +7,7 @@ use Rattle.thumb_code.specs.declared.register_file.Registers.{Registers}
 use Rattle.thumb_code.specs.RegisterFile.{word, aligned}
 use Rattle.thumb_code.specs.Effect.{Effect, effect, go, loads, unsigned}
 use Rattle.thumb_code.specs.Memory.{Done}
-use Rattle.thumb_code.specs.Step.{Fetched, Found, placed, ran}
+use Rattle.thumb_code.specs.Step.{Fetched, Found, stepped_at, ran}
 use Rattle.thumb_code.specs.Run.{Executor, Still, runs}
 use Rattle.thumb_code.specs.Map.{flash_end, flash_word}
 use Rattle.thumb_layout.specs.declared.pieces.Piece.{Piece}
@@ -98,10 +98,10 @@ pub record Means {S : Type 0} (over : Executor S) (fetch : ℕ → Fetched) (p :
   pub few : before < cost x
   pub last : Registers
   pub silent : Silent over fetch before s t last t
-  pub does : ran (over last t) last (fetch last.pc) ≡ placed last.pc (over s t (piece_effect p i s x))
+  pub does : ran (over last t) last (fetch last.pc) ≡ stepped_at last.pc (over s t (piece_effect p i s x))
 
 -- From one state to another in at least and at most so many silent instructions.
-pub record Reaches {S : Type 0} (over : Executor S) (fetch : ℕ → Fetched) (least most : ℕ) (s : Registers) (t : S) (s' : Registers) (t' : S) : Type 0 where
+pub record ComesSilently {S : Type 0} (over : Executor S) (fetch : ℕ → Fetched) (least most : ℕ) (s : Registers) (t : S) (s' : Registers) (t' : S) : Type 0 where
   pub count : ℕ
   pub some : least ≤ count
   pub few : count ≤ most

@@ -5,7 +5,7 @@ use Rattle.std.specs.Ordering.{nat_cmp}
 use Rattle.thumb_layout.specs.declared.pieces.Piece.{Piece}
 use Rattle.thumb_layout.specs.declared.pieces.Piece.TheVariants.{Label, Go}
 use Rattle.thumb_layout.specs.declared.waits.Waits.{Waits}
-use Rattle.thumb_layout.specs.declared.places.Place.{Place}
+use Rattle.thumb_layout.specs.declared.places.PieceOffsets.{PieceOffsets}
 use Rattle.thumb_layout.specs.declared.places.Placed.{Placed}
 use Rattle.thumb_layout.specs.Layout.{Wait, Chunk, size, loads_at, reaches, pool_behind, over_pool, chunks, end_of, nth, label_index}
 use Rattle.thumb_layout.specs.Pieces.{goes_on}
@@ -16,7 +16,7 @@ use Rattle.thumb_layout.specs.Cells.{pool_at, pools}
 abbrev pub Counts : Waits → List Wait → Type 0
 Counts w waits = (w.count ≡ length waits) × ((start : ℕ) → reaches start waits ≡ (if w.count == 0 then true else if nat_lt w.latest_end (start + 4 * w.count) then false else true))
 
-abbrev pub place_of : Chunk → Place
+abbrev pub place_of : Chunk → PieceOffsets
 place_of c = record { at = c.at; body = c.body }
 
 -- Where the pools of a chunk begin.
@@ -37,7 +37,7 @@ IsEntered x form waits at body w =
     × Counts w ((if is_late x form waits at then [] else waits) ++ loads_at x body)
 
 -- The next piece is entered here, and these loads wait there.
-abbrev pub IsPassed : Chunk → Place → ℕ → Waits → Type 0
+abbrev pub IsPassed : Chunk → PieceOffsets → ℕ → Waits → Type 0
 IsPassed c place at w = (place ≡ place_of c) × (at ≡ end_of c) × Counts w c.waiting
 
 -- A form for each piece, none past its longest.

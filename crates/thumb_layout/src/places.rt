@@ -12,7 +12,7 @@ use sts_base::NoMemory;
 
 /// Where a piece is entered, and where it stands: behind the pool before it, where there is one.
 #[derive(Clone, Copy, Drop)]
-pub struct Place {
+pub struct PieceOffsets {
     pub at: u32,
     pub body: u32,
 }
@@ -20,7 +20,7 @@ pub struct Place {
 /// The places of pieces and of their end, where their pools begin, and the address behind all.
 #[derive(Drop)]
 pub struct Placed {
-    pub places: Vec<Place>,
+    pub places: Vec<PieceOffsets>,
     pub pools: Vec<u32>,
     pub end: u32,
 }
@@ -86,7 +86,12 @@ impl Cursor {
     }
 
     /// Goes over a piece whose branch has this form, and tells where it stands.
-    fn pass(&mut self, piece: &Piece, form: u8, pools: &mut Vec<u32>) -> Result<Place, NoMemory>
+    fn pass(
+        &mut self,
+        piece: &Piece,
+        form: u8,
+        pools: &mut Vec<u32>,
+    ) -> Result<PieceOffsets, NoMemory>
         requires at { self.old.at + 8 * self.old.waits.count < 2 ^ 20 }
         requires latest { self.old.waits.latest_end < 2 ^ 25 }
         ensures passed { (waits : List Wait) → Counts self.old.waits waits → IfOk result (λ place. IsPassed (chunk piece.now form waits self.old.at) place self.new.at self.new.waits) }
@@ -101,7 +106,7 @@ impl Cursor {
         if !piece.goes_on() {
             self.lay_pool(behind, pools)?;
         }
-        Ok(Place { at, body })
+        Ok(PieceOffsets { at, body })
     }
 }
 
@@ -124,7 +129,7 @@ pub fn places_of(alloc: Global, pieces: &[Piece], forms: &[u8]) -> Result<Placed
         }
     }
     let at = cursor.at;
-    if places.push(Place { at, body: at }).is_err() {
+    if places.push(PieceOffsets { at, body: at }).is_err() {
         return Err(NoMemory);
     }
     cursor.lay_pool(at, &mut pools)?;

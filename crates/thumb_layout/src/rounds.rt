@@ -6,7 +6,7 @@ ghost use Rattle.thumb_layout.specs.Rounds.{is_within, branch_fits, fits, round,
 ghost use Rattle.thumb_layout.specs.Placing.{place_of, targets_of, IsProper, IsPlaced};
 
 use crate::pieces::{ALWAYS, Piece};
-use crate::places::{Place, Placed, places_of};
+use crate::places::{PieceOffsets, Placed, places_of};
 use std::alloc::Global;
 use sts_base::NoMemory;
 
@@ -56,7 +56,7 @@ fn next_round(
     alloc: Global,
     pieces: &[Piece],
     targets: &[usize],
-    places: &[Place],
+    places: &[PieceOffsets],
     forms: &[u8],
 ) -> Result<Round, NoMemory>
     requires targets { targets.now ≡ targets_of pieces.now }

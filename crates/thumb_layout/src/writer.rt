@@ -13,7 +13,7 @@ ghost use Rattle.thumb_layout.specs.Writing.{entry_words, entry_pool, entered_ce
 
 use crate::laid::{Fix, Laid};
 use crate::pieces::{ALWAYS, Entry, Piece, What};
-use crate::places::Place;
+use crate::places::PieceOffsets;
 use std::alloc::Global;
 use sts_base::{NoMemory, Seq};
 use thumb_code::{Half, Instr, encode};
@@ -338,7 +338,7 @@ pub fn written(
     pieces: &[Piece],
     targets: &[usize],
     branch_forms: &[u8],
-    places: &[Place],
+    places: &[PieceOffsets],
     pool_starts: &[u32],
 ) -> Result<Laid, NoMemory>
     requires sound { IsSound pieces.now }

@@ -7,7 +7,7 @@ use Rattle.thumb_code.specs.declared.register_file.Registers.{Registers}
 use Rattle.thumb_code.specs.Forms.{Access}
 use Rattle.thumb_code.specs.Effect.{effect}
 use Rattle.thumb_code.specs.Memory.{Executed, Done, Asked, Stopped, execute}
-use Rattle.thumb_code.specs.Step.{Fetched, Found, Missed, Stepped, On, Served, Faulted, placed, ran}
+use Rattle.thumb_code.specs.Step.{Fetched, Found, Missed, Stepped, On, Served, Faulted, stepped_at, ran}
 use Rattle.fiber_pool.specs.Kept.{Kept, kept_at, or_unused, sized, with_words}
 use Rattle.fiber_runtime.specs.declared.turning.Turning.{Turning}
 use Rattle.fiber_runtime.specs.declared.blocking.Why.{Why}
@@ -57,7 +57,7 @@ module _ (a b : ℕ) where
   OnStep (Served n q u) = Unit {0}
   OnStep (Faulted k at) = Unit {0}
 
-  placed_sizes : (at : ℕ) (x : Executed Space) → OnMemory (HasSizes a b) x → OnStep (placed at x)
+  placed_sizes : (at : ℕ) (x : Executed Space) → OnMemory (HasSizes a b) x → OnStep (stepped_at at x)
   placed_sizes at (Done q u) h = h
   placed_sizes at (Asked n q u) h = tt
   placed_sizes at (Stopped k) h = tt

@@ -5,7 +5,7 @@ use Rattle.thumb_code.specs.declared.register_file.Registers.{Registers}
 use Rattle.fiber_pool.specs.Kept.{Kept, kept_at, or_unused}
 use Rattle.fiber_queues.specs.Lists.{ListsOf, Leads}
 use Rattle.fiber_runtime.specs.State.{State}
-use Rattle.fiber_runtime.specs.Words.{Fits}
+use Rattle.fiber_runtime.specs.Words.{ReachesBase}
 use Rattle.fiber_runtime.specs.Moves.{turning_of}
 use Rattle.fiber_runtime.specs.Copying.{Taken}
 use Rattle.thumb_switch.specs.Space.{Space, executed, record_at, called, most_instructions}
@@ -36,7 +36,7 @@ module _ (s one : State) (key : ℕ) (p : Taken s one) (leads : Leads key s.list
   words_kept = ap (λ (o : Slab Kept). (kept_at o key).words) pool_is ∙ ap (λ (x : Kept). x.words) kept_is
 
 -- the bytes are executed over a desk of the fiber that was taken
-pub resumed_by : (d e : Desk) (s : State) (h : Held) (steps words : ℕ) (r : Registers) (p : Taken s d.runtime.now) → Leads d.key s.lists.ready → Fits (kept_at s.pool d.key)
+pub resumed_by : (d e : Desk) (s : State) (h : Held) (steps words : ℕ) (r : Registers) (p : Taken s d.runtime.now) → Leads d.key s.lists.ready → ReachesBase (kept_at s.pool d.key)
     → words ≡ length (words_of d.runtime.now d.key) → r ≡ called record_at d.runtime.now.machine.registers.sp words
     → executed (8 * words + 40) r (on_desk d) ≡ (steps, on_desk e) → IsKnown d e → h.bytes ≡ d.code.now → ResumedBy h (counted h steps) s e.runtime.now
 resumed_by d e s h steps words r p leads fits words_is r_is x known held =
@@ -56,7 +56,7 @@ resumed_by d e s h steps words r p leads fits words_is r_is x known held =
       kept = k;
       first = p.next.first ∙ (ap (λ j. record one.lists { ready = j ∷ one.lists.ready }) key ∙ ap (λ (q : ListsOf ℕ). record q { ready = d.key ∷ q.ready }) (sym lists));
       found = found s one d.key p leads;
-      fits = subst Fits kept fits;
+      fits = subst ReachesBase kept fits;
       steps = steps;
       left = left;
       executes = ap (λ v. in_by v s.machine.memory.stack k) held

@@ -8,14 +8,14 @@ use Rattle.thumb_code.specs.declared.register_file.Registers.{Registers}
 use Rattle.thumb_code.specs.RegisterFile.{word, listed, listed_from}
 use Rattle.thumb_code.specs.Arithmetic.{sum_flags, inverted, bit_of}
 use Rattle.thumb_code.specs.Conditions.{holds}
-use Rattle.thumb_code.specs.Forms.{Outcome, Goes, ends, words_from, words_to}
+use Rattle.thumb_code.specs.Forms.{Outcome, Goes, ends, word_accesses, words_to}
 use Rattle.thumb_code.specs.Effect.{effect}
 use Rattle.thumb_code.specs.Memory.{execute, finished}
 use Rattle.thumb_code.specs.Map.{ram_end}
-use Rattle.thumb_code.specs.Step.{Found, On, placed, ran}
+use Rattle.thumb_code.specs.Step.{Found, On, stepped_at, ran}
 use Rattle.thumb_switch.specs.Routine.{routine_bytes}
 use Rattle.thumb_switch.specs.Space.{Space, Executed, space_memory, fetched_in, step_in, executed, behind_step, back_at}
-use Rattle.thumb_switch.specs.Copies.{word_at, Passes, Pass}
+use Rattle.thumb_switch.specs.Copies.{word_at, ExecutesOne, Pass}
 use Rattle.thumb_switch.proofs.Ranges.{Places, words_at, loads_free, loads_words, stored, stores_free}
 
 abbrev of_parts : List ℕ → List ℕ → Space
@@ -79,7 +79,7 @@ executed_back (suc k) t r e = let o : (r.pc == back_at) ≡ true = ap (λ x. x =
 pub quiet : (t : Space) (r q : Registers) (x : Instr) (next : ℕ) → fetched_in t r.pc ≡ Found x next → effect next r x ≡ ends ram_end (Goes q) → record q { sp = ram_end } ≡ q → step_in t r ≡ On q t
 quiet t r q x next f e s =
     ap (ran (execute space_memory t) r) f
-    ∙ (ap (λ y. placed r.pc (execute space_memory t y)) e
+    ∙ (ap (λ y. stepped_at r.pc (execute space_memory t y)) e
     ∙ ap (λ (z : Registers). On z t) s)
 
 -- C clear, and C set
@@ -107,7 +107,7 @@ cs_yes x y c l m = c_flag _ _ ((x + y + c) / 4294967296) _ (bit_le _) (omega ari
 
 -- several words loaded, and stored
 loads_done : (t : Space) (n a : ℕ) (after : List ℕ → Outcome) → Places t a n
-    → execute space_memory t (record { sp = ram_end; loads = words_from a n; stores = []; after = after }) ≡ finished t ram_end (after (words_at t a n))
+    → execute space_memory t (record { sp = ram_end; loads = word_accesses a n; stores = []; after = after }) ≡ finished t ram_end (after (words_at t a n))
 loads_done t n a after p = (let f = loads_free t n a p in let l = loads_words t n a p in rw (f, l) refl)
 
 stores_done : (t : Space) (b : ℕ) (vs : List ℕ) (q : Registers) → Places t b (length vs)
@@ -126,16 +126,16 @@ module _ (t : Space) (code : t.code ≡ routine_bytes) (size : length t.stack �
       let x = up a 20 4 ((p 4 (omega arith)).low) (omega arith) refl in
       let y = up b 20 4 ((q 4 (omega arith)).low) (omega arith) refl in
       let r1 = st 6 f (word (a + 20)) b n w0 w1 w2 w3 w4 in
-      let first : Passes t (st 4 f a b n c d e g h) t r1 =
+      let first : ExecutesOne t (st 4 f a b n c d e g h) t r1 =
       record {
         goes = ap (ran (execute space_memory t) (st 4 f a b n c d e g h)) (fetches t code).at4
-            ∙ ap (placed 4) (loads_done t 5 a (effect 6 (st 4 f a b n c d e g h) (Ldm 0 0xF8)).after p);
+            ∙ ap (stepped_at 4) (loads_done t 5 a (effect 6 (st 4 f a b n c d e g h) (Ldm 0 0xF8)).after p);
         before = refl;
       } in
-      let second : Passes t r1 (stored t b (words_at t a 5)) (st 8 f (word (a + 20)) (word (b + 20)) n w0 w1 w2 w3 w4) =
+      let second : ExecutesOne t r1 (stored t b (words_at t a 5)) (st 8 f (word (a + 20)) (word (b + 20)) n w0 w1 w2 w3 w4) =
       record {
         goes = ap (ran (execute space_memory t) r1) (fetches t code).at6
-            ∙ ap (placed 6) (stores_done t b (words_at t a 5) (st 8 f (word (a + 20)) (word (b + 20)) n w0 w1 w2 w3 w4) q);
+            ∙ ap (stepped_at 6) (stores_done t b (words_at t a 5) (st 8 f (word (a + 20)) (word (b + 20)) n w0 w1 w2 w3 w4) q);
         before = refl;
       } in (
         w0,
@@ -163,16 +163,16 @@ module _ (t : Space) (code : t.code ≡ routine_bytes) (size : length t.stack �
       let x = up a 4 0 ((p 0 (omega arith)).low) (omega arith) refl in
       let y = up b 4 0 ((q 0 (omega arith)).low) (omega arith) refl in
       let r1 = st 18 f (word (a + 4)) b n w0 d e g h in
-      let first : Passes t (st 16 f a b n c d e g h) t r1 =
+      let first : ExecutesOne t (st 16 f a b n c d e g h) t r1 =
       record {
         goes = ap (ran (execute space_memory t) (st 16 f a b n c d e g h)) (fetches t code).at16
-            ∙ ap (placed 16) (loads_done t 1 a (effect 18 (st 16 f a b n c d e g h) (Ldm 0 0x08)).after p);
+            ∙ ap (stepped_at 16) (loads_done t 1 a (effect 18 (st 16 f a b n c d e g h) (Ldm 0 0x08)).after p);
         before = refl;
       } in
-      let second : Passes t r1 (stored t b (words_at t a 1)) (st 20 f (word (a + 4)) (word (b + 4)) n w0 d e g h) =
+      let second : ExecutesOne t r1 (stored t b (words_at t a 1)) (st 20 f (word (a + 4)) (word (b + 4)) n w0 d e g h) =
       record {
         goes = ap (ran (execute space_memory t) r1) (fetches t code).at18
-            ∙ ap (placed 18) (stores_done t b (words_at t a 1) (st 20 f (word (a + 4)) (word (b + 4)) n w0 d e g h) q);
+            ∙ ap (stepped_at 18) (stores_done t b (words_at t a 1) (st 20 f (word (a + 4)) (word (b + 4)) n w0 d e g h) q);
         before = refl;
       } in (
         w0,
@@ -194,25 +194,25 @@ module _ (t : Space) (code : t.code ≡ routine_bytes) (size : length t.stack �
       )
 
   -- the count goes down or up, and branches
-  pub less_five_0 : Passes t (st 0 f a b n c d e g h) t (st 2 (sum_flags n (inverted 5) 1) a b (word (n + inverted 5 + 1)) c d e g h)
+  pub less_five_0 : ExecutesOne t (st 0 f a b n c d e g h) t (st 2 (sum_flags n (inverted 5) 1) a b (word (n + inverted 5 + 1)) c d e g h)
   less_five_0 = record { goes = quiet t (st 0 f a b n c d e g h) (st 2 (sum_flags n (inverted 5) 1) a b (word (n + inverted 5 + 1)) c d e g h) (SubImm8 2 5) 2 (fetches t code).at0 refl refl; before = refl }
 
-  pub less_five : Passes t (st 8 f a b n c d e g h) t (st 10 (sum_flags n (inverted 5) 1) a b (word (n + inverted 5 + 1)) c d e g h)
+  pub less_five : ExecutesOne t (st 8 f a b n c d e g h) t (st 10 (sum_flags n (inverted 5) 1) a b (word (n + inverted 5 + 1)) c d e g h)
   less_five = record { goes = quiet t (st 8 f a b n c d e g h) (st 10 (sum_flags n (inverted 5) 1) a b (word (n + inverted 5 + 1)) c d e g h) (SubImm8 2 5) 10 (fetches t code).at8 refl refl; before = refl }
 
-  pub more_four : Passes t (st 12 f a b n c d e g h) t (st 14 (sum_flags n 4 0) a b (word (n + 4 + 0)) c d e g h)
+  pub more_four : ExecutesOne t (st 12 f a b n c d e g h) t (st 14 (sum_flags n 4 0) a b (word (n + 4 + 0)) c d e g h)
   more_four = record { goes = quiet t (st 12 f a b n c d e g h) (st 14 (sum_flags n 4 0) a b (word (n + 4 + 0)) c d e g h) (AddImm8 2 4) 14 (fetches t code).at12 refl refl; before = refl }
 
-  pub less_one : Passes t (st 20 f a b n c d e g h) t (st 22 (sum_flags n (inverted 1) 1) a b (word (n + inverted 1 + 1)) c d e g h)
+  pub less_one : ExecutesOne t (st 20 f a b n c d e g h) t (st 22 (sum_flags n (inverted 1) 1) a b (word (n + inverted 1 + 1)) c d e g h)
   less_one = record { goes = quiet t (st 20 f a b n c d e g h) (st 22 (sum_flags n (inverted 1) 1) a b (word (n + inverted 1 + 1)) c d e g h) (SubImm8 2 1) 22 (fetches t code).at20 refl refl; before = refl }
 
-  pub branch_to : (pc next to cond' : ℕ) (o : ℤ) → fetched_in t pc ≡ Found (BCond cond' o) next → holds f cond' ≡ true → word (word (pc + 4) + cast_unsigned w32 o) ≡ to → (pc == back_at) ≡ false → Passes t (st pc f a b n c d e g h) t (st to f a b n c d e g h)
+  pub branch_to : (pc next to cond' : ℕ) (o : ℤ) → fetched_in t pc ≡ Found (BCond cond' o) next → holds f cond' ≡ true → word (word (pc + 4) + cast_unsigned w32 o) ≡ to → (pc == back_at) ≡ false → ExecutesOne t (st pc f a b n c d e g h) t (st to f a b n c d e g h)
   branch_to pc next to cond' o i m k z =
       record { goes = quiet t (st pc f a b n c d e g h) (st to f a b n c d e g h) (BCond cond' o) next i (rw m (ap (λ x. ends ram_end (Goes (st x f a b n c d e g h))) k)) refl; before = z }
 
-  pub branch_by : (pc next cond' : ℕ) (o : ℤ) → fetched_in t pc ≡ Found (BCond cond' o) next → holds f cond' ≡ false → (pc == back_at) ≡ false → Passes t (st pc f a b n c d e g h) t (st next f a b n c d e g h)
+  pub branch_by : (pc next cond' : ℕ) (o : ℤ) → fetched_in t pc ≡ Found (BCond cond' o) next → holds f cond' ≡ false → (pc == back_at) ≡ false → ExecutesOne t (st pc f a b n c d e g h) t (st next f a b n c d e g h)
   branch_by pc next cond' o i m z =
       record { goes = quiet t (st pc f a b n c d e g h) (st next f a b n c d e g h) (BCond cond' o) next i (rw m refl) refl; before = z }
 
-  pub back : Passes t (st 24 f a b n c d e g h) t (st back_at f a b n c d e g h)
+  pub back : ExecutesOne t (st 24 f a b n c d e g h) t (st back_at f a b n c d e g h)
   back = record { goes = quiet t (st 24 f a b n c d e g h) (st back_at f a b n c d e g h) (Bx 14) 26 (fetches t code).at24 refl refl; before = refl }

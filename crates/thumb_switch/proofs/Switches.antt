@@ -13,7 +13,7 @@ use Rattle.fiber_pool.specs.Kept.{Kept, kept_at, or_unused, sized}
 use Rattle.fiber_queues.specs.Lists.{ListsOf, Leads}
 use Rattle.fiber_runtime.specs.declared.turning.Turning.{Turning}
 use Rattle.fiber_runtime.specs.declared.blocking.Why.{Why}
-use Rattle.fiber_runtime.specs.Words.{Fits, kept_of}
+use Rattle.fiber_runtime.specs.Words.{ReachesBase, kept_of}
 use Rattle.fiber_runtime.specs.State.{State}
 use Rattle.fiber_runtime.specs.Moves.{Blocked, Put, Resumed, joined, turning_of}
 use Rattle.fiber_runtime.specs.Copying.{Taken}
@@ -215,7 +215,7 @@ no_words : (xs : List ℕ) → length xs ≡ 0 → xs ≡ []
 no_words [] e = refl
 no_words (x ∷ xs) e = absurd (omega arith)
 
-module _ (k : Kept) (stack : List ℕ) (fits : Fits k) (size : length stack ≡ 1024) where
+module _ (k : Kept) (stack : List ℕ) (fits : ReachesBase k) (size : length stack ≡ 1024) where
   abbrev s : Space
   s = over routine_bytes stack k.words
 

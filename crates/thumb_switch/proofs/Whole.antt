@@ -7,7 +7,7 @@ use Rattle.thumb_code.specs.RegisterFile.{word}
 use Rattle.thumb_code.specs.Arithmetic.{sum_flags, inverted}
 use Rattle.thumb_switch.specs.Routine.{routine_bytes, routine_steps}
 use Rattle.thumb_switch.specs.Space.{Space, back_at, executed, called, most_instructions}
-use Rattle.thumb_switch.specs.Copies.{IsPlace, AreRanges, AreCopied, Passes, Pass, Copies}
+use Rattle.thumb_switch.specs.Copies.{IsPlace, AreRanges, AreCopied, ExecutesOne, Pass, Copies}
 use Rattle.thumb_switch.proofs.Words.{in_stack_bounds, in_record_bounds}
 use Rattle.thumb_switch.proofs.Ranges.{words_at, stored, copies_words, copies_none, copies_then, ranges_first, ranges_left}
 use Rattle.thumb_switch.proofs.Steps.{st, steps_then, executed_steps, executed_back, fetches, five, one, less_five_0, less_five, more_four, less_one, branch_to, branch_by, back, cc_yes, cc_no, cs_yes, cs_no}
@@ -22,13 +22,13 @@ pub record Came (k : ℕ) (t : Space) (r : Registers) (u : Space) (pc a b n : �
   pub h : ℕ
   pub steps : Pass k t r u (st pc f a b n c d e g h)
 
-step_one : (t u : Space) (r q : Registers) → Passes t r u q → Pass 1 t r u q
+step_one : (t u : Space) (r q : Registers) → ExecutesOne t r u q → Pass 1 t r u q
 step_one t u r q o = (u, q, o, (refl, refl))
 
 then : (j k : ℕ) (t v u : Space) (r m : Registers) (pc a b n : ℕ) → Pass j t r v m → Came k v m u pc a b n → Came (j + k) t r u pc a b n
 then j k t v u r m pc a b n x y = record { f = y.f; c = y.c; d = y.d; e = y.e; g = y.g; h = y.h; steps = steps_then j k t v u r m _ x y.steps }
 
-there : (t u : Space) (r : Registers) (pc f a b n c d e g h : ℕ) → Passes t r u (st pc f a b n c d e g h) → Came 1 t r u pc a b n
+there : (t u : Space) (r : Registers) (pc f a b n c d e g h : ℕ) → ExecutesOne t r u (st pc f a b n c d e g h) → Came 1 t r u pc a b n
 there t u r pc f a b n c d e g h o = record { f = f; c = c; d = d; e = e; g = g; h = h; steps = step_one t u r _ o }
 
 moved : (k : ℕ) (t : Space) (r : Registers) (u : Space) (pc a b n a' b' n' : ℕ) → a ≡ a' → b ≡ b' → n ≡ n' → Came k t r u pc a b n → Came k t r u pc a' b' n'
@@ -74,7 +74,7 @@ fives (suc q) s m t code size f a b c d e g h is l x r =
     let F = sum_flags m (inverted 5) 1 in
     let v : word (m + inverted 5 + 1) ≡ m - 5 = omega arith in
     let o = less_five u code' size' f (a + 20) (b + 20) m w.0 w.1 w.2 w.3 w.4 in
-    let o' : Passes u (st 8 f (a + 20) (b + 20) m w.0 w.1 w.2 w.3 w.4) u (st 10 F (a + 20) (b + 20) (m - 5) w.0 w.1 w.2 w.3 w.4) = subst (λ i. Passes u (st 8 f (a + 20) (b + 20) m w.0 w.1 w.2 w.3 w.4) u (st 10 F (a + 20) (b + 20) i w.0 w.1 w.2 w.3 w.4)) v o in
+    let o' : ExecutesOne u (st 8 f (a + 20) (b + 20) m w.0 w.1 w.2 w.3 w.4) u (st 10 F (a + 20) (b + 20) (m - 5) w.0 w.1 w.2 w.3 w.4) = subst (λ i. ExecutesOne u (st 8 f (a + 20) (b + 20) m w.0 w.1 w.2 w.3 w.4) u (st 10 F (a + 20) (b + 20) i w.0 w.1 w.2 w.3 w.4)) v o in
     let p = branch_to u code' size' F (a + 20) (b + 20) (m - 5) w.0 w.1 w.2 w.3 w.4 10 12 4 2 (negsuc 9) (fetches u code').at10 (cs_yes m (inverted 5) 1 (omega arith) (omega arith)) refl refl in
     let z = fives q s (m - 5) u code' size' F (a + 20) (b + 20) w.0 w.1 w.2 w.3 w.4 (omega arith) l (omega arith) (ranges_left t u a b 5 (5 * suc q) r0 copied) in
     let k : 2 + (1 + (1 + 4 * suc q)) ≡ 4 * suc (suc q) = omega arith in
@@ -118,7 +118,7 @@ ones (suc m) t code size f a b c d e g h x r =
     let F = sum_flags (suc m) (inverted 1) 1 in
     let v : word (suc m + inverted 1 + 1) ≡ m = omega arith in
     let o = less_one u code' size' f (a + 4) (b + 4) (suc m) w.0 w.1 w.2 w.3 w.4 in
-    let o' : Passes u (st 20 f (a + 4) (b + 4) (suc m) w.0 w.1 w.2 w.3 w.4) u (st 22 F (a + 4) (b + 4) m w.0 w.1 w.2 w.3 w.4) = subst (λ i. Passes u (st 20 f (a + 4) (b + 4) (suc m) w.0 w.1 w.2 w.3 w.4) u (st 22 F (a + 4) (b + 4) i w.0 w.1 w.2 w.3 w.4)) v o in
+    let o' : ExecutesOne u (st 20 f (a + 4) (b + 4) (suc m) w.0 w.1 w.2 w.3 w.4) u (st 22 F (a + 4) (b + 4) m w.0 w.1 w.2 w.3 w.4) = subst (λ i. ExecutesOne u (st 20 f (a + 4) (b + 4) (suc m) w.0 w.1 w.2 w.3 w.4) u (st 22 F (a + 4) (b + 4) i w.0 w.1 w.2 w.3 w.4)) v o in
     let p = branch_to u code' size' F (a + 4) (b + 4) m w.0 w.1 w.2 w.3 w.4 22 24 16 2 (negsuc 9) (fetches u code').at22 (cs_yes (suc m) (inverted 1) 1 (omega arith) (omega arith)) refl refl in
     let z = ones m u code' size' F (a + 4) (b + 4) w.0 w.1 w.2 w.3 w.4 (omega arith) (ranges_left t u a b 1 (suc m) r0 copied) in
     let k : 2 + (1 + (1 + 4 * suc m)) ≡ 4 * suc (suc m) = omega arith in
@@ -155,7 +155,7 @@ tail (suc m) t code size f a b c d e g h l r =
     let F = sum_flags x 4 0 in
     let v : word (x + 4 + 0) ≡ m = omega arith in
     let o = more_four t code size f a b x c d e g h in
-    let o' : Passes t (st 12 f a b x c d e g h) t (st 14 F a b m c d e g h) = subst (λ i. Passes t (st 12 f a b x c d e g h) t (st 14 F a b i c d e g h)) v o in
+    let o' : ExecutesOne t (st 12 f a b x c d e g h) t (st 14 F a b m c d e g h) = subst (λ i. ExecutesOne t (st 12 f a b x c d e g h) t (st 14 F a b i c d e g h)) v o in
     let p = branch_by t code size F a b m c d e g h 14 16 3 (pos 6) (fetches t code).at14 (cc_no x 4 0 (omega arith) (omega arith)) refl in
     let z = ones m t code size F a b c d e g h (omega arith) r in
     let k : 1 + (1 + 4 * suc m) ≡ 2 + 4 * suc m = omega arith in (
@@ -177,7 +177,7 @@ way_by a b count t code size r x true e =
     let F = sum_flags count (inverted 5) 1 in
     let v : word (count + inverted 5 + 1) ≡ 2 ^ 32 + count - 5 = omega arith in
     let o = less_five_0 t code size 0 a b count 0 0 0 0 0 in
-    let o' : Passes t (st 0 0 a b count 0 0 0 0 0) t (st 2 F a b (2 ^ 32 + count - 5) 0 0 0 0 0) = subst (λ i. Passes t (st 0 0 a b count 0 0 0 0 0) t (st 2 F a b i 0 0 0 0 0)) v o in
+    let o' : ExecutesOne t (st 0 0 a b count 0 0 0 0 0) t (st 2 F a b (2 ^ 32 + count - 5) 0 0 0 0 0) = subst (λ i. ExecutesOne t (st 0 0 a b count 0 0 0 0 0) t (st 2 F a b i 0 0 0 0 0)) v o in
     let p = branch_to t code size F a b (2 ^ 32 + count - 5) 0 0 0 0 0 2 4 12 3 (pos 6) (fetches t code).at2 (cc_yes count (inverted 5) 1 (omega arith)) refl refl in
     let z = tail count t code size F a b 0 0 0 0 0 l r in (
       1 + (1 + (2 + 4 * count)),
@@ -198,7 +198,7 @@ way_by a b count t code size r x false e =
     let F = sum_flags count (inverted 5) 1 in
     let v : word (count + inverted 5 + 1) ≡ count - 5 = omega arith in
     let o = less_five_0 t code size 0 a b count 0 0 0 0 0 in
-    let o' : Passes t (st 0 0 a b count 0 0 0 0 0) t (st 2 F a b (count - 5) 0 0 0 0 0) = subst (λ i. Passes t (st 0 0 a b count 0 0 0 0 0) t (st 2 F a b i 0 0 0 0 0)) v o in
+    let o' : ExecutesOne t (st 0 0 a b count 0 0 0 0 0) t (st 2 F a b (count - 5) 0 0 0 0 0) = subst (λ i. ExecutesOne t (st 0 0 a b count 0 0 0 0 0) t (st 2 F a b i 0 0 0 0 0)) v o in
     let p = branch_by t code size F a b (count - 5) 0 0 0 0 0 2 4 3 (pos 6) (fetches t code).at2 (cc_no count (inverted 5) 1 (omega arith) (omega arith)) refl in
     let y = fives q s (count - 5) t code size F a b 0 0 0 0 0 (omega arith) (omega arith) (omega arith) (ranges_first t a b (5 * suc q) s r0) in
     let w = y.came in

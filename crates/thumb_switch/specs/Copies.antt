@@ -34,14 +34,14 @@ pub record AreCopied (source target count : ℕ) (t u : Space) : Type 0 where
   pub elsewhere : (b : ℕ) → IsPlace t b → ((j : ℕ) → j < count → b ≢ target + 4 * j) → word_at u b ≡ word_at t b
 
 -- One instruction is executed: it stands before back_at, doesn't fault, and asks for no service.
-pub record Passes (t : Space) (r : Registers) (u : Space) (q : Registers) : Type 0 where
+pub record ExecutesOne (t : Space) (r : Registers) (u : Space) (q : Registers) : Type 0 where
   pub goes : step_in t r ≡ On q u
   pub before : (r.pc == back_at) ≡ false
 
 -- so many are, one after another
 abbrev pub Pass : ℕ → Space → Registers → Space → Registers → Type 0
 Pass zero t r u q = (t ≡ u) × (r ≡ q)
-Pass (suc n) t r u q = (v : Space) × (m : Registers) × Passes t r v m × Pass n v m u q
+Pass (suc n) t r u q = (v : Space) × (m : Registers) × ExecutesOne t r v m × Pass n v m u q
 
 -- The routine's execution: from its call to its return no instruction faults, and behind it the words are copied.
 pub record Copies (source target count : ℕ) (t : Space) : Type 0 where

@@ -5,7 +5,7 @@ use Rattle.thumb_code.specs.Machine.{State as Machine}
 use Rattle.fiber_pool.specs.Kept.{Kept, kept_at, sized}
 use Rattle.fiber_runtime.specs.declared.turning.Turning.{Turning}
 use Rattle.fiber_runtime.specs.declared.blocking.Why.{Why}
-use Rattle.fiber_runtime.specs.Words.{Fits, kept_of}
+use Rattle.fiber_runtime.specs.Words.{ReachesBase, kept_of}
 use Rattle.fiber_runtime.specs.State.{State}
 use Rattle.fiber_runtime.specs.Moves.{joined, turning_of}
 use Rattle.thumb_switch.specs.Space.{Space, Executed, record_at, switched}
@@ -58,7 +58,7 @@ pub record ResumedBy (h h' : Held) (old new : State) : Type 0 where
   pub kept : Kept
   pub first : old.lists ≡ record new.lists { ready = key ∷ new.lists.ready }
   pub found : get old.pool key ≡ Some kept
-  pub fits : Fits kept
+  pub fits : ReachesBase kept
   pub steps : ℕ
   pub left : Space
   pub executes : in_by h.bytes old.machine.memory.stack kept ≡ (steps, left)

@@ -61,8 +61,7 @@ impl MemoryFolder {
 }
 
 impl Folder for MemoryFolder {
-    ghost use Rattle.sts_base.specs.Faults.{Rose};
-    ghost use Rattle.tool_io.specs.Memory.{next_call, one_more};
+    ghost use Rattle.sts_base.specs.Faults.{Rose, one_more};
     ghost use Rattle.tool_folder.specs.Fetching.{IsFoundOf, IsWithinLimit};
     ghost use Rattle.tool_folder.specs.Memory.{bytes_named};
     ghost use Rattle.tool_folder.specs.Noting.{HasNoted, names_in};
@@ -81,7 +80,7 @@ impl Folder for MemoryFolder {
         ensures later { self.old.faults ≤ self.new.faults }
         ensures failed { IsErrOf result FetchFault.Failed → Rose self.old.faults self.new.faults }
         ensures failing { self.new.failing ≡ self.old.failing }
-        ensures calls { self.new.calls ≡ next_call self.old.calls }
+        ensures calls { self.new.calls ≡ one_more self.old.calls }
         ensures exact { IsErrOf result FetchFault.Failed ↔ ((names_in self.new.asked ≡ names_in self.old.asked ++ name.now ∷ []) × Contains self.old.failing self.new.calls) }
         ensures counted { IsErrOf result FetchFault.Failed → self.new.faults ≡ one_more self.old.faults }
         ensures uncounted { (IsErrOf result FetchFault.Failed → ⊥) → self.new.faults ≡ self.old.faults }

@@ -1,7 +1,7 @@
 // A sink in memory, which fails at the calls that it is told to and past its room.
 ghost use Rattle.std.specs.Prelude.{◌≡◌, ◌≤◌, ◌<◌, ◌+◌, ◌-◌, ◌++◌, ◌↔◌, List, ℕ, Some, [], OnOk, OnErr, IfOk, IsOk, Contains, vec_capacity, vec_len, length, max};
 ghost use Rattle.tool_io.specs.Putting.{Puts};
-ghost use Rattle.tool_io.specs.Memory.{next_call, one_more};
+ghost use Rattle.sts_base.specs.Faults.{one_more};
 
 use crate::{PutFailed, Sink};
 use std::alloc::Global;
@@ -70,7 +70,7 @@ impl Sink for MemorySink {
 
     fn put(&mut self, piece: &[u8]) -> Result<(), PutFailed>
         ensures puts { Puts (Some self.old.taken.items) (Some self.new.taken.items) self.old.faults self.new.faults piece.now result }
-        ensures calls { self.new.calls ≡ next_call self.old.calls }
+        ensures calls { self.new.calls ≡ one_more self.old.calls }
         ensures exact { IsOk result ↔ ((Contains self.old.failing self.new.calls → ⊥) × (length piece.now ≤ self.old.room)) }
         ensures nothing { OnErr result (self.new.taken.items ≡ self.old.taken.items) }
         ensures room_less { OnOk result (self.new.room + length piece.now ≡ self.old.room) }

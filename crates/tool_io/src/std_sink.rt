@@ -2,7 +2,7 @@
 ghost use Rattle.std.specs.Prelude.{◌≡◌, ◌≢◌, ◌↔◌, [], true, OnOk, OnErr, IfOk, IfErr};
 ghost use Rattle.std.specs.IoError.{error_kind};
 ghost use Rattle.std.specs.Io.KnownBytes.{append_known};
-ghost use Rattle.tool_io.specs.Memory.{one_more};
+ghost use Rattle.sts_base.specs.Faults.{one_more};
 ghost use Rattle.tool_io.specs.Putting.{Took, TookPart, Puts};
 ghost use Rattle.tool_io.specs.Lines.{EndsLine};
 

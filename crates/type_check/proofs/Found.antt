@@ -19,9 +19,9 @@ use Rattle.type_check.specs.Seen.{plain, member, own_called_kind, called_kind, s
 use Rattle.type_check.proofs.Calls.{own_called_is, called_is, list_is}
 use Rattle.sts_syntax.specs.Trees.{Tree, Trees, Items, more, Name, Member, Call, Make, SuperCall}
 use Rattle.sts_syntax.specs.Views.{tree, trees}
-use Rattle.sts_scope.specs.declared.kinds.Kind.{Kind}
-use Rattle.sts_scope.specs.Faults.{Fault, ◌then◌, own, unless, Finds}
-use Rattle.sts_scope.specs.Places.{Place}
+use Rattle.sts_scope.specs.declared.kinds.StaticType.{StaticType}
+use Rattle.sts_scope.specs.Failures.{Failure, ◌then◌, own, unless, Finds}
+use Rattle.sts_scope.specs.Places.{NameScope}
 use Rattle.sts_scope.proofs.Laws.{drop_at, drop_end}
 use Rattle.type_derive.specs.declared.roles.Role.{Role}
 use Rattle.type_derive.specs.declared.roles.Role.TheVariants.{Free, Called}
@@ -29,7 +29,7 @@ use Rattle.type_derive.specs.Typing.{◌>>=◌, Callee, type_of, types_of, role_
 use Rattle.type_derive.specs.declared.context.Context.{Context}
 use Rattle.type_check.specs.declared.seen.Seen.{Seen}
 use Rattle.type_derive.specs.Naming.{naming}
-use Rattle.type_check.specs.Contexts.{fault, faults, kinds_of, seen_of}
+use Rattle.type_check.specs.Contexts.{failure, failures, kinds_of, seen_of}
 
 behind_is : (bs : List BoardParameter) (i : ℕ) → behind (drop i bs) ≡ drop (i + 1) bs
 behind_is [] i = ap behind (drop_end {A = BoardParameter} [] i (omega arith)) ∙ sym (drop_end {A = BoardParameter} [] (i + 1) (omega arith))
@@ -39,19 +39,19 @@ behind_is (b ∷ bs) (suc i) = let e : suc (i + 1) ≡ suc i + 1 = omega arith i
 pub trees_first : (xs : List Expr) (x : Expr) → 1 ≤ length xs → x ≡ get_or xs 0 x → trees xs ≡ more (tree x) (trees (drop 1 xs))
 trees_first xs x h is = ap trees (drop_at xs 0 x (omega arith) is)
 
-module _ (c : Context) (p : Place) (bs : List BoardParameter) (all : List Expr) where
+module _ (c : Context) (p : NameScope) (bs : List BoardParameter) (all : List Expr) where
   pub args_step : (i : ℕ) (a : Expr) (r : Role) → i < length all → a ≡ get_or all i a → r ≡ role_of (drop i bs) →
-      faults c p (drop i bs) (trees (drop i all)) ≡ (fault c p r (tree a) then faults c p (drop (i + 1) bs) (trees (drop (i + 1) all)))
+      failures c p (drop i bs) (trees (drop i all)) ≡ (failure c p r (tree a) then failures c p (drop (i + 1) bs) (trees (drop (i + 1) all)))
   args_step i a r lt is h =
-      ap (λ xs. faults c p (drop i bs) (trees xs)) (drop_at all i a lt is)
-      ∙ ap (λ q. fault c p (role_of (drop i bs)) (tree a) then faults c p q (trees (drop (i + 1) all))) (behind_is bs i)
-      ∙ ap (λ q. fault c p q (tree a) then faults c p (drop (i + 1) bs) (trees (drop (i + 1) all))) (sym h)
+      ap (λ xs. failures c p (drop i bs) (trees xs)) (drop_at all i a lt is)
+      ∙ ap (λ q. failure c p (role_of (drop i bs)) (tree a) then failures c p q (trees (drop (i + 1) all))) (behind_is bs i)
+      ∙ ap (λ q. failure c p q (tree a) then failures c p (drop (i + 1) bs) (trees (drop (i + 1) all))) (sym h)
 
-  pub args_kept : (i : ℕ) (a : Expr) (r : Role) (found : Option Fault) → i < length all → a ≡ get_or all i a → r ≡ role_of (drop i bs) →
-      fault c p r (tree a) ≡ None → faults c p (drop i bs) (trees (drop i all)) ≡ found → faults c p (drop (i + 1) bs) (trees (drop (i + 1) all)) ≡ found
-  args_kept i a r found lt is h f rest = ap (λ q. q then faults c p (drop (i + 1) bs) (trees (drop (i + 1) all))) (sym f) ∙ sym (args_step i a r lt is h) ∙ rest
+  pub args_kept : (i : ℕ) (a : Expr) (r : Role) (found : Option Failure) → i < length all → a ≡ get_or all i a → r ≡ role_of (drop i bs) →
+      failure c p r (tree a) ≡ None → failures c p (drop i bs) (trees (drop i all)) ≡ found → failures c p (drop (i + 1) bs) (trees (drop (i + 1) all)) ≡ found
+  args_kept i a r found lt is h f rest = ap (λ q. q then failures c p (drop (i + 1) bs) (trees (drop (i + 1) all))) (sym f) ∙ sym (args_step i a r lt is h) ∙ rest
 
-  pub kinds_more : (i : ℕ) (a : Expr) (r : Role) (s : Seen) (os us : List (Option Kind)) (kinds : List (Option Kind)) → i < length all → a ≡ get_or all i a → r ≡ role_of (drop i bs) →
+  pub kinds_more : (i : ℕ) (a : Expr) (r : Role) (s : Seen) (os us : List (Option StaticType)) (kinds : List (Option StaticType)) → i < length all → a ≡ get_or all i a → r ≡ role_of (drop i bs) →
       s ≡ seen_of c p r (tree a) → us ≡ os ++ s.kind ∷ [] → os ++ kinds_of c p (drop i bs) (trees (drop i all)) ≡ kinds →
       us ++ kinds_of c p (drop (i + 1) bs) (trees (drop (i + 1) all)) ≡ kinds
   kinds_more i a r s os us kinds lt is h hs hu rest =
@@ -67,14 +67,14 @@ module _ (c : Context) (p : Place) (bs : List BoardParameter) (all : List Expr) 
       ∙ ap (λ q. os ++ q ∷ kinds_of c p (drop (i + 1) bs) (trees (drop (i + 1) all))) here
       ∙ ap (λ q. os ++ q) (sym step) ∙ rest
 
-abbrev plain_of : Option Kind → Option Part → Seen
+abbrev plain_of : Option StaticType → Option Part → Seen
 plain_of kind part = record { kind = kind; part = part }
 
 apart : {A : Type 0} (v : A) → None ≡ Some v → ⊥
 apart v h = false≢true (ap is_some h)
 
 -- what names a part of the board's interface has no type
-no_space : {A : Type 0} (t : Tables) (k : Known) (p : Place) (x : ℕ) (f : Found) (named : List ℕ → Option A) (v : A) → (space_of t k x f >>= named) ≡ Some v → name_kind k p f ≡ None
+no_space : {A : Type 0} (t : Tables) (k : Known) (p : NameScope) (x : ℕ) (f : Found) (named : List ℕ → Option A) (v : A) → (space_of t k x f >>= named) ≡ Some v → name_kind k p f ≡ None
 no_space t k p x found.Unknown named v h = refl
 no_space t k p x (found.Local i) named v h = absurd (apart v h)
 no_space t k p x (found.Global d) named v h = absurd (apart v h)
@@ -83,22 +83,22 @@ no_space t k p x (found.Function d) named v h = refl
 no_space t k p x (found.Class d) named v h = refl
 
 -- what stands before the dot of a call of the board has no type
-pub no_type : (t : Tables) (k : Known) (p : Place) (at m : ℕ) (a : Tree) (call : BoardCall) → board_callee t k p (Member at a m) ≡ Some call → type_of t k p Free a ≡ None
+pub no_type : (t : Tables) (k : Known) (p : NameScope) (at m : ℕ) (a : Tree) (call : BoardCall) → board_callee t k p (Member at a m) ≡ Some call → type_of t k p Free a ≡ None
 no_type t k p at m (Name j x) call h = no_space t k p x (finds t k p x) (λ s. call_named s (spelling t m)) call h
 no_type t k p at m _ call h = absurd (apart call h)
 
 -- nor has what stands before the dot of a constant of the board
-constant_type : (t : Tables) (k : Known) (p : Place) (m : ℕ) (a : Tree) (z : ℤ) → constant_of t k p a m ≡ Some z → type_of t k p Free a ≡ None
+constant_type : (t : Tables) (k : Known) (p : NameScope) (m : ℕ) (a : Tree) (z : ℤ) → constant_of t k p a m ≡ Some z → type_of t k p Free a ≡ None
 constant_type t k p m (Name j x) z h = no_space t k p x (finds t k p x) (λ s. constant_named s (spelling t m)) z h
 constant_type t k p m _ z h = absurd (apart z h)
 
-pub untyped : (t : Tables) (k : Known) (p : Place) (at m : ℕ) (a : Tree) → is_some (board_callee t k p (Member at a m)) ≡ true → type_of t k p Free a ≡ None
+pub untyped : (t : Tables) (k : Known) (p : NameScope) (at m : ℕ) (a : Tree) → is_some (board_callee t k p (Member at a m)) ≡ true → type_of t k p Free a ≡ None
 untyped t k p at m a h = by_call (board_callee t k p (Member at a m)) (no_type t k p at m a) h where
   by_call : (o : Option BoardCall) → ((call : BoardCall) → o ≡ Some call → type_of t k p Free a ≡ None) → is_some o ≡ true → type_of t k p Free a ≡ None
   by_call None f h = absurd (false≢true h)
   by_call (Some call) f h = f call refl
 
-module _ (c : Context) (p : Place) (r : Role) where
+module _ (c : Context) (p : NameScope) (r : Role) where
   pub member_board : (at m : ℕ) (a : Tree) (s : Seen) → s ≡ plain None → constant_of c.tables.now c.known.now p a m ≡ None → type_of c.tables.now c.known.now p Free a ≡ None → s ≡ seen_of c p r (Member at a m)
   member_board at m a s hs hc ht =
       let k = c.known.now in
@@ -120,16 +120,16 @@ module _ (c : Context) (p : Place) (r : Role) where
 
   -- the failures of a member of what is no part of the board's interface
   pub member_is : (at m : ℕ) (a : Tree) → constant_of c.tables.now c.known.now p a m ≡ None → board_callee c.tables.now c.known.now p (Member at a m) ≡ None →
-      fault c p r (Member at a m) ≡ (fault c p Free a then own_member c.tables.now (naming c) c.known.now r (type_of c.tables.now c.known.now p Free a) m at)
+      failure c p r (Member at a m) ≡ (failure c p Free a then own_member c.tables.now (naming c) c.known.now r (type_of c.tables.now c.known.now p Free a) m at)
   member_is at m a hc hb =
       let t = c.tables.now in
       let k = c.known.now in
-      let rest = fault c p Free a then own_member t (naming c) k r (type_of t k p Free a) m at in
+      let rest = failure c p Free a then own_member t (naming c) k r (type_of t k p Free a) m at in
       ap (λ q. elim q [ Some z ↦ None | None ↦ elim (board_callee t k p (Member at a m)) [ Some call ↦ unless (is_called r) BadHandler at | None ↦ rest ] ]) hc
       ∙ ap (λ q. elim q [ Some call ↦ unless (is_called r) BadHandler at | None ↦ rest ]) hb
 
-  pub member_found : (at m : ℕ) (a : Tree) (o : Option Kind) (result : Result Seen Refused) → constant_of c.tables.now c.known.now p a m ≡ None → board_callee c.tables.now c.known.now p (Member at a m) ≡ None →
-      fault c p Free a ≡ None → o ≡ type_of c.tables.now c.known.now p Free a → Finds result (own_member c.tables.now (naming c) c.known.now r o m at) → Finds result (fault c p r (Member at a m))
+  pub member_found : (at m : ℕ) (a : Tree) (o : Option StaticType) (result : Result Seen Refused) → constant_of c.tables.now c.known.now p a m ≡ None → board_callee c.tables.now c.known.now p (Member at a m) ≡ None →
+      failure c p Free a ≡ None → o ≡ type_of c.tables.now c.known.now p Free a → Finds result (own_member c.tables.now (naming c) c.known.now r o m at) → Finds result (failure c p r (Member at a m))
   member_found at m a o result hc hb hf ho f =
       let t = c.tables.now in
       let k = c.known.now in
@@ -137,7 +137,7 @@ module _ (c : Context) (p : Place) (r : Role) where
       subst (Finds result) (sym (member_is at m a hc hb ∙ ap (λ q. q then own_member t n k r (type_of t k p Free a) m at) hf
       ∙ ap (λ q. own_member t n k r q m at) (sym ho))) f
 
-  pub member_typed : (at m : ℕ) (a : Tree) (o : Option Kind) (result : Result Seen Refused) → constant_of c.tables.now c.known.now p a m ≡ None → o ≡ type_of c.tables.now c.known.now p Free a →
+  pub member_typed : (at m : ℕ) (a : Tree) (o : Option StaticType) (result : Result Seen Refused) → constant_of c.tables.now c.known.now p a m ≡ None → o ≡ type_of c.tables.now c.known.now p Free a →
       IfOk result (λ s. s ≡ member c.tables.now c.known.now o m) → IfOk result (λ s. s ≡ seen_of c p r (Member at a m))
   member_typed at m a o result hc ho seen =
       let t = c.tables.now in
@@ -147,33 +147,33 @@ module _ (c : Context) (p : Place) (r : Role) where
 
   -- the failures of a call of the board, and of any other
   pub board_call_is : (at : ℕ) (f : Tree) (args : Trees) (call : BoardCall) → board_callee c.tables.now c.known.now p f ≡ Some call →
-      fault c p r (Call at f args) ≡ (faults c p (row_of call).takes args then own_board c.tables.now (naming c) c.known.now p (row_of call).takes args at)
+      failure c p r (Call at f args) ≡ (failures c p (row_of call).takes args then own_board c.tables.now (naming c) c.known.now p (row_of call).takes args at)
   board_call_is at f args call hb =
       let t = c.tables.now in
       let k = c.known.now in
       let n = naming c in
-      ap (λ q. elim q [ Some call ↦ faults c p (row_of call).takes args then own_board t n k p (row_of call).takes args at | None ↦ fault c p Called f then faults c p [] args then own_called t n k (callee_of t k p f) (types_of t k p args) at ]) hb
+      ap (λ q. elim q [ Some call ↦ failures c p (row_of call).takes args then own_board t n k p (row_of call).takes args at | None ↦ failure c p Called f then failures c p [] args then own_called t n k (callee_of t k p f) (types_of t k p args) at ]) hb
 
   pub other_call_is : (at : ℕ) (f : Tree) (args : Trees) → board_callee c.tables.now c.known.now p f ≡ None →
-      fault c p r (Call at f args) ≡ (fault c p Called f then faults c p [] args then own_called c.tables.now (naming c) c.known.now (callee_of c.tables.now c.known.now p f) (types_of c.tables.now c.known.now p args) at)
+      failure c p r (Call at f args) ≡ (failure c p Called f then failures c p [] args then own_called c.tables.now (naming c) c.known.now (callee_of c.tables.now c.known.now p f) (types_of c.tables.now c.known.now p args) at)
   other_call_is at f args hb =
       let t = c.tables.now in
       let k = c.known.now in
       let n = naming c in
-      ap (λ q. elim q [ Some call ↦ faults c p (row_of call).takes args then own_board t n k p (row_of call).takes args at | None ↦ fault c p Called f then faults c p [] args then own_called t n k (callee_of t k p f) (types_of t k p args) at ]) hb
+      ap (λ q. elim q [ Some call ↦ failures c p (row_of call).takes args then own_board t n k p (row_of call).takes args at | None ↦ failure c p Called f then failures c p [] args then own_called t n k (callee_of t k p f) (types_of t k p args) at ]) hb
 
-  pub call_found : (at : ℕ) (f : Tree) (args : Trees) (d : Option Callee) (os : List (Option Kind)) (result : Result Seen Refused) → board_callee c.tables.now c.known.now p f ≡ None →
-      fault c p Called f ≡ None → faults c p [] args ≡ None → d ≡ callee_of c.tables.now c.known.now p f → os ≡ kinds_of c p [] args →
-      Finds result (own_called_kind c.known.now d os at) → Finds result (fault c p r (Call at f args))
+  pub call_found : (at : ℕ) (f : Tree) (args : Trees) (d : Option Callee) (os : List (Option StaticType)) (result : Result Seen Refused) → board_callee c.tables.now c.known.now p f ≡ None →
+      failure c p Called f ≡ None → failures c p [] args ≡ None → d ≡ callee_of c.tables.now c.known.now p f → os ≡ kinds_of c p [] args →
+      Finds result (own_called_kind c.known.now d os at) → Finds result (failure c p r (Call at f args))
   call_found at f args d os result hb hf ha hd ho found =
       let t = c.tables.now in
       let k = c.known.now in
       let n = naming c in
       let own = own_called t n k (callee_of t k p f) (types_of t k p args) at in
-      subst (Finds result) (sym (other_call_is at f args hb ∙ ap (λ q. q then faults c p [] args then own) hf ∙ ap (λ q. q then own) ha ∙ own_called_is t k p n (callee_of t k p f) args at
+      subst (Finds result) (sym (other_call_is at f args hb ∙ ap (λ q. q then failures c p [] args then own) hf ∙ ap (λ q. q then own) ha ∙ own_called_is t k p n (callee_of t k p f) args at
       ∙ ap (λ q. own_called_kind k q (kinds_of c p [] args) at) (sym hd) ∙ ap (λ q. own_called_kind k d q at) (sym ho))) found
 
-  pub call_typed : (at : ℕ) (f : Tree) (args : Trees) (d : Option Callee) (os : List (Option Kind)) (result : Result Seen Refused) → board_callee c.tables.now c.known.now p f ≡ None →
+  pub call_typed : (at : ℕ) (f : Tree) (args : Trees) (d : Option Callee) (os : List (Option StaticType)) (result : Result Seen Refused) → board_callee c.tables.now c.known.now p f ≡ None →
       d ≡ callee_of c.tables.now c.known.now p f → os ≡ kinds_of c p [] args →
       IfOk result (λ s. s ≡ plain (called_kind c.known.now.classes d os)) → IfOk result (λ s. s ≡ seen_of c p r (Call at f args))
   call_typed at f args d os result hb hd ho seen =
@@ -182,9 +182,9 @@ module _ (c : Context) (p : Place) (r : Role) where
       subst (λ q. IfOk result (λ s. s ≡ plain q)) (sym (ap (λ q. elim q [ Some call ↦ if are_given t k p (row_of call).takes args then Some (board_kind (row_of call).gives) else None | None ↦ called t k (callee_of t k p f) (types_of t k p args) ]) hb
       ∙ called_is t k p (callee_of t k p f) args ∙ ap (λ q. called_kind k.classes q (kinds_of c p [] args)) (sym hd) ∙ ap (λ q. called_kind k.classes d q) (sym ho))) seen
 
-  pub make_found : (at x : ℕ) (args : Trees) (os : List (Option Kind)) (result : Result Seen Refused) → faults c p [] args ≡ None → os ≡ kinds_of c p [] args →
+  pub make_found : (at x : ℕ) (args : Trees) (os : List (Option StaticType)) (result : Result Seen Refused) → failures c p [] args ≡ None → os ≡ kinds_of c p [] args →
       (let f = finds c.tables.now c.known.now p x in Finds result (own_make c.tables.now (naming c) c.known.now f (made c.tables.now c.known.now f) (called_kind c.known.now.classes (made c.tables.now c.known.now f) os) at)) →
-      Finds result (fault c p r (Make at x args))
+      Finds result (failure c p r (Make at x args))
   make_found at x args os result ha ho found =
       let t = c.tables.now in
       let k = c.known.now in
@@ -193,7 +193,7 @@ module _ (c : Context) (p : Place) (r : Role) where
       subst (Finds result) (sym (ap (λ q. q then own_make t n k f (made t k f) (called t k (made t k f) (types_of t k p args)) at) ha
       ∙ ap (λ q. own_make t n k f (made t k f) q at) (called_is t k p (made t k f) args ∙ ap (λ q. called_kind k.classes (made t k f) q) (sym ho)))) found
 
-  pub make_typed : (at x : ℕ) (args : Trees) (os : List (Option Kind)) (result : Result Seen Refused) → os ≡ kinds_of c p [] args →
+  pub make_typed : (at x : ℕ) (args : Trees) (os : List (Option StaticType)) (result : Result Seen Refused) → os ≡ kinds_of c p [] args →
       IfOk result (λ s. s ≡ plain (called_kind c.known.now.classes (made c.tables.now c.known.now (finds c.tables.now c.known.now p x)) os)) → IfOk result (λ s. s ≡ seen_of c p r (Make at x args))
   make_typed at x args os result ho seen =
       let t = c.tables.now in
@@ -201,9 +201,9 @@ module _ (c : Context) (p : Place) (r : Role) where
       let d = made t k (finds t k p x) in
       subst (λ q. IfOk result (λ s. s ≡ plain q)) (sym (called_is t k p d args ∙ ap (λ q. called_kind k.classes d q) (sym ho))) seen
 
-  pub super_found : (at m : ℕ) (args : Trees) (os : List (Option Kind)) (result : Result Seen Refused) → faults c p [] args ≡ None → os ≡ kinds_of c p [] args →
+  pub super_found : (at m : ℕ) (args : Trees) (os : List (Option StaticType)) (result : Result Seen Refused) → failures c p [] args ≡ None → os ≡ kinds_of c p [] args →
       Finds result (own_super c.tables.now (naming c) c.known.now p m (super_method c.tables.now c.known.now p.this m) (called_kind c.known.now.classes (super_callee c.tables.now c.known.now p.this m) os) at) →
-      Finds result (fault c p r (SuperCall at (Some m) args))
+      Finds result (failure c p r (SuperCall at (Some m) args))
   super_found at m args os result ha ho found =
       let t = c.tables.now in
       let k = c.known.now in
@@ -212,7 +212,7 @@ module _ (c : Context) (p : Place) (r : Role) where
       subst (Finds result) (sym (ap (λ q. q then own_super t n k p m (super_method t k p.this m) (called t k d (types_of t k p args)) at) ha
       ∙ ap (λ q. own_super t n k p m (super_method t k p.this m) q at) (called_is t k p d args ∙ ap (λ q. called_kind k.classes d q) (sym ho)))) found
 
-  pub super_typed : (at m : ℕ) (args : Trees) (os : List (Option Kind)) (result : Result Seen Refused) → os ≡ kinds_of c p [] args →
+  pub super_typed : (at m : ℕ) (args : Trees) (os : List (Option StaticType)) (result : Result Seen Refused) → os ≡ kinds_of c p [] args →
       IfOk result (λ s. s ≡ plain (called_kind c.known.now.classes (super_callee c.tables.now c.known.now p.this m) os)) → IfOk result (λ s. s ≡ seen_of c p r (SuperCall at (Some m) args))
   super_typed at m args os result ho seen =
       let t = c.tables.now in
@@ -220,16 +220,16 @@ module _ (c : Context) (p : Place) (r : Role) where
       let d = super_callee t k p.this m in
       subst (λ q. IfOk result (λ s. s ≡ plain q)) (sym (called_is t k p d args ∙ ap (λ q. called_kind k.classes d q) (sym ho))) seen
 
-  pub items_found : (at : ℕ) (e : Tree) (rest : Trees) (o : Option Kind) (os : List (Option Kind)) (result : Result Seen Refused) → fault c p Free e ≡ None → faults c p [] rest ≡ None →
-      o ≡ type_of c.tables.now c.known.now p Free e → os ≡ kinds_of c p [] rest → Finds result (own (listed_kind c.known.now.classes o os) Mismatch at) → Finds result (fault c p r (Items at (more e rest)))
+  pub items_found : (at : ℕ) (e : Tree) (rest : Trees) (o : Option StaticType) (os : List (Option StaticType)) (result : Result Seen Refused) → failure c p Free e ≡ None → failures c p [] rest ≡ None →
+      o ≡ type_of c.tables.now c.known.now p Free e → os ≡ kinds_of c p [] rest → Finds result (own (listed_kind c.known.now.classes o os) Mismatch at) → Finds result (failure c p r (Items at (more e rest)))
   items_found at e rest o os result hf ha hk ho found =
       let t = c.tables.now in
       let k = c.known.now in
       let u = type_of t k p r (Items at (more e rest)) in
-      subst (Finds result) (sym (ap (λ q. q then faults c p [] rest then own u Mismatch at) hf ∙ ap (λ q. q then own u Mismatch at) ha
+      subst (Finds result) (sym (ap (λ q. q then failures c p [] rest then own u Mismatch at) hf ∙ ap (λ q. q then own u Mismatch at) ha
       ∙ ap (λ q. own q Mismatch at) (list_is t k p (type_of t k p Free e) rest ∙ ap (λ q. listed_kind k.classes q (kinds_of c p [] rest)) (sym hk) ∙ ap (λ q. listed_kind k.classes o q) (sym ho)))) found
 
-  pub items_typed : (at : ℕ) (e : Tree) (rest : Trees) (o : Option Kind) (os : List (Option Kind)) (result : Result Seen Refused) →
+  pub items_typed : (at : ℕ) (e : Tree) (rest : Trees) (o : Option StaticType) (os : List (Option StaticType)) (result : Result Seen Refused) →
       o ≡ type_of c.tables.now c.known.now p Free e → os ≡ kinds_of c p [] rest → IfOk result (λ s. s ≡ plain (listed_kind c.known.now.classes o os)) → IfOk result (λ s. s ≡ seen_of c p r (Items at (more e rest)))
   items_typed at e rest o os result hk ho seen =
       let t = c.tables.now in

@@ -8,11 +8,11 @@ use Rattle.sts_syntax.specs.BoardTable.{BoardParameter}
 use Rattle.sts_syntax.specs.BoardViews.{board_parameter}
 use Rattle.sts_syntax.specs.Trees.{Tree, Trees, none, more}
 use Rattle.sts_syntax.specs.Views.{tree, trees}
-use Rattle.sts_scope.specs.declared.kinds.Kind.{Kind}
+use Rattle.sts_scope.specs.declared.kinds.StaticType.{StaticType}
 use Rattle.sts_scope.specs.declared.entries.ClassHead.{ClassHead}
 use Rattle.sts_scope.specs.declared.known.Known.{Known}
 use Rattle.sts_scope.specs.Entries.{Naming}
-use Rattle.sts_scope.specs.Places.{Place}
+use Rattle.sts_scope.specs.Places.{NameScope}
 use Rattle.sts_scope.proofs.Laws.{drop_at, drop_end}
 use Rattle.type_derive.specs.Nodes.{lacks_handler}
 use Rattle.type_derive.specs.Shown.{goes_some}
@@ -24,7 +24,7 @@ and_false true = refl
 and_false false = refl
 
 -- of different lengths they don't go each to each
-pub unequal : (classes : List ClassHead) (os : List (Option Kind)) (ts : List Kind) → (length os ≡ length ts → ⊥) → false ≡ fit_all classes os ts
+pub unequal : (classes : List ClassHead) (os : List (Option StaticType)) (ts : List StaticType) → (length os ≡ length ts → ⊥) → false ≡ fit_all classes os ts
 unequal classes [] [] h = absurd (h refl)
 unequal classes [] (t ∷ ts) h = refl
 unequal classes (o ∷ os) [] h = refl
@@ -43,7 +43,7 @@ headed xs i x rest d e = let h : get_or xs i d ∷ drop (i + 1) xs ≡ x ∷ res
 tailed : {A : Type 0} (xs : List A) (i : ℕ) (x : A) (rest : List A) → drop i xs ≡ x ∷ rest → drop (i + 1) xs ≡ rest
 tailed xs i x rest e = let h : get_or xs i x ∷ drop (i + 1) xs ≡ x ∷ rest = sym (drop_or xs i x (within xs i x rest e)) ∙ e in cc
 
-module _ (t : Tables) (names : Naming) (k : Known) (p : Place) where
+module _ (t : Tables) (names : Naming) (k : Known) (p : NameScope) where
   -- of the parameters and arguments from the i-th on
   abbrev lacking : List Parameter → List Expr → ℕ → Bool
   lacking takes args i = lacks_handler t names k p (map board_parameter (drop i takes)) (trees (drop i args))
@@ -83,11 +83,11 @@ module _ (t : Tables) (names : Naming) (k : Known) (p : Place) where
   lacks_end (q ∷ qs) (a ∷ bs) zero h = absurd (omega (arith, h))
   lacks_end (q ∷ qs) (a ∷ bs) (suc i) h = let h' : min (length qs) (length bs) ≤ i = omega (arith, h) in lacks_end qs bs i h'
 
-module _ (t : Tables) (k : Known) (p : Place) where
+module _ (t : Tables) (k : Known) (p : NameScope) where
   abbrev giving : List Parameter → List Expr → ℕ → Bool
   giving takes args i = are_given t k p (map board_parameter (drop i takes)) (trees (drop i args))
 
-  abbrev kinds_from : List Parameter → List Expr → ℕ → List (Option Kind)
+  abbrev kinds_from : List Parameter → List Expr → ℕ → List (Option StaticType)
   kinds_from takes args i = kinds_given t k p (map board_parameter (drop i takes)) (trees (drop i args))
 
   given_one : (q : Parameter) (ps : List BoardParameter) (a : Tree) (rest : Trees) →
@@ -115,11 +115,11 @@ module _ (t : Tables) (k : Known) (p : Place) where
       ∙ ap (λ ys. kinds_given t k p (map board_parameter (get_or takes i d ∷ drop (i + 1) takes)) (trees ys)) (drop_at args i a m is)
 
   -- the kind at this place is that of the argument, and those behind it are those of the others
-  pub kinds_here : (takes : List Parameter) (args : List Expr) (kinds : List (Option Kind)) (i : ℕ) (d : Parameter) (a : Expr) →
+  pub kinds_here : (takes : List Parameter) (args : List Expr) (kinds : List (Option StaticType)) (i : ℕ) (d : Parameter) (a : Expr) →
       i < length takes → i < length args → a ≡ get_or args i a → drop i kinds ≡ kinds_from takes args i → i < length kinds
   kinds_here takes args kinds i d a l m is e = within kinds i _ _ (e ∙ kinds_step takes args i d a l m is)
 
-  pub given_found : (takes : List Parameter) (args : List Expr) (kinds : List (Option Kind)) (i : ℕ) (d : Parameter) (a : Expr) (all : Bool) →
+  pub given_found : (takes : List Parameter) (args : List Expr) (kinds : List (Option StaticType)) (i : ℕ) (d : Parameter) (a : Expr) (all : Bool) →
       i < length takes → i < length args → a ≡ get_or args i a → drop i kinds ≡ kinds_from takes args i →
       fits_place t k p (board_parameter (get_or takes i d)) (get_or kinds i None) (tree a) ≡ false → giving takes args i ≡ all → false ≡ all
   given_found takes args kinds i d a all l m is e h rest =
@@ -127,7 +127,7 @@ module _ (t : Tables) (k : Known) (p : Place) where
       sym (given_step takes args i d a l m is ∙ ap (λ o. fits_place t k p (board_parameter (get_or takes i d)) o (tree a) && giving takes args (i + 1)) (sym x)
       ∙ ap (λ b. b && giving takes args (i + 1)) h) ∙ rest
 
-  pub given_kept : (takes : List Parameter) (args : List Expr) (kinds : List (Option Kind)) (i : ℕ) (d : Parameter) (a : Expr) (all : Bool) →
+  pub given_kept : (takes : List Parameter) (args : List Expr) (kinds : List (Option StaticType)) (i : ℕ) (d : Parameter) (a : Expr) (all : Bool) →
       i < length takes → i < length args → a ≡ get_or args i a → drop i kinds ≡ kinds_from takes args i →
       fits_place t k p (board_parameter (get_or takes i d)) (get_or kinds i None) (tree a) ≡ true → giving takes args i ≡ all → giving takes args (i + 1) ≡ all
   given_kept takes args kinds i d a all l m is e h rest =
@@ -135,7 +135,7 @@ module _ (t : Tables) (k : Known) (p : Place) where
       sym (given_step takes args i d a l m is ∙ ap (λ o. fits_place t k p (board_parameter (get_or takes i d)) o (tree a) && giving takes args (i + 1)) (sym x)
       ∙ ap (λ b. b && giving takes args (i + 1)) h) ∙ rest
 
-  pub kinds_kept : (takes : List Parameter) (args : List Expr) (kinds : List (Option Kind)) (i : ℕ) (d : Parameter) (a : Expr) →
+  pub kinds_kept : (takes : List Parameter) (args : List Expr) (kinds : List (Option StaticType)) (i : ℕ) (d : Parameter) (a : Expr) →
       i < length takes → i < length args → a ≡ get_or args i a → drop i kinds ≡ kinds_from takes args i → drop (i + 1) kinds ≡ kinds_from takes args (i + 1)
   kinds_kept takes args kinds i d a l m is e = tailed kinds i _ _ (e ∙ kinds_step takes args i d a l m is)
 

@@ -7,10 +7,10 @@ use Rattle.sts_syntax.specs.declared.trees.Stmt.{Stmt}
 use Rattle.sts_syntax.specs.Annotations.{Annotation}
 use Rattle.sts_syntax.specs.Trees.{OptionalTree, absent, present, OptionalStatement, omitted, written}
 use Rattle.sts_syntax.specs.Views.{statement}
-use Rattle.sts_scope.specs.declared.kinds.Kind.{Kind}
+use Rattle.sts_scope.specs.declared.kinds.StaticType.{StaticType}
 use Rattle.sts_scope.specs.declared.known.Known.{Known}
 use Rattle.sts_scope.specs.Entries.{Naming, kind_of}
-use Rattle.sts_scope.specs.Faults.{Fault, unless, own}
+use Rattle.sts_scope.specs.Failures.{Failure, unless, own}
 use Rattle.sts_scope.specs.Kinds.{is_array, item}
 use Rattle.type_derive.specs.Nodes.{fits}
 
@@ -20,23 +20,23 @@ is_present absent = false
 is_present (present e) = true
 
 -- the type that is written, else the initialiser's
-abbrev pub bound_kind : Naming → Option Annotation → Option Kind → Option Kind
+abbrev pub bound_kind : Naming → Option Annotation → Option StaticType → Option StaticType
 bound_kind names (Some a) first = kind_of names a
 bound_kind names None first = first
 
 -- an initialiser fits the type that is written; without one it has a type
-abbrev pub bound_fault : Naming → Known → Option Annotation → Bool → Option Kind → ℕ → Option Fault
-bound_fault names k None there first at = own first NeedsType at
-bound_fault names k (Some a) false first at = None
-bound_fault names k (Some a) true first at = unless (fits k first (kind_of names a)) Mismatch at
+abbrev pub bound_failure : Naming → Known → Option Annotation → Bool → Option StaticType → ℕ → Option Failure
+bound_failure names k None there first at = own first NeedsType at
+bound_failure names k (Some a) false first at = None
+bound_failure names k (Some a) true first at = unless (fits k first (kind_of names a)) Mismatch at
 
 -- the type of what a loop goes through is an array's
-abbrev pub is_list : Option Kind → Bool
+abbrev pub is_list : Option StaticType → Bool
 is_list None = false
 is_list (Some t) = is_array t
 
 -- the type of the items that a loop goes through
-abbrev pub items_of : Option Kind → Option Kind
+abbrev pub items_of : Option StaticType → Option StaticType
 items_of None = None
 items_of (Some t) = if is_array t then Some (item t) else None
 

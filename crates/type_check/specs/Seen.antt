@@ -6,17 +6,17 @@ use Rattle.sts_syntax.specs.BoardTable.{BoardParameter, row_of}
 use Rattle.sts_syntax.specs.declared.board_calls.BoardCall.{BoardCall}
 use Rattle.sts_syntax.specs.Annotations.{Annotation}
 use Rattle.sts_syntax.specs.Trees.{Tree, Member, Trees, none, more, OptionalTree, absent, present}
-use Rattle.sts_scope.specs.declared.kinds.Kind.{Kind}
+use Rattle.sts_scope.specs.declared.kinds.StaticType.{StaticType}
 use Rattle.sts_scope.specs.declared.entries.ClassHead.{ClassHead}
 use Rattle.sts_scope.specs.declared.known.Known.{Known}
 use Rattle.sts_scope.specs.declared.known.Part.{Part}
 use Rattle.sts_scope.specs.declared.known.This.{This as Self}
 use Rattle.sts_base.specs.declared.refused.Code.TheVariants.{Mismatch}
-use Rattle.sts_scope.specs.Faults.{Fault, fault_at, own}
+use Rattle.sts_scope.specs.Failures.{Failure, failure_at, own}
 use Rattle.sts_scope.specs.Codes.{why_call}
 use Rattle.sts_scope.specs.Kinds.{array_of}
 use Rattle.sts_scope.specs.Entries.{Naming}
-use Rattle.sts_scope.specs.Places.{Place}
+use Rattle.sts_scope.specs.Places.{NameScope}
 use Rattle.sts_scope.specs.Rules.{takes_at, kind_at, part_of, part_kind, is_boolean}
 use Rattle.type_derive.specs.declared.roles.Role.{Role}
 use Rattle.type_derive.specs.declared.roles.Role.TheVariants.{Free}
@@ -26,34 +26,34 @@ use Rattle.type_derive.specs.Nodes.{waives, shape_role}
 use Rattle.type_check.specs.declared.seen.Seen.{Seen}
 
 -- what stands behind no dot
-abbrev pub plain : Option Kind → Seen
+abbrev pub plain : Option StaticType → Seen
 plain kind = record { kind = kind; part = None }
 
 -- values of types go where types are given, each to each; one without a type doesn't
-abbrev pub fit_all : List ClassHead → List (Option Kind) → List Kind → Bool
+abbrev pub fit_all : List ClassHead → List (Option StaticType) → List StaticType → Bool
 fit_all classes [] [] = true
 fit_all classes (o ∷ os) (t ∷ ts) = goes_some classes o t && fit_all classes os ts
 fit_all classes [] (t ∷ ts) = false
 fit_all classes (o ∷ os) [] = false
 
 -- they all go to one
-abbrev pub fit_one : List ClassHead → Kind → List (Option Kind) → Bool
+abbrev pub fit_one : List ClassHead → StaticType → List (Option StaticType) → Bool
 fit_one classes t [] = true
 fit_one classes t (o ∷ os) = goes_some classes o t && fit_one classes t os
 
 -- the type of a list literal, by its first item's type and those of the others
-abbrev pub listed_kind : List ClassHead → Option Kind → List (Option Kind) → Option Kind
+abbrev pub listed_kind : List ClassHead → Option StaticType → List (Option StaticType) → Option StaticType
 listed_kind classes None os = None
 listed_kind classes (Some t) os = if fit_one classes t os then array_of t else None
 
 -- the type of a call with arguments of some types
-abbrev pub called_kind : List ClassHead → Option Callee → List (Option Kind) → Option Kind
+abbrev pub called_kind : List ClassHead → Option Callee → List (Option StaticType) → Option StaticType
 called_kind classes None os = None
 called_kind classes (Some c) os = if fit_all classes os c.takes then c.gives else None
 
 -- why a call of this fails
-abbrev pub own_called_kind : Known → Option Callee → List (Option Kind) → ℕ → Option Fault
-own_called_kind k None os at = fault_at Mismatch at
+abbrev pub own_called_kind : Known → Option Callee → List (Option StaticType) → ℕ → Option Failure
+own_called_kind k None os at = failure_at Mismatch at
 own_called_kind k (Some c) os at = own (called_kind k.classes (Some c) os) (why_call c.gives) at
 
 -- the method of a base that is called
@@ -62,47 +62,47 @@ super_callee tables k this m = super_method tables k this m >>= λ d. Some (call
 
 module _ (tables : Tables) (k : Known) where
   -- what stands behind the dot of what has a type
-  abbrev pub part_at : Place → Tree → Option Part
+  abbrev pub part_at : NameScope → Tree → Option Part
   part_at p (Member at a m) = type_of tables k p Free a >>= λ u. Some (part_of tables.names k u m)
   part_at p _ = None
 
   -- the type of an expression, and what stands behind its dot
-  abbrev pub seen : Place → Role → Tree → Seen
+  abbrev pub seen : NameScope → Role → Tree → Seen
   seen p r e = record { kind = type_of tables k p r e; part = part_at p e }
 
   -- the types of arguments, by what their places do with them
-  abbrev pub kinds_given : Place → List BoardParameter → Trees → List (Option Kind)
+  abbrev pub kinds_given : NameScope → List BoardParameter → Trees → List (Option StaticType)
   kinds_given p takes none = []
   kinds_given p takes (more e rest) = type_of tables k p (role_of takes) e ∷ kinds_given p (behind takes) rest
 
   -- a test that is left out, or is a truth value
-  abbrev pub is_test : Place → OptionalTree → Bool
+  abbrev pub is_test : NameScope → OptionalTree → Bool
   is_test p absent = true
   is_test p (present e) = is_boolean (type_of tables k p Free e)
 
 module _ (tables : Tables) (names : Naming) (k : Known) where
   -- the type of an initialiser, if it gives one
-  abbrev pub initial_kind : Place → Option Annotation → OptionalTree → Option Kind
+  abbrev pub initial_kind : NameScope → Option Annotation → OptionalTree → Option StaticType
   initial_kind p shape absent = None
   initial_kind p shape (present e) = if waives tables names k shape e then None else type_of tables k p (shape_role shape) e
 
 module _ (tables : Tables) (k : Known) where
   -- what is seen of a member, by the type of what stands before its dot
-  abbrev pub member : Option Kind → ℕ → Seen
+  abbrev pub member : Option StaticType → ℕ → Seen
   member t m = record { kind = t >>= λ u. part_kind k (part_of tables.names k u m); part = t >>= λ u. Some (part_of tables.names k u m) }
 
   -- no function stands where a handler is wanted
-  abbrev pub lacks_here : Place → BoardParameter → Tree → Bool
+  abbrev pub lacks_here : NameScope → BoardParameter → Tree → Bool
   lacks_here p board.Handler a = not (is_routine tables k p a)
   lacks_here p (board.Of u) a = false
   lacks_here p board.Drawing a = false
 
   -- an argument of this type fits its place in a call of the board
-  abbrev pub fits_place : Place → BoardParameter → Option Kind → Tree → Bool
+  abbrev pub fits_place : NameScope → BoardParameter → Option StaticType → Tree → Bool
   fits_place p (board.Of u) kind a = given_to tables k kind u
   fits_place p board.Handler kind a = is_routine tables k p a
   fits_place p board.Drawing kind a = is_drawing tables a
 
   -- the type of a call of the board
-  abbrev pub board_kind_of : Place → BoardCall → Trees → Option Kind
+  abbrev pub board_kind_of : NameScope → BoardCall → Trees → Option StaticType
   board_kind_of p call args = if are_given tables k p (row_of call).takes args then Some (board_kind (row_of call).gives) else None

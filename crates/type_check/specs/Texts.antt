@@ -7,35 +7,35 @@ use Rattle.sts_syntax.specs.Programs.{ClassMember, Field, Method, Constructor, P
 use Rattle.sts_scope.specs.declared.known.Known.{Known}
 use Rattle.sts_scope.specs.declared.known.This.TheVariants as this
 use Rattle.sts_scope.specs.Entries.{Naming}
-use Rattle.sts_scope.specs.Faults.{Fault, ◌then◌, fault_at, unless}
+use Rattle.sts_scope.specs.Failures.{Failure, ◌then◌, failure_at, unless}
 use Rattle.sts_scope.specs.Headings.{routine_at}
 use Rattle.sts_scope.specs.Lookup.{base_of, inherited}
 use Rattle.sts_scope.specs.Rules.{kind_at, maker_takes_of}
-use Rattle.sts_scope.specs.Places.{Place}
+use Rattle.sts_scope.specs.Places.{NameScope}
 use Rattle.type_derive.specs.Typing.{types_of}
-use Rattle.type_derive.specs.Nodes.{faults, statements_fault}
-use Rattle.type_derive.specs.Passes.{agrees, field_fault, own_super_call, body_fault, constructor_fault, all_overrides, nodes_fault}
+use Rattle.type_derive.specs.Nodes.{failures, statements_failure}
+use Rattle.type_derive.specs.Passes.{agrees, field_failure, own_super_call, body_failure, constructor_failure, all_overrides, nodes_failure}
 
 -- a member against the bases of its class
-abbrev pub override_fault : Known → ℕ → ℕ → ClassMember → Option Fault
-override_fault k c d (Field a) = None
-override_fault k c d (Method x r) = unless (agrees k d (inherited k.entries k.classes c x)) Mismatch (routine_at r)
-override_fault k c d (Constructor r) = None
+abbrev pub override_failure : Known → ℕ → ℕ → ClassMember → Option Failure
+override_failure k c d (Field a) = None
+override_failure k c d (Method x r) = unless (agrees k d (inherited k.entries k.classes c x)) Mismatch (routine_at r)
+override_failure k c d (Constructor r) = None
 
 -- the nodes of a member
-abbrev pub member_nodes : Tables → Naming → Known → ℕ → ℕ → ClassMember → Option Fault
-member_nodes tables names k c d (Field a) = field_fault tables names k (this.Object c) a
-member_nodes tables names k c d (Method x r) = body_fault tables names k (this.Object c) (kind_at k d) r
-member_nodes tables names k c d (Constructor r) = constructor_fault tables names k (this.Object c) (base_of k.classes c) r
+abbrev pub member_nodes : Tables → Naming → Known → ℕ → ℕ → ClassMember → Option Failure
+member_nodes tables names k c d (Field a) = field_failure tables names k (this.Object c) a
+member_nodes tables names k c d (Method x r) = body_failure tables names k (this.Object c) (kind_at k d) r
+member_nodes tables names k c d (Constructor r) = constructor_failure tables names k (this.Object c) (base_of k.classes c) r
 
 -- the call of a base's constructor
-abbrev pub super_fault : Tables → Naming → Known → Place → ℕ → ℕ → Trees → Option Fault
-super_fault tables names k p at b args = faults tables names k p [] args then own_super_call tables names k (types_of tables k p args) (maker_takes_of k.classes b) at
+abbrev pub super_failure : Tables → Naming → Known → NameScope → ℕ → ℕ → Trees → Option Failure
+super_failure tables names k p at b args = failures tables names k p [] args then own_super_call tables names k (types_of tables k p args) (maker_takes_of k.classes b) at
 
 -- the statements of a constructor without it, of a class with a base
-abbrev pub unmade_fault : Tables → Naming → Known → Place → ℕ → Statements → Option Fault
-unmade_fault tables names k p at all = statements_fault tables names k p all then fault_at Mismatch at
+abbrev pub unmade_failure : Tables → Naming → Known → NameScope → ℕ → Statements → Option Failure
+unmade_failure tables names k p at all = statements_failure tables names k p all then failure_at Mismatch at
 
 -- the first failure behind the headings, of a text that begins with the class c
-abbrev pub type_failure : Tables → Naming → Known → ℕ → Program → Option Fault
-type_failure tables names k c text = all_overrides k names c k.library text then nodes_fault tables names k c k.library text
+abbrev pub type_failure : Tables → Naming → Known → ℕ → Program → Option Failure
+type_failure tables names k c text = all_overrides k names c k.library text then nodes_failure tables names k c k.library text

@@ -9,14 +9,14 @@ ghost use Rattle.type_derive.specs.Typing as typing;
 ghost use Rattle.type_derive.specs.Naming.{naming};
 ghost use Rattle.type_check.specs.Seen.{fit_all, fit_one, listed_kind, called_kind, kinds_given, lacks_here, fits_place};
 
-use sts_scope::{Base, Environment, Kind, flat};
+use sts_scope::{Base, Environment, StaticType, flat};
 use sts_syntax::{BoardParameter, Expr};
 use type_derive::{
     Called, Context, Scope, gives_of, goes_some, is_drawing, is_function, listed, takes_of,
 };
 
 /// Whether values of types go where types are given, each to each; one without a type doesn't.
-pub fn all_go(known: &Environment, ss: &[Option<Kind>], ts: &[Kind]) -> bool
+pub fn all_go(known: &Environment, ss: &[Option<StaticType>], ts: &[StaticType]) -> bool
     ensures { result ≡ fit_all known.now.classes ss.now ts.now }
 {
     if ss.len() != ts.len() {
@@ -31,7 +31,7 @@ pub fn all_go(known: &Environment, ss: &[Option<Kind>], ts: &[Kind]) -> bool
 }
 
 /// Whether values of types all go to one; one without a type doesn't.
-fn all_go_to(known: &Environment, t: Kind, ss: &[Option<Kind>]) -> bool
+fn all_go_to(known: &Environment, t: StaticType, ss: &[Option<StaticType>]) -> bool
     ensures { result ≡ fit_one known.now.classes t ss.now }
 {
     for i in 0..ss.len() {
@@ -43,7 +43,11 @@ fn all_go_to(known: &Environment, t: Kind, ss: &[Option<Kind>]) -> bool
 }
 
 /// The type of a list literal, by its first item's type and those of the others.
-pub fn items_kind(known: &Environment, t: Option<Kind>, ss: &[Option<Kind>]) -> Option<Kind>
+pub fn items_kind(
+    known: &Environment,
+    t: Option<StaticType>,
+    ss: &[Option<StaticType>],
+) -> Option<StaticType>
     ensures { result ≡ listed_kind known.now.classes t ss.now }
 {
     match t {
@@ -59,7 +63,11 @@ pub fn items_kind(known: &Environment, t: Option<Kind>, ss: &[Option<Kind>]) -> 
 }
 
 /// The type of a call with arguments of some types.
-pub fn call_type(known: &Environment, called: &Called, ss: &[Option<Kind>]) -> Option<Kind>
+pub fn call_type(
+    known: &Environment,
+    called: &Called,
+    ss: &[Option<StaticType>],
+) -> Option<StaticType>
     ensures { result ≡ called_kind known.now.classes (Some (shown known.now called.now)) ss.now }
 {
     if all_go(known, ss, takes_of(known, called)) {
@@ -103,7 +111,7 @@ fn fits_place(
     context: &Context,
     scope: &Scope,
     to: BoardParameter,
-    kind: Option<Kind>,
+    kind: Option<StaticType>,
     a: &Expr,
 ) -> bool
     ensures { result ≡ fits_place context.now.tables.now context.now.known.now (place scope.now) (board_parameter to) kind (tree a.now) }
@@ -121,7 +129,7 @@ pub fn are_given(
     context: &Context,
     scope: &Scope,
     takes: &[BoardParameter],
-    kinds: &[Option<Kind>],
+    kinds: &[Option<StaticType>],
     args: &[Expr],
 ) -> bool
     requires { kinds.now ≡ kinds_given context.now.tables.now context.now.known.now (place scope.now) (map board_parameter takes.now) (trees args.now) }

@@ -2,8 +2,8 @@
 ghost use Rattle.std.specs.Prelude.{◌≡◌, IfOk, is_some};
 ghost use Rattle.sts_syntax.specs.Views.{parameters, optional_annotation};
 ghost use Rattle.sts_base.specs.declared.refused.Code.TheVariants as code;
-ghost use Rattle.sts_scope.specs.Faults as failure;
-ghost use Rattle.sts_scope.specs.Faults.{Finds};
+ghost use Rattle.sts_scope.specs.Failures as failure;
+ghost use Rattle.sts_scope.specs.Failures.{Finds};
 ghost use Rattle.sts_scope.specs.Rules as rule;
 ghost use Rattle.sts_scope.specs.Values.{value_at};
 ghost use Rattle.type_derive.specs.Nodes as node;
@@ -13,7 +13,7 @@ ghost use Rattle.type_derive.specs.Naming.{naming};
 
 use sts_base::{Code, Refused};
 use sts_scope::{
-    Base, ByNumber, Environment, Kind, flat, goes, is_array, is_dollar, kind_of, same, unless,
+    Base, ByNumber, Environment, StaticType, flat, goes, is_array, is_dollar, kind_of, same, unless,
 };
 use sts_syntax::{Param, Shape};
 use text_headings::check_written;
@@ -21,7 +21,7 @@ use type_derive::{Context, Role, Scope, is_twice};
 
 /// The types that are written at the parameters of a function expression.
 pub fn check_parameter_types(classes: &ByNumber, params: &[Param]) -> Result<(), Refused>
-    ensures { Finds result (node.parameter_types_fault (value_at classes.now.values.items) (parameters params.now)) }
+    ensures { Finds result (node.parameter_types_failure (value_at classes.now.values.items) (parameters params.now)) }
 {
     for i in 0..params.len() {
         check_written(classes, params[i].at, &params[i].shape)?;
@@ -30,7 +30,7 @@ pub fn check_parameter_types(classes: &ByNumber, params: &[Param]) -> Result<(),
 }
 
 /// Whether it is the type of truth values.
-pub fn is_boolean(kind: Option<Kind>) -> bool
+pub fn is_boolean(kind: Option<StaticType>) -> bool
     ensures { result ≡ rule.is_boolean kind }
 {
     match kind {
@@ -40,7 +40,7 @@ pub fn is_boolean(kind: Option<Kind>) -> bool
 }
 
 /// Whether it is what a function gives that gives nothing.
-pub fn is_nothing(kind: Option<Kind>) -> bool
+pub fn is_nothing(kind: Option<StaticType>) -> bool
     ensures { result ≡ rule.is_nothing kind }
 {
     match kind {
@@ -50,7 +50,7 @@ pub fn is_nothing(kind: Option<Kind>) -> bool
 }
 
 /// Whether it is an array's type.
-pub fn is_list(kind: Option<Kind>) -> bool
+pub fn is_list(kind: Option<StaticType>) -> bool
     ensures { result ≡ bounds.is_list kind }
 {
     match kind {
@@ -60,7 +60,7 @@ pub fn is_list(kind: Option<Kind>) -> bool
 }
 
 /// A result that is known gives a type to what is returned.
-pub fn kind_role(kind: Option<Kind>) -> Role
+pub fn kind_role(kind: Option<StaticType>) -> Role
     ensures { result ≡ node.kind_role kind }
 {
     match kind {
@@ -80,7 +80,7 @@ pub fn shape_role(shape: &Option<Shape>) -> Role
 }
 
 /// Whether a value goes where a type is given, both of which are known.
-pub fn fits(known: &Environment, s: Option<Kind>, t: Option<Kind>) -> bool
+pub fn fits(known: &Environment, s: Option<StaticType>, t: Option<StaticType>) -> bool
     ensures { result ≡ node.fits known.now s t }
 {
     match (s, t) {
@@ -99,7 +99,7 @@ pub fn check_local(context: &Context, scope: &Scope, x: u32, at: u32) -> Result<
 }
 
 /// The type of a name without a written one.
-fn derived(first: Option<Kind>, at: u32) -> Result<Option<Kind>, Refused>
+fn derived(first: Option<StaticType>, at: u32) -> Result<Option<StaticType>, Refused>
     ensures found { Finds result (failure.own first code.NeedsType at) }
     ensures kind { IfOk result (λ kind. kind ≡ first) }
 {
@@ -117,10 +117,10 @@ pub fn bound(
     context: &Context,
     shape: &Option<Shape>,
     there: bool,
-    first: Option<Kind>,
+    first: Option<StaticType>,
     at: u32,
-) -> Result<Option<Kind>, Refused>
-    ensures found { Finds result (bounds.bound_fault (naming context.now) context.now.known.now (optional_annotation shape.now) there first at) }
+) -> Result<Option<StaticType>, Refused>
+    ensures found { Finds result (bounds.bound_failure (naming context.now) context.now.known.now (optional_annotation shape.now) there first at) }
     ensures kind { IfOk result (λ kind. kind ≡ bounds.bound_kind (naming context.now) (optional_annotation shape.now) first) }
 {
     match shape {

@@ -3,7 +3,7 @@ ghost use Rattle.std.specs.Prelude.{◌≡◌};
 ghost use Rattle.sts_scope.specs.Codes as code;
 
 use sts_base::Code;
-use sts_scope::{Environment, Found, Kind, Part, This};
+use sts_scope::{Environment, Found, Part, StaticType, This};
 
 /// Why a name can't be read.
 pub fn why_name(found: Found) -> Code
@@ -45,7 +45,7 @@ pub fn why_part(part: Part) -> Code
 }
 
 /// Why a call of what gives this has no type.
-pub fn why_call(gives: Option<Kind>) -> Code
+pub fn why_call(gives: Option<StaticType>) -> Code
     ensures { result ≡ code.why_call gives }
 {
     match gives {

@@ -1,6 +1,6 @@
 // The first failure of a text behind its headings.
 ghost use Rattle.sts_syntax.specs.Programs.{program};
-ghost use Rattle.sts_scope.specs.Faults.{Finds};
+ghost use Rattle.sts_scope.specs.Failures.{Finds};
 ghost use Rattle.sts_scope.specs.Values.{value_at};
 ghost use Rattle.text_headings.specs.Standing.{IsTextDeclared};
 ghost use Rattle.type_check.specs.Texts.{type_failure};

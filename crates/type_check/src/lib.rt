@@ -4,7 +4,7 @@
 mod arguments;
 mod bounds;
 mod codes;
-mod fault;
+mod failure;
 mod finding;
 mod nodes;
 mod overrides;

@@ -3,8 +3,8 @@ ghost use Rattle.std.specs.Prelude.{◌≡◌, ◌&&◌, Some, None, is_some, ma
 ghost use Rattle.sts_syntax.specs.BoardTable.{row_of};
 ghost use Rattle.sts_syntax.specs.Views.{tree, trees};
 ghost use Rattle.sts_base.specs.declared.refused.Code.TheVariants as code;
-ghost use Rattle.sts_scope.specs.Faults as failure;
-ghost use Rattle.sts_scope.specs.Faults.{Finds};
+ghost use Rattle.sts_scope.specs.Failures as failure;
+ghost use Rattle.sts_scope.specs.Failures.{Finds};
 ghost use Rattle.sts_scope.specs.Kinds as kind;
 ghost use Rattle.sts_scope.specs.Rules as rule;
 ghost use Rattle.sts_scope.specs.Codes as cause;
@@ -22,7 +22,7 @@ use crate::arguments::{are_given, call_type, items_kind, lacks_handler};
 use crate::codes::{why_call, why_make, why_name, why_part, why_super, why_this};
 use crate::seen::{Seen, own, plain};
 use sts_base::{Code, Refused};
-use sts_scope::{Found, Kind, Part, unless};
+use sts_scope::{Found, Part, StaticType, unless};
 use sts_syntax::{BoardCall, Expr, Node};
 use type_derive::{
     Called, Context, Role, Scope, board_kind, constant, gives_of, kind_at, made, name_fixed,
@@ -140,7 +140,7 @@ fn part_seen(context: &Context, role: Role, part: Part, at: u32) -> Result<Seen,
 pub fn member_seen(
     context: &Context,
     role: Role,
-    t: Option<Kind>,
+    t: Option<StaticType>,
     m: u32,
     at: u32,
 ) -> Result<Seen, Refused>
@@ -200,7 +200,7 @@ pub fn settable(context: &Context, scope: &Scope, x: &Expr, part: Option<Part>) 
 pub fn call_seen(
     context: &Context,
     called: Option<Called>,
-    kinds: &[Option<Kind>],
+    kinds: &[Option<StaticType>],
     at: u32,
 ) -> Result<Seen, Refused>
     ensures found { Finds result (own_called_kind context.now.known.now (all_shown context.now.known.now called) kinds.now at) }
@@ -224,7 +224,7 @@ pub fn super_call_seen(
     context: &Context,
     scope: &Scope,
     m: u32,
-    kinds: &[Option<Kind>],
+    kinds: &[Option<StaticType>],
     at: u32,
 ) -> Result<Seen, Refused>
     ensures found { Finds result (node.own_super context.now.tables.now (naming context.now) context.now.known.now (place scope.now) m (typing.super_method context.now.tables.now context.now.known.now scope.now.this m) (called_kind context.now.known.now.classes (super_callee context.now.tables.now context.now.known.now scope.now.this m) kinds.now) at) }
@@ -251,7 +251,7 @@ pub fn make_seen(
     context: &Context,
     scope: &Scope,
     x: u32,
-    kinds: &[Option<Kind>],
+    kinds: &[Option<StaticType>],
     at: u32,
 ) -> Result<Seen, Refused>
     ensures found { let f = typing.finds context.now.tables.now context.now.known.now (place scope.now) x in Finds result (node.own_make context.now.tables.now (naming context.now) context.now.known.now f (typing.made context.now.tables.now context.now.known.now f) (called_kind context.now.known.now.classes (typing.made context.now.tables.now context.now.known.now f) kinds.now) at) }
@@ -272,7 +272,7 @@ pub fn board_call_seen(
     context: &Context,
     scope: &Scope,
     call: BoardCall,
-    kinds: &[Option<Kind>],
+    kinds: &[Option<StaticType>],
     args: &[Expr],
     at: u32,
 ) -> Result<Seen, Refused>
@@ -297,8 +297,8 @@ pub fn board_call_seen(
 /// A list literal, by its first item's type and those of the others.
 pub fn items_seen(
     context: &Context,
-    t: Option<Kind>,
-    kinds: &[Option<Kind>],
+    t: Option<StaticType>,
+    kinds: &[Option<StaticType>],
     at: u32,
 ) -> Result<Seen, Refused>
     ensures found { Finds result (failure.own (listed_kind context.now.known.now.classes t kinds.now) code.Mismatch at) }

@@ -4,23 +4,23 @@ ghost use Rattle.sts_base.specs.declared.refused.Code.TheVariants as code;
 ghost use Rattle.sts_syntax.specs.Programs.{class_member, class_members, top_level, top_levels};
 ghost use Rattle.sts_syntax.specs.Views.{routine};
 ghost use Rattle.sts_scope.specs.Entries as entry;
-ghost use Rattle.sts_scope.specs.Faults as failure;
-ghost use Rattle.sts_scope.specs.Faults.{Finds};
+ghost use Rattle.sts_scope.specs.Failures as failure;
+ghost use Rattle.sts_scope.specs.Failures.{Finds};
 ghost use Rattle.sts_scope.specs.Headings as heading;
 ghost use Rattle.sts_scope.specs.Lookup as look;
 ghost use Rattle.text_headings.specs.Standing.{classes_before, IsItemAt, IsTextAt};
 ghost use Rattle.type_derive.specs.Passes as pass;
 ghost use Rattle.type_derive.specs.Naming.{naming};
-ghost use Rattle.type_check.specs.Texts.{override_fault};
+ghost use Rattle.type_check.specs.Texts.{override_failure};
 
 use sts_base::{Code, Refused};
-use sts_scope::{Environment, Kind, same, unless};
+use sts_scope::{Environment, StaticType, same, unless};
 use sts_syntax::{Body, Item, Member};
 use text_headings::{class_at, globals_in};
 use type_derive::{Context, kind_at, takes_at};
 
 /// Whether two lists of types are the same.
-fn same_kinds(ss: &[Kind], ts: &[Kind]) -> bool
+fn same_kinds(ss: &[StaticType], ts: &[StaticType]) -> bool
     ensures { result ≡ pass.same_kinds ss.now ts.now }
 {
     if ss.len() != ts.len() {
@@ -35,7 +35,7 @@ fn same_kinds(ss: &[Kind], ts: &[Kind]) -> bool
 }
 
 /// Whether two results are the same; one that can't be derived counts as equal to every other.
-fn same_result(s: Option<Kind>, t: Option<Kind>) -> bool
+fn same_result(s: Option<StaticType>, t: Option<StaticType>) -> bool
     ensures { result ≡ pass.same_result s t }
 {
     match (s, t) {
@@ -69,7 +69,7 @@ fn check_method(known: &Environment, c: u32, d: usize, x: u32, body: &Body) -> R
 
 /// A member against its class's bases.
 fn check_override(known: &Environment, c: u32, d: usize, member: &Member) -> Result<(), Refused>
-    ensures { Finds result (override_fault known.now c d (class_member member.now)) }
+    ensures { Finds result (override_failure known.now c d (class_member member.now)) }
 {
     match member {
         Member::Field(_) => Ok(()),
@@ -98,7 +98,7 @@ fn check_overrides(
     members: &[Member],
 ) -> Result<usize, Refused>
     requires { first + length (entry.member_entries (naming context.now) c (class_members members.now)) < 2 ^ 64 }
-    ensures found { Finds result (pass.overrides_fault context.now.known.now c first (class_members members.now)) }
+    ensures found { Finds result (pass.overrides_failure context.now.known.now c first (class_members members.now)) }
     ensures next { IfOk result (λ n. n ≡ first + length (entry.member_entries (naming context.now) c (class_members members.now))) }
 {
     let mut d = first;

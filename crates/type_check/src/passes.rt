@@ -3,7 +3,7 @@ ghost use Rattle.std.specs.Prelude.{◌≡◌, ◌+◌, ◌^◌, ◌<◌, Some, 
 ghost use Rattle.sts_syntax.specs.Programs.{class_member, class_members, top_level, top_levels};
 ghost use Rattle.sts_syntax.specs.Views.{trees, statement, statements, declaration, declarations, routine};
 ghost use Rattle.sts_scope.specs.Entries as entry;
-ghost use Rattle.sts_scope.specs.Faults.{Finds, ◌then◌};
+ghost use Rattle.sts_scope.specs.Failures.{Finds, ◌then◌};
 ghost use Rattle.sts_scope.specs.Lookup as look;
 ghost use Rattle.sts_scope.specs.Places as name;
 ghost use Rattle.sts_scope.specs.declared.known.This.TheVariants as this;
@@ -12,21 +12,21 @@ ghost use Rattle.type_derive.specs.Passes as pass;
 ghost use Rattle.type_derive.specs.Scopes.{place};
 ghost use Rattle.type_check.specs.Contexts as c;
 ghost use Rattle.type_derive.specs.Naming.{naming};
-ghost use Rattle.type_check.specs.Texts.{member_nodes, super_fault, unmade_fault};
+ghost use Rattle.type_check.specs.Texts.{member_nodes, super_failure, unmade_failure};
 
 use crate::arguments::all_go;
 use crate::bounds::bound;
-use crate::fault::{initial, kinds_of, statement, statements};
+use crate::failure::{initial, kinds_of, statement, statements};
 use crate::overrides::behind_member;
 use sts_base::{Code, Refused};
-use sts_scope::{Base, ClassHead, Kind, This, flat, or_no_memory, unless};
+use sts_scope::{Base, ClassHead, StaticType, This, flat, or_no_memory, unless};
 use sts_syntax::{Binding, Body, Expr, Form, Item, Member, Stmt};
 use text_headings::{check_written, class_at, globals_in};
 use type_derive::{Context, Scope, head_of, kind_at, outer_scope, routine_scope};
 
 /// A field or a global, which is declared outside all functions.
 fn check_field(context: &Context, this: This, b: &Binding) -> Result<(), Refused>
-    ensures { Finds result (pass.field_fault context.now.tables.now (naming context.now) context.now.known.now this (declaration b.now)) }
+    ensures { Finds result (pass.field_failure context.now.tables.now (naming context.now) context.now.known.now this (declaration b.now)) }
 {
     check_written(context.classes, b.at, &b.shape)?;
     let scope = outer_scope(context.alloc, this);
@@ -38,7 +38,7 @@ fn check_field(context: &Context, this: This, b: &Binding) -> Result<(), Refused
 
 /// Globals.
 fn check_globals(context: &Context, each: &[Binding]) -> Result<(), Refused>
-    ensures { Finds result (pass.globals_fault context.now.tables.now (naming context.now) context.now.known.now (declarations each.now)) }
+    ensures { Finds result (pass.globals_failure context.now.tables.now (naming context.now) context.now.known.now (declarations each.now)) }
 {
     for i in 0..each.len() {
         check_field(context, This::Nowhere, &each[i])?;
@@ -48,7 +48,7 @@ fn check_globals(context: &Context, each: &[Binding]) -> Result<(), Refused>
 
 /// A statement of the main program that declares no globals.
 fn check_outer(context: &Context, s: &Stmt) -> Result<(), Refused>
-    ensures { Finds result (c.statement_fault context.now (name.outside this.Nowhere false None) (statement s.now)) }
+    ensures { Finds result (c.statement_failure context.now (name.outside this.Nowhere false None) (statement s.now)) }
 {
     let mut scope = outer_scope(context.alloc, This::Nowhere);
     statement(context, &mut scope, s)
@@ -56,7 +56,7 @@ fn check_outer(context: &Context, s: &Stmt) -> Result<(), Refused>
 
 /// A statement of the main program.
 fn check_main(context: &Context, s: &Stmt) -> Result<(), Refused>
-    ensures { Finds result (pass.main_fault context.now.tables.now (naming context.now) context.now.known.now (statement s.now)) }
+    ensures { Finds result (pass.main_failure context.now.tables.now (naming context.now) context.now.known.now (statement s.now)) }
 {
     match &s.form {
         Form::Let { fixed: _, each } => check_globals(context, each.as_slice()),
@@ -83,10 +83,10 @@ fn check_main(context: &Context, s: &Stmt) -> Result<(), Refused>
 fn check_body(
     context: &Context,
     this: This,
-    gives: Option<Kind>,
+    gives: Option<StaticType>,
     body: &Body,
 ) -> Result<(), Refused>
-    ensures { Finds result (pass.body_fault context.now.tables.now (naming context.now) context.now.known.now this gives (routine body.now)) }
+    ensures { Finds result (pass.body_failure context.now.tables.now (naming context.now) context.now.known.now this gives (routine body.now)) }
 {
     let mut scope = or_no_memory(routine_scope(
         context.alloc,
@@ -107,7 +107,7 @@ fn check_super(
     b: u32,
     args: &[Expr],
 ) -> Result<(), Refused>
-    ensures { Finds result (super_fault context.now.tables.now (naming context.now) context.now.known.now (place scope.now) at b (trees args.now)) }
+    ensures { Finds result (super_failure context.now.tables.now (naming context.now) context.now.known.now (place scope.now) at b (trees args.now)) }
 {
     let kinds = kinds_of(context, scope, None, 0, args)?;
     let known = context.known;
@@ -120,7 +120,7 @@ fn check_super(
 
 /// The statements of a constructor without `super(..)` at its head, of a class with a base.
 fn check_unmade(context: &Context, scope: &mut Scope, at: u32, all: &[Stmt]) -> Result<(), Refused>
-    ensures { Finds result (unmade_fault context.now.tables.now (naming context.now) context.now.known.now (place scope.old) at (statements all.now)) }
+    ensures { Finds result (unmade_failure context.now.tables.now (naming context.now) context.now.known.now (place scope.old) at (statements all.now)) }
 {
     statements(context, scope, all)?;
     Err(Refused::Program {
@@ -138,7 +138,7 @@ fn check_headed(
     args: &[Expr],
     rest: &[Stmt],
 ) -> Result<(), Refused>
-    ensures { Finds result (super_fault context.now.tables.now (naming context.now) context.now.known.now (place scope.old) at b (trees args.now) then c.statements_fault context.now (place scope.old) (statements rest.now)) }
+    ensures { Finds result (super_failure context.now.tables.now (naming context.now) context.now.known.now (place scope.old) at b (trees args.now) then c.statements_failure context.now (place scope.old) (statements rest.now)) }
 {
     check_super(context, scope, at, b, args)?;
     statements(context, scope, rest)
@@ -152,7 +152,7 @@ fn check_made(
     b: u32,
     all: &[Stmt],
 ) -> Result<(), Refused>
-    ensures { Finds result (pass.made_fault context.now.tables.now (naming context.now) context.now.known.now (place scope.old) at b (statements all.now)) }
+    ensures { Finds result (pass.made_failure context.now.tables.now (naming context.now) context.now.known.now (place scope.old) at b (statements all.now)) }
 {
     match all {
         [] => check_unmade(context, scope, at, all),
@@ -165,7 +165,7 @@ fn check_made(
 
 /// A constructor of the class with the base b.
 fn check_derived(context: &Context, this: This, b: u32, body: &Body) -> Result<(), Refused>
-    ensures { Finds result (pass.constructor_fault context.now.tables.now (naming context.now) context.now.known.now this (Some b) (routine body.now)) }
+    ensures { Finds result (pass.constructor_failure context.now.tables.now (naming context.now) context.now.known.now this (Some b) (routine body.now)) }
 {
     let mut scope = or_no_memory(routine_scope(
         context.alloc,
@@ -191,7 +191,7 @@ fn base_of(classes: &[ClassHead], c: u32) -> Option<u32>
 
 /// A constructor of the class c.
 fn check_constructor(context: &Context, c: u32, body: &Body) -> Result<(), Refused>
-    ensures { Finds result (pass.constructor_fault context.now.tables.now (naming context.now) context.now.known.now (this.Object c) (look.base_of context.now.known.now.classes c) (routine body.now)) }
+    ensures { Finds result (pass.constructor_failure context.now.tables.now (naming context.now) context.now.known.now (this.Object c) (look.base_of context.now.known.now.classes c) (routine body.now)) }
 {
     match base_of(context.known.classes(), c) {
         None => check_body(context, This::Object(c), Some(flat(Base::Nothing)), body),
@@ -263,7 +263,7 @@ fn check_item(context: &Context, d: usize, item: &Item) -> Result<usize, Refused
 /// The nodes of a text, whose first declaration is this one.
 pub fn check_nodes(context: &Context, first: usize, items: &[Item]) -> Result<(), Refused>
     requires { IsTextAt (naming context.now) context.now.known.now.entries first (top_levels items.now) }
-    ensures { Finds result (pass.nodes_fault context.now.tables.now (naming context.now) context.now.known.now (classes_before context.now.known.now.entries first) first (top_levels items.now)) }
+    ensures { Finds result (pass.nodes_failure context.now.tables.now (naming context.now) context.now.known.now (classes_before context.now.known.now.entries first) first (top_levels items.now)) }
 {
     // (all declarations are in memory: that bounds every number of one)
     let _count = context.known.entries().len();

@@ -5,14 +5,14 @@ ghost use Rattle.type_derive.specs.Scopes.{place};
 ghost use Rattle.type_check.specs.Bounds as bounds;
 
 use sts_base::Refused;
-use sts_scope::{Kind, is_array, item, or_no_memory};
+use sts_scope::{StaticType, is_array, item, or_no_memory};
 use type_derive::{Mark, Scope, declare, enter};
 
 /// Begins the body of a loop that goes through what has a type. Gives where the block around it begins.
 pub fn enter_loop(
     scope: &mut Scope,
     x: u32,
-    kind: Option<Kind>,
+    kind: Option<StaticType>,
     fixed: bool,
 ) -> Result<Mark, Refused>
     ensures place { OnOk result (place scope.new ≡ name.with (name.inner (place scope.old)) x (bounds.items_of kind) fixed) }
@@ -26,7 +26,7 @@ pub fn enter_loop(
 }
 
 /// The type of the items that a loop goes through.
-fn listed_kind(kind: Option<Kind>) -> Option<Kind>
+fn listed_kind(kind: Option<StaticType>) -> Option<StaticType>
     ensures { result ≡ bounds.items_of kind }
 {
     match kind {

@@ -10,7 +10,7 @@ use Rattle.sts_syntax.specs.Trees.{Tree, Name, Member}
 use Rattle.sts_syntax.specs.Views.{tree, node_tree}
 use Rattle.sts_scope.specs.declared.known.Known.{Known}
 use Rattle.sts_scope.specs.declared.known.This.TheVariants as this
-use Rattle.sts_scope.specs.Places.{Place}
+use Rattle.sts_scope.specs.Places.{NameScope}
 use Rattle.sts_scope.specs.Lookup.{inherited}
 use Rattle.type_derive.specs.Typing.{◌>>=◌, spelling, space, board_callee, method_of, super_method}
 
@@ -23,5 +23,5 @@ member_is e a m is = ap (node_tree e.at) is
 pub method_found : (t : Tables) (k : Known) (c m d : ℕ) → inherited k.entries k.classes c m ≡ Some d → super_method t k (this.Object c) m ≡ method_of t k (Some d)
 method_found t k c m d h = ap (method_of t k) h
 
-pub member_called : (t : Tables) (k : Known) (p : Place) (at m x : ℕ) (a : Tree) → Some (spelling t x) ≡ space t k p a → board_callee t k p (Member at a m) ≡ call_named (spelling t x) (spelling t m)
+pub member_called : (t : Tables) (k : Known) (p : NameScope) (at m x : ℕ) (a : Tree) → Some (spelling t x) ≡ space t k p a → board_callee t k p (Member at a m) ≡ call_named (spelling t x) (spelling t m)
 member_called t k p at m x a h = ap (λ o. o >>= λ s. call_named s (spelling t m)) (sym h)

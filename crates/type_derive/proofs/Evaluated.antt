@@ -11,12 +11,12 @@ use Rattle.sts_syntax.specs.declared.board_calls.BoardCall.{BoardCall}
 use Rattle.sts_syntax.specs.BoardViews.{board_parameter}
 use Rattle.sts_syntax.specs.Trees.{Tree, Trees, none, more, Member, Items, Call}
 use Rattle.sts_syntax.specs.Views.{tree, trees}
-use Rattle.sts_scope.specs.declared.kinds.Kind.{Kind}
+use Rattle.sts_scope.specs.declared.kinds.StaticType.{StaticType}
 use Rattle.sts_scope.specs.declared.entries.ClassHead.{ClassHead}
 use Rattle.sts_scope.specs.declared.known.Known.{Known}
 use Rattle.sts_scope.specs.declared.known.Part.{Part}
 use Rattle.sts_scope.specs.Kinds.{array_of, number}
-use Rattle.sts_scope.specs.Places.{Place}
+use Rattle.sts_scope.specs.Places.{NameScope}
 use Rattle.sts_scope.specs.Rules.{goes, all_go, all_go_to, call_kind, items_type, part_of, part_kind, part_settable}
 use Rattle.type_derive.specs.declared.boards.BoardTakes as rust_row
 use Rattle.type_derive.specs.declared.callees.Called.{Called}
@@ -28,7 +28,7 @@ use Rattle.std.proofs.Math.Seq.{drop-nil}
 use Rattle.std.proofs.Math.Dec.{leb-zero, leb-suc-zero, leb-suc-suc}
 use Rattle.sts_scope.proofs.Laws.{drop_at, drop_end}
 
-pub moved : (t : Tables) (k : Known) (p : Place) (r : Role) (x a : Expr) (s : Option Kind) → s ≡ type_of t k p r (tree x) → x ≡ a → s ≡ type_of t k p r (tree a)
+pub moved : (t : Tables) (k : Known) (p : NameScope) (r : Role) (x a : Expr) (s : Option StaticType) → s ≡ type_of t k p r (tree x) → x ≡ a → s ≡ type_of t k p r (tree a)
 moved t k p r x a s h e = h ∙ ap (λ z. type_of t k p r (tree z)) e
 
 pub two : {A B C : Type 0} (s u : Option A) (v w : Option B) (x : Option C) (f : A → B → Option C) → s ≡ u → v ≡ w → x ≡ (s >>= λ a. v >>= λ b. f a b) → x ≡ (u >>= λ a. w >>= λ b. f a b)
@@ -60,28 +60,28 @@ set_type None b s f = refl
 set_type (Some a) true s f = refl
 set_type (Some a) false s f = sym (bind_none s)
 
-pub target_member : (t : Tables) (k : Known) (p : Place) (at m : ℕ) (a : Tree) (s v : Option Kind) (part : Option Part) → constant_of t k p a m ≡ None → s ≡ type_of t k p Free a →
+pub target_member : (t : Tables) (k : Known) (p : NameScope) (at m : ℕ) (a : Tree) (s v : Option StaticType) (part : Option Part) → constant_of t k p a m ≡ None → s ≡ type_of t k p Free a →
     part ≡ (s >>= λ u. Some (part_of t.names k u m)) → v ≡ (part >>= λ q. part_kind k q >>= λ u. if part_settable q then Some u else None) →
     v ≡ (type_of t k p Free (Member at a m) >>= λ u. if settable t k p (Member at a m) then Some u else None)
 target_member t k p at m a s v part hn hs hp hv =
     hv ∙ ap (λ o. o >>= λ q. part_kind k q >>= λ u. if part_settable q then Some u else None) (hp ∙ ap (λ o. o >>= λ u. Some (part_of t.names k u m)) hs)
     ∙ settled (type_of t k p Free a) ∙ ap (λ o. chosen_member o (type_of t k p Free a)) (sym hn)
   where
-    chosen_member : Option ℤ → Option Kind → Option Kind
+    chosen_member : Option ℤ → Option StaticType → Option StaticType
     chosen_member o u = (elim o [ Some z ↦ Some number | None ↦ u >>= λ w. part_kind k (part_of t.names k w m) ])
         >>= λ w. if (elim o [ Some z ↦ false | None ↦ elim u [ None ↦ false | Some y ↦ part_settable (part_of t.names k y m) ] ]) then Some w else None
 
-    settled : (u : Option Kind) → ((u >>= λ w. Some (part_of t.names k w m)) >>= λ q. part_kind k q >>= λ w. if part_settable q then Some w else None) ≡ chosen_member None u
+    settled : (u : Option StaticType) → ((u >>= λ w. Some (part_of t.names k w m)) >>= λ q. part_kind k q >>= λ w. if part_settable q then Some w else None) ≡ chosen_member None u
     settled None = refl
     settled (Some w) = refl
 
 -- a member that is read, which is no constant of the board
-pub read_member : (t : Tables) (k : Known) (p : Place) (r : Role) (at m : ℕ) (a : Tree) (s v : Option Kind) (part : Option Part) → constant_of t k p a m ≡ None → s ≡ type_of t k p Free a →
+pub read_member : (t : Tables) (k : Known) (p : NameScope) (r : Role) (at m : ℕ) (a : Tree) (s v : Option StaticType) (part : Option Part) → constant_of t k p a m ≡ None → s ≡ type_of t k p Free a →
     part ≡ (s >>= λ u. Some (part_of t.names k u m)) → v ≡ (part >>= λ q. part_kind k q) → v ≡ type_of t k p r (Member at a m)
 read_member t k p r at m a s v part hn hs hp hv =
     hv ∙ ap (λ o. o >>= λ q. part_kind k q) (hp ∙ ap (λ o. o >>= λ u. Some (part_of t.names k u m)) hs)
     ∙ bind_some (type_of t k p Free a) (λ u. part_of t.names k u m) (λ q. part_kind k q)
-    ∙ ap (λ o. elim o as (λ z. Option Kind) [ Some z ↦ Some number | None ↦ type_of t k p Free a >>= λ u. part_kind k (part_of t.names k u m) ]) (sym hn)
+    ∙ ap (λ o. elim o as (λ z. Option StaticType) [ Some z ↦ Some number | None ↦ type_of t k p Free a >>= λ u. part_kind k (part_of t.names k u m) ]) (sym hn)
 
 and_false : (b : Bool) → false ≡ (b && false)
 and_false true = refl
@@ -100,7 +100,7 @@ drop_more (x ∷ xs) zero = refl
 drop_more (x ∷ xs) (suc i) = drop_more xs i ∙ ap (λ n. drop n (x ∷ xs)) (next_of i)
 
 -- Arguments of a call.
-go_first : (classes : List ClassHead) (o : Option Kind) (us : Option (List Kind)) (ts : List Kind) →
+go_first : (classes : List ClassHead) (o : Option StaticType) (us : Option (List StaticType)) (ts : List StaticType) →
     typed_go classes (o >>= λ u. us >>= λ vs. Some (u ∷ vs)) ts ≡ (goes_first classes o ts && typed_go classes us (drop 1 ts))
 unfolding all_go
 go_first classes None us [] = refl
@@ -110,7 +110,7 @@ go_first classes (Some u) None (t ∷ ts) = and_false (goes classes u t)
 go_first classes (Some u) (Some vs) [] = refl
 go_first classes (Some u) (Some vs) (t ∷ ts) = refl
 
-pub go_kept : (t : Tables) (k : Known) (p : Place) (args : List Expr) (i : ℕ) (x : Expr) (u : Option Kind) (takes : List Kind) (fits fits' goes all : Bool) →
+pub go_kept : (t : Tables) (k : Known) (p : NameScope) (args : List Expr) (i : ℕ) (x : Expr) (u : Option StaticType) (takes : List StaticType) (fits fits' goes all : Bool) →
     i < length args → x ≡ get_or args i x → u ≡ type_of t k p Given (tree x) → goes ≡ goes_first k.classes u (drop i takes) → fits' ≡ (fits && goes) →
     (fits && typed_go k.classes (types_of t k p (trees (drop i args))) (drop i takes)) ≡ all →
     (fits' && typed_go k.classes (types_of t k p (trees (drop (i + 1) args))) (drop (i + 1) takes)) ≡ all
@@ -122,18 +122,18 @@ go_kept t k p args i x u takes fits fits' goes all lt is hu hg hf h =
     ∙ ap (λ ts. fits && (goes_first k.classes u (drop i takes) && typed_go k.classes rest ts)) (sym (drop_more takes i))
     ∙ ap (λ b. fits && b) (sym (go_first k.classes u rest (drop i takes))) ∙ ap (λ o. fits && typed_go k.classes o (drop i takes)) (sym more_is) ∙ h
 
-none_left : (classes : List ClassHead) (ts : List Kind) (n : ℕ) → all_go classes [] (drop n ts) ≡ nat_le (length ts) n
+none_left : (classes : List ClassHead) (ts : List StaticType) (n : ℕ) → all_go classes [] (drop n ts) ≡ nat_le (length ts) n
 unfolding all_go
 none_left classes [] n = ap (all_go classes []) (drop-nil n) ∙ sym (leb-zero n)
 none_left classes (t ∷ ts) zero = sym (leb-suc-zero (length ts))
 none_left classes (t ∷ ts) (suc n) = none_left classes ts n ∙ sym (leb-suc-suc (length ts) n)
 
-called_is : (t : Tables) (k : Known) (d : Called) (us : Option (List Kind)) → (if typed_go k.classes us (shown k d).takes then (shown k d).gives else None) ≡ called t k (Some (shown k d)) us
+called_is : (t : Tables) (k : Known) (d : Called) (us : Option (List StaticType)) → (if typed_go k.classes us (shown k d).takes then (shown k d).gives else None) ≡ called t k (Some (shown k d)) us
 unfolding call_kind
 called_is t k d None = refl
 called_is t k d (Some us) = refl
 
-pub go_ends : (t : Tables) (k : Known) (p : Place) (args : List Expr) (i : ℕ) (takes : List Kind) (fits all : Bool) (o : Option Called) (d : Called) (v : Option Kind) →
+pub go_ends : (t : Tables) (k : Known) (p : NameScope) (args : List Expr) (i : ℕ) (takes : List StaticType) (fits all : Bool) (o : Option Called) (d : Called) (v : Option StaticType) →
     length args ≤ i → i ≤ length args → o ≡ Some d → takes ≡ (shown k d).takes →
     (fits && typed_go k.classes (types_of t k p (trees (drop i args))) (drop i takes)) ≡ typed_go k.classes (types_of t k p (trees args)) takes →
     all ≡ (fits && nat_le (length takes) (length args)) → v ≡ (if all then (shown k d).gives else None) → v ≡ called t k (all_shown k o) (types_of t k p (trees args))
@@ -145,14 +145,14 @@ go_ends t k p args i takes fits all o d v ge le is ht h ha hv =
     ∙ called_is t k d (types_of t k p (trees args)) ∙ ap (λ c. called t k (all_shown k c) (types_of t k p (trees args))) (sym is)
 
 -- Items of a list.
-all_first : (classes : List ClassHead) (s : Kind) (o : Option Kind) (us : Option (List Kind)) →
+all_first : (classes : List ClassHead) (s : StaticType) (o : Option StaticType) (us : Option (List StaticType)) →
     typed_go_to classes s (o >>= λ u. us >>= λ vs. Some (u ∷ vs)) ≡ (goes_some classes o s && typed_go_to classes s us)
 unfolding all_go_to
 all_first classes s None us = refl
 all_first classes s (Some u) None = and_false (goes classes u s)
 all_first classes s (Some u) (Some vs) = refl
 
-pub all_kept : (t : Tables) (k : Known) (p : Place) (xs : List Expr) (i : ℕ) (x : Expr) (u : Option Kind) (s : Kind) (fits fits' goes all : Bool) →
+pub all_kept : (t : Tables) (k : Known) (p : NameScope) (xs : List Expr) (i : ℕ) (x : Expr) (u : Option StaticType) (s : StaticType) (fits fits' goes all : Bool) →
     i < length xs → x ≡ get_or xs i x → u ≡ type_of t k p Given (tree x) → goes ≡ goes_some k.classes u s → fits' ≡ (fits && goes) →
     (fits && typed_go_to k.classes s (types_of t k p (trees (drop i xs)))) ≡ all → (fits' && typed_go_to k.classes s (types_of t k p (trees (drop (i + 1) xs)))) ≡ all
 all_kept t k p xs i x u s fits fits' goes all lt is hu hg hf h =
@@ -166,11 +166,11 @@ and_true : (b : Bool) → b ≡ (b && true)
 and_true true = refl
 and_true false = refl
 
-nothing_left : (classes : List ClassHead) (s : Kind) → typed_go_to classes s (Some []) ≡ true
+nothing_left : (classes : List ClassHead) (s : StaticType) → typed_go_to classes s (Some []) ≡ true
 unfolding all_go_to
 nothing_left classes s = refl
 
-list_is : (classes : List ClassHead) (s : Kind) (us : Option (List Kind)) → (if typed_go_to classes s us then array_of s else None) ≡ (us >>= λ vs. items_type classes s vs)
+list_is : (classes : List ClassHead) (s : StaticType) (us : Option (List StaticType)) → (if typed_go_to classes s us then array_of s else None) ≡ (us >>= λ vs. items_type classes s vs)
 unfolding items_type
 list_is classes s None = refl
 list_is classes s (Some us) = refl
@@ -178,12 +178,12 @@ list_is classes s (Some us) = refl
 pub trees_first : (xs : List Expr) (x : Expr) → 1 ≤ length xs → x ≡ get_or xs 0 x → trees xs ≡ more (tree x) (trees (drop 1 xs))
 trees_first xs x h is = ap trees (drop_at xs 0 x (omega arith) is)
 
-pub list_none : (t : Tables) (k : Known) (p : Place) (r : Role) (at : ℕ) (xs : List Expr) (x : Expr) (s : Option Kind) → 1 ≤ length xs → x ≡ get_or xs 0 x →
+pub list_none : (t : Tables) (k : Known) (p : NameScope) (r : Role) (at : ℕ) (xs : List Expr) (x : Expr) (s : Option StaticType) → 1 ≤ length xs → x ≡ get_or xs 0 x →
     s ≡ type_of t k p Free (tree x) → s ≡ None → None ≡ type_of t k p r (Items at (trees xs))
 list_none t k p r at xs x s h is hs e =
     ap (λ o. o >>= λ u. types_of t k p (trees (drop 1 xs)) >>= λ vs. items_type k.classes u vs) (sym e ∙ hs) ∙ ap (λ ys. type_of t k p r (Items at ys)) (sym (trees_first xs x h is))
 
-pub list_ends : (t : Tables) (k : Known) (p : Place) (r : Role) (at i : ℕ) (xs : List Expr) (x : Expr) (o v : Option Kind) (s : Kind) (fits : Bool) → 1 ≤ length xs → x ≡ get_or xs 0 x →
+pub list_ends : (t : Tables) (k : Known) (p : NameScope) (r : Role) (at i : ℕ) (xs : List Expr) (x : Expr) (o v : Option StaticType) (s : StaticType) (fits : Bool) → 1 ≤ length xs → x ≡ get_or xs 0 x →
     o ≡ type_of t k p Free (tree x) → o ≡ Some s → length xs ≤ i →
     (fits && typed_go_to k.classes s (types_of t k p (trees (drop i xs)))) ≡ typed_go_to k.classes s (types_of t k p (trees (drop 1 xs))) →
     v ≡ (if fits then array_of s else None) → v ≡ type_of t k p r (Items at (trees xs))
@@ -194,7 +194,7 @@ list_ends t k p r at i xs x o v s fits h is ho e ge kept hv =
     ∙ ap (λ q. q >>= λ u. rest >>= λ vs. items_type k.classes u vs) (sym e ∙ ho) ∙ ap (λ ys. type_of t k p r (Items at ys)) (sym (trees_first xs x h is))
 
 -- Arguments of a call of the board.
-board_first : (t : Tables) (k : Known) (p : Place) (ps : List BoardParameter) (a : Tree) (rest : Trees) → are_given t k p ps (more a rest) ≡ (fits_some t k p (slice_get ps 0) a && are_given t k p (drop 1 ps) rest)
+board_first : (t : Tables) (k : Known) (p : NameScope) (ps : List BoardParameter) (a : Tree) (rest : Trees) → are_given t k p ps (more a rest) ≡ (fits_some t k p (slice_get ps 0) a && are_given t k p (drop 1 ps) rest)
 board_first t k p [] a rest = refl
 board_first t k p (board.Of u ∷ ps) a rest = refl
 board_first t k p (board.Handler ∷ ps) a rest = refl
@@ -211,7 +211,7 @@ taken_behind [] i = ap (λ qs. drop 1 (map board_parameter qs)) (drop-nil i) ∙
 taken_behind (q ∷ qs) zero = refl
 taken_behind (q ∷ qs) (suc i) = taken_behind qs i ∙ ap (λ n. map board_parameter (drop n (q ∷ qs))) (next_of i)
 
-pub board_kept : (t : Tables) (k : Known) (p : Place) (args : List Expr) (takes : List rust.BoardParameter) (i : ℕ) (x : Expr) (to : Option rust.BoardParameter) (fits fits' goes all : Bool) →
+pub board_kept : (t : Tables) (k : Known) (p : NameScope) (args : List Expr) (takes : List rust.BoardParameter) (i : ℕ) (x : Expr) (to : Option rust.BoardParameter) (fits fits' goes all : Bool) →
     i < length args → x ≡ get_or args i x → to ≡ slice_get takes i → goes ≡ fits_some t k p (option_map board_parameter to) (tree x) → fits' ≡ (fits && goes) →
     (fits && are_given t k p (map board_parameter (drop i takes)) (trees (drop i args))) ≡ all →
     (fits' && are_given t k p (map board_parameter (drop (i + 1) takes)) (trees (drop (i + 1) args))) ≡ all
@@ -224,17 +224,17 @@ board_kept t k p args takes i x to fits fits' goes all lt is ht hg hf h =
     ∙ ap (λ ps. fits && (fits_some t k p (slice_get qs 0) (tree x) && are_given t k p ps rest)) (sym (taken_behind takes i))
     ∙ ap (λ b. fits && b) (sym (board_first t k p qs (tree x) rest)) ∙ ap (λ xs. fits && are_given t k p qs (trees xs)) (sym (drop_at args i x lt is)) ∙ h
 
-untaken : (t : Tables) (k : Known) (p : Place) (q : BoardParameter) (ps : List BoardParameter) → are_given t k p (q ∷ ps) none ≡ false
+untaken : (t : Tables) (k : Known) (p : NameScope) (q : BoardParameter) (ps : List BoardParameter) → are_given t k p (q ∷ ps) none ≡ false
 untaken t k p (board.Of u) ps = refl
 untaken t k p board.Handler ps = refl
 untaken t k p board.Drawing ps = refl
 
-given_none : (t : Tables) (k : Known) (p : Place) (qs : List rust.BoardParameter) (n : ℕ) → are_given t k p (map board_parameter (drop n qs)) none ≡ nat_le (length qs) n
+given_none : (t : Tables) (k : Known) (p : NameScope) (qs : List rust.BoardParameter) (n : ℕ) → are_given t k p (map board_parameter (drop n qs)) none ≡ nat_le (length qs) n
 given_none t k p [] n = ap (λ qs. are_given t k p (map board_parameter qs) none) (drop-nil n) ∙ sym (leb-zero n)
 given_none t k p (q ∷ qs) zero = untaken t k p (board_parameter q) (map board_parameter qs) ∙ sym (leb-suc-zero (length qs))
 given_none t k p (q ∷ qs) (suc n) = given_none t k p qs n ∙ sym (leb-suc-suc (length qs) n)
 
-pub board_ends : (t : Tables) (k : Known) (p : Place) (args : List Expr) (o : Option rust_row.BoardTakes) (row : rust_row.BoardTakes) (i : ℕ) (fits all : Bool) (v : Option Kind) →
+pub board_ends : (t : Tables) (k : Known) (p : NameScope) (args : List Expr) (o : Option rust_row.BoardTakes) (row : rust_row.BoardTakes) (i : ℕ) (fits all : Bool) (v : Option StaticType) →
     length args ≤ i → i ≤ length args → o ≡ Some row →
     (fits && are_given t k p (map board_parameter (drop i row.takes.now)) (trees (drop i args))) ≡ are_given t k p (map board_parameter row.takes.now) (trees args) →
     all ≡ (fits && nat_le (length row.takes.now) (length args)) → v ≡ (if all then Some row.gives else None) → v ≡ board_given t k p (option_map row_shown o) (trees args)
@@ -245,8 +245,8 @@ board_ends t k p args o row i fits all v ge le is h ha hv =
     hv ∙ ap (λ b. if b then Some row.gives else None) (ha ∙ ap (λ b. fits && b) (sym end) ∙ h) ∙ ap (λ q. board_given t k p (option_map row_shown q) (trees args)) (sym is)
 
 -- A call, by whether it is one of the board.
-by_row : (t : Tables) (k : Known) (p : Place) (o : Option BoardCall) (args : Trees) (rest : Option Kind) (b : Bool) → b ≡ is_some (option_map row_called o) → b ≡ true →
-    (elim o as (λ x. Option Kind) [ Some c ↦ if are_given t k p (row_of c).takes args then Some (board_kind (row_of c).gives) else None | None ↦ rest ]) ≡ board_given t k p (option_map row_called o) args
+by_row : (t : Tables) (k : Known) (p : NameScope) (o : Option BoardCall) (args : Trees) (rest : Option StaticType) (b : Bool) → b ≡ is_some (option_map row_called o) → b ≡ true →
+    (elim o as (λ x. Option StaticType) [ Some c ↦ if are_given t k p (row_of c).takes args then Some (board_kind (row_of c).gives) else None | None ↦ rest ]) ≡ board_given t k p (option_map row_called o) args
 by_row t k p None args rest b h g = absurd (cc)
 by_row t k p (Some c) args rest b h g = refl
 
@@ -254,7 +254,7 @@ some_row : (o : Option rust_row.BoardTakes) (q : Option BoardRow) (b : Bool) →
 some_row None q b h g = g ∙ ap is_some h
 some_row (Some row) q b h g = g ∙ ap is_some h
 
-pub call_board : (t : Tables) (k : Known) (p : Place) (r : Role) (at : ℕ) (f : Tree) (args : Trees) (row : Option rust_row.BoardTakes) (b : Bool) →
+pub call_board : (t : Tables) (k : Known) (p : NameScope) (r : Role) (at : ℕ) (f : Tree) (args : Trees) (row : Option rust_row.BoardTakes) (b : Bool) →
     option_map row_shown row ≡ option_map row_called (board_callee t k p f) → b ≡ is_some row → b ≡ true →
     board_given t k p (option_map row_shown row) args ≡ type_of t k p r (Call at f args)
 call_board t k p r at f args row b h g y =
@@ -265,9 +265,9 @@ no_row : (o : Option BoardCall) (b : Bool) → b ≡ is_some (option_map row_cal
 no_row None b h g = refl
 no_row (Some c) b h g = absurd (cc)
 
-pub call_other : (t : Tables) (k : Known) (p : Place) (r : Role) (at : ℕ) (f : Tree) (args : Trees) (row : Option rust_row.BoardTakes) (b : Bool) →
+pub call_other : (t : Tables) (k : Known) (p : NameScope) (r : Role) (at : ℕ) (f : Tree) (args : Trees) (row : Option rust_row.BoardTakes) (b : Bool) →
     option_map row_shown row ≡ option_map row_called (board_callee t k p f) → b ≡ is_some row → b ≡ false →
     type_of t k p r (Call at f args) ≡ called t k (callee_of t k p f) (types_of t k p args)
 call_other t k p r at f args row b h g y =
-    ap (λ o. elim o as (λ x. Option Kind) [ Some c ↦ if are_given t k p (row_of c).takes args then Some (board_kind (row_of c).gives) else None | None ↦ called t k (callee_of t k p f) (types_of t k p args) ])
+    ap (λ o. elim o as (λ x. Option StaticType) [ Some c ↦ if are_given t k p (row_of c).takes args then Some (board_kind (row_of c).gives) else None | None ↦ called t k (callee_of t k p f) (types_of t k p args) ])
     (no_row (board_callee t k p f) b (some_row row (option_map row_called (board_callee t k p f)) b h g) y)

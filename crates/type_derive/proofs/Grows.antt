@@ -6,7 +6,7 @@ use Rattle.sts_syntax.specs.BoardTable as board
 use Rattle.sts_syntax.specs.BoardTable.{BoardParameter, row_of, constant_named, call_named}
 use Rattle.sts_syntax.specs.Types.{ValueType}
 use Rattle.sts_syntax.specs.Trees.{Tree, Num, Text, Truth, Null, This, Name, Unary, Binary, Both, Either, Choice, Set, Bump, Member, Item, Call, SuperCall, Make, Items, Handler, Trees, none, more}
-use Rattle.sts_scope.specs.declared.kinds.Kind.{Kind}
+use Rattle.sts_scope.specs.declared.kinds.StaticType.{StaticType}
 use Rattle.sts_scope.specs.declared.entries.Owner.TheVariants as owner
 use Rattle.sts_scope.specs.declared.entries.Entry.{Entry}
 use Rattle.sts_scope.specs.declared.entries.ClassHead.{ClassHead}
@@ -19,7 +19,7 @@ use Rattle.sts_scope.specs.declared.known.Part.TheVariants as part
 use Rattle.sts_scope.specs.declared.known.This.{This as Self}
 use Rattle.sts_scope.specs.declared.known.This.TheVariants as this
 use Rattle.sts_scope.specs.Kinds.{number, empty}
-use Rattle.sts_scope.specs.Places.{Place, is_hidden, found_among, found_around, whole_found, last_from, last_named}
+use Rattle.sts_scope.specs.Places.{NameScope, is_hidden, found_among, found_around, whole_found, last_from, last_named}
 use Rattle.sts_scope.specs.Rules.{this_kind, name_kind, name_fixed, local_kind, local_fixed, kind_at, takes_at, maker_takes_of, part_of, part_kind, part_settable, call_kind, all_go, goes, operate, prefix, joined, choose, assign, counted, element, items_type, sort_fixed}
 use Rattle.sts_scope.specs.Lookup.{entry_number, sort_of}
 use Rattle.type_derive.specs.declared.roles.Role.{Role}
@@ -28,42 +28,42 @@ use Rattle.type_derive.specs.Typing.{◌>>=◌, Callee, callee, finds, space_of,
 use Rattle.type_derive.specs.Derived.{Less}
 use Rattle.type_derive.specs.Growth.{LocalsGrow, KnownGrows, PlaceGrows, CalleeGrows}
 
-pub less_refl : (x : Option Kind) → Less x x
+pub less_refl : (x : Option StaticType) → Less x x
 less_refl None = tt
 less_refl (Some a) = refl
 
-pub less_eq : (x y : Option Kind) → y ≡ x → Less x y
-less_eq x y e = let P : Option Kind → Type 0 = λ z. Less x z in subst P (sym e) (less_refl x)
+pub less_eq : (x y : Option StaticType) → y ≡ x → Less x y
+less_eq x y e = let P : Option StaticType → Type 0 = λ z. Less x z in subst P (sym e) (less_refl x)
 
 -- one type after another
-bind_less : (a b : Option Kind) (f g : Kind → Option Kind) → Less a b → ((x : Kind) → Less (f x) (g x)) → Less (a >>= f) (b >>= g)
+bind_less : (a b : Option StaticType) (f g : StaticType → Option StaticType) → Less a b → ((x : StaticType) → Less (f x) (g x)) → Less (a >>= f) (b >>= g)
 bind_less None b f g h i = tt
-bind_less (Some x) b f g h i = let P : Option Kind → Type 0 = λ y. Less (f x) (y >>= g) in subst P (sym h) (i x)
+bind_less (Some x) b f g h i = let P : Option StaticType → Type 0 = λ y. Less (f x) (y >>= g) in subst P (sym h) (i x)
 
-if_less : (b c : Bool) (x y : Option Kind) → (b ≡ true → c ≡ true) → Less x y → Less (if b then x else None) (if c then y else None)
+if_less : (b c : Bool) (x y : Option StaticType) → (b ≡ true → c ≡ true) → Less x y → Less (if b then x else None) (if c then y else None)
 if_less false c x y h i = tt
 if_less true c x y h i = let P : Bool → Type 0 = λ d. Less x (if d then y else None) in subst P (sym (h refl)) i
 
 -- lists of types
-abbrev LessAll : Option (List Kind) → Option (List Kind) → Type 0
+abbrev LessAll : Option (List StaticType) → Option (List StaticType) → Type 0
 LessAll None y = Unit {0}
 LessAll (Some x) y = y ≡ Some x
 
-all_refl : (x : Option (List Kind)) → LessAll x x
+all_refl : (x : Option (List StaticType)) → LessAll x x
 all_refl None = tt
 all_refl (Some a) = refl
 
-bind_all : (a b : Option Kind) (f g : Kind → Option (List Kind)) → Less a b → ((x : Kind) → LessAll (f x) (g x)) → LessAll (a >>= f) (b >>= g)
+bind_all : (a b : Option StaticType) (f g : StaticType → Option (List StaticType)) → Less a b → ((x : StaticType) → LessAll (f x) (g x)) → LessAll (a >>= f) (b >>= g)
 bind_all None b f g h i = tt
-bind_all (Some x) b f g h i = let P : Option Kind → Type 0 = λ y. LessAll (f x) (y >>= g) in subst P (sym h) (i x)
+bind_all (Some x) b f g h i = let P : Option StaticType → Type 0 = λ y. LessAll (f x) (y >>= g) in subst P (sym h) (i x)
 
-then_all : (a b : Option (List Kind)) (f : List Kind → Option (List Kind)) → LessAll a b → LessAll (a >>= f) (b >>= f)
+then_all : (a b : Option (List StaticType)) (f : List StaticType → Option (List StaticType)) → LessAll a b → LessAll (a >>= f) (b >>= f)
 then_all None b f h = tt
-then_all (Some x) b f h = let P : Option (List Kind) → Type 0 = λ y. LessAll (f x) (y >>= f) in subst P (sym h) (all_refl (f x))
+then_all (Some x) b f h = let P : Option (List StaticType) → Type 0 = λ y. LessAll (f x) (y >>= f) in subst P (sym h) (all_refl (f x))
 
-all_bind : (a b : Option (List Kind)) (f g : List Kind → Option Kind) → LessAll a b → ((x : List Kind) → Less (f x) (g x)) → Less (a >>= f) (b >>= g)
+all_bind : (a b : Option (List StaticType)) (f g : List StaticType → Option StaticType) → LessAll a b → ((x : List StaticType) → Less (f x) (g x)) → Less (a >>= f) (b >>= g)
 all_bind None b f g h i = tt
-all_bind (Some x) b f g h i = let P : Option (List Kind) → Type 0 = λ y. Less (f x) (y >>= g) in subst P (sym h) (i x)
+all_bind (Some x) b f g h i = let P : Option (List StaticType) → Type 0 = λ y. Less (f x) (y >>= g) in subst P (sym h) (i x)
 
 -- locals by their names and numbers
 same_last : (n : ℕ) (ls ms : List Local) (x : ℕ) → LocalsGrow ls ms → last_from n ms x ≡ last_from n ls x
@@ -98,7 +98,7 @@ same_length (l ∷ ls) [] h = absurd h
 abbrev bare : List Entry → List ClassHead → ℕ → Known
 bare es cs n = record { entries = es; classes = cs; kinds = []; library = n }
 
-abbrev stand : Bool → Place
+abbrev stand : Bool → NameScope
 stand library = record { around = []; locals = []; block = 0; this = this.Nowhere; gives = None; library = library }
 
 abbrev found_in : Known → Bool → ℕ → Option ℕ → Option ℕ → Found
@@ -112,30 +112,30 @@ whole_by : (k : Known) (library : Bool) (d : Option ℕ) → whole_found k libra
 whole_by k library None = refl
 whole_by k library (Some d) = refl
 
-around_by : (k : Known) (p : Place) (x : ℕ) (around : Bool) → found_around k p x around ≡ found_around (bare k.entries [] k.library) (stand p.library) x around
+around_by : (k : Known) (p : NameScope) (x : ℕ) (around : Bool) → found_around k p x around ≡ found_around (bare k.entries [] k.library) (stand p.library) x around
 around_by k p x true = refl
 around_by k p x false = whole_by k p.library (entry_number k.entries owner.Whole x)
 
-among_by : (k : Known) (p : Place) (x : ℕ) (i : Option ℕ) → found_among k p x i ≡ found_in (bare k.entries [] k.library) p.library x (last_named p.around x) i
+among_by : (k : Known) (p : NameScope) (x : ℕ) (i : Option ℕ) → found_among k p x i ≡ found_in (bare k.entries [] k.library) p.library x (last_named p.around x) i
 among_by k p x (Some i) = refl
 among_by k p x None = around_by k p x (is_some (last_named p.around x))
 
-finds_by : (tables : Tables) (k : Known) (p : Place) (x : ℕ) → finds tables k p x ≡ found_by tables x k.entries k.library p.library (last_named p.around x) (last_named p.locals x)
+finds_by : (tables : Tables) (k : Known) (p : NameScope) (x : ℕ) → finds tables k p x ≡ found_by tables x k.entries k.library p.library (last_named p.around x) (last_named p.locals x)
 finds_by tables k p x = ap (λ f. if is_hidden tables.names p x then found.Unknown else f) (among_by k p x (last_named p.locals x))
 
-two : (a b c d : Option Kind) (f g : Kind → Kind → Option Kind) → Less a b → Less c d → ((s u : Kind) → Less (f s u) (g s u)) →
+two : (a b c d : Option StaticType) (f g : StaticType → StaticType → Option StaticType) → Less a b → Less c d → ((s u : StaticType) → Less (f s u) (g s u)) →
     Less (a >>= λ s. c >>= λ u. f s u) (b >>= λ s. d >>= λ u. g s u)
 two a b c d f g h i j = bind_less a b (λ s. c >>= λ u. f s u) (λ s. d >>= λ u. g s u) h (λ s. bind_less c d (f s) (g s) i (j s))
 
-abbrev if_some : {A : Type 0} → Option A → (A → Option Kind) → Option Kind → Option Kind
+abbrev if_some : {A : Type 0} → Option A → (A → Option StaticType) → Option StaticType → Option StaticType
 if_some z X y = elim z [ Some c ↦ X c | None ↦ y ]
 
-some_less : {A : Type 0} (z w : Option A) (X Y : A → Option Kind) (x y : Option Kind) → w ≡ z → ((c : A) → Less (X c) (Y c)) → Less x y → Less (if_some z X x) (if_some w Y y)
+some_less : {A : Type 0} (z w : Option A) (X Y : A → Option StaticType) (x y : Option StaticType) → w ≡ z → ((c : A) → Less (X c) (Y c)) → Less x y → Less (if_some z X x) (if_some w Y y)
 some_less {A} z w X Y x y e h i =
     let P : Option A → Type 0 = λ v. Less (if_some z X x) (if_some v Y y) in
     subst P (sym e) (elim z as (λ v. Less (if_some v X x) (if_some v Y y)) [ Some c ↦ h c | None ↦ i ])
 
-call_less : (cs : List ClassHead) (takes : List Kind) (g h : Option Kind) (us : List Kind) → Less g h → Less (call_kind cs takes g us) (call_kind cs takes h us)
+call_less : (cs : List ClassHead) (takes : List StaticType) (g h : Option StaticType) (us : List StaticType) → Less g h → Less (call_kind cs takes g us) (call_kind cs takes h us)
 unfolding call_kind
 call_less cs takes g h us i = if_less (all_go cs us takes) (all_go cs us takes) g h (λ e. e) i
 
@@ -180,26 +180,26 @@ module _ (tables : Tables) where
     part_kind_grows (part.Pop t) = tt
     part_kind_grows part.Missing = tt
 
-    same_part : (u : Kind) (m : ℕ) → part_of tables.names l u m ≡ part_of tables.names k u m
+    same_part : (u : StaticType) (m : ℕ) → part_of tables.names l u m ≡ part_of tables.names k u m
     unfolding part_of
     same_part u m = ap (λ es. part_of tables.names (bare es l.classes 0) u m) g.entries ∙ ap (λ cs. part_of tables.names (bare k.entries cs 0) u m) g.classes
 
     same_super : (self : Self) (m : ℕ) → super_method tables l self m ≡ super_method tables k self m
     same_super self m = ap (λ es. super_method tables (bare es l.classes 0) self m) g.entries ∙ ap (λ cs. super_method tables (bare k.entries cs 0) self m) g.classes
 
-    called_less : (d e : Option Callee) (ts us : Option (List Kind)) → CalleeGrows d e → LessAll ts us → Less (called tables k d ts) (called tables l e us)
+    called_less : (d e : Option Callee) (ts us : Option (List StaticType)) → CalleeGrows d e → LessAll ts us → Less (called tables k d ts) (called tables l e us)
     called_less None e ts us h i = tt
     called_less (Some c) None ts us h i = absurd h
     called_less (Some c) (Some d) ts us h i =
         all_bind ts us (λ vs. call_kind k.classes c.takes c.gives vs) (λ vs. call_kind l.classes d.takes d.gives vs) i
         (λ vs.
-        let P : Option Kind → Type 0 = λ z. Less (call_kind k.classes c.takes c.gives vs) z in
+        let P : Option StaticType → Type 0 = λ z. Less (call_kind k.classes c.takes c.gives vs) z in
         subst P (sym (ap (λ cs. call_kind cs d.takes d.gives vs) g.classes ∙ ap (λ t. call_kind k.classes t d.gives vs) h.0)) (call_less k.classes c.takes c.gives d.gives vs h.1))
 
-    given_less : (o u : Option Kind) (t : ValueType) → Less o u → given_to tables k o t ≡ true → given_to tables l u t ≡ true
+    given_less : (o u : Option StaticType) (t : ValueType) → Less o u → given_to tables k o t ≡ true → given_to tables l u t ≡ true
     given_less None u t h e = cc
     given_less (Some s) u t h e =
-        let P : Option Kind → Type 0 = λ z. given_to tables l z t ≡ true in
+        let P : Option StaticType → Type 0 = λ z. given_to tables l z t ≡ true in
         subst P (sym h) (ap (λ cs. goes cs s (board_kind t)) g.classes ∙ e)
 
     abbrev super_callee : Known → Option ℕ → Option Callee
@@ -209,23 +209,23 @@ module _ (tables : Tables) where
     super_grows None = tt
     super_grows (Some d) = (same_takes d, g.kinds d)
 
-    member_callee : (m : ℕ) (a b : Option Kind) → Less a b → CalleeGrows (a >>= λ u. part_callee tables k (part_of tables.names k u m)) (b >>= λ u. part_callee tables l (part_of tables.names l u m))
+    member_callee : (m : ℕ) (a b : Option StaticType) → Less a b → CalleeGrows (a >>= λ u. part_callee tables k (part_of tables.names k u m)) (b >>= λ u. part_callee tables l (part_of tables.names l u m))
     member_callee m None b i = tt
     member_callee m (Some u) b i =
-        let P : Option Kind → Type 0 = λ z. CalleeGrows (part_callee tables k (part_of tables.names k u m)) (z >>= λ v. part_callee tables l (part_of tables.names l v m)) in
+        let P : Option StaticType → Type 0 = λ z. CalleeGrows (part_callee tables k (part_of tables.names k u m)) (z >>= λ v. part_callee tables l (part_of tables.names l v m)) in
         let Q : Part → Type 0 = λ z. CalleeGrows (part_callee tables k (part_of tables.names k u m)) (part_callee tables l z) in
         subst P (sym i) (subst Q (sym (same_part u m)) (part_grows (part_of tables.names k u m)))
 
-    abbrev part_set : Known → ℕ → Option ℤ → Option Kind → Bool
+    abbrev part_set : Known → ℕ → Option ℤ → Option StaticType → Bool
     part_set n m z a = elim z [ Some y ↦ false | None ↦ elim a [ None ↦ false | Some u ↦ part_settable (part_of tables.names n u m) ] ]
 
-    member_settable : (m : ℕ) (z w : Option ℤ) (a b : Option Kind) → w ≡ z → Less a b → part_set k m z a ≡ true → part_set l m w b ≡ true
+    member_settable : (m : ℕ) (z w : Option ℤ) (a b : Option StaticType) → w ≡ z → Less a b → part_set k m z a ≡ true → part_set l m w b ≡ true
     member_settable m (Some y) w a b e i j = cc
     member_settable m None w None b e i j = cc
     member_settable m None w (Some u) b e i j =
         ap (λ y. part_set l m y b) e ∙ ap (part_set l m None) i ∙ ap part_settable (same_part u m) ∙ j
 
-    module _ (p q : Place) (h : PlaceGrows p q) where
+    module _ (p q : NameScope) (h : PlaceGrows p q) where
       same_found : (x : ℕ) → finds tables l q x ≡ finds tables k p x
       same_found x =
           finds_by tables l q x
@@ -264,10 +264,10 @@ module _ (tables : Tables) where
       same_board (Name at x) = ap (λ b. own_call tables k b (space tables l q (Name at x))) h.library ∙ ap (own_call tables k p.library) (same_space (Name at x))
       same_board _ = refl
 
-      abbrev K : Tree → Option Kind
+      abbrev K : Tree → Option StaticType
       K a = type_of tables k p Free a
 
-      abbrev L : Tree → Option Kind
+      abbrev L : Tree → Option StaticType
       L a = type_of tables l q Free a
 
       mutual

@@ -5,31 +5,31 @@ use Rattle.sts_syntax.specs.Programs.{Program}
 use Rattle.sts_syntax.specs.TypedTrees.{TypedProgram}
 use Rattle.sts_syntax.specs.TypedTrees as e
 use Rattle.sts_syntax.specs.Types as t
-use Rattle.sts_scope.specs.declared.kinds.Kind.{Kind}
+use Rattle.sts_scope.specs.declared.kinds.StaticType.{StaticType}
 use Rattle.sts_scope.specs.declared.known.Known.{Known}
-use Rattle.sts_scope.specs.Faults.{Fault, ◌then◌}
+use Rattle.sts_scope.specs.Failures.{Failure, ◌then◌}
 use Rattle.sts_scope.specs.Scopes.{all_names, all_entries, all_classes, library_entries, library_classes, heading_refusal}
 use Rattle.type_derive.specs.Derived.{Source, sources_from, rule, IsLeast}
-use Rattle.type_derive.specs.Passes.{all_overrides, nodes_fault}
-use Rattle.type_derive.specs.Limits.{limits_fault}
+use Rattle.type_derive.specs.Passes.{all_overrides, nodes_failure}
+use Rattle.type_derive.specs.Limits.{limits_failure}
 use Rattle.sts_scope.specs.Handlers.{all_routines}
 use Rattle.type_derive.specs.Making.{Made}
 use Rattle.sts_scope.specs.Numbers.{numbering}
 use Rattle.type_derive.specs.Programs.{items_made, library_made, class_entries, global_types}
 
 -- what is known of a library and a text, with this table of types
-abbrev pub known : Program → Program → List (Option Kind) → Known
+abbrev pub known : Program → Program → List (Option StaticType) → Known
 known library text kinds = record { entries = all_entries library text; classes = all_classes library text; kinds = kinds; library = library_entries library text }
 
 abbrev pub all_sources : Program → Program → List Source
 all_sources library text = sources_from (all_names library text) 0 (library ++ text)
 
 -- how the type of each declaration follows from those of the others
-abbrev pub derivation : Tables → Program → Program → List (Option Kind) → ℕ → Option Kind
+abbrev pub derivation : Tables → Program → Program → List (Option StaticType) → ℕ → Option StaticType
 derivation tables library text kinds d = rule tables (all_names library text) (known library text kinds) (all_sources library text) kinds d
 
 -- the types of all declarations: the least table that follows its own rules
-pub record AreDerived (tables : Tables) (library text : Program) (kinds : List (Option Kind)) : Type 0 where
+pub record AreDerived (tables : Tables) (library text : Program) (kinds : List (Option StaticType)) : Type 0 where
   pub each : length kinds ≡ length (all_entries library text)
   pub least : IsLeast (derivation tables library text) kinds
 
@@ -37,7 +37,7 @@ pub record AreDerived (tables : Tables) (library text : Program) (kinds : List (
 abbrev pub main_routine : Made e.TypedStatements → e.TypedRoutine
 main_routine made = record { params = []; locals = made.locals; gives = t.Nothing; all = made.it }
 
-abbrev pub typed : Tables → Program → Program → List (Option Kind) → TypedProgram
+abbrev pub typed : Tables → Program → Program → List (Option StaticType) → TypedProgram
 typed tables library text kinds =
     let names = all_names library text in
     let k = known library text kinds in
@@ -52,27 +52,27 @@ typed tables library text kinds =
     }
 
 -- the first failure behind the headings
-abbrev pub type_refusal : Tables → Program → Program → List (Option Kind) → Option Fault
+abbrev pub type_refusal : Tables → Program → Program → List (Option StaticType) → Option Failure
 type_refusal tables library text kinds =
     let names = all_names library text in
     let k = known library text kinds in
     let c = library_classes library text in
-    all_overrides k names c k.library text then nodes_fault tables names k c k.library text then limits_fault tables.texts (typed tables library text kinds)
+    all_overrides k names c k.library text then nodes_failure tables names k c k.library text then limits_failure tables.texts (typed tables library text kinds)
 
 -- the first failure of all passes
-abbrev pub refusal : Tables → Program → Program → List (Option Kind) → Option Fault
+abbrev pub refusal : Tables → Program → Program → List (Option StaticType) → Option Failure
 refusal tables library text kinds = heading_refusal tables.names library text then type_refusal tables library text kinds
 
 -- a text is accepted, as this typed program
 abbrev pub IsAccepted : Tables → Program → Program → TypedProgram → Type 0
 IsAccepted tables library text p =
-    (kinds : List (Option Kind)) × AreDerived tables library text kinds × (refusal tables library text kinds ≡ None) × (p ≡ typed tables library text kinds)
+    (kinds : List (Option StaticType)) × AreDerived tables library text kinds × (refusal tables library text kinds ≡ None) × (p ≡ typed tables library text kinds)
 
 -- a text is refused, with this failure
-abbrev pub IsRefused : Tables → Program → Program → Fault → Type 0
+abbrev pub IsRefused : Tables → Program → Program → Failure → Type 0
 IsRefused tables library text f =
-    (kinds : List (Option Kind)) × AreDerived tables library text kinds × (refusal tables library text kinds ≡ Some f)
+    (kinds : List (Option StaticType)) × AreDerived tables library text kinds × (refusal tables library text kinds ≡ Some f)
 
 -- each library and text have derived types
 abbrev pub DerivedTypesExist : Type 0
-DerivedTypesExist = (tables : Tables) (library text : Program) → (kinds : List (Option Kind)) × AreDerived tables library text kinds
+DerivedTypesExist = (tables : Tables) (library text : Program) → (kinds : List (Option StaticType)) × AreDerived tables library text kinds

@@ -14,7 +14,7 @@ use Rattle.sts_syntax.specs.BoardTable as board
 use Rattle.sts_syntax.specs.BoardTable.{BoardParameter, BoardAction, row_of}
 use Rattle.sts_syntax.specs.declared.board_calls.BoardCall.{BoardCall}
 use Rattle.sts_syntax.specs.Trees.{Parameter, Tree, Num, Text, Truth, Null, This, Name, Unary, Binary, Both, Either, Choice, Set, Bump, Member, Item, Call, SuperCall, Make, Items, Handler, Trees, none, more, OptionalTree, absent, present, Statement, Block, Let, IfOnly, IfElse, While, DoWhile, For, ForOf, Return, Break, Continue, Plain, Empty, Statements, done, also, OptionalStatement, omitted, written, Declaration, Declare, Declarations, ended, next, Routine, Does}
-use Rattle.sts_scope.specs.declared.kinds.Kind.{Kind}
+use Rattle.sts_scope.specs.declared.kinds.StaticType.{StaticType}
 use Rattle.sts_scope.specs.declared.known.Known.{Known}
 use Rattle.sts_scope.specs.declared.known.Found.{Found}
 use Rattle.sts_scope.specs.declared.known.Found.TheVariants as found
@@ -22,7 +22,7 @@ use Rattle.sts_scope.specs.declared.known.Part.{Part}
 use Rattle.sts_scope.specs.declared.known.Part.TheVariants as part
 use Rattle.sts_scope.specs.Kinds.{nothing, class_of, value_type}
 use Rattle.sts_scope.specs.Entries.{Naming, written_kind}
-use Rattle.sts_scope.specs.Places.{Place, inner}
+use Rattle.sts_scope.specs.Places.{NameScope, inner}
 use Rattle.sts_scope.specs.Rules.{part_of, takes_at, maker_takes_of}
 use Rattle.type_derive.specs.declared.roles.Role.TheVariants.{Free}
 use Rattle.type_derive.specs.Typing.{finds, constant_of, board_callee, super_method, board_kind, type_of, behind, drawn, draws, text_at}
@@ -33,7 +33,7 @@ use Rattle.sts_scope.specs.Numbers.{Numbering, global_number, field_names, slot_
 
 -- where something stands, and where the values of the function's locals in scope are
 pub record Site : Type 0 where
-  pub place : Place
+  pub place : NameScope
   pub spots : List Spot
 
 abbrev pub in_block : Site → Site
@@ -49,15 +49,15 @@ abbrev pub amiss : TypedTree
 amiss = e.Null t.NullType
 
 -- what is given to the next argument
-abbrev pub next_given : List Kind → Option Kind
+abbrev pub next_given : List StaticType → Option StaticType
 next_given [] = None
 next_given (u ∷ us) = Some u
 
-abbrev pub later_given : List Kind → List Kind
+abbrev pub later_given : List StaticType → List StaticType
 later_given [] = []
 later_given (u ∷ us) = us
 
-abbrev pub asked_given : List BoardParameter → Option Kind
+abbrev pub asked_given : List BoardParameter → Option StaticType
 asked_given (board.Of u ∷ ps) = Some (board_kind u)
 asked_given _ = None
 
@@ -91,15 +91,15 @@ module _ (tables : Tables) (names : Naming) (k : Known) (numbers : Numbering) wh
   abbrev pub in_handler_site : Site → List Parameter → Option Annotation → Statements → Site
   in_handler_site s params gives all = record { place = handler_place tables names k s.place params gives all; spots = [] }
 
-  abbrev pub kind_or_nothing : Option Kind → Kind
+  abbrev pub kind_or_nothing : Option StaticType → StaticType
   kind_or_nothing o = unwrap_or o nothing
 
   -- the type that an expression is noted to have; `[]` has that of its place
-  abbrev pub noted : Site → Option Kind → Tree → ValueType
+  abbrev pub noted : Site → Option StaticType → Tree → ValueType
   noted s given (Items at none) = value_type (kind_or_nothing given)
   noted s given a = value_type (kind_or_nothing (type_of tables k s.place (kind_role given) a))
 
-  abbrev pub type_in : Site → Tree → Kind
+  abbrev pub type_in : Site → Tree → StaticType
   type_in s a = kind_or_nothing (type_of tables k s.place Free a)
 
   abbrev pub part_in : Site → Tree → ℕ → Part
@@ -114,7 +114,7 @@ module _ (tables : Tables) (names : Naming) (k : Known) (numbers : Numbering) wh
   member_read u _ class m a = amiss
 
   -- what a called member takes, and which it is
-  abbrev pub part_takes : Part → List Kind
+  abbrev pub part_takes : Part → List StaticType
   part_takes (part.Method d) = takes_at k.entries d
   part_takes (part.Push u) = u ∷ []
   part_takes _ = []
@@ -128,7 +128,7 @@ module _ (tables : Tables) (names : Naming) (k : Known) (numbers : Numbering) wh
   routine_of (found.Function d) = routine_number numbers d
   routine_of _ = 0
 
-  abbrev pub routine_takes : Found → List Kind
+  abbrev pub routine_takes : Found → List StaticType
   routine_takes (found.Function d) = takes_at k.entries d
   routine_takes _ = []
 
@@ -144,7 +144,7 @@ module _ (tables : Tables) (names : Naming) (k : Known) (numbers : Numbering) wh
   first_site m s (written a) = behind_statement m s a
 
   -- what a called function or member takes
-  abbrev pub call_takes : Site → Tree → List Kind
+  abbrev pub call_takes : Site → Tree → List StaticType
   call_takes s (Name at x) = routine_takes (finds tables k s.place x)
   call_takes s (Member at a m) = part_takes (part_in s a m)
   call_takes s _ = []
@@ -176,7 +176,7 @@ module _ (tables : Tables) (names : Naming) (k : Known) (numbers : Numbering) wh
   argument_made s [] a made = made
 
   abbrev mutual
-    pub made_tree : Site → Option Kind → Tree → Making TypedTree
+    pub made_tree : Site → Option StaticType → Tree → Making TypedTree
     made_tree s g (Num at n) = pure (e.Num t.Number n)
     made_tree s g (Text at n) = pure (e.Text t.Text n)
     made_tree s g (Truth at b) = pure (e.Truth t.Boolean b)
@@ -221,12 +221,12 @@ module _ (tables : Tables) (names : Naming) (k : Known) (numbers : Numbering) wh
     made_call s u _ args = pure amiss
 
     -- arguments to which types are given
-    pub made_given : Site → List Kind → Trees → Making TypedTrees
+    pub made_given : Site → List StaticType → Trees → Making TypedTrees
     made_given s takes none = pure e.none
     made_given s takes (more a rest) = made_tree s (next_given takes) a >=> λ x. made_given s (later_given takes) rest >=> λ xs. pure (e.more x xs)
 
     -- items to which the first one's type is given
-    pub made_items : Site → Kind → Trees → Making TypedTrees
+    pub made_items : Site → StaticType → Trees → Making TypedTrees
     made_items s u none = pure e.none
     made_items s u (more a rest) = made_tree s (Some u) a >=> λ x. made_items s u rest >=> λ xs. pure (e.more x xs)
 
@@ -247,7 +247,7 @@ module _ (tables : Tables) (names : Naming) (k : Known) (numbers : Numbering) wh
     made_optional s absent = pure None
     made_optional s (present a) = made_tree s None a >=> λ x. pure (Some x)
 
-    pub made_value : Site → Option Kind → OptionalTree → Making (Option TypedTree)
+    pub made_value : Site → Option StaticType → OptionalTree → Making (Option TypedTree)
     made_value s g absent = pure None
     made_value s g (present a) = made_tree s g a >=> λ x. pure (Some x)
 

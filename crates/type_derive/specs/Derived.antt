@@ -3,7 +3,7 @@ use Rattle.std.specs.Prelude.{◌≡◌, ◌<◌, ℕ, ◌+◌, Bool, Option, So
 use Rattle.sts_base.specs.declared.tables.Tables.{Tables}
 use Rattle.sts_syntax.specs.Trees.{Parameter, OptionalTree, Statement, Let, Statements, Declaration, Declare, Declarations, ended, next, Routine, Does}
 use Rattle.sts_syntax.specs.Programs.{ClassMember, Field, Method, Constructor, TopLevel, Class, Function, Main, Program}
-use Rattle.sts_scope.specs.declared.kinds.Kind.{Kind}
+use Rattle.sts_scope.specs.declared.kinds.StaticType.{StaticType}
 use Rattle.sts_scope.specs.declared.known.Known.{Known}
 use Rattle.sts_scope.specs.declared.known.This.{This}
 use Rattle.sts_scope.specs.declared.known.This.TheVariants as this
@@ -13,7 +13,7 @@ use Rattle.type_derive.specs.Returns.{bound, parameter_locals, within, all_retur
 
 -- How the type of a declaration follows: it is known, or that of an initialiser, or that of the first value that is returned.
 pub data Source : Type 0 where
-  Stated : (kind : Option Kind) → Source
+  Stated : (kind : Option StaticType) → Source
   Initial : (this : This) (first : OptionalTree) → Source
   Returns : (this : This) (params : List Parameter) (all : Statements) → Source
 
@@ -51,33 +51,33 @@ module _ (names : Naming) where
   sources_from c (i ∷ rest) = item_sources c i ++ sources_from (c + classes_in i) rest
 
   -- the type that follows, where so much is known
-  abbrev pub follows : Tables → Known → Bool → Source → Option Kind
+  abbrev pub follows : Tables → Known → Bool → Source → Option StaticType
   follows tables k library (Stated kind) = kind
   follows tables k library (Initial self first) = bound tables names k (outside self library None) None first
   follows tables k library (Returns self params all) = answered tables names k (all_returned tables names k (within (parameter_locals names params) self None library) all)
 
 -- what a table has at a place
-abbrev pub at : List (Option Kind) → ℕ → Option Kind
+abbrev pub at : List (Option StaticType) → ℕ → Option StaticType
 at kinds d = get_or kinds d None
 
 -- what the rule of a declaration gives from a table
-abbrev pub rule : Tables → Naming → Known → List Source → List (Option Kind) → ℕ → Option Kind
+abbrev pub rule : Tables → Naming → Known → List Source → List (Option StaticType) → ℕ → Option StaticType
 rule tables names k sources kinds d = elim (slice_get sources d) [ None ↦ None | Some source ↦ follows names tables (record k { kinds = kinds }) (nat_lt d k.library) source ]
 
 -- each declaration has the type that its rule gives from the others'
-abbrev pub Solves : (List (Option Kind) → ℕ → Option Kind) → List (Option Kind) → Type 0
+abbrev pub Solves : (List (Option StaticType) → ℕ → Option StaticType) → List (Option StaticType) → Type 0
 Solves rule kinds = (d : ℕ) → d < length kinds → at kinds d ≡ rule kinds d
 
 -- what is known stays
-abbrev pub Less : Option Kind → Option Kind → Type 0
+abbrev pub Less : Option StaticType → Option StaticType → Type 0
 Less None y = Unit {0}
 Less (Some x) y = y ≡ Some x
 
 -- the second table has what the first has, and may have more
-abbrev pub Within : List (Option Kind) → List (Option Kind) → Type 0
+abbrev pub Within : List (Option StaticType) → List (Option StaticType) → Type 0
 Within xs ys = (d : ℕ) → Less (at xs d) (at ys d)
 
 -- the least of the tables that meet the rules
-pub record IsLeast (rule : List (Option Kind) → ℕ → Option Kind) (kinds : List (Option Kind)) : Type 0 where
+pub record IsLeast (rule : List (Option StaticType) → ℕ → Option StaticType) (kinds : List (Option StaticType)) : Type 0 where
   pub solves : Solves rule kinds
-  pub least : (others : List (Option Kind)) → length others ≡ length kinds → Solves rule others → Within kinds others
+  pub least : (others : List (Option StaticType)) → length others ≡ length kinds → Solves rule others → Within kinds others

@@ -1,9 +1,9 @@
 -- Where more types are known, no less is derived.
 use Rattle.std.specs.Prelude.{◌≡◌, ℕ, List, [], ◌∷◌, Option, Some, None}
-use Rattle.sts_scope.specs.declared.kinds.Kind.{Kind}
+use Rattle.sts_scope.specs.declared.kinds.StaticType.{StaticType}
 use Rattle.sts_scope.specs.declared.known.Known.{Known}
 use Rattle.sts_scope.specs.declared.known.Local.{Local}
-use Rattle.sts_scope.specs.Places.{Place}
+use Rattle.sts_scope.specs.Places.{NameScope}
 use Rattle.sts_scope.specs.Rules.{kind_at}
 use Rattle.type_derive.specs.Typing.{Callee}
 use Rattle.type_derive.specs.Derived.{Less}
@@ -22,7 +22,7 @@ pub record KnownGrows (k l : Known) : Type 0 where
   pub library : l.library ≡ k.library
   pub kinds : (d : ℕ) → Less (kind_at k d) (kind_at l d)
 
-pub record PlaceGrows (p q : Place) : Type 0 where
+pub record PlaceGrows (p q : NameScope) : Type 0 where
   pub around : LocalsGrow p.around q.around
   pub locals : LocalsGrow p.locals q.locals
   pub block : q.block ≡ p.block
@@ -35,7 +35,7 @@ CalleeGrows (Some c) None = ⊥
 CalleeGrows (Some c) (Some d) = (d.takes ≡ c.takes) × Less c.gives d.gives
 
 -- a value is returned in both or in neither
-abbrev pub ReturnGrows : Option (Option Kind) → Option (Option Kind) → Type 0
+abbrev pub ReturnGrows : Option (Option StaticType) → Option (Option StaticType) → Type 0
 ReturnGrows None None = Unit {0}
 ReturnGrows None (Some o) = ⊥
 ReturnGrows (Some o) None = ⊥

@@ -10,15 +10,15 @@ use Rattle.sts_syntax.specs.TypedTrees.{TypedRoutine}
 use Rattle.sts_syntax.specs.TypeRules.{entry}
 use Rattle.sts_syntax.specs.Trees.{Does}
 use Rattle.sts_syntax.specs.Programs.{Class, Function, Main, Program}
-use Rattle.sts_scope.specs.declared.kinds.Kind.{Kind}
+use Rattle.sts_scope.specs.declared.kinds.StaticType.{StaticType}
 use Rattle.sts_scope.specs.declared.known.Known.{Known}
 use Rattle.sts_scope.specs.declared.known.This.TheVariants as this
-use Rattle.sts_scope.specs.Faults.{Fault, ◌then◌}
+use Rattle.sts_scope.specs.Failures.{Failure, ◌then◌}
 use Rattle.sts_scope.specs.Entries.{Naming}
 use Rattle.sts_scope.specs.Rules.{kind_at}
 use Rattle.sts_scope.specs.Scopes.{all_names}
 use Rattle.type_derive.specs.Returns.{parameter_locals, within}
-use Rattle.type_derive.specs.Nodes.{statements_fault}
+use Rattle.type_derive.specs.Nodes.{statements_failure}
 use Rattle.sts_scope.specs.Numbers.{numbering}
 use Rattle.type_derive.specs.Formed.{IsFormedProgram}
 use Rattle.type_derive.specs.Programs.{library_made}
@@ -39,18 +39,18 @@ OnlyFunctions (Main a ∷ rest) = ⊥
 
 -- the first failure of the library's functions, which know their own names alone; the first one is the d-th declaration
 module _ (tables : Tables) (names : Naming) (k : Known) where
-  abbrev pub library_fault : ℕ → Program → Option Fault
-  library_fault d [] = None
-  library_fault d (Function x (Does at params gives all arrow) ∷ rest) =
-      statements_fault tables names k (within (parameter_locals names params) this.Nowhere (kind_at k d) true) all then library_fault (suc d) rest
-  library_fault d (Class at x base base_at members ∷ rest) = library_fault d rest
-  library_fault d (Main a ∷ rest) = library_fault d rest
+  abbrev pub library_failure : ℕ → Program → Option Failure
+  library_failure d [] = None
+  library_failure d (Function x (Does at params gives all arrow) ∷ rest) =
+      statements_failure tables names k (within (parameter_locals names params) this.Nowhere (kind_at k d) true) all then library_failure (suc d) rest
+  library_failure d (Class at x base base_at members ∷ rest) = library_failure d rest
+  library_failure d (Main a ∷ rest) = library_failure d rest
 
 -- a library before a text, with these types of declarations
-pub record IsLibrary (tables : Tables) (library text : Program) (kinds : List (Option Kind)) : Type 0 where
+pub record IsLibrary (tables : Tables) (library text : Program) (kinds : List (Option StaticType)) : Type 0 where
   pub functions : OnlyFunctions library
   pub formed : IsFormedProgram library
-  pub faultless : library_fault tables (all_names library text) (known library text kinds) 0 library ≡ None
+  pub no_failure : library_failure tables (all_names library text) (known library text kinds) 0 library ≡ None
   -- each row of the board's table that is a function of the library is one of it that takes and gives the same
   pub rows : (call : BoardCall) (f : ℕ) → (row_of call).action ≡ board.Library f
       → (r : TypedRoutine) × (entry (library_made tables (all_names library text) (known library text kinds) (numbering (library ++ text)) 0 0 library) f ≡ Some r)

@@ -6,17 +6,17 @@ use Rattle.sts_syntax.specs.Annotations.{Annotation}
 use Rattle.sts_syntax.specs.BoardTable as board
 use Rattle.sts_syntax.specs.BoardTable.{BoardParameter, row_of}
 use Rattle.sts_syntax.specs.Trees.{Parameter, Tree, Num, Text, Truth, Null, This, Name, Unary, Binary, Both, Either, Choice, Set, Bump, Member, Item, Call, SuperCall, Make, Items, Handler, Trees, none, more, OptionalTree, absent, present, Statement, Block, Let, IfOnly, IfElse, While, DoWhile, For, ForOf, Return, Break, Continue, Plain, Empty, Statements, done, also, OptionalStatement, omitted, written, Declaration, Declare, Declarations, ended, next, Routine, Does}
-use Rattle.sts_scope.specs.declared.kinds.Kind.{Kind}
+use Rattle.sts_scope.specs.declared.kinds.StaticType.{StaticType}
 use Rattle.sts_scope.specs.declared.known.Known.{Known}
 use Rattle.sts_scope.specs.declared.known.Found.{Found}
 use Rattle.sts_scope.specs.declared.known.Found.TheVariants as found
 use Rattle.sts_scope.specs.declared.known.Part.{Part}
 use Rattle.sts_scope.specs.Kinds.{is_array}
-use Rattle.sts_scope.specs.Faults.{Fault, ◌then◌, fault_at, unless, own}
+use Rattle.sts_scope.specs.Failures.{Failure, ◌then◌, failure_at, unless, own}
 use Rattle.sts_scope.specs.Entries.{Naming, kind_of}
 use Rattle.sts_scope.specs.Globals.{is_dollar}
-use Rattle.sts_scope.specs.Headings.{written_fault}
-use Rattle.sts_scope.specs.Places.{Place, in_handler, inner, is_twice}
+use Rattle.sts_scope.specs.Headings.{written_failure}
+use Rattle.sts_scope.specs.Places.{NameScope, in_handler, inner, is_twice}
 use Rattle.sts_scope.specs.Rules.{this_kind, name_kind, part_of, part_kind, call_kind, kind_at, is_nothing, is_boolean, serves, goes}
 use Rattle.sts_scope.specs.Codes.{why_name, why_this, why_part, why_call, why_make, why_super}
 use Rattle.type_derive.specs.declared.roles.Role.{Role}
@@ -45,18 +45,18 @@ abbrev pub shape_role : Option Annotation → Role
 shape_role None = Free
 shape_role (Some a) = Given
 
-abbrev pub kind_role : Option Kind → Role
+abbrev pub kind_role : Option StaticType → Role
 kind_role None = Free
 kind_role (Some t) = Given
 
-abbrev pub fits : Known → Option Kind → Option Kind → Bool
+abbrev pub fits : Known → Option StaticType → Option StaticType → Bool
 fits k (Some s) (Some t) = goes k.classes s t
 fits k (Some s) None = false
 fits k None t = false
 
-abbrev pub parameter_types_fault : Naming → List Parameter → Option Fault
-parameter_types_fault names [] = None
-parameter_types_fault names (q ∷ rest) = written_fault names q.at q.shape then parameter_types_fault names rest
+abbrev pub parameter_types_failure : Naming → List Parameter → Option Failure
+parameter_types_failure names [] = None
+parameter_types_failure names (q ∷ rest) = written_failure names q.at q.shape then parameter_types_failure names rest
 
 -- a test of a loop may be left out
 abbrev pub tests : Bool → Bool → Bool
@@ -65,62 +65,62 @@ tests true is = is
 
 module _ (tables : Tables) (names : Naming) (k : Known) where
   -- in a handler: its own parameters are known, and its result is the one that is written, else that of its first value, as any function's
-  abbrev pub handler_within : Place → List Parameter → Option Kind → Place
+  abbrev pub handler_within : NameScope → List Parameter → Option StaticType → NameScope
   handler_within p params gives = let q = in_handler p gives in inner (record q { locals = q.locals ++ parameter_locals names params })
 
-  abbrev pub handler_result : Place → List Parameter → Option Annotation → Statements → Option Kind
+  abbrev pub handler_result : NameScope → List Parameter → Option Annotation → Statements → Option StaticType
   handler_result p params (Some a) all = kind_of names a
   handler_result p params None all = answered tables names k (all_returned tables names k (handler_within p params None) all)
 
-  abbrev pub handler_place : Place → List Parameter → Option Annotation → Statements → Place
+  abbrev pub handler_place : NameScope → List Parameter → Option Annotation → Statements → NameScope
   handler_place p params gives all = handler_within p params (handler_result p params gives all)
 
   -- a function expression that may be a handler takes nothing, and its result is nothing
-  abbrev pub serves_itself : Place → Routine → Bool
+  abbrev pub serves_itself : NameScope → Routine → Bool
   serves_itself p (Does at params gives all arrow) = takes_nothing params && is_nothing (handler_result p params gives all)
 
   -- a name: that of a function where one is called is no node, and where a handler is wanted it is one that takes nothing and gives nothing
-  abbrev pub own_name : Role → Place → Found → ℕ → Option Fault
+  abbrev pub own_name : Role → NameScope → Found → ℕ → Option Failure
   own_name Called p (found.Function d) at = None
   own_name Served p (found.Function d) at = own (kind_at k d) NeedsType at then unless (serves k (found.Function d)) BadHandler at
   own_name r p f at = own (name_kind k p f) (why_name f) at
 
-  abbrev pub own_part : Role → Part → ℕ → Option Fault
+  abbrev pub own_part : Role → Part → ℕ → Option Failure
   own_part r part at = if is_called r && is_some (part_callee tables k part) then None else own (part_kind k part) (why_part part) at
 
-  abbrev pub own_member : Role → Option Kind → ℕ → ℕ → Option Fault
+  abbrev pub own_member : Role → Option StaticType → ℕ → ℕ → Option Failure
   own_member r None m at = None
   own_member r (Some t) m at = own_part r (part_of tables.names k t m) at
 
-  abbrev pub own_called : Option Callee → Option (List Kind) → ℕ → Option Fault
-  own_called None ts at = fault_at Mismatch at
+  abbrev pub own_called : Option Callee → Option (List StaticType) → ℕ → Option Failure
+  own_called None ts at = failure_at Mismatch at
   own_called (Some d) ts at = own (ts >>= λ us. call_kind k.classes d.takes d.gives us) (why_call d.gives) at
 
-  abbrev pub own_super : Place → ℕ → Option ℕ → Option Kind → ℕ → Option Fault
-  own_super p m None u at = fault_at (why_super k p.this m) at
+  abbrev pub own_super : NameScope → ℕ → Option ℕ → Option StaticType → ℕ → Option Failure
+  own_super p m None u at = failure_at (why_super k p.this m) at
   own_super p m (Some d) u at = own u (why_call (kind_at k d)) at
 
-  abbrev pub own_make : Found → Option Callee → Option Kind → ℕ → Option Fault
-  own_make f None u at = fault_at (why_make f) at
+  abbrev pub own_make : Found → Option Callee → Option StaticType → ℕ → Option Failure
+  own_make f None u at = failure_at (why_make f) at
   own_make f (Some d) u at = own u Mismatch at
 
   -- no function stands where a handler is wanted
-  abbrev pub lacks_handler : Place → List BoardParameter → Trees → Bool
+  abbrev pub lacks_handler : NameScope → List BoardParameter → Trees → Bool
   lacks_handler p (board.Handler ∷ ps) (more a rest) = not (is_routine tables k p a) || lacks_handler p ps rest
   lacks_handler p (board.Of u ∷ ps) (more a rest) = lacks_handler p ps rest
   lacks_handler p (board.Drawing ∷ ps) (more a rest) = lacks_handler p ps rest
   lacks_handler p [] args = false
   lacks_handler p (q ∷ ps) none = false
 
-  abbrev pub own_board : Place → List BoardParameter → Trees → ℕ → Option Fault
+  abbrev pub own_board : NameScope → List BoardParameter → Trees → ℕ → Option Failure
   own_board p takes args at = unless (not (lacks_handler p takes args)) BadHandler at then unless (are_given tables k p takes args) Mismatch at
 
   -- a name that is declared in a block
-  abbrev pub own_local : Place → ℕ → ℕ → Option Fault
+  abbrev pub own_local : NameScope → ℕ → ℕ → Option Failure
   own_local p x at = unless (not (is_dollar tables.names x)) UnknownName at then unless (not (is_twice p x)) TwiceNamed at
 
   -- the type of a declared name
-  abbrev pub own_bound : Place → Option Annotation → OptionalTree → ℕ → Option Fault
+  abbrev pub own_bound : NameScope → Option Annotation → OptionalTree → ℕ → Option Failure
   own_bound p None first at = own (bound tables names k p None first) NeedsType at
   own_bound p (Some a) absent at = None
   own_bound p (Some a) (present e) at = unless (fits k (type_of tables k p Given e) (kind_of names a)) Mismatch at
@@ -129,101 +129,101 @@ module _ (tables : Tables) (names : Naming) (k : Known) where
   waives None e = is_alone e
   waives (Some a) e = false
 
-  abbrev pub is_list : Option Kind → Bool
+  abbrev pub is_list : Option StaticType → Bool
   is_list None = false
   is_list (Some t) = is_array t
 
   abbrev mutual
-    pub fault : Place → Role → Tree → Option Fault
-    fault p r (Num at n) = None
-    fault p r (Text at n) = None
-    fault p r (Truth at b) = None
-    fault p r (Null at) = None
-    fault p r (This at) = own (this_kind p.this) (why_this p.this) at
-    fault p r (Name at x) = own_name r p (finds tables k p x) at
-    fault p r (Unary at op a) = fault p Free a then own (type_of tables k p r (Unary at op a)) Mismatch at
-    fault p r (Binary at op a b) = fault p Free a then fault p Free b then own (type_of tables k p r (Binary at op a b)) Mismatch at
-    fault p r (Both at a b) = fault p Free a then fault p Free b then own (type_of tables k p r (Both at a b)) Mismatch at
-    fault p r (Either at a b) = fault p Free a then fault p Free b then own (type_of tables k p r (Either at a b)) Mismatch at
-    fault p r (Choice at c a b) = fault p Free c then fault p Free a then fault p Free b then own (type_of tables k p r (Choice at c a b)) Mismatch at
-    fault p r (Set at op x e) = fault p Free x then fault p Given e then own (type_of tables k p r (Set at op x e)) Mismatch at
-    fault p r (Bump at x by late) = fault p Free x then own (type_of tables k p r (Bump at x by late)) Mismatch at
-    fault p r (Member at a m) = elim (constant_of tables k p a m) [
+    pub failure : NameScope → Role → Tree → Option Failure
+    failure p r (Num at n) = None
+    failure p r (Text at n) = None
+    failure p r (Truth at b) = None
+    failure p r (Null at) = None
+    failure p r (This at) = own (this_kind p.this) (why_this p.this) at
+    failure p r (Name at x) = own_name r p (finds tables k p x) at
+    failure p r (Unary at op a) = failure p Free a then own (type_of tables k p r (Unary at op a)) Mismatch at
+    failure p r (Binary at op a b) = failure p Free a then failure p Free b then own (type_of tables k p r (Binary at op a b)) Mismatch at
+    failure p r (Both at a b) = failure p Free a then failure p Free b then own (type_of tables k p r (Both at a b)) Mismatch at
+    failure p r (Either at a b) = failure p Free a then failure p Free b then own (type_of tables k p r (Either at a b)) Mismatch at
+    failure p r (Choice at c a b) = failure p Free c then failure p Free a then failure p Free b then own (type_of tables k p r (Choice at c a b)) Mismatch at
+    failure p r (Set at op x e) = failure p Free x then failure p Given e then own (type_of tables k p r (Set at op x e)) Mismatch at
+    failure p r (Bump at x by late) = failure p Free x then own (type_of tables k p r (Bump at x by late)) Mismatch at
+    failure p r (Member at a m) = elim (constant_of tables k p a m) [
       | Some z ↦ None
       | None ↦ elim (board_callee tables k p (Member at a m)) [
         | Some call ↦ unless (is_called r) BadHandler at
-        | None ↦ fault p Free a then own_member r (type_of tables k p Free a) m at
+        | None ↦ failure p Free a then own_member r (type_of tables k p Free a) m at
       ]
     ]
-    fault p r (Item at a i) = fault p Free a then fault p Free i then own (type_of tables k p r (Item at a i)) Mismatch at
-    fault p r (Items at none) = own (type_of tables k p r (Items at none)) Mismatch at
-    fault p r (Items at (more e rest)) = fault p Free e then faults p [] rest then own (type_of tables k p r (Items at (more e rest))) Mismatch at
-    fault p r (Call at f args) = elim (board_callee tables k p f) [
-      | Some call ↦ faults p (row_of call).takes args then own_board p (row_of call).takes args at
-      | None ↦ fault p Called f then faults p [] args then own_called (callee_of tables k p f) (types_of tables k p args) at
+    failure p r (Item at a i) = failure p Free a then failure p Free i then own (type_of tables k p r (Item at a i)) Mismatch at
+    failure p r (Items at none) = own (type_of tables k p r (Items at none)) Mismatch at
+    failure p r (Items at (more e rest)) = failure p Free e then failures p [] rest then own (type_of tables k p r (Items at (more e rest))) Mismatch at
+    failure p r (Call at f args) = elim (board_callee tables k p f) [
+      | Some call ↦ failures p (row_of call).takes args then own_board p (row_of call).takes args at
+      | None ↦ failure p Called f then failures p [] args then own_called (callee_of tables k p f) (types_of tables k p args) at
     ]
-    fault p r (SuperCall at None args) = faults p [] args then fault_at Mismatch at
-    fault p r (SuperCall at (Some m) args) = faults p [] args then own_super p m (super_method tables k p.this m) (type_of tables k p r (SuperCall at (Some m) args)) at
-    fault p r (Make at x args) = faults p [] args then own_make (finds tables k p x) (made tables k (finds tables k p x)) (type_of tables k p r (Make at x args)) at
-    fault p r (Handler at body) = handler_fault p body then unless (is_served r && serves_itself p body) BadHandler at
+    failure p r (SuperCall at None args) = failures p [] args then failure_at Mismatch at
+    failure p r (SuperCall at (Some m) args) = failures p [] args then own_super p m (super_method tables k p.this m) (type_of tables k p r (SuperCall at (Some m) args)) at
+    failure p r (Make at x args) = failures p [] args then own_make (finds tables k p x) (made tables k (finds tables k p x)) (type_of tables k p r (Make at x args)) at
+    failure p r (Handler at body) = handler_failure p body then unless (is_served r && serves_itself p body) BadHandler at
 
     -- of arguments, by what their places do with them
-    pub faults : Place → List BoardParameter → Trees → Option Fault
-    faults p takes none = None
-    faults p takes (more e rest) = fault p (role_of takes) e then faults p (behind takes) rest
+    pub failures : NameScope → List BoardParameter → Trees → Option Failure
+    failures p takes none = None
+    failures p takes (more e rest) = failure p (role_of takes) e then failures p (behind takes) rest
 
-    pub handler_fault : Place → Routine → Option Fault
-    handler_fault p (Does at params gives all arrow) =
-        parameter_types_fault names params then written_fault names at gives then statements_fault (handler_place p params gives all) all
+    pub handler_failure : NameScope → Routine → Option Failure
+    handler_failure p (Does at params gives all arrow) =
+        parameter_types_failure names params then written_failure names at gives then statements_failure (handler_place p params gives all) all
 
     -- of an initialiser; `null` or `[]` alone fails where it is declared
-    pub initial_fault : Place → Option Annotation → OptionalTree → Option Fault
-    initial_fault p shape absent = None
-    initial_fault p shape (present e) = if waives shape e then None else fault p (shape_role shape) e
+    pub initial_failure : NameScope → Option Annotation → OptionalTree → Option Failure
+    initial_failure p shape absent = None
+    initial_failure p shape (present e) = if waives shape e then None else failure p (shape_role shape) e
 
-    pub optional_fault : Place → OptionalTree → Option Fault
-    optional_fault p absent = None
-    optional_fault p (present e) = fault p Free e
+    pub optional_failure : NameScope → OptionalTree → Option Failure
+    optional_failure p absent = None
+    optional_failure p (present e) = failure p Free e
 
-    pub test_fault : Place → OptionalTree → ℕ → Option Fault
-    test_fault p absent at = None
-    test_fault p (present e) at = unless (is_boolean (type_of tables k p Free e)) Mismatch at
+    pub test_failure : NameScope → OptionalTree → ℕ → Option Failure
+    test_failure p absent at = None
+    test_failure p (present e) at = unless (is_boolean (type_of tables k p Free e)) Mismatch at
 
     -- of a declared name in a block
-    pub declaration_fault : Place → Declaration → Option Fault
-    declaration_fault p (Declare at x shape first) = written_fault names at shape then initial_fault p shape first then own_local p x at then own_bound p shape first at
+    pub declaration_failure : NameScope → Declaration → Option Failure
+    declaration_failure p (Declare at x shape first) = written_failure names at shape then initial_failure p shape first then own_local p x at then own_bound p shape first at
 
-    pub declarations_fault : Place → Bool → Declarations → Option Fault
-    declarations_fault p fixed ended = None
-    declarations_fault p fixed (next a rest) = declaration_fault p a then declarations_fault (after tables names k p (Let 0 fixed (next a ended))) fixed rest
+    pub declarations_failure : NameScope → Bool → Declarations → Option Failure
+    declarations_failure p fixed ended = None
+    declarations_failure p fixed (next a rest) = declaration_failure p a then declarations_failure (after tables names k p (Let 0 fixed (next a ended))) fixed rest
 
     -- of a statement
-    pub statement_fault : Place → Statement → Option Fault
-    statement_fault p (Block at all) = statements_fault (inner p) all
-    statement_fault p (Let at fixed each) = declarations_fault p fixed each
-    statement_fault p (IfOnly at test a) = fault p Free test then statement_fault (inner p) a then unless (is_boolean (type_of tables k p Free test)) Mismatch at
-    statement_fault p (IfElse at test a b) =
-        fault p Free test then statement_fault (inner p) a then statement_fault (inner p) b then unless (is_boolean (type_of tables k p Free test)) Mismatch at
-    statement_fault p (While at test a) = fault p Free test then statement_fault (inner p) a then unless (is_boolean (type_of tables k p Free test)) Mismatch at
-    statement_fault p (DoWhile at a test) = statement_fault (inner p) a then fault p Free test then unless (is_boolean (type_of tables k p Free test)) Mismatch at
-    statement_fault p (For at first test step a) =
-        first_fault (inner p) first
-        then optional_fault (after_first tables names k (inner p) first) test then optional_fault (after_first tables names k (inner p) first) step
-        then statement_fault (inner (after_first tables names k (inner p) first)) a then test_fault (after_first tables names k (inner p) first) test at
-    statement_fault p (ForOf at fixed x list a) =
-        fault p Free list then statement_fault (inner (looped tables names k p fixed x list)) a
+    pub statement_failure : NameScope → Statement → Option Failure
+    statement_failure p (Block at all) = statements_failure (inner p) all
+    statement_failure p (Let at fixed each) = declarations_failure p fixed each
+    statement_failure p (IfOnly at test a) = failure p Free test then statement_failure (inner p) a then unless (is_boolean (type_of tables k p Free test)) Mismatch at
+    statement_failure p (IfElse at test a b) =
+        failure p Free test then statement_failure (inner p) a then statement_failure (inner p) b then unless (is_boolean (type_of tables k p Free test)) Mismatch at
+    statement_failure p (While at test a) = failure p Free test then statement_failure (inner p) a then unless (is_boolean (type_of tables k p Free test)) Mismatch at
+    statement_failure p (DoWhile at a test) = statement_failure (inner p) a then failure p Free test then unless (is_boolean (type_of tables k p Free test)) Mismatch at
+    statement_failure p (For at first test step a) =
+        first_failure (inner p) first
+        then optional_failure (after_first tables names k (inner p) first) test then optional_failure (after_first tables names k (inner p) first) step
+        then statement_failure (inner (after_first tables names k (inner p) first)) a then test_failure (after_first tables names k (inner p) first) test at
+    statement_failure p (ForOf at fixed x list a) =
+        failure p Free list then statement_failure (inner (looped tables names k p fixed x list)) a
         then unless (not (is_dollar tables.names x)) UnknownName at then unless (is_list (type_of tables k p Free list)) Mismatch at
-    statement_fault p (Return at absent) = unless (is_nothing p.gives) Mismatch at
-    statement_fault p (Return at (present e)) = fault p (kind_role p.gives) e then unless (fits k (type_of tables k p (kind_role p.gives) e) p.gives) Mismatch at
-    statement_fault p (Break at) = None
-    statement_fault p (Continue at) = None
-    statement_fault p (Plain at e) = fault p Free e
-    statement_fault p (Empty at) = None
+    statement_failure p (Return at absent) = unless (is_nothing p.gives) Mismatch at
+    statement_failure p (Return at (present e)) = failure p (kind_role p.gives) e then unless (fits k (type_of tables k p (kind_role p.gives) e) p.gives) Mismatch at
+    statement_failure p (Break at) = None
+    statement_failure p (Continue at) = None
+    statement_failure p (Plain at e) = failure p Free e
+    statement_failure p (Empty at) = None
 
-    pub first_fault : Place → OptionalStatement → Option Fault
-    first_fault p omitted = None
-    first_fault p (written a) = statement_fault p a
+    pub first_failure : NameScope → OptionalStatement → Option Failure
+    first_failure p omitted = None
+    first_failure p (written a) = statement_failure p a
 
-    pub statements_fault : Place → Statements → Option Fault
-    statements_fault p done = None
-    statements_fault p (also s rest) = statement_fault p s then statements_fault (after tables names k p s) rest
+    pub statements_failure : NameScope → Statements → Option Failure
+    statements_failure p done = None
+    statements_failure p (also s rest) = statement_failure p s then statements_failure (after tables names k p s) rest

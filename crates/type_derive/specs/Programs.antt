@@ -9,7 +9,7 @@ use Rattle.sts_syntax.specs.TypedTrees as e
 use Rattle.sts_syntax.specs.TypedTrees.{TypedTree, TypedTrees, TypedStatement, TypedStatements, TypedDeclaration, TypedRoutine, ClassEntry, TypedProgram}
 use Rattle.sts_syntax.specs.Trees.{Parameter, SuperCall, Statement, Let, Plain, Statements, also, Declaration, Declare, Declarations, ended, next, Routine, Does}
 use Rattle.sts_syntax.specs.Programs.{ClassMember, Field, Method, Constructor, Class, Function, Main, Program}
-use Rattle.sts_scope.specs.declared.kinds.Kind.{Kind}
+use Rattle.sts_scope.specs.declared.kinds.StaticType.{StaticType}
 use Rattle.sts_scope.specs.declared.entries.Entry.{Entry}
 use Rattle.sts_scope.specs.declared.entries.ClassHead.{ClassHead}
 use Rattle.sts_scope.specs.Scopes.{is_global}
@@ -39,26 +39,26 @@ abbrev pub ◌before◌ : List TypedStatement → TypedStatements → TypedState
 (a ∷ rest) before all = e.also a (rest before all)
 
 -- parameters that are passed on, from one on
-abbrev pub passed_on : ℕ → List Kind → TypedTrees
+abbrev pub passed_on : ℕ → List StaticType → TypedTrees
 passed_on i [] = e.none
 passed_on i (u ∷ us) = e.more (e.Name (value_type u) (Param i)) (passed_on (suc i) us)
 
 module _ (tables : Tables) (names : Naming) (k : Known) (numbers : Numbering) where
   -- a function's site: its parameters stand from the number i on
-  abbrev pub site : This → Option Kind → Bool → ℕ → List Parameter → Site
+  abbrev pub site : This → Option StaticType → Bool → ℕ → List Parameter → Site
   site self result library i params = record { place = within (parameter_locals names params) self result library; spots = parameter_spots i params }
 
-  abbrev pub class_result : Option Kind → ValueType
+  abbrev pub class_result : Option StaticType → ValueType
   class_result o = value_type (kind_or_nothing tables names k numbers o)
 
   -- a function of the whole text, and the functions in it
-  abbrev pub function_made : Bool → ℕ → Option Kind → Routine → List TypedRoutine
+  abbrev pub function_made : Bool → ℕ → Option StaticType → Routine → List TypedRoutine
   function_made library n result (Does at params gives all arrow) =
       let made = routine tables names k numbers (value_types (parameter_kinds names params)) (class_result result) (made_statements tables names k numbers (site this.Nowhere result library 0 params) all) n in
       made.it ∷ made.routines
 
   -- a method takes `this` first
-  abbrev pub method_made : ℕ → ℕ → Option Kind → Routine → List TypedRoutine
+  abbrev pub method_made : ℕ → ℕ → Option StaticType → Routine → List TypedRoutine
   method_made c n result (Does at params gives all arrow) =
       let made = routine tables names k numbers (t.Object c ∷ value_types (parameter_kinds names params)) (class_result result)
       (made_statements tables names k numbers (site (this.Object c) result false 1 params) all) n in
@@ -101,7 +101,7 @@ module _ (tables : Tables) (names : Naming) (k : Known) (numbers : Numbering) wh
       made.it ∷ made.routines
 
   -- One that isn't written has its base's parameters and passes them on.
-  abbrev pub passes_on : Option ℕ → List Kind → List TypedStatement
+  abbrev pub passes_on : Option ℕ → List StaticType → List TypedStatement
   passes_on None takes = []
   passes_on (Some b) takes = super_called b (passed_on 1 takes) ∷ []
 

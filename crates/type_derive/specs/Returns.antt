@@ -3,13 +3,13 @@ use Rattle.std.specs.Prelude.{ℕ, Bool, true, false, Option, Some, None, List, 
 use Rattle.sts_base.specs.declared.tables.Tables.{Tables}
 use Rattle.sts_syntax.specs.Annotations.{Annotation}
 use Rattle.sts_syntax.specs.Trees.{Parameter, Tree, Null, Items, none, OptionalTree, absent, present, Statement, Block, Let, IfOnly, IfElse, While, DoWhile, For, ForOf, Return, Break, Continue, Plain, Empty, Statements, done, also, OptionalStatement, omitted, written, Declaration, Declare, Declarations, ended, next}
-use Rattle.sts_scope.specs.declared.kinds.Kind.{Kind}
+use Rattle.sts_scope.specs.declared.kinds.StaticType.{StaticType}
 use Rattle.sts_scope.specs.declared.known.Known.{Known}
 use Rattle.sts_scope.specs.declared.known.Local.{Local}
 use Rattle.sts_scope.specs.declared.known.This.{This}
 use Rattle.sts_scope.specs.Kinds.{nothing, is_array, item}
 use Rattle.sts_scope.specs.Entries.{Naming, kind_of, written_kind}
-use Rattle.sts_scope.specs.Places.{Place, with, inner, local}
+use Rattle.sts_scope.specs.Places.{NameScope, with, inner, local}
 use Rattle.type_derive.specs.declared.roles.Role.TheVariants.{Free}
 use Rattle.type_derive.specs.Typing.{type_of}
 
@@ -30,46 +30,46 @@ parameter_locals names [] = []
 parameter_locals names (p ∷ rest) = local p.name (written_kind names p.shape) false ∷ parameter_locals names rest
 
 -- where a function's statements begin: its parameters are known, and its own block begins behind them
-abbrev pub within : List Local → This → Option Kind → Bool → Place
+abbrev pub within : List Local → This → Option StaticType → Bool → NameScope
 within params this gives library = record { around = []; locals = params; block = length params; this = this; gives = gives; library = library }
 
 -- Types are written by the names of classes.
 module _ (tables : Tables) (names : Naming) (k : Known) where
   -- the type of a declared name: the one that is written, else its initialiser's
-  abbrev pub bound : Place → Option Annotation → OptionalTree → Option Kind
+  abbrev pub bound : NameScope → Option Annotation → OptionalTree → Option StaticType
   bound p (Some a) first = kind_of names a
   bound p None absent = None
   bound p None (present e) = if is_alone e then None else type_of tables k p Free e
 
   -- behind a declared name
-  abbrev pub declared : Place → Bool → Declaration → Place
+  abbrev pub declared : NameScope → Bool → Declaration → NameScope
   declared p fixed (Declare at x shape first) = with p x (bound p shape first) fixed
 
-  abbrev pub all_declared : Place → Bool → Declarations → Place
+  abbrev pub all_declared : NameScope → Bool → Declarations → NameScope
   all_declared p fixed ended = p
   all_declared p fixed (next a rest) = all_declared (declared p fixed a) fixed rest
 
   -- behind a statement of the same block
-  abbrev pub after : Place → Statement → Place
+  abbrev pub after : NameScope → Statement → NameScope
   after p (Let at fixed each) = all_declared p fixed each
   after p _ = p
 
-  abbrev pub after_first : Place → OptionalStatement → Place
+  abbrev pub after_first : NameScope → OptionalStatement → NameScope
   after_first p omitted = p
   after_first p (written a) = after p a
 
   -- the type of the items that a loop goes through
-  abbrev pub items_of : Option Kind → Option Kind
+  abbrev pub items_of : Option StaticType → Option StaticType
   items_of None = None
   items_of (Some t) = if is_array t then Some (item t) else None
 
   -- in the body of a `for of`
-  abbrev pub looped : Place → Bool → ℕ → Tree → Place
+  abbrev pub looped : NameScope → Bool → ℕ → Tree → NameScope
   looped p fixed x list = with (inner p) x (items_of (type_of tables k p Free list)) fixed
 
   -- The first value that is returned: none, or its type if it has one.
   abbrev mutual
-    pub returned : Place → Statement → Option (Option Kind)
+    pub returned : NameScope → Statement → Option (Option StaticType)
     returned p (Return at (present e)) = Some (type_of tables k p Free e)
     returned p (Return at absent) = None
     returned p (Block at all) = all_returned (inner p) all
@@ -85,11 +85,11 @@ module _ (tables : Tables) (names : Naming) (k : Known) where
     returned p (Plain at e) = None
     returned p (Empty at) = None
 
-    pub all_returned : Place → Statements → Option (Option Kind)
+    pub all_returned : NameScope → Statements → Option (Option StaticType)
     all_returned p done = None
     all_returned p (also s rest) = or_else (returned p s) (all_returned (after p s) rest)
 
   -- the result of a function without a written one: nothing where no value is returned
-  abbrev pub answered : Option (Option Kind) → Option Kind
+  abbrev pub answered : Option (Option StaticType) → Option StaticType
   answered None = Some nothing
   answered (Some kind) = kind

@@ -8,8 +8,8 @@ use Rattle.sts_syntax.specs.BoardTable as board
 use Rattle.sts_syntax.specs.BoardTable.{BoardParameter, row_of, call_named, constant_named}
 use Rattle.sts_syntax.specs.declared.board_calls.BoardCall.{BoardCall}
 use Rattle.sts_syntax.specs.Trees.{Tree, Num, Text, Truth, Null, This, Name, Unary, Binary, Both, Either, Choice, Set, Bump, Member, Item, Call, SuperCall, Make, Items, Handler, Trees, none, more}
-use Rattle.sts_scope.specs.declared.kinds.Kind.{Kind}
-use Rattle.sts_scope.specs.declared.entries.Sort.TheVariants as sort
+use Rattle.sts_scope.specs.declared.kinds.StaticType.{StaticType}
+use Rattle.sts_scope.specs.declared.entries.DeclarationKind.TheVariants as sort
 use Rattle.sts_scope.specs.declared.known.Known.{Known}
 use Rattle.sts_scope.specs.declared.known.Found.{Found}
 use Rattle.sts_scope.specs.declared.known.Found.TheVariants as found
@@ -19,7 +19,7 @@ use Rattle.sts_scope.specs.declared.known.This.{This as Self}
 use Rattle.sts_scope.specs.declared.known.This.TheVariants as this
 use Rattle.sts_scope.specs.Kinds.{number, boolean, text, nothing, null, empty, object}
 use Rattle.sts_scope.specs.Lookup.{inherited, sort_of}
-use Rattle.sts_scope.specs.Places.{Place, name_found}
+use Rattle.sts_scope.specs.Places.{NameScope, name_found}
 use Rattle.sts_scope.specs.Rules.{this_kind, name_kind, name_fixed, operate, prefix, joined, choose, assign, counted, element, items_type, part_of, part_kind, part_settable, takes_at, kind_at, maker_takes_of, call_kind, goes}
 use Rattle.type_derive.specs.declared.roles.Role.{Role}
 use Rattle.type_derive.specs.declared.roles.Role.TheVariants.{Free, Given, Called, Served}
@@ -37,14 +37,14 @@ is_given Served = false
 
 -- What is called, but for calls of the board: what it takes and gives.
 pub record Callee : Type 0 where
-  pub takes : List Kind
-  pub gives : Option Kind
+  pub takes : List StaticType
+  pub gives : Option StaticType
 
-abbrev pub callee : List Kind → Option Kind → Callee
+abbrev pub callee : List StaticType → Option StaticType → Callee
 callee takes gives = record { takes = takes; gives = gives }
 
 -- the types of the board's table
-abbrev pub board_kind : ValueType → Kind
+abbrev pub board_kind : ValueType → StaticType
 board_kind t.Number = number
 board_kind t.Boolean = boolean
 board_kind t.Text = text
@@ -87,7 +87,7 @@ is_drawing tables _ = false
 
 module _ (tables : Tables) (k : Known) where
   -- what a name stands for
-  abbrev pub finds : Place → ℕ → Found
+  abbrev pub finds : NameScope → ℕ → Found
   finds p x = name_found tables.names k p x
 
   -- a name that stands for nothing may name a part of the board's interface
@@ -95,11 +95,11 @@ module _ (tables : Tables) (k : Known) where
   space_of x found.Unknown = Some (spelling tables x)
   space_of x _ = None
 
-  abbrev pub space : Place → Tree → Option (List ℕ)
+  abbrev pub space : NameScope → Tree → Option (List ℕ)
   space p (Name at x) = space_of x (finds p x)
   space p _ = None
 
-  abbrev pub constant_of : Place → Tree → ℕ → Option ℤ
+  abbrev pub constant_of : NameScope → Tree → ℕ → Option ℤ
   constant_of p a m = space p a >>= λ s. constant_named s (spelling tables m)
 
   abbrev pub own_call : Bool → Option (List ℕ) → Option BoardCall
@@ -107,7 +107,7 @@ module _ (tables : Tables) (k : Known) where
   own_call true s = s >>= λ name. call_named [] name
 
   -- a call of the board; the library has some whose space is empty
-  abbrev pub board_callee : Place → Tree → Option BoardCall
+  abbrev pub board_callee : NameScope → Tree → Option BoardCall
   board_callee p (Member at a m) = space p a >>= λ s. call_named s (spelling tables m)
   board_callee p (Name at x) = own_call p.library (space p (Name at x))
   board_callee p _ = None
@@ -143,21 +143,21 @@ module _ (tables : Tables) (k : Known) where
   names_function (found.Function d) = true
   names_function _ = false
 
-  abbrev pub is_routine : Place → Tree → Bool
+  abbrev pub is_routine : NameScope → Tree → Bool
   is_routine p (Name at x) = names_function (finds p x)
   is_routine p (Handler at body) = true
   is_routine p _ = false
 
-  abbrev pub given_to : Option Kind → ValueType → Bool
+  abbrev pub given_to : Option StaticType → ValueType → Bool
   given_to None u = false
   given_to (Some s) u = goes k.classes s (board_kind u)
 
-  abbrev pub called : Option Callee → Option (List Kind) → Option Kind
+  abbrev pub called : Option Callee → Option (List StaticType) → Option StaticType
   called d ts = d >>= λ c. ts >>= λ us. call_kind k.classes c.takes c.gives us
 
   -- the type of an expression, and what its place does with it
   abbrev mutual
-    pub type_of : Place → Role → Tree → Option Kind
+    pub type_of : NameScope → Role → Tree → Option StaticType
     type_of p r (Num at n) = Some number
     type_of p r (Text at n) = Some text
     type_of p r (Truth at b) = Some boolean
@@ -185,25 +185,25 @@ module _ (tables : Tables) (k : Known) where
     type_of p r (Handler at body) = None
 
     -- those of expressions to which types are given
-    pub types_of : Place → Trees → Option (List Kind)
+    pub types_of : NameScope → Trees → Option (List StaticType)
     types_of p none = Some []
     types_of p (more e rest) = type_of p Given e >>= λ u. types_of p rest >>= λ us. Some (u ∷ us)
 
     -- what is called
-    pub callee_of : Place → Tree → Option Callee
+    pub callee_of : NameScope → Tree → Option Callee
     callee_of p (Name at x) = named_callee (finds p x)
     callee_of p (Member at a m) = type_of p Free a >>= λ u. part_callee (part_of tables.names k u m)
     callee_of p _ = None
 
     -- A target that may be set: no `const`, no length, no constant of the board.
-    pub settable : Place → Tree → Bool
+    pub settable : NameScope → Tree → Bool
     settable p (Name at x) = not (name_fixed k p (finds p x))
     settable p (Member at a m) = elim (constant_of p a m) [ Some z ↦ false | None ↦ elim (type_of p Free a) [ None ↦ false | Some u ↦ part_settable (part_of tables.names k u m) ] ]
     settable p (Item at a i) = true
     settable p _ = false
 
     -- as many arguments as a call of the board takes, each of which fits
-    pub are_given : Place → List BoardParameter → Trees → Bool
+    pub are_given : NameScope → List BoardParameter → Trees → Bool
     are_given p [] none = true
     are_given p (board.Of u ∷ ps) (more a rest) = given_to (type_of p Given a) u && are_given p ps rest
     are_given p (board.Handler ∷ ps) (more a rest) = is_routine p a && are_given p ps rest

@@ -13,7 +13,7 @@ use crate::locals::Locals;
 use crate::scopes::Scope;
 use std::alloc::Global;
 use sts_base::NoMemory;
-use sts_scope::{ByNumber, Kind, Local, This, written_kind};
+use sts_scope::{ByNumber, Local, StaticType, This, written_kind};
 use sts_syntax::Param;
 
 /// `this` in a handler.
@@ -47,7 +47,7 @@ pub fn handler_scope<'a>(
     context: &Context,
     scope: &'a Scope<'a>,
     params: &[Param],
-    gives: Option<Kind>,
+    gives: Option<StaticType>,
 ) -> Result<Scope<'a>, NoMemory>
     ensures { IfOk result (λ s. place s ≡ node.handler_within context.now.tables.now (naming context.now) context.now.known.now (place scope.now) (parameters params.now) gives) }
 {
@@ -68,7 +68,7 @@ pub fn routine_scope<'a>(
     classes: &ByNumber,
     params: &[Param],
     this: This,
-    gives: Option<Kind>,
+    gives: Option<StaticType>,
     library: bool,
 ) -> Result<Scope<'a>, NoMemory>
     ensures { IfOk result (λ s. place s ≡ within (parameter_locals (value_at classes.now.values.items) (parameters params.now)) this gives library) }

@@ -11,7 +11,7 @@ use crate::callees::board_callee;
 use crate::roles::Role;
 use crate::scopes::{Scope, name_found};
 use sts_base::Tables;
-use sts_scope::{Base, Environment, Found, Kind, flat, goes};
+use sts_scope::{Base, Environment, Found, StaticType, flat, goes};
 use sts_syntax::{BaseType, BoardParameter, Expr, Node, Ty};
 
 /// Whether a place gives a type.
@@ -26,7 +26,7 @@ pub fn is_given(role: Role) -> bool
     }
 }
 
-fn plain_kind(base: BaseType) -> Kind
+fn plain_kind(base: BaseType) -> StaticType
     ensures { result ≡ typing.board_kind (plain_type base) }
 {
     match base {
@@ -40,7 +40,7 @@ fn plain_kind(base: BaseType) -> Kind
 }
 
 /// A type of the board's table.
-pub fn board_kind(t: Ty) -> Kind
+pub fn board_kind(t: Ty) -> StaticType
     ensures { result ≡ typing.board_kind (value_type t) }
 {
     if t.depth == 0 {
@@ -56,7 +56,7 @@ pub struct BoardTakes {
     /// what stands at its places
     pub takes: &'static [BoardParameter],
     /// the type of what it gives
-    pub gives: Kind,
+    pub gives: StaticType,
 }
 
 /// What the call of the board takes and gives that is called, if it is one.
@@ -78,7 +78,7 @@ pub fn board_takes(
 }
 
 /// Whether a value goes where a type is given; without a type itself it doesn't.
-pub fn goes_some(known: &Environment, s: Option<Kind>, t: Kind) -> bool
+pub fn goes_some(known: &Environment, s: Option<StaticType>, t: StaticType) -> bool
     ensures { result ≡ goes_some known.now.classes s t }
 {
     match s {
@@ -88,7 +88,7 @@ pub fn goes_some(known: &Environment, s: Option<Kind>, t: Kind) -> bool
 }
 
 /// Whether it goes where the i-th of some types is given.
-pub fn goes_at(known: &Environment, s: Option<Kind>, ts: &[Kind], i: usize) -> bool
+pub fn goes_at(known: &Environment, s: Option<StaticType>, ts: &[StaticType], i: usize) -> bool
     ensures { result ≡ goes_first known.now.classes s (drop i ts.now) }
 {
     match ts.get(i) {

@@ -11,7 +11,7 @@ ghost use Rattle.type_derive.specs.Shown.{shown, all_shown};
 
 use crate::scopes::{Scope, kind_at, name_found};
 use sts_base::Tables;
-use sts_scope::{Base, Environment, Found, Kind, Part, Sort, This, flat, sort_of};
+use sts_scope::{Base, DeclarationKind, Environment, Found, Part, StaticType, This, flat, sort_of};
 use sts_syntax::{BoardCall, Expr, Node, board_call, board_constant};
 
 /// What is called, but for calls of the board.
@@ -20,15 +20,15 @@ pub enum Called {
     /// a function or method, by its number among the declarations
     Routine(usize),
     /// `push` of an array of items of this type
-    Push(Kind),
+    Push(StaticType),
     /// `pop` of an array of items of this type
-    Pop(Kind),
+    Pop(StaticType),
     /// the constructor of the class of this number
     Maker(u32),
 }
 
 /// What a function or method takes.
-pub fn takes_at(known: &Environment, d: usize) -> &[Kind]
+pub fn takes_at(known: &Environment, d: usize) -> &[StaticType]
     ensures { result.now ≡ rule.takes_at known.now.entries d }
 {
     match known.entries().get(d) {
@@ -38,7 +38,7 @@ pub fn takes_at(known: &Environment, d: usize) -> &[Kind]
 }
 
 /// What is taken of what is called.
-pub fn takes_of<'a>(known: &'a Environment, called: &'a Called) -> &'a [Kind]
+pub fn takes_of<'a>(known: &'a Environment, called: &'a Called) -> &'a [StaticType]
     ensures { result.now ≡ (shown known.now called.now).takes }
 {
     match called {
@@ -50,7 +50,7 @@ pub fn takes_of<'a>(known: &'a Environment, called: &'a Called) -> &'a [Kind]
 }
 
 /// What it gives.
-pub fn gives_of(known: &Environment, called: Called) -> Option<Kind>
+pub fn gives_of(known: &Environment, called: Called) -> Option<StaticType>
     ensures { result ≡ (shown known.now called).gives }
 {
     match called {
@@ -117,11 +117,11 @@ fn method_of(known: &Environment, d: usize) -> Option<usize>
     ensures { (tables : _) → result ≡ typing.method_of tables known.now (Some d) }
 {
     match sort_of(known.entries().as_slice(), d) {
-        Some(Sort::Method) => Some(d),
-        Some(Sort::Field) => None,
-        Some(Sort::Function) => None,
-        Some(Sort::Class(_)) => None,
-        Some(Sort::Global { fixed: _ }) => None,
+        Some(DeclarationKind::Method) => Some(d),
+        Some(DeclarationKind::Field) => None,
+        Some(DeclarationKind::Function) => None,
+        Some(DeclarationKind::Class(_)) => None,
+        Some(DeclarationKind::Global { fixed: _ }) => None,
         None => None,
     }
 }

@@ -24,11 +24,16 @@ use crate::scopes::{
 };
 use crate::wanted::Wanted;
 use sts_base::{NoMemory, Seq, Tables};
-use sts_scope::{Base, Environment, Kind, Part, flat, goes};
+use sts_scope::{Base, Environment, Part, StaticType, flat, goes};
 use sts_syntax::{BoardParameter, Expr, Node};
 
 /// What stands behind the dot of what has a type.
-pub fn part_behind(tables: &Tables, known: &Environment, t: Option<Kind>, m: u32) -> Option<Part>
+pub fn part_behind(
+    tables: &Tables,
+    known: &Environment,
+    t: Option<StaticType>,
+    m: u32,
+) -> Option<Part>
     ensures { result ≡ bind t (λ t. Some (rule.part_of tables.now.names known.now t m)) }
 {
     match t {
@@ -38,7 +43,7 @@ pub fn part_behind(tables: &Tables, known: &Environment, t: Option<Kind>, m: u32
 }
 
 /// The type of a member that is read.
-fn part_type(known: &Environment, part: Option<Part>) -> Option<Kind>
+fn part_type(known: &Environment, part: Option<Part>) -> Option<StaticType>
     ensures { result ≡ bind part (λ part. rule.part_kind known.now part) }
 {
     match part {
@@ -48,7 +53,7 @@ fn part_type(known: &Environment, part: Option<Part>) -> Option<Kind>
 }
 
 /// The type of a member that may be set.
-fn part_target(known: &Environment, part: Option<Part>) -> Option<Kind>
+fn part_target(known: &Environment, part: Option<Part>) -> Option<StaticType>
     ensures { result ≡ bind part (λ part. bind (rule.part_kind known.now part) (λ u. if rule.part_settable part then Some u else None)) }
 {
     match part {
@@ -80,21 +85,21 @@ fn both_hold(a: bool, b: bool) -> bool
 }
 
 /// What is given by what is called with arguments that fit, or don't.
-fn given_where(known: &Environment, called: Called, fits: bool) -> Option<Kind>
+fn given_where(known: &Environment, called: Called, fits: bool) -> Option<StaticType>
     ensures { result ≡ if fits then (shown known.now called).gives else None }
 {
     if fits { gives_of(known, called) } else { None }
 }
 
 /// The type of a list literal whose items go to the first one's type, or don't.
-fn listed_where(t: Kind, fits: bool) -> Option<Kind>
+fn listed_where(t: StaticType, fits: bool) -> Option<StaticType>
     ensures { result ≡ if fits then kind.array_of t else None }
 {
     if fits { listed(Some(t)) } else { None }
 }
 
 /// A type that is given where all fits.
-fn where_fits(t: Kind, fits: bool) -> Option<Kind>
+fn where_fits(t: StaticType, fits: bool) -> Option<StaticType>
     ensures { result ≡ if fits then Some t else None }
 {
     if fits { Some(t) } else { None }
@@ -119,7 +124,7 @@ pub fn type_of(
     scope: &Scope,
     role: Role,
     e: &Expr,
-) -> Result<Option<Kind>, NoMemory>
+) -> Result<Option<StaticType>, NoMemory>
     ensures { IfOk result (λ u. u ≡ typing.type_of tables.now known.now (place scope.now) role (tree e.now)) }
 {
     match &e.node {
@@ -218,7 +223,7 @@ fn target_type(
     known: &Environment,
     scope: &Scope,
     x: &Expr,
-) -> Result<Option<Kind>, NoMemory>
+) -> Result<Option<StaticType>, NoMemory>
     ensures { IfOk result (λ u. u ≡ bind (typing.type_of tables.now known.now (place scope.now) role.Free (tree x.now)) (λ t. if typing.settable tables.now known.now (place scope.now) (tree x.now) then Some t else None)) }
 {
     match &x.node {
@@ -258,7 +263,7 @@ fn list_type(
     role: Role,
     at: u32,
     all: &[Expr],
-) -> Result<Option<Kind>, NoMemory>
+) -> Result<Option<StaticType>, NoMemory>
     ensures { IfOk result (λ u. u ≡ typing.type_of tables.now known.now (place scope.now) role (t.Items at (trees all.now))) }
 {
     match all {
@@ -320,7 +325,7 @@ fn called_type(
     scope: &Scope,
     called: Option<Called>,
     args: &[Expr],
-) -> Result<Option<Kind>, NoMemory>
+) -> Result<Option<StaticType>, NoMemory>
     ensures { IfOk result (λ u. u ≡ typing.called tables.now known.now (all_shown known.now called) (typing.types_of tables.now known.now (place scope.now) (trees args.now))) }
 {
     match called {
@@ -371,7 +376,7 @@ fn board_type(
     scope: &Scope,
     row: Option<BoardTakes>,
     args: &Seq<Expr>,
-) -> Result<Option<Kind>, NoMemory>
+) -> Result<Option<StaticType>, NoMemory>
     ensures { IfOk result (λ u. u ≡ board_given tables.now known.now (place scope.now) (option_map row_shown row) (trees args.now)) }
 {
     match row {

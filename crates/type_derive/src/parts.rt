@@ -5,10 +5,10 @@ ghost use Rattle.sts_scope.specs.Rules as rule;
 ghost use Rattle.type_derive.specs.Typing.{◌>>=◌ as bind};
 
 use sts_scope::{
-    Environment, Kind, array_of, assign, choose, counted, element, joined, operate, prefix,
+    Environment, StaticType, array_of, assign, choose, counted, element, joined, operate, prefix,
 };
 
-pub fn prefixed(op: u8, s: Option<Kind>) -> Option<Kind>
+pub fn prefixed(op: u8, s: Option<StaticType>) -> Option<StaticType>
     ensures { result ≡ bind s (λ s. rule.prefix op s) }
 {
     match s {
@@ -17,7 +17,12 @@ pub fn prefixed(op: u8, s: Option<Kind>) -> Option<Kind>
     }
 }
 
-pub fn operated(known: &Environment, op: u8, s: Option<Kind>, t: Option<Kind>) -> Option<Kind>
+pub fn operated(
+    known: &Environment,
+    op: u8,
+    s: Option<StaticType>,
+    t: Option<StaticType>,
+) -> Option<StaticType>
     ensures { result ≡ bind s (λ s. bind t (λ t. rule.operate known.now.classes op s t)) }
 {
     match (s, t) {
@@ -27,7 +32,7 @@ pub fn operated(known: &Environment, op: u8, s: Option<Kind>, t: Option<Kind>) -
     }
 }
 
-pub fn both(s: Option<Kind>, t: Option<Kind>) -> Option<Kind>
+pub fn both(s: Option<StaticType>, t: Option<StaticType>) -> Option<StaticType>
     ensures { result ≡ bind s (λ s. bind t (λ t. rule.joined s t)) }
 {
     match (s, t) {
@@ -39,10 +44,10 @@ pub fn both(s: Option<Kind>, t: Option<Kind>) -> Option<Kind>
 
 pub fn chosen(
     known: &Environment,
-    q: Option<Kind>,
-    s: Option<Kind>,
-    t: Option<Kind>,
-) -> Option<Kind>
+    q: Option<StaticType>,
+    s: Option<StaticType>,
+    t: Option<StaticType>,
+) -> Option<StaticType>
     ensures { result ≡ bind q (λ q. bind s (λ s. bind t (λ t. rule.choose known.now.classes q s t))) }
 {
     match (q, s, t) {
@@ -57,9 +62,9 @@ pub fn chosen(
 pub fn assigned(
     known: &Environment,
     op: Option<u8>,
-    t: Option<Kind>,
-    s: Option<Kind>,
-) -> Option<Kind>
+    t: Option<StaticType>,
+    s: Option<StaticType>,
+) -> Option<StaticType>
     ensures { result ≡ bind t (λ t. bind s (λ s. rule.assign known.now.classes op t s)) }
 {
     match (t, s) {
@@ -69,7 +74,7 @@ pub fn assigned(
     }
 }
 
-pub fn bumped(t: Option<Kind>) -> Option<Kind>
+pub fn bumped(t: Option<StaticType>) -> Option<StaticType>
     ensures { result ≡ bind t (λ t. rule.counted t) }
 {
     match t {
@@ -83,9 +88,9 @@ pub fn set_kind(
     known: &Environment,
     op: Option<u8>,
     can: bool,
-    t: Option<Kind>,
-    s: Option<Kind>,
-) -> Option<Kind>
+    t: Option<StaticType>,
+    s: Option<StaticType>,
+) -> Option<StaticType>
     ensures { result ≡ bind t (λ u. bind s (λ v. if can then rule.assign known.now.classes op u v else None)) }
 {
     match (t, s) {
@@ -96,7 +101,7 @@ pub fn set_kind(
 }
 
 /// The type of `++` or `--` of a target, where it may be set.
-pub fn bump_kind(can: bool, t: Option<Kind>) -> Option<Kind>
+pub fn bump_kind(can: bool, t: Option<StaticType>) -> Option<StaticType>
     ensures { result ≡ bind t (λ u. if can then rule.counted u else None) }
 {
     match t {
@@ -105,7 +110,7 @@ pub fn bump_kind(can: bool, t: Option<Kind>) -> Option<Kind>
     }
 }
 
-pub fn indexed(s: Option<Kind>, t: Option<Kind>) -> Option<Kind>
+pub fn indexed(s: Option<StaticType>, t: Option<StaticType>) -> Option<StaticType>
     ensures { result ≡ bind s (λ s. bind t (λ t. rule.element s t)) }
 {
     match (s, t) {
@@ -116,7 +121,7 @@ pub fn indexed(s: Option<Kind>, t: Option<Kind>) -> Option<Kind>
 }
 
 /// The type of a list literal whose items go to the first one's type.
-pub fn listed(t: Option<Kind>) -> Option<Kind>
+pub fn listed(t: Option<StaticType>) -> Option<StaticType>
     ensures { result ≡ bind t (λ t. kind.array_of t) }
 {
     match t {

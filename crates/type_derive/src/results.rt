@@ -12,7 +12,7 @@ use crate::returns::returned_in_block;
 use crate::scopes::Scope;
 use crate::wanted::Wanted;
 use sts_base::{NoMemory, Refused};
-use sts_scope::{Base, Kind, flat, kind_of, or_no_memory};
+use sts_scope::{Base, StaticType, flat, kind_of, or_no_memory};
 use sts_syntax::{Param, Shape, Stmt};
 
 /// The type of the first value that a function expression returns, if it returns one.
@@ -21,7 +21,7 @@ fn first_returned(
     scope: &Scope,
     params: &[Param],
     all: &[Stmt],
-) -> Result<Option<Option<Kind>>, NoMemory>
+) -> Result<Option<Option<StaticType>>, NoMemory>
     ensures { IfOk result (λ r. r ≡ derive.all_returned context.now.tables.now (naming context.now) context.now.known.now (node.handler_within context.now.tables.now (naming context.now) context.now.known.now (place scope.now) (parameters params.now) None) (statements all.now)) }
 {
     let mut inside = handler_scope(context, &*scope, params, None)?;
@@ -43,7 +43,7 @@ pub fn handler_result(
     params: &[Param],
     gives: &Option<Shape>,
     all: &[Stmt],
-) -> Result<Option<Kind>, Refused>
+) -> Result<Option<StaticType>, Refused>
     ensures ok { IfOk result (λ kind. kind ≡ node.handler_result context.now.tables.now (naming context.now) context.now.known.now (place scope.now) (parameters params.now) (optional_annotation gives.now) (statements all.now)) }
     ensures err { IfErr result (λ e. e ≡ Refused.NoMemory) }
 {

@@ -14,7 +14,7 @@ use crate::roles::Role;
 use crate::scopes::Scope;
 use crate::wanted::Wanted;
 use sts_base::{NoMemory, Tables};
-use sts_scope::{ByNumber, Environment, Kind, Local, is_array, item, kind_of};
+use sts_scope::{ByNumber, Environment, Local, StaticType, is_array, item, kind_of};
 use sts_syntax::{Binding, Expr, Form, Node, Shape, Stmt};
 
 /// Whether an initialiser gives no type to what it stands at: `null` or `[]`.
@@ -37,7 +37,7 @@ pub fn bound(
     scope: &Scope,
     shape: &Option<Shape>,
     first: &Option<Expr>,
-) -> Result<Option<Kind>, NoMemory>
+) -> Result<Option<StaticType>, NoMemory>
     ensures { IfOk result (λ kind. kind ≡ given.bound tables.now (value_at classes.now.values.items) known.now (place scope.now) (optional_annotation shape.now) (optional_expression first.now)) }
 {
     match shape {
@@ -55,7 +55,12 @@ pub fn bound(
 }
 
 /// A name is known from here on.
-pub fn declare(scope: &mut Scope, x: u32, kind: Option<Kind>, fixed: bool) -> Result<(), NoMemory>
+pub fn declare(
+    scope: &mut Scope,
+    x: u32,
+    kind: Option<StaticType>,
+    fixed: bool,
+) -> Result<(), NoMemory>
     ensures { OnOk result (place scope.new ≡ name.with (place scope.old) x kind fixed) }
 {
     scope.locals.push(Local {
@@ -161,7 +166,7 @@ pub fn leave(scope: &mut Scope, mark: Mark)
 }
 
 /// The type of the items that a loop goes through.
-pub fn items_of(t: Option<Kind>) -> Option<Kind>
+pub fn items_of(t: Option<StaticType>) -> Option<StaticType>
     ensures { (tables : _) → (names : _) → (known : _) → result ≡ given.items_of tables names known t }
 {
     match t {
@@ -179,7 +184,7 @@ fn returned(
     known: &Environment,
     scope: &mut Scope,
     s: &Stmt,
-) -> Result<Option<Option<Kind>>, NoMemory>
+) -> Result<Option<Option<StaticType>>, NoMemory>
     ensures value { IfOk result (λ r. r ≡ given.returned tables.now (value_at classes.now.values.items) known.now (place scope.old) (statement s.now)) }
     ensures place { OnOk result (place scope.new ≡ given.after tables.now (value_at classes.now.values.items) known.now (place scope.old) (statement s.now)) }
 {
@@ -260,7 +265,7 @@ fn returned_in_branch(
     known: &Environment,
     scope: &mut Scope,
     s: &Stmt,
-) -> Result<Option<Option<Kind>>, NoMemory>
+) -> Result<Option<Option<StaticType>>, NoMemory>
     ensures value { IfOk result (λ r. r ≡ given.returned tables.now (value_at classes.now.values.items) known.now (name.inner (place scope.old)) (statement s.now)) }
     ensures place { OnOk result (place scope.new ≡ place scope.old) }
 {
@@ -279,7 +284,7 @@ pub fn returned_in_block(
     known: &Environment,
     scope: &mut Scope,
     all: &[Stmt],
-) -> Result<Option<Option<Kind>>, NoMemory>
+) -> Result<Option<Option<StaticType>>, NoMemory>
     ensures value { IfOk result (λ r. r ≡ given.all_returned tables.now (value_at classes.now.values.items) known.now (name.inner (place scope.old)) (statements all.now)) }
     ensures place { OnOk result (place scope.new ≡ place scope.old) }
 {

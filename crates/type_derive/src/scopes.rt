@@ -7,8 +7,8 @@ ghost use Rattle.type_derive.specs.Scopes.{place};
 use crate::locals::Locals;
 use sts_base::Tables;
 use sts_scope::{
-    Base, Entry, Environment, Found, Kind, Owner, Part, Sort, This, class_of, flat, is_array,
-    is_dollar, item, same, sort_of,
+    Base, DeclarationKind, Entry, Environment, Found, Owner, Part, StaticType, This, class_of,
+    flat, is_array, is_dollar, item, same, sort_of,
 };
 
 /// Where something stands.
@@ -19,20 +19,20 @@ pub struct Scope<'a> {
     /// what `this` is
     pub this: This,
     /// what a `return` gives, where it is known
-    pub gives: Option<Kind>,
+    pub gives: Option<StaticType>,
     /// whether it is the library
     pub library: bool,
 }
 
-fn entry_found(d: usize, sort: Sort) -> Found
+fn entry_found(d: usize, sort: DeclarationKind) -> Found
     ensures { result ≡ name.entry_found d sort }
 {
     match sort {
-        Sort::Global { fixed: _ } => Found::Global(d),
-        Sort::Function => Found::Function(d),
-        Sort::Class(c) => Found::Class(c),
-        Sort::Field => Found::Unknown,
-        Sort::Method => Found::Unknown,
+        DeclarationKind::Global { fixed: _ } => Found::Global(d),
+        DeclarationKind::Function => Found::Function(d),
+        DeclarationKind::Class(c) => Found::Class(c),
+        DeclarationKind::Field => Found::Unknown,
+        DeclarationKind::Method => Found::Unknown,
     }
 }
 
@@ -89,7 +89,7 @@ pub fn is_twice(scope: &Scope, x: u32) -> bool
 }
 
 /// The type of a declaration.
-pub fn kind_at(known: &Environment, d: usize) -> Option<Kind>
+pub fn kind_at(known: &Environment, d: usize) -> Option<StaticType>
     ensures { result ≡ rule.kind_at known.now d }
 {
     match known.kinds().get(d) {
@@ -99,7 +99,7 @@ pub fn kind_at(known: &Environment, d: usize) -> Option<Kind>
 }
 
 /// The type of a name.
-pub fn name_kind(known: &Environment, scope: &Scope, found: Found) -> Option<Kind>
+pub fn name_kind(known: &Environment, scope: &Scope, found: Found) -> Option<StaticType>
     ensures { result ≡ rule.name_kind known.now (place scope.now) found }
 {
     match found {
@@ -116,7 +116,7 @@ pub fn name_kind(known: &Environment, scope: &Scope, found: Found) -> Option<Kin
 }
 
 /// The type of `this`.
-pub fn this_kind(this: This) -> Option<Kind>
+pub fn this_kind(this: This) -> Option<StaticType>
     ensures { result ≡ rule.this_kind this }
 {
     match this {
@@ -126,16 +126,16 @@ pub fn this_kind(this: This) -> Option<Kind>
     }
 }
 
-fn sort_fixed(sort: Option<Sort>) -> bool
+fn sort_fixed(sort: Option<DeclarationKind>) -> bool
     ensures { result ≡ rule.sort_fixed sort }
 {
     match sort {
         None => false,
-        Some(Sort::Global { fixed }) => fixed,
-        Some(Sort::Function) => false,
-        Some(Sort::Class(_)) => false,
-        Some(Sort::Field) => false,
-        Some(Sort::Method) => false,
+        Some(DeclarationKind::Global { fixed }) => fixed,
+        Some(DeclarationKind::Function) => false,
+        Some(DeclarationKind::Class(_)) => false,
+        Some(DeclarationKind::Field) => false,
+        Some(DeclarationKind::Method) => false,
     }
 }
 
@@ -168,7 +168,7 @@ fn is_spelled(tables: &Tables, x: u32, bytes: &[u8]) -> bool
 }
 
 /// What an array of items of a type has.
-fn array_part(tables: &Tables, t: Kind, m: u32) -> Part
+fn array_part(tables: &Tables, t: StaticType, m: u32) -> Part
     ensures { result ≡ rule.array_part tables.now.names t m }
 {
     if is_spelled(tables, m, b"length") {
@@ -182,16 +182,16 @@ fn array_part(tables: &Tables, t: Kind, m: u32) -> Part
     }
 }
 
-fn member_part(d: usize, sort: Option<Sort>) -> Part
+fn member_part(d: usize, sort: Option<DeclarationKind>) -> Part
     ensures { result ≡ rule.member_part d sort }
 {
     match sort {
         None => Part::Missing,
-        Some(Sort::Field) => Part::Field(d),
-        Some(Sort::Method) => Part::Method(d),
-        Some(Sort::Function) => Part::Missing,
-        Some(Sort::Class(_)) => Part::Missing,
-        Some(Sort::Global { fixed: _ }) => Part::Missing,
+        Some(DeclarationKind::Field) => Part::Field(d),
+        Some(DeclarationKind::Method) => Part::Method(d),
+        Some(DeclarationKind::Function) => Part::Missing,
+        Some(DeclarationKind::Class(_)) => Part::Missing,
+        Some(DeclarationKind::Global { fixed: _ }) => Part::Missing,
     }
 }
 
@@ -209,7 +209,7 @@ fn class_part(known: &Environment, class: Option<u32>, m: u32) -> Part
 
 /// What stands behind the dot of a value of a type.
 #[tactic(auto, unfolding(sts_scope::specs::Rules::part_of))]
-pub fn part_of(tables: &Tables, known: &Environment, t: Kind, m: u32) -> Part
+pub fn part_of(tables: &Tables, known: &Environment, t: StaticType, m: u32) -> Part
     ensures { result ≡ rule.part_of tables.now.names known.now t m }
 {
     if is_array(t) {
@@ -220,7 +220,7 @@ pub fn part_of(tables: &Tables, known: &Environment, t: Kind, m: u32) -> Part
 }
 
 /// The type of a member that is read.
-pub fn part_kind(known: &Environment, part: Part) -> Option<Kind>
+pub fn part_kind(known: &Environment, part: Part) -> Option<StaticType>
     ensures { result ≡ rule.part_kind known.now part }
 {
     match part {

@@ -10,7 +10,7 @@ use Rattle.sts_syntax.specs.Programs.{Program}
 use Rattle.sts_syntax.specs.TypedTrees.{TypedRoutine, ClassEntry, TypedProgram}
 use Rattle.sts_syntax.specs.Weights.{weight}
 use Rattle.sts_syntax.specs.WellTypedPrograms.{IsWellTyped, IsWithinLimits, IsClassWithinLimits, IsProgramWithinLimits}
-use Rattle.sts_scope.specs.declared.kinds.Kind.{Kind}
+use Rattle.sts_scope.specs.declared.kinds.StaticType.{StaticType}
 use Rattle.type_derive.specs.Accepted.{AreDerived, IsAccepted, typed}
 use Rattle.type_derive.specs.Formed.{IsFormedProgram}
 use Rattle.typed_limits.specs.Limits.{routine_fits, class_fits, program_fits}
@@ -60,12 +60,12 @@ module _ (P : TypedProgram) where
         bytes = leb-true (text_bytes texts P) 16384 b;
       }
 
-pub accepted : (tables : Tables) (library text : Program) (P : TypedProgram) → IsFormedProgram text → ((kinds : List (Option Kind)) → AreDerived tables library text kinds → IsLibrary tables library text kinds)
+pub accepted : (tables : Tables) (library text : Program) (P : TypedProgram) → IsFormedProgram text → ((kinds : List (Option StaticType)) → AreDerived tables library text kinds → IsLibrary tables library text kinds)
     → IsAccepted tables library text P → IsWellTyped P × IsProgramWithinLimits P tables.texts
-accepted tables library text P formed libraries (kinds, derived, faultless, is) =
+accepted tables library text P formed libraries (kinds, derived, no_failure, is) =
     let ok : IsLibrary tables library text kinds = libraries kinds derived in
     let T : TypedProgram = typed tables library text kinds in
     let proper_so = kinds_proper tables library text kinds derived in
-    let sound : IsWellTyped T = well_typed tables library text kinds derived ok formed faultless proper_so in
-    let within_so : IsProgramWithinLimits T tables.texts = program_within T tables.texts (unless_true (program_fits tables.texts T) OverLimit 0 (limits_none tables library text kinds derived ok formed faultless proper_so)) in
+    let sound : IsWellTyped T = well_typed tables library text kinds derived ok formed no_failure proper_so in
+    let within_so : IsProgramWithinLimits T tables.texts = program_within T tables.texts (unless_true (program_fits tables.texts T) OverLimit 0 (limits_none tables library text kinds derived ok formed no_failure proper_so)) in
     subst (λ (p : TypedProgram). IsWellTyped p × IsProgramWithinLimits p tables.texts) (sym is) (sound, within_so)

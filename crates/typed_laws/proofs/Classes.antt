@@ -10,11 +10,11 @@ use Rattle.sts_syntax.specs.declared.board_calls.BoardCall.{BoardCall}
 use Rattle.sts_syntax.specs.TypedTrees.{TypedRoutine, ClassEntry, TypedProgram}
 use Rattle.sts_syntax.specs.TypeRules.{entry, HasClass, HasRoutine, Climbs, IsBelow, HasField, IsMember, HasMethod}
 use Rattle.sts_syntax.specs.WellTypedPrograms.{IsClass}
-use Rattle.sts_scope.specs.declared.kinds.Kind.{Kind}
+use Rattle.sts_scope.specs.declared.kinds.StaticType.{StaticType}
 use Rattle.sts_scope.specs.declared.entries.Owner.{Owner}
 use Rattle.sts_scope.specs.declared.entries.Owner.TheVariants as o
-use Rattle.sts_scope.specs.declared.entries.Sort.{Sort}
-use Rattle.sts_scope.specs.declared.entries.Sort.TheVariants as sort
+use Rattle.sts_scope.specs.declared.entries.DeclarationKind.{DeclarationKind}
+use Rattle.sts_scope.specs.declared.entries.DeclarationKind.TheVariants as sort
 use Rattle.sts_scope.specs.declared.entries.Entry.{Entry}
 use Rattle.sts_scope.specs.declared.entries.ClassHead.{ClassHead}
 use Rattle.sts_scope.specs.declared.known.Known.{Known}
@@ -49,9 +49,9 @@ module _ (tables : Tables) (names : Naming) (k : Known) (numbers : Numbering) (P
     pub makes : AllMake tables names k numbers P 0 numbers.makers
     pub makers_many : length numbers.makers ≡ length k.classes
     pub agreeing : (d c x : ℕ) (a : Entry) → slice_get k.entries d ≡ Some a → a.sort ≡ sort.Method → a.owner ≡ o.Class c → a.name ≡ x → agrees k d (inherited k.entries k.classes c x) ≡ true
-    pub results : (d : ℕ) (a : Entry) → slice_get k.entries d ≡ Some a → a.sort ≡ sort.Method → (u : Kind) × (kind_at k d ≡ Some u)
+    pub results : (d : ℕ) (a : Entry) → slice_get k.entries d ≡ Some a → a.sort ≡ sort.Method → (u : StaticType) × (kind_at k d ≡ Some u)
     pub rows : (call : BoardCall) (f : ℕ) → (row_of call).action ≡ board.Library f → (r : TypedRoutine) × HasRoutine P f r × (r.params ≡ taken (row_of call).takes) × (r.gives ≡ (row_of call).gives)
-    pub kinds_proper : (d : ℕ) (u : Kind) → kind_at k d ≡ Some u → IsProper u
+    pub kinds_proper : (d : ℕ) (u : StaticType) → kind_at k d ≡ Some u → IsProper u
     pub takes_proper : (d : ℕ) → EachProper (takes_at k.entries d)
     pub makers_proper : (c : ℕ) → EachProper (maker_takes_of k.classes c)
 
@@ -107,17 +107,17 @@ module _ (tables : Tables) (names : Naming) (k : Known) (numbers : Numbering) (P
         ] in
         go L h
 
-    sort_entry : (d : ℕ) (s : Sort) → sort_of k.entries d ≡ Some s → (a : Entry) × (slice_get k.entries d ≡ Some a) × (a.sort ≡ s)
+    sort_entry : (d : ℕ) (s : DeclarationKind) → sort_of k.entries d ≡ Some s → (a : Entry) × (slice_get k.entries d ≡ Some a) × (a.sort ≡ s)
     sort_entry d s h =
-        let F : Option Entry → Option Sort = λ x. elim x [ None ↦ None | Some e ↦ Some e.sort ] in
+        let F : Option Entry → Option DeclarationKind = λ x. elim x [ None ↦ None | Some e ↦ Some e.sort ] in
         some_or_none ((a : Entry) × (slice_get k.entries d ≡ Some a) × (a.sort ≡ s)) (slice_get k.entries d)
         (λ a q. (a, q, some_is a.sort s (sym (ap F q) ∙ h))) (λ q. let z : None ≡ Some s = sym (ap F q) ∙ h in cc)
 
     takes_are : (d : ℕ) (a : Entry) → slice_get k.entries d ≡ Some a → takes_at k.entries d ≡ a.takes
-    takes_are d a h = let F : Option Entry → List Kind = λ x. elim x [ None ↦ [] | Some e ↦ e.takes ] in ap F h
+    takes_are d a h = let F : Option Entry → List StaticType = λ x. elim x [ None ↦ [] | Some e ↦ e.takes ] in ap F h
 
-    pub result_is : (d : ℕ) (u : Kind) → kind_at k d ≡ Some u → result_at tables names k numbers P d ≡ value_type u
-    result_is d u h = ap (λ (x : Option Kind). value_type (unwrap_or x nothing)) h
+    pub result_is : (d : ℕ) (u : StaticType) → kind_at k d ≡ Some u → result_at tables names k numbers P d ≡ value_type u
+    result_is d u h = ap (λ (x : Option StaticType). value_type (unwrap_or x nothing)) h
 
     -- members by their names
     kind_of_member : (c x d : ℕ) → member_number k.entries k.classes c x ≡ Some d → member_kind tables names k numbers c x ≡ result_at tables names k numbers P d
@@ -129,7 +129,7 @@ module _ (tables : Tables) (names : Naming) (k : Known) (numbers : Numbering) (P
     pub field_at : (c x d : ℕ) (a : Entry) → member_number k.entries k.classes c x ≡ Some d → slice_get k.entries d ≡ Some a → a.sort ≡ sort.Field → HasField P c (place_among (field_names k c) x) (result_at tables names k numbers P d)
     field_at c x d a h q s =
         let near = member_within c x d h in
-        let listed : is_listed (field_names k c) x ≡ true = member_listed k made.sane made.chained is_field c x d a near h q (ap (λ (y : Sort). is_field (Some y)) s) in
+        let listed : is_listed (field_names k c) x ≡ true = member_listed k made.sane made.chained is_field c x d a near h q (ap (λ (y : DeclarationKind). is_field (Some y)) s) in
         (class c, class_at c near, at_place (member_kind tables names k numbers c) (field_names k c) x listed ∙ ap (λ (u : ValueType). Some u) (kind_of_member c x d h))
 
     pub method_body : (d i : ℕ) (a : Entry) → slice_get k.entries d ≡ Some a → a.sort ≡ sort.Method → a.owner ≡ o.Class i
@@ -138,7 +138,7 @@ module _ (tables : Tables) (names : Naming) (k : Known) (numbers : Numbering) (P
         let fits : Fits tables names k numbers P (0 + d) a (get_or numbers.routines d 0) = aligned_get tables names k numbers P 0 k.entries numbers.routines d a made.aligned h in
         let z : 0 + d ≡ d = omega arith in
         let at_d : FitsAs tables names k numbers P a.sort a.owner a.takes d (routine_number numbers d) = subst (λ (y : ℕ). FitsAs tables names k numbers P a.sort a.owner a.takes y (routine_number numbers d)) z fits in
-        subst (λ (y : Owner). FitsAs tables names k numbers P sort.Method y a.takes d (routine_number numbers d)) w (subst (λ (y : Sort). FitsAs tables names k numbers P y a.owner a.takes d (routine_number numbers d)) s at_d)
+        subst (λ (y : Owner). FitsAs tables names k numbers P sort.Method y a.takes d (routine_number numbers d)) w (subst (λ (y : DeclarationKind). FitsAs tables names k numbers P y a.owner a.takes d (routine_number numbers d)) s at_d)
 
     pub method_member : (c x d : ℕ) (a : Entry) → member_number k.entries k.classes c x ≡ Some d → slice_get k.entries d ≡ Some a → a.sort ≡ sort.Method
         → IsMember P c (routine_number numbers d) (value_types a.takes) (result_at tables names k numbers P d)
@@ -151,11 +151,11 @@ module _ (tables : Tables) (names : Naming) (k : Known) (numbers : Numbering) (P
         → HasMethod P c (place_among (slot_names k c) x) (value_types a.takes) (result_at tables names k numbers P d)
     method_at c x d a h q s =
         let near = member_within c x d h in
-        let listed : is_listed (slot_names k c) x ≡ true = member_listed k made.sane made.chained is_method c x d a near h q (ap (λ (y : Sort). is_method (Some y)) s) in
+        let listed : is_listed (slot_names k c) x ≡ true = member_listed k made.sane made.chained is_method c x d a near h q (ap (λ (y : DeclarationKind). is_method (Some y)) s) in
         (class c, routine_number numbers d, class_at c near, at_place (member_routine tables names k numbers c) (slot_names k c) x listed ∙ ap (λ (j : ℕ). Some j) (routine_of_member c x d h), method_member c x d a h q s)
 
     -- what stands behind a dot
-    part_field : (d' d : ℕ) (s : Option Sort) → member_part d' s ≡ part.Field d → (d' ≡ d) × (s ≡ Some sort.Field)
+    part_field : (d' d : ℕ) (s : Option DeclarationKind) → member_part d' s ≡ part.Field d → (d' ≡ d) × (s ≡ Some sort.Field)
     part_field d' d (Some sort.Field) h = ((let z : part.Field d' ≡ part.Field d = h in cc), refl)
     part_field d' d (Some sort.Method) h = cc
     part_field d' d (Some sort.Function) h = cc
@@ -163,7 +163,7 @@ module _ (tables : Tables) (names : Naming) (k : Known) (numbers : Numbering) (P
     part_field d' d (Some (sort.Class i)) h = cc
     part_field d' d None h = cc
 
-    part_method : (d' d : ℕ) (s : Option Sort) → member_part d' s ≡ part.Method d → (d' ≡ d) × (s ≡ Some sort.Method)
+    part_method : (d' d : ℕ) (s : Option DeclarationKind) → member_part d' s ≡ part.Method d → (d' ≡ d) × (s ≡ Some sort.Method)
     part_method d' d (Some sort.Method) h = ((let z : part.Method d' ≡ part.Method d = h in cc), refl)
     part_method d' d (Some sort.Field) h = cc
     part_method d' d (Some sort.Function) h = cc
@@ -182,8 +182,8 @@ module _ (tables : Tables) (names : Naming) (k : Known) (numbers : Numbering) (P
     method_of_is : (m : Option ℕ) (d : ℕ) → method_of tables k m ≡ Some d → (m ≡ Some d) × (sort_of k.entries d ≡ Some sort.Method)
     method_of_is None d h = cc
     method_of_is (Some d') d h =
-        let F : Option Sort → Option ℕ = λ x. elim x [ None ↦ None | Some s ↦ elim s [ sort.Method ↦ Some d' | _ ↦ None ] ] in
-        let go : (x : Option Sort) → sort_of k.entries d' ≡ x → F x ≡ Some d → (Some d' ≡ Some d) × (sort_of k.entries d ≡ Some sort.Method) =
+        let F : Option DeclarationKind → Option ℕ = λ x. elim x [ None ↦ None | Some s ↦ elim s [ sort.Method ↦ Some d' | _ ↦ None ] ] in
+        let go : (x : Option DeclarationKind) → sort_of k.entries d' ≡ x → F x ≡ Some d → (Some d' ≡ Some d) × (sort_of k.entries d ≡ Some sort.Method) =
         λ x. elim x as (λ y. sort_of k.entries d' ≡ y → F y ≡ Some d → (Some d' ≡ Some d) × (sort_of k.entries d ≡ Some sort.Method)) [
           | None ↦ (λ q r. cc)
           | Some s ↦ elim s as (λ y. sort_of k.entries d' ≡ Some y → F (Some y) ≡ Some d → (Some d' ≡ Some d) × (sort_of k.entries d ≡ Some sort.Method)) [
@@ -225,12 +225,12 @@ module _ (tables : Tables) (names : Naming) (k : Known) (numbers : Numbering) (P
         let fits : Fits tables names k numbers P (0 + d) a (get_or numbers.routines d 0) = aligned_get tables names k numbers P 0 k.entries numbers.routines d a made.aligned h in
         let z : 0 + d ≡ d = omega arith in
         let at_d : FitsAs tables names k numbers P a.sort a.owner a.takes d (routine_number numbers d) = subst (λ (y : ℕ). FitsAs tables names k numbers P a.sort a.owner a.takes y (routine_number numbers d)) z fits in
-        subst (λ (y : Sort). FitsAs tables names k numbers P y a.owner a.takes d (routine_number numbers d)) s at_d
+        subst (λ (y : DeclarationKind). FitsAs tables names k numbers P y a.owner a.takes d (routine_number numbers d)) s at_d
 
     class_there : (d c : ℕ) (a : Entry) → slice_get k.entries d ≡ Some a → a.sort ≡ sort.Class c → c < L
     class_there d c a h s =
         let go : (w : Owner) → SaneAs k (sort.Class c) w a.name d → c < L = λ w. elim w as (λ y. SaneAs k (sort.Class c) y a.name d → c < L) [ o.Whole ↦ (λ z. z) | o.Class i ↦ (λ z. absurd z) ] in
-        go a.owner (subst (λ (y : Sort). SaneAs k y a.owner a.name d) s (made.sane d a h))
+        go a.owner (subst (λ (y : DeclarationKind). SaneAs k y a.owner a.name d) s (made.sane d a h))
 
     pub maker_body : (c : ℕ) → c < L → HasBody tables names k numbers P (t.Object c ∷ value_types (maker_takes_of k.classes c)) (t.Object c) (maker_number numbers c)
     maker_body c near =
@@ -240,7 +240,7 @@ module _ (tables : Tables) (names : Naming) (k : Known) (numbers : Numbering) (P
 
     pub slot_is : (c x d : ℕ) (a : Entry) → member_number k.entries k.classes c x ≡ Some d → slice_get k.entries d ≡ Some a → a.sort ≡ sort.Method → entry (class c).slots (place_among (slot_names k c) x) ≡ Some (routine_number numbers d)
     slot_is c x d a h q s =
-        let listed : is_listed (slot_names k c) x ≡ true = member_listed k made.sane made.chained is_method c x d a (member_within c x d h) h q (ap (λ (y : Sort). is_method (Some y)) s) in
+        let listed : is_listed (slot_names k c) x ≡ true = member_listed k made.sane made.chained is_method c x d a (member_within c x d h) h q (ap (λ (y : DeclarationKind). is_method (Some y)) s) in
         at_place (member_routine tables names k numbers c) (slot_names k c) x listed ∙ ap (λ (j : ℕ). Some j) (routine_of_member c x d h)
 
     pub stands : Stands tables k numbers P
@@ -253,9 +253,9 @@ module _ (tables : Tables) (names : Naming) (k : Known) (numbers : Numbering) (P
           subst (λ (y : ValueType). HasField P c (place_among (field_names k c) m) y) (result_is d u q) (field_at c m d a at_m is sa);
       methods = λ c m d u h q. let (at_m, s) = method_number (member_number k.entries k.classes c m) d h in let (a, is, sa) = sort_entry d sort.Method s in
           subst (λ (y : ValueType). HasMethod P c (place_among (slot_names k c) m) (value_types (takes_at k.entries d)) y) (result_is d u q)
-          (subst (λ (us : List Kind). HasMethod P c (place_among (slot_names k c) m) (value_types us) (result_at tables names k numbers P d)) (sym (takes_are d a is)) (method_at c m d a at_m is sa));
+          (subst (λ (us : List StaticType). HasMethod P c (place_among (slot_names k c) m) (value_types us) (result_at tables names k numbers P d)) (sym (takes_are d a is)) (method_at c m d a at_m is sa));
       functions = λ d u h q. let (a, is, s) = sort_entry d sort.Function h in let (r, has, params, gives) = function_body d a is s in
-          (r, has, params ∙ ap (λ (us : List Kind). value_types us) (sym (takes_are d a is)), gives ∙ result_is d u q);
+          (r, has, params ∙ ap (λ (us : List StaticType). value_types us) (sym (takes_are d a is)), gives ∙ result_is d u q);
       makers = λ d c h. let (a, is, s) = sort_entry d (sort.Class c) h in let near = class_there d c a is s in let (r, has, params, gives) = maker_body c near in
           (class c, class_at c near, (r, c, has, params, below_here c, gives));
       supers = λ c m d u h q.
@@ -272,7 +272,7 @@ module _ (tables : Tables) (names : Naming) (k : Known) (numbers : Numbering) (P
             qb,
             has,
             at_slot ∙ ap (λ (j : ℕ). Some j) f_is,
-            subst (λ (us : List Kind). IsMember P b (routine_number numbers d) (value_types us) (value_type u)) (sym (takes_are d a is)) member_u,
+            subst (λ (us : List StaticType). IsMember P b (routine_number numbers d) (value_types us) (value_type u)) (sym (takes_are d a is)) member_u,
           );
       library = made.rows;
       kinds_proper = made.kinds_proper;
@@ -326,7 +326,7 @@ module _ (tables : Tables) (names : Naming) (k : Known) (numbers : Numbering) (P
     no_circle c n near h = comes_back n c (climbs_above (suc n) c c h) L L (omega arith) (made.chained.ends c near)
 
     -- a base's members stay in their places
-    kept_front : (b c : ℕ) (W : Option Sort → Bool) → c < L → base_of k.classes c ≡ Some b → (i x : ℕ) → slice_get (names_from W k L b) i ≡ Some x → slice_get (names_from W k L c) i ≡ Some x
+    kept_front : (b c : ℕ) (W : Option DeclarationKind → Bool) → c < L → base_of k.classes c ≡ Some b → (i x : ℕ) → slice_get (names_from W k L b) i ≡ Some x → slice_get (names_from W k L c) i ≡ Some x
     kept_front b c W near qb i x h =
         subst (λ (xs : List ℕ). slice_get xs i ≡ Some x) (sym (names_step k made.sane made.chained W c b near qb))
         (get_left (names_from W k L b) (filter (λ y. not (is_listed (names_from W k L b) y)) (own_names W k.entries c)) i x h)
@@ -355,7 +355,7 @@ module _ (tables : Tables) (names : Naming) (k : Known) (numbers : Numbering) (P
         (class c, class_at c near, entry_get (class c).fields f ∙ get_map (member_kind tables names k numbers c) (field_names k c) f x (kept_front b c is_field near qb f x at_x) ∙ ap (λ (y : ValueType). Some y) same_kind)
 
     -- types that agree are the same
-    kinds_same : (ss us : List Kind) → same_kinds ss us ≡ true → value_types ss ≡ value_types us
+    kinds_same : (ss us : List StaticType) → same_kinds ss us ≡ true → value_types ss ≡ value_types us
     kinds_same [] [] h = refl
     kinds_same (s ∷ ss) (u ∷ us) h =
         let (p, q) = both_true (same s u) (same_kinds ss us) h in
@@ -363,9 +363,9 @@ module _ (tables : Tables) (names : Naming) (k : Known) (numbers : Numbering) (P
     kinds_same [] (u ∷ us) h = cc
     kinds_same (s ∷ ss) [] h = cc
 
-    results_same : (d e : ℕ) (s u : Kind) → kind_at k d ≡ Some s → kind_at k e ≡ Some u → same_result (kind_at k d) (kind_at k e) ≡ true → result_at tables names k numbers P d ≡ result_at tables names k numbers P e
+    results_same : (d e : ℕ) (s u : StaticType) → kind_at k d ≡ Some s → kind_at k e ≡ Some u → same_result (kind_at k d) (kind_at k e) ≡ true → result_at tables names k numbers P d ≡ result_at tables names k numbers P e
     results_same d e s u p q h =
-        let z : same s u ≡ true = subst (λ (x : Option Kind). same_result (Some s) x ≡ true) q (subst (λ (x : Option Kind). same_result x (kind_at k e) ≡ true) p h) in
+        let z : same s u ≡ true = subst (λ (x : Option StaticType). same_result (Some s) x ≡ true) q (subst (λ (x : Option StaticType). same_result x (kind_at k e) ≡ true) p h) in
         result_is d s p ∙ same_types s u z ∙ sym (result_is e u q)
 
     agrees_is : (d e : ℕ) (o' : Option ℕ) → o' ≡ Some e → agrees k d o' ≡ true → (same_kinds (takes_at k.entries d) (takes_at k.entries e) ≡ true) × (same_result (kind_at k d) (kind_at k e) ≡ true)
@@ -401,7 +401,7 @@ module _ (tables : Tables) (names : Naming) (k : Known) (numbers : Numbering) (P
               let rr : r2 ≡ r1 = some_is r2 r1 (sym has2 ∙ ap (λ (j : ℕ). entry P.functions j) f_is ∙ has1) in
               let params_are : params ≡ value_types a.takes = rest_is (t.Object o2) (t.Object i) params (value_types a.takes) (sym ps2 ∙ ap (λ (y : TypedRoutine). y.params) rr ∙ ps1) in
               let gives_are : u ≡ result_at tables names k numbers P d = sym gives2 ∙ ap (λ (y : TypedRoutine). y.gives) rr ∙ gives1 in
-              let takes_so : value_types a0.takes ≡ value_types a.takes = ap (λ (us : List Kind). value_types us) (sym (takes_are d0 a0 is0)) ∙ kinds_same (takes_at k.entries d0) (takes_at k.entries d) takes_same ∙ ap (λ (us : List Kind). value_types us) (takes_are d a is) in
+              let takes_so : value_types a0.takes ≡ value_types a.takes = ap (λ (us : List StaticType). value_types us) (sym (takes_are d0 a0 is0)) ∙ kinds_same (takes_at k.entries d0) (takes_at k.entries d) takes_same ∙ ap (λ (us : List StaticType). value_types us) (takes_are d a is) in
               let own = method_member c x d0 a0 in_c is0 m0 in
               let with_params : IsMember P c (routine_number numbers d0) params (result_at tables names k numbers P d0) = subst (λ (us : List ValueType). IsMember P c (routine_number numbers d0) us (result_at tables names k numbers P d0)) (takes_so ∙ sym params_are) own in
               (d0, in_c, subst (λ (y : ValueType). IsMember P c (routine_number numbers d0) params y) (results_same d0 d s0 s1 k0 k1 results_so ∙ sym gives_are) with_params))

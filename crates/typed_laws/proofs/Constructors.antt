@@ -16,25 +16,25 @@ use Rattle.sts_syntax.specs.WellTypedPrograms.{IsBodyOf, base_of_maker, is_maker
 use Rattle.sts_syntax.specs.WellTypedPrograms as w'
 use Rattle.sts_syntax.specs.Trees.{Parameter, SuperCall, OptionalTree, Plain, Statements, also, Declaration, Declare, Routine, Does}
 use Rattle.sts_syntax.specs.Programs.{ClassMember, Field, Method, Constructor}
-use Rattle.sts_scope.specs.declared.kinds.Kind.{Kind}
+use Rattle.sts_scope.specs.declared.kinds.StaticType.{StaticType}
 use Rattle.sts_scope.specs.declared.entries.Owner.TheVariants as o
-use Rattle.sts_scope.specs.declared.entries.Sort.TheVariants as sort
+use Rattle.sts_scope.specs.declared.entries.DeclarationKind.TheVariants as sort
 use Rattle.sts_scope.specs.declared.entries.Entry.{Entry}
 use Rattle.sts_scope.specs.declared.known.Known.{Known}
 use Rattle.sts_scope.specs.declared.known.This.TheVariants as this
 use Rattle.sts_scope.specs.Kinds.{nothing, value_type, value_types}
-use Rattle.sts_scope.specs.Faults.{◌then◌, unless}
-use Rattle.sts_scope.specs.Entries.{Naming, entry as declared_as, member_entry, member_entries, parameter_kinds}
-use Rattle.sts_scope.specs.Headings.{written_fault, members_fault, member_fault, is_constructor, routine_at, routine_fault}
+use Rattle.sts_scope.specs.Failures.{◌then◌, unless}
+use Rattle.sts_scope.specs.Entries.{Naming, new_entry as declared_as, member_entry, member_entries, parameter_kinds}
+use Rattle.sts_scope.specs.Headings.{written_failure, members_failure, member_failure, is_constructor, routine_at, routine_failure}
 use Rattle.sts_scope.specs.Lookup.{base_of, member_number}
-use Rattle.sts_scope.specs.Places.{Place, outside}
+use Rattle.sts_scope.specs.Places.{NameScope, outside}
 use Rattle.sts_scope.specs.Rules.{kind_at, maker_takes_of, all_go}
 use Rattle.type_derive.specs.Typing.{types_of}
 use Rattle.typed_laws.proofs.Returning.{give_value}
 use Rattle.type_derive.specs.Returns.{bound}
 use Rattle.type_derive.specs.Derived.{Source, member_sources, follows, declared_source, routine_source}
-use Rattle.type_derive.specs.Nodes.{faults, statements_fault, initial_fault, own_bound}
-use Rattle.type_derive.specs.Passes.{field_fault, body_fault, made_fault, own_super_call, constructor_fault, members_nodes}
+use Rattle.type_derive.specs.Nodes.{failures, statements_failure, initial_failure, own_bound}
+use Rattle.type_derive.specs.Passes.{field_failure, body_failure, made_failure, own_super_call, constructor_failure, members_nodes}
 use Rattle.type_derive.specs.Formed.{AreFormedMembers, AreFormedIn}
 use Rattle.sts_scope.specs.Handlers.{handlers_of, routine_handlers, declared_handlers, statements_handlers, members_routines, unwritten}
 use Rattle.type_derive.specs.Making.{pure, ◌>=>◌}
@@ -49,7 +49,7 @@ use Rattle.typed_laws.proofs.Makings.{Good as Built}
 use Rattle.typed_laws.proofs.Suffixes.{Suffix, suffix_step, suffix_one, suffix_at, suffix_head, suffix_or}
 use Rattle.typed_laws.proofs.Searching.{or_right}
 use Rattle.typed_laws.proofs.Trees.{initial, given, statements, bound_known, Answered}
-use Rattle.typed_laws.proofs.Items.{begins_super, constructor_case, maker_fault, method_counts, field_counts, constructor_counts, unwritten_counts}
+use Rattle.typed_laws.proofs.Items.{begins_super, constructor_case, maker_failure, method_counts, field_counts, constructor_counts, unwritten_counts}
 use Rattle.typed_laws.proofs.Members.{own_number, own_member, class_within}
 use Rattle.typed_laws.proofs.Placing.{result_at, placed_at, placed_more}
 use Rattle.typed_laws.proofs.Makers.{blank, blank_length, opened, opened_length, member_marks, AllMarked, is_written}
@@ -87,7 +87,7 @@ module _ (tables : Tables) (names : Naming) (k : Known) (numbers : Numbering) (P
   before_declared S (x ∷ xs) all g = ap (λ (y : TypedStatement). w'.declared y ++ w'.all_declared (xs before all)) g.0.1 ∙ before_declared S xs all g.1
 
   -- `this.f = r`
-  set_typed : (S : Setting) (c d x i : ℕ) (shape : Option Annotation) (first' : OptionalTree) (a : Entry) (u : Kind) (r : Option TypedTree) → HasThis P S (t.Object c) → member_number k.entries k.classes c x ≡ Some d → slice_get k.entries d ≡ Some a
+  set_typed : (S : Setting) (c d x i : ℕ) (shape : Option Annotation) (first' : OptionalTree) (a : Entry) (u : StaticType) (r : Option TypedTree) → HasThis P S (t.Object c) → member_number k.entries k.classes c x ≡ Some d → slice_get k.entries d ≡ Some a
       → a.sort ≡ sort.Field → kind_at k d ≡ Some u → w.IsInitial P S [] r (value_type u) → AllInits S (set_field tables names k numbers c d (Declare i x shape first') r)
   set_typed S c d x i shape first' a u None this_so h q s kind initial_so = tt
   set_typed S c d x i shape first' a u (Some r) this_so h q s kind initial_so =
@@ -118,14 +118,14 @@ module _ (tables : Tables) (names : Naming) (k : Known) (numbers : Numbering) (P
       pub js : List ℕ
       pub routines : Suffix numbers.routines d (member_numbers n members ++ js)
       pub behind : k.library ≤ d
-      pub faultless : members_nodes tables names k c d members ≡ None
+      pub no_failure : members_nodes tables names k c d members ≡ None
       pub formed : AreFormedMembers members
       pub placed : Placed P n (members_made tables names k numbers c inits n d members)
 
     walk_field : (c n d : ℕ) (inits : List TypedStatement) (a : Declaration) (rest : List ClassMember) → Walk c n d inits (Field a ∷ rest) → Walk c (n + declared_handlers a) (suc d) inits rest
     walk_field c n d inits (Declare i x shape first') rest walk =
         let a : Declaration = Declare i x shape first' in
-        let A = field_fault tables names k (this.Object c) a in
+        let A = field_failure tables names k (this.Object c) a in
         let B = members_nodes tables names k c (suc d) rest in
         let near : k.library ≤ d = walk.behind in
         record {
@@ -136,16 +136,16 @@ module _ (tables : Tables) (names : Naming) (k : Known) (numbers : Numbering) (P
           js = walk.js;
           routines = suffix_one numbers.routines d 0 (member_numbers (n + declared_handlers a) rest ++ walk.js) walk.routines;
           behind = omega (arith, near);
-          faultless = last A B walk.faultless;
+          no_failure = last A B walk.no_failure;
           formed = walk.formed.1;
           placed = placed_at tables names k numbers P n (declared_handlers a) (initial_made tables names k numbers c n a).routines (members_made tables names k numbers c inits (n + declared_handlers a) (suc d) rest)
-              (field_counts tables names k numbers c n a (first A B walk.faultless)) walk.placed;
+              (field_counts tables names k numbers c n a (first A B walk.no_failure)) walk.placed;
         }
 
     walk_method : (c n d : ℕ) (inits : List TypedStatement) (x : ℕ) (r : Routine) (rest : List ClassMember) → Walk c n d inits (Method x r ∷ rest) → Walk c (suc n + routine_handlers r) (suc d) inits rest
     walk_method c n d inits x (Does i params gives all arrow) rest walk =
         let r : Routine = Does i params gives all arrow in
-        let A = body_fault tables names k (this.Object c) (kind_at k d) r in
+        let A = body_failure tables names k (this.Object c) (kind_at k d) r in
         let B = members_nodes tables names k c (suc d) rest in
         let near : k.library ≤ d = walk.behind in
         record {
@@ -156,15 +156,15 @@ module _ (tables : Tables) (names : Naming) (k : Known) (numbers : Numbering) (P
           js = walk.js;
           routines = suffix_one numbers.routines d n (member_numbers (suc n + routine_handlers r) rest ++ walk.js) walk.routines;
           behind = omega (arith, near);
-          faultless = last A B walk.faultless;
+          no_failure = last A B walk.no_failure;
           formed = walk.formed.1;
           placed = placed_more tables names k numbers P n (routine_handlers r) (method_made tables names k numbers c n (kind_at k d) r) (members_made tables names k numbers c inits (suc n + routine_handlers r) (suc d) rest)
-              (method_counts tables names k numbers c n (kind_at k d) r (first A B walk.faultless)) walk.placed;
+              (method_counts tables names k numbers c n (kind_at k d) r (first A B walk.no_failure)) walk.placed;
         }
 
     walk_constructor : (c n d : ℕ) (inits : List TypedStatement) (r : Routine) (rest : List ClassMember) → Walk c n d inits (Constructor r ∷ rest) → Walk c (suc n + routine_handlers r) d inits rest
     walk_constructor c n d inits r rest walk =
-        let A = constructor_fault tables names k (this.Object c) (base_of k.classes c) r in
+        let A = constructor_failure tables names k (this.Object c) (base_of k.classes c) r in
         let B = members_nodes tables names k c d rest in
         record {
           es = walk.es;
@@ -174,10 +174,10 @@ module _ (tables : Tables) (names : Naming) (k : Known) (numbers : Numbering) (P
           js = walk.js;
           routines = walk.routines;
           behind = walk.behind;
-          faultless = last A B walk.faultless;
+          no_failure = last A B walk.no_failure;
           formed = walk.formed.1;
           placed = placed_more tables names k numbers P n (routine_handlers r) (constructor_made tables names k numbers c n inits r) (members_made tables names k numbers c inits (suc n + routine_handlers r) d rest)
-              (constructor_counts tables names k numbers c n inits r (first A B walk.faultless)) walk.placed;
+              (constructor_counts tables names k numbers c n inits r (first A B walk.no_failure)) walk.placed;
         }
 
     -- a field's initialiser, and the functions in it
@@ -185,14 +185,14 @@ module _ (tables : Tables) (names : Naming) (k : Known) (numbers : Numbering) (P
         → AllInits S (set_field tables names k numbers c d (Declare i x shape first') (initial_made tables names k numbers c n (Declare i x shape first')).it) × Inners P (initial_made tables names k numbers c n (Declare i x shape first')).routines
     field_typed S c n d inits i x shape first' rest this_so walk =
         let a : Declaration = Declare i x shape first' in
-        let p : Place = outside (this.Object c) false None in
+        let p : NameScope = outside (this.Object c) false None in
         let s0 : Site = record { place = p; spots = [] } in
-        let A = field_fault tables names k (this.Object c) a in
+        let A = field_failure tables names k (this.Object c) a in
         let B = members_nodes tables names k c (suc d) rest in
-        let wf = written_fault names i shape in
-        let jf = initial_fault tables names k p shape first' in
+        let wf = written_failure names i shape in
+        let jf = initial_failure tables names k p shape first' in
         let of_ = own_bound tables names k p shape first' i in
-        let hA : A ≡ None = first A B walk.faultless in
+        let hA : A ≡ None = first A B walk.no_failure in
         let hw : wf ≡ None = first wf (jf then of_) hA in
         let hj : jf ≡ None = first jf of_ (last wf (jf then of_) hA) in
         let ho : of_ ≡ None = last jf of_ (last wf (jf then of_) hA) in
@@ -228,9 +228,9 @@ module _ (tables : Tables) (names : Naming) (k : Known) (numbers : Numbering) (P
           let answer_is : w.answer (setting P n r) ≡ Some t.Nothing =
           ap (λ (x : Bool). let y : Option ValueType = if x then None else Some (if is_maker P.classes n then t.Nothing else r.gives) in y) (below_main tables names k numbers P made n near)
           ∙ ap (λ (x : Bool). Some (if x then t.Nothing else r.gives)) h in
-          ((λ q. (t.Nothing, answer_is)), (λ q v same. let z : nothing ≡ v = some_is nothing v same in (answer_is ∙ ap (λ (y : Kind). Some (value_type y)) z, subst IsProper z refl)))
+          ((λ q. (t.Nothing, answer_is)), (λ q v same. let z : nothing ≡ v = some_is nothing v same in (answer_is ∙ ap (λ (y : StaticType). Some (value_type y)) z, subst IsProper z refl)))
 
-      super_types : (ts : Option (List Kind)) (takes : List Kind) (l : ℕ) → own_super_call tables names k ts takes l ≡ None → (us : List Kind) × (ts ≡ Some us) × (all_go k.classes us takes ≡ true)
+      super_types : (ts : Option (List StaticType)) (takes : List StaticType) (l : ℕ) → own_super_call tables names k ts takes l ≡ None → (us : List StaticType) × (ts ≡ Some us) × (all_go k.classes us takes ≡ true)
       super_types None takes l h = cc
       super_types (Some us) takes l h = (us, refl, unless_true (all_go k.classes us takes) Mismatch l h)
 
@@ -240,7 +240,7 @@ module _ (tables : Tables) (names : Naming) (k : Known) (numbers : Numbering) (P
 
       -- the statements of a constructor behind its initialisers
       body_made : (S : Setting) (s : Site) (base : Option ℕ) (inits : List TypedStatement) (i : ℕ) (all : Statements) (n : ℕ) → Stand tables names k numbers P made S [] s → AreFormedIn false all → s.place.gives ≡ Some nothing
-          → Answered tables names k numbers P (st tables names k numbers P made) S (Some nothing) (give_value all) → AllInits S inits → ((b : ℕ) → base ≡ Some b → b < length k.classes) → maker_fault tables names k numbers s.place base i all ≡ None
+          → Answered tables names k numbers P (st tables names k numbers P made) S (Some nothing) (give_value all) → AllInits S inits → ((b : ℕ) → base ≡ Some b → b < length k.classes) → maker_failure tables names k numbers s.place base i all ≡ None
           → Built P S (λ xs. IsBodyOf P base S xs) w'.all_declared [] (statements_handlers all) 0 n (made_statements_of tables names k numbers s base inits all 0 n)
       body_made S s None inits i all n at formed gives answers inits_so within_so h =
           let R : TypedStatements → Type 0 = λ xs. AreSound P S xs false [] in
@@ -251,13 +251,13 @@ module _ (tables : Tables) (names : Naming) (k : Known) (numbers : Numbering) (P
           (λ xs q i1 o1. good_pure P S R w'.all_declared (w'.all_declared xs) i1 o1 (inits before xs) (before_sound S inits xs inits_so q) (before_declared S inits xs inits_so))) (λ l. l) (omega arith)
       body_made S s (Some b) inits i all n at formed gives answers inits_so within_so h =
           let (j, l, args, rest, is) = begins_super tables names k numbers all i b s.place h in
-          let G : Statements → Type 0 = λ xs. AreFormedIn false xs → Answered tables names k numbers P (st tables names k numbers P made) S (Some nothing) (give_value xs) → made_fault tables names k s.place i b xs ≡ None
+          let G : Statements → Type 0 = λ xs. AreFormedIn false xs → Answered tables names k numbers P (st tables names k numbers P made) S (Some nothing) (give_value xs) → made_failure tables names k s.place i b xs ≡ None
           → Built P S (λ ys. IsBodyOf P (Some b) S ys) w'.all_declared [] (statements_handlers xs) 0 n (made_statements_of tables names k numbers s (Some b) inits xs 0 n) in
           let base_case : G (also (Plain j (SuperCall l None args)) rest) = λ f1 a1 h1.
-          let takes : List Kind = maker_takes_of k.classes b in
-          let A = faults tables names k s.place [] args in
+          let takes : List StaticType = maker_takes_of k.classes b in
+          let A = failures tables names k s.place [] args in
           let B = own_super_call tables names k (types_of tables k s.place args) takes l in
-          let C = statements_fault tables names k s.place rest in
+          let C = statements_failure tables names k s.place rest in
           let hA : A ≡ None = first A (B then C) h1 in
           let hB : B ≡ None = first B C (last A (B then C) h1) in
           let hC : C ≡ None = last B C (last A (B then C) h1) in
@@ -279,7 +279,7 @@ module _ (tables : Tables) (names : Naming) (k : Known) (numbers : Numbering) (P
           subst G (sym is) base_case formed answers h
 
       -- A constructor that isn't written passes its base's parameters on.
-      passed_typed : (S : Setting) (before' : List ValueType) (us : List Kind) → S.routine.params ≡ before' ++ value_types us → AreGiven P S [] (parameters_of (value_types us)) (passed_on (length before') us)
+      passed_typed : (S : Setting) (before' : List ValueType) (us : List StaticType) → S.routine.params ≡ before' ++ value_types us → AreGiven P S [] (parameters_of (value_types us)) (passed_on (length before') us)
       passed_typed S before' [] h = tt
       passed_typed S before' (u ∷ us) h =
           let here : entry S.routine.params (length before') ≡ Some (value_type u) = ap (λ (vs : List ValueType). entry vs (length before')) h ∙ entry_front before' (value_types us) (value_type u) in
@@ -287,13 +287,13 @@ module _ (tables : Tables) (names : Naming) (k : Known) (numbers : Numbering) (P
           let long : length (before' ++ value_type u ∷ []) ≡ suc (length before') = length-append before' (value_type u ∷ []) ∙ (let z : length before' + 1 ≡ suc (length before') = omega arith in z) in
           (here, inl refl, subst (λ (i : ℕ). AreGiven P S [] (parameters_of (value_types us)) (passed_on i us)) long (passed_typed S (before' ++ value_type u ∷ []) us h'))
 
-      unwritten_body : (S : Setting) (c : ℕ) (base : Option ℕ) (inits : List TypedStatement) (takes : List Kind) → S.routine.params ≡ t.Object c ∷ value_types takes → ((b : ℕ) → base ≡ Some b → (b < length k.classes) × (maker_takes_of k.classes b ≡ takes)) → AllInits S inits
+      unwritten_body : (S : Setting) (c : ℕ) (base : Option ℕ) (inits : List TypedStatement) (takes : List StaticType) → S.routine.params ≡ t.Object c ∷ value_types takes → ((b : ℕ) → base ≡ Some b → (b < length k.classes) × (maker_takes_of k.classes b ≡ takes)) → AllInits S inits
           → IsBodyOf P base S ((passes_on tables names k numbers base takes ++ inits) before e.done) × (w'.all_declared ((passes_on tables names k numbers base takes ++ inits) before e.done) ≡ [])
       unwritten_body S c None inits takes ps bases inits_so = (before_sound S inits e.done inits_so tt, before_declared S inits e.done inits_so)
       unwritten_body S c (Some b) inits takes ps bases inits_so =
           let (near_b, same) = bases b refl in
           let (r, has, params, result) = maker_body tables names k numbers P made b near_b in
-          let params_so : r.params ≡ t.Object b ∷ value_types takes = params ∙ ap (λ (us : List Kind). t.Object b ∷ value_types us) same in (
+          let params_so : r.params ≡ t.Object b ∷ value_types takes = params ∙ ap (λ (us : List StaticType). t.Object b ∷ value_types us) same in (
             (
               class_entry tables names k numbers b,
               value_types takes,
@@ -310,7 +310,7 @@ module _ (tables : Tables) (names : Naming) (k : Known) (numbers : Numbering) (P
       -- the functions of a class's members
       module _ (c : ℕ) (near_c : c < length k.classes) (base_near : (b : ℕ) → base_of k.classes c ≡ Some b → b < length k.classes) where
         maker_sound : (n : ℕ) (inits : List TypedStatement) (i : ℕ) (params : List Parameter) (gives : Option Annotation) (all : Statements) (arrow : Bool) (tail : List (Option ℕ))
-            → AreFormedIn false all → constructor_fault tables names k (this.Object c) (base_of k.classes c) (Does i params gives all arrow) ≡ None → ((S : Setting) → HasThis P S (t.Object c) → AllInits S inits)
+            → AreFormedIn false all → constructor_failure tables names k (this.Object c) (base_of k.classes c) (Does i params gives all arrow) ≡ None → ((S : Setting) → HasThis P S (t.Object c) → AllInits S inits)
             → Placed P n (constructor_made tables names k numbers c n inits (Does i params gives all arrow)) → maker_number numbers c ≡ n → Suffix marks n (Some c ∷ blank (statements_handlers all) ++ tail) → n + suc (statements_handlers all) ≤ P.main
             → Each tables names k numbers P made n (constructor_made tables names k numbers c n inits (Does i params gives all arrow))
         maker_sound n inits i params gives all arrow tail formed h inits_so placed maker_so s near =
@@ -335,7 +335,7 @@ module _ (tables : Tables) (names : Naming) (k : Known) (numbers : Numbering) (P
             → Each tables names k numbers P made n (method_made tables names k numbers c n (kind_at k d) (Does i params gives all arrow))
         method_sound n d x inits i params gives all arrow rest tail walk s near =
             let r' : Routine = Does i params gives all arrow in
-            let A = body_fault tables names k (this.Object c) (kind_at k d) r' in
+            let A = body_failure tables names k (this.Object c) (kind_at k d) r' in
             let B = members_nodes tables names k c (suc d) rest in
             let en : Entry = declared_as i (o.Class c) x sort.Method (parameter_kinds names params) in
             let at_d : slice_get k.entries d ≡ Some en = suffix_head k.entries d en (member_entries names c rest ++ walk.es) walk.entries in
@@ -347,7 +347,7 @@ module _ (tables : Tables) (names : Naming) (k : Known) (numbers : Numbering) (P
             let s1 : Site = site tables names k numbers (this.Object c) (kind_at k d) false 1 params in
             let m1 = made_statements tables names k numbers s1 all 0 (suc n) in
             let S : Setting = setting P n (record { params = t.Object c ∷ value_types (parameter_kinds names params); locals = m1.locals; gives = value_type (unwrap_or (kind_at k d) nothing); all = m1.it }) in
-            body_sound tables names k numbers P made marks marked (this.Object c) (kind_at k d) false (t.Object c ∷ []) params all n tail walk.formed.0 (first A B walk.faultless) (λ u q. made.kinds_proper d u q)
+            body_sound tables names k numbers P made marks marked (this.Object c) (kind_at k d) false (t.Object c ∷ []) params all n tail walk.formed.0 (first A B walk.no_failure) (λ u q. made.kinds_proper d u q)
             (placed_left P n (method_made tables names k numbers c n (kind_at k d) r') (members_made tables names k numbers c inits (suc n + routine_handlers r') (suc d) rest) walk.placed)
             (λ j q. let z : c ≡ j = cc in subst (λ (y : ℕ). HasThis P S (t.Object y)) z (or_right (is_maker P.classes n) (w'.is_method P.classes n) method_true, refl)) s near
 
@@ -378,7 +378,7 @@ module _ (tables : Tables) (names : Naming) (k : Known) (numbers : Numbering) (P
           | inl (zero_so, takes, r) ↦ (let z : suc many ≡ 0 = q ∙ zero_so in absurd (omega arith))
           | inr (one_so, r, same) ↦ (let here : maker_number numbers c ≡ n = maker_so ∙ same n n in
               let (maker_true, base_so) = maker_facts c n near_c here in
-              let takes : List Kind = maker_takes_of k.classes c in
+              let takes : List StaticType = maker_takes_of k.classes c in
               let rt : TypedRoutine = constructor_unwritten tables names k numbers c inits in
               let S : Setting = setting P n rt in
               let this_so : HasThis P S (t.Object c) = (ap (λ (b : Bool). b || w'.is_method P.classes n) maker_true, refl) in
@@ -388,16 +388,16 @@ module _ (tables : Tables) (names : Naming) (k : Known) (numbers : Numbering) (P
 
         -- the functions of all members: `built` says whether a constructor stood before
         members_sound : (start n d d' : ℕ) (inits : List TypedStatement) (built : Bool) (members : List ClassMember) (tail : List (Option ℕ)) → Walk c n d inits members
-            → members_fault names k.entries k.classes c d' built members ≡ None → (built ≡ false → maker_number numbers c ≡ maker_from start n members) → ((S : Setting) → HasThis P S (t.Object c) → AllInits S inits)
+            → members_failure names k.entries k.classes c d' built members ≡ None → (built ≡ false → maker_number numbers c ≡ maker_from start n members) → ((S : Setting) → HasThis P S (t.Object c) → AllInits S inits)
             → Suffix marks n (member_marks c members ++ tail) → n + members_routines members ≤ P.main → Each tables names k numbers P made n (members_made tables names k numbers c inits n d members)
         members_sound start n d d' inits built [] tail walk hd maker_so inits_so s near = tt
         members_sound start n d d' inits built (Field (Declare i x shape first') ∷ rest) tail walk hd maker_so inits_so s near =
             let a : Declaration = Declare i x shape first' in
             let m : ClassMember = Field a in
             let j : ℕ = declared_handlers a in
-            let A = field_fault tables names k (this.Object c) a in
+            let A = field_failure tables names k (this.Object c) a in
             let B = members_nodes tables names k c (suc d) rest in
-            let count : length (initial_made tables names k numbers c n a).routines ≡ j = field_counts tables names k numbers c n a (first A B walk.faultless) in
+            let count : length (initial_made tables names k numbers c n a).routines ≡ j = field_counts tables names k numbers c n a (first A B walk.no_failure) in
             let S0 : Setting = record { routine = record { params = t.Object c ∷ []; locals = []; gives = t.Nothing; all = e.done }; this = true; maker = false; main = false } in
             let (field_so, inners) = field_typed S0 c n d inits i x shape first' rest (refl, refl) walk in
             let s1 : Suffix marks n (blank j ++ (member_marks c rest ++ tail)) = subst (λ (xs : List (Option ℕ)). Suffix marks n xs) (append_assoc (blank j) (member_marks c rest) tail) s in
@@ -405,48 +405,48 @@ module _ (tables : Tables) (names : Naming) (k : Known) (numbers : Numbering) (P
             inners_sound tables names k numbers P made marks marked n (initial_made tables names k numbers c n a).routines (member_marks c rest ++ tail) inners
             (subst (λ (y : ℕ). Suffix marks n (blank y ++ (member_marks c rest ++ tail))) (sym count) s1) (omega (arith, count, near)) in
             let s2 : Suffix marks (n + j) (member_marks c rest ++ tail) = suffix_at marks (n + length (blank j)) (n + j) (member_marks c rest ++ tail) (ap (λ (y : ℕ). n + y) (blank_length j)) (suffix_step marks n (blank j) (member_marks c rest ++ tail) s1) in
-            let hr = last (member_fault names k.entries k.classes c d' built m) (members_fault names k.entries k.classes c (d' + length (member_entry names c m)) (built || is_constructor m) rest) hd in
+            let hr = last (member_failure names k.entries k.classes c d' built m) (members_failure names k.entries k.classes c (d' + length (member_entry names c m)) (built || is_constructor m) rest) hd in
             each_at tables names k numbers P made n j (initial_made tables names k numbers c n a).routines (members_made tables names k numbers c inits (n + j) (suc d) rest) count here
             (members_sound start (n + j) (suc d) (d' + 1) inits (built || false) rest tail (walk_field c n d inits a rest walk) hr (λ q. maker_so (or_left built false q)) inits_so s2 (omega (arith, near)))
         members_sound start n d d' inits built (Method x (Does i params gives all arrow) ∷ rest) tail walk hd maker_so inits_so s near =
             let r : Routine = Does i params gives all arrow in
             let m : ClassMember = Method x r in
             let j : ℕ = statements_handlers all in
-            let A = body_fault tables names k (this.Object c) (kind_at k d) r in
+            let A = body_failure tables names k (this.Object c) (kind_at k d) r in
             let B = members_nodes tables names k c (suc d) rest in
             let made_here = method_made tables names k numbers c n (kind_at k d) r in
-            let count : length made_here ≡ suc j = method_counts tables names k numbers c n (kind_at k d) r (first A B walk.faultless) in
+            let count : length made_here ≡ suc j = method_counts tables names k numbers c n (kind_at k d) r (first A B walk.no_failure) in
             let s1 : Suffix marks n (blank (suc j) ++ (member_marks c rest ++ tail)) = subst (λ (xs : List (Option ℕ)). Suffix marks n xs) (append_assoc (blank (suc j)) (member_marks c rest) tail) s in
             let here = method_sound n d x inits i params gives all arrow rest (member_marks c rest ++ tail) walk s1 (omega (arith, near)) in
             let at : n + length (blank (suc j)) ≡ suc n + j = ap (λ (y : ℕ). n + y) (blank_length (suc j)) ∙ (let z : n + suc j ≡ suc n + j = omega arith in z) in
             let s2 : Suffix marks (suc n + j) (member_marks c rest ++ tail) = suffix_at marks (n + length (blank (suc j))) (suc n + j) (member_marks c rest ++ tail) at (suffix_step marks n (blank (suc j)) (member_marks c rest ++ tail) s1) in
-            let hr = last (member_fault names k.entries k.classes c d' built m) (members_fault names k.entries k.classes c (d' + length (member_entry names c m)) (built || is_constructor m) rest) hd in
+            let hr = last (member_failure names k.entries k.classes c d' built m) (members_failure names k.entries k.classes c (d' + length (member_entry names c m)) (built || is_constructor m) rest) hd in
             each_more tables names k numbers P made n j made_here (members_made tables names k numbers c inits (suc n + j) (suc d) rest) count here
             (members_sound start (suc n + j) (suc d) (d' + 1) inits (built || false) rest tail (walk_method c n d inits x r rest walk) hr (λ q. maker_so (or_left built false q)) inits_so s2 (omega (arith, near)))
         members_sound start n d d' inits built (Constructor (Does i params gives all arrow) ∷ rest) tail walk hd maker_so inits_so s near =
             let r : Routine = Does i params gives all arrow in
             let m : ClassMember = Constructor r in
             let j : ℕ = statements_handlers all in
-            let A = constructor_fault tables names k (this.Object c) (base_of k.classes c) r in
+            let A = constructor_failure tables names k (this.Object c) (base_of k.classes c) r in
             let B = members_nodes tables names k c d rest in
-            let hA : A ≡ None = first A B walk.faultless in
+            let hA : A ≡ None = first A B walk.no_failure in
             let made_here = constructor_made tables names k numbers c n inits r in
             let count : length made_here ≡ suc j = constructor_counts tables names k numbers c n inits r hA in
-            let mf = member_fault names k.entries k.classes c d' built m in
-            let hm : mf ≡ None = first mf (members_fault names k.entries k.classes c (d' + length (member_entry names c m)) (built || is_constructor m) rest) hd in
-            let unbuilt : built ≡ false = not_is built (unless_true (not built) TwiceNamed (routine_at r) (first (unless (not built) TwiceNamed (routine_at r)) (routine_fault names r) hm)) in
+            let mf = member_failure names k.entries k.classes c d' built m in
+            let hm : mf ≡ None = first mf (members_failure names k.entries k.classes c (d' + length (member_entry names c m)) (built || is_constructor m) rest) hd in
+            let unbuilt : built ≡ false = not_is built (unless_true (not built) TwiceNamed (routine_at r) (first (unless (not built) TwiceNamed (routine_at r)) (routine_failure names r) hm)) in
             let s1 : Suffix marks n (Some c ∷ blank j ++ (member_marks c rest ++ tail)) = subst (λ (xs : List (Option ℕ)). Suffix marks n xs) (append_assoc (Some c ∷ blank j) (member_marks c rest) tail) s in
             let own_placed = placed_left P n made_here (members_made tables names k numbers c inits (suc n + j) d rest) walk.placed in
             let here = maker_sound n inits i params gives all arrow (member_marks c rest ++ tail) walk.formed.0 hA inits_so own_placed (maker_so unbuilt) s1 (omega (arith, near)) in
             let at : n + length (Some c ∷ blank j) ≡ suc n + j = ap (λ (y : ℕ). n + suc y) (blank_length j) ∙ (let z : n + suc j ≡ suc n + j = omega arith in z) in
             let s2 : Suffix marks (suc n + j) (member_marks c rest ++ tail) = suffix_at marks (n + length (Some c ∷ blank j)) (suc n + j) (member_marks c rest ++ tail) at (suffix_step marks n (Some c ∷ blank j) (member_marks c rest ++ tail) s1) in
-            let hr = last mf (members_fault names k.entries k.classes c (d' + length (member_entry names c m)) (built || is_constructor m) rest) hd in
+            let hr = last mf (members_failure names k.entries k.classes c (d' + length (member_entry names c m)) (built || is_constructor m) rest) hd in
             each_more tables names k numbers P made n j made_here (members_made tables names k numbers c inits (suc n + j) d rest) count here
             (members_sound start (suc n + j) d (d' + 0) inits (built || true) rest tail (walk_constructor c n d inits r rest walk) hr (λ q. absurd (or_never built q)) inits_so s2 (omega (arith, near)))
 
         -- all functions of a class
         pub class_sound : (n d d' : ℕ) (members : List ClassMember) (tail : List (Option ℕ)) → Walk c (n + unwritten members) d (initials tables names k numbers c (n + unwritten members) d members) members
-            → members_fault names k.entries k.classes c d' false members ≡ None → maker_number numbers c ≡ maker_from n n members → Placed P n (class_made tables names k numbers c n d members)
+            → members_failure names k.entries k.classes c d' false members ≡ None → maker_number numbers c ≡ maker_from n n members → Placed P n (class_made tables names k numbers c n d members)
             → ((b : ℕ) → base_of k.classes c ≡ Some b → unwritten members ≡ 1 → maker_takes_of k.classes b ≡ maker_takes_of k.classes c)
             → Suffix marks n ((opened (unwritten members) c ++ member_marks c members) ++ tail) → n + (unwritten members + members_routines members) ≤ P.main → Each tables names k numbers P made n (class_made tables names k numbers c n d members)
         class_sound n d d' members tail walk hd maker_so placed passes s near =

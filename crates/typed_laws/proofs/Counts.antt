@@ -15,19 +15,19 @@ use Rattle.sts_syntax.specs.BoardTable as board
 use Rattle.sts_syntax.specs.BoardTable.{BoardParameter, row_of, call_named, constant_named}
 use Rattle.sts_syntax.specs.declared.board_calls.BoardCall.{BoardCall}
 use Rattle.sts_syntax.specs.Trees.{Tree, Num, Text, Truth, Null, This, Name, Unary, Binary, Both, Either, Choice, Set, Bump, Member, Item, Call, SuperCall, Make, Items, Handler, Trees, none, more, OptionalTree, absent, present, Statement, Block, Let, IfOnly, IfElse, While, DoWhile, For, ForOf, Return, Break, Continue, Plain, Empty, Statements, done, also, OptionalStatement, omitted, written, Declaration, Declare, Declarations, ended, next, Does}
-use Rattle.sts_scope.specs.declared.kinds.Kind.{Kind}
+use Rattle.sts_scope.specs.declared.kinds.StaticType.{StaticType}
 use Rattle.sts_scope.specs.declared.known.Known.{Known}
-use Rattle.sts_scope.specs.Faults.{Fault, ◌then◌, fault_at, unless, own}
+use Rattle.sts_scope.specs.Failures.{Failure, ◌then◌, failure_at, unless, own}
 use Rattle.sts_scope.specs.Entries.{Naming, written_kind}
 use Rattle.sts_scope.specs.Globals.{is_dollar}
-use Rattle.sts_scope.specs.Headings.{written_fault}
-use Rattle.sts_scope.specs.Places.{Place, inner}
+use Rattle.sts_scope.specs.Headings.{written_failure}
+use Rattle.sts_scope.specs.Places.{NameScope, inner}
 use Rattle.sts_scope.specs.Rules.{takes_at, maker_takes_of}
 use Rattle.type_derive.specs.declared.roles.Role.{Role}
 use Rattle.type_derive.specs.declared.roles.Role.TheVariants.{Free, Given, Called, Served}
 use Rattle.type_derive.specs.Typing.{Callee, space, constant_of, board_callee, callee_of, super_method, type_of, types_of, are_given, is_routine, is_drawing, spelling, finds, given_to}
 use Rattle.type_derive.specs.Returns.{is_alone, bound, after, after_first, looped, items_of}
-use Rattle.type_derive.specs.Nodes.{fault, faults, handler_fault, own_member, own_called, own_super, own_board, is_called, is_served, serves_itself, kind_role, initial_fault, optional_fault, test_fault, declaration_fault, declarations_fault, statement_fault, first_fault, statements_fault, own_local, own_bound, is_list}
+use Rattle.type_derive.specs.Nodes.{failure, failures, handler_failure, own_member, own_called, own_super, own_board, is_called, is_served, serves_itself, kind_role, initial_failure, optional_failure, test_failure, declaration_failure, declarations_failure, statement_failure, first_failure, statements_failure, own_local, own_bound, is_list}
 use Rattle.sts_scope.specs.Handlers.{handlers, handlers_of, optional_handlers, declarations_handlers, statement_handlers, first_handlers, statements_handlers}
 use Rattle.type_derive.specs.Making.{Made, Making, pure, ◌>=>◌, a_local}
 use Rattle.sts_scope.specs.Numbers.{Numbering, routine_number}
@@ -67,15 +67,15 @@ not_read Called i q h = q
 not_read Served i q h = q
 
 module _ (tables : Tables) (names : Naming) (k : Known) (numbers : Numbering) where
-  abbrev mk : Site → Option Kind → Tree → Making TypedTree
+  abbrev mk : Site → Option StaticType → Tree → Making TypedTree
   mk s g a = made_tree tables names k numbers s g a
 
-  abbrev bad : Site → Role → Tree → Option Fault
-  bad s r a = fault tables names k s.place r a
+  abbrev bad : Site → Role → Tree → Option Failure
+  bad s r a = failure tables names k s.place r a
 
   -- A name of a space is made of no functions.
   abbrev IsPlain : Site → Tree → Type 0
-  IsPlain s a = (handlers a ≡ 0) × ((g : Option Kind) → Counts 0 (mk s g a))
+  IsPlain s a = (handlers a ≡ 0) × ((g : Option StaticType) → Counts 0 (mk s g a))
 
   space_plain : (s : Site) (a : Tree) (sp : List ℕ) → space tables k s.place a ≡ Some sp → IsPlain s a
   space_plain s (Name i x) sp h = (refl, λ g m n. refl)
@@ -143,17 +143,17 @@ module _ (tables : Tables) (names : Naming) (k : Known) (numbers : Numbering) wh
   drawing_plain (Make i x args) h = cc
   drawing_plain (Handler i body) h = cc
 
-  parts2 : (A B C : Option Fault) → (A then B then C) ≡ None → (A ≡ None) × (B ≡ None) × (C ≡ None)
+  parts2 : (A B C : Option Failure) → (A then B then C) ≡ None → (A ≡ None) × (B ≡ None) × (C ≡ None)
   parts2 A B C h = let r = last A (B then C) h in (first A (B then C) h, first B C r, last B C r)
 
-  parts3 : (A B C D : Option Fault) → (A then B then C then D) ≡ None → (A ≡ None) × (B ≡ None) × (C ≡ None) × (D ≡ None)
+  parts3 : (A B C D : Option Failure) → (A then B then C then D) ≡ None → (A ≡ None) × (B ≡ None) × (C ≡ None) × (D ≡ None)
   parts3 A B C D h = let r = last A (B then C then D) h in let (x, y, z) = parts2 B C D r in (first A (B then C then D) h, x, y, z)
 
-  parts4 : (A B C D E : Option Fault) → (A then B then C then D then E) ≡ None → (A ≡ None) × (B ≡ None) × (C ≡ None) × (D ≡ None) × (E ≡ None)
+  parts4 : (A B C D E : Option Failure) → (A then B then C then D then E) ≡ None → (A ≡ None) × (B ≡ None) × (C ≡ None) × (D ≡ None) × (E ≡ None)
   parts4 A B C D E h = let r = last A (B then C then D then E) h in let (x, y, z, o) = parts3 B C D E r in (first A (B then C then D then E) h, x, y, z, o)
 
-  abbrev member_fault : Site → Role → ℕ → Tree → ℕ → Option ℤ → Option BoardCall → Option Fault
-  member_fault s r i a m z b = elim z [
+  abbrev member_failure : Site → Role → ℕ → Tree → ℕ → Option ℤ → Option BoardCall → Option Failure
+  member_failure s r i a m z b = elim z [
     | Some y ↦ None
     | None ↦ elim b [
       | Some call ↦ unless (is_called r) BadHandler i
@@ -164,7 +164,7 @@ module _ (tables : Tables) (names : Naming) (k : Known) (numbers : Numbering) wh
   constant_plain : (s : Site) (a : Tree) (m : ℕ) (z : ℤ) → constant_of tables k s.place a m ≡ Some z → IsPlain s a
   constant_plain s a m z h = let (sp, q, h1) = bind_some (space tables k s.place a) (λ (x : List ℕ). constant_named x (spelling tables m)) z h in space_plain s a sp q
 
-  member_counts : (s : Site) (r : Role) (i : ℕ) (a : Tree) (m : ℕ) (n : ValueType) (z : Option ℤ) (b : Option BoardCall) → IsRead r → constant_of tables k s.place a m ≡ z → member_fault s r i a m z b ≡ None → (bad s Free a ≡ None → Counts (handlers a) (mk s None a))
+  member_counts : (s : Site) (r : Role) (i : ℕ) (a : Tree) (m : ℕ) (n : ValueType) (z : Option ℤ) (b : Option BoardCall) → IsRead r → constant_of tables k s.place a m ≡ z → member_failure s r i a m z b ≡ None → (bad s Free a ≡ None → Counts (handlers a) (mk s None a))
       → Counts (handlers a) (elim z [ Some y ↦ pure (e.Num t.Number y) | None ↦ mk s None a >=> λ x. pure (member_read tables names k numbers n (part_in tables names k numbers s a m) (class_in tables names k numbers s a) m x) ])
   member_counts s r i a m n (Some y) b read q h f = counts_as 0 (handlers a) (pure (e.Num t.Number y)) (λ m' n'. refl) (sym (constant_plain s a m y q).0)
   member_counts s r i a m n None (Some call) read q h f = absurd (not_read r i read h)
@@ -172,27 +172,27 @@ module _ (tables : Tables) (names : Naming) (k : Known) (numbers : Numbering) wh
       counts_one (handlers a) (mk s None a) (λ x. member_read tables names k numbers n (part_in tables names k numbers s a m) (class_in tables names k numbers s a) m x) (f (first (bad s Free a) (own_member tables names k r (type_of tables k s.place Free a) m i) h))
 
   -- the object of a method that is called
-  object_counts : (s : Site) (i : ℕ) (a : Tree) (m : ℕ) (z : Option ℤ) (b : Option BoardCall) → b ≡ None → constant_of tables k s.place a m ≡ z → member_fault s Called i a m z b ≡ None → (bad s Free a ≡ None → Counts (handlers a) (mk s None a)) → Counts (handlers a) (mk s None a)
+  object_counts : (s : Site) (i : ℕ) (a : Tree) (m : ℕ) (z : Option ℤ) (b : Option BoardCall) → b ≡ None → constant_of tables k s.place a m ≡ z → member_failure s Called i a m z b ≡ None → (bad s Free a ≡ None → Counts (handlers a) (mk s None a)) → Counts (handlers a) (mk s None a)
   object_counts s i a m (Some y) b n q h f = let (zero_so, plain) = constant_plain s a m y q in counts_as 0 (handlers a) (mk s None a) (plain None) (sym zero_so)
   object_counts s i a m None (Some call) n q h f = cc
   object_counts s i a m None None n q h f = f (first (bad s Free a) (own_member tables names k Called (type_of tables k s.place Free a) m i) h)
 
-  abbrev call_fault : Site → ℕ → Tree → Trees → Option BoardCall → Option Fault
-  call_fault s i f args (Some call) = faults tables names k s.place (row_of call).takes args then own_board tables names k s.place (row_of call).takes args i
-  call_fault s i f args None = bad s Called f then faults tables names k s.place [] args then own_called tables names k (callee_of tables k s.place f) (types_of tables k s.place args) i
+  abbrev call_failure : Site → ℕ → Tree → Trees → Option BoardCall → Option Failure
+  call_failure s i f args (Some call) = failures tables names k s.place (row_of call).takes args then own_board tables names k s.place (row_of call).takes args i
+  call_failure s i f args None = bad s Called f then failures tables names k s.place [] args then own_called tables names k (callee_of tables k s.place f) (types_of tables k s.place args) i
 
   abbrev call_made : Site → ValueType → Tree → Trees → Option BoardCall → Making TypedTree
   call_made s n f args (Some call) = made_asked tables names k numbers s (row_of call).takes args >=> λ xs. pure (e.Call n (board_target call (row_of call).action) xs)
   call_made s n f args None = made_call tables names k numbers s n f (made_given tables names k numbers s (call_takes tables names k numbers s f) args)
 
-  no_callee_of : (d : Option Callee) (ts : Option (List Kind)) (i : ℕ) → d ≡ None → own_called tables names k d ts i ≡ None → ⊥
+  no_callee_of : (d : Option Callee) (ts : Option (List StaticType)) (i : ℕ) → d ≡ None → own_called tables names k d ts i ≡ None → ⊥
   no_callee_of None ts i q h = cc
   no_callee_of (Some d) ts i q h = cc
 
-  no_callee : (s : Site) (f : Tree) (args : Trees) (i : ℕ) → callee_of tables k s.place f ≡ None → call_fault s i f args None ≡ None → ⊥
+  no_callee : (s : Site) (f : Tree) (args : Trees) (i : ℕ) → callee_of tables k s.place f ≡ None → call_failure s i f args None ≡ None → ⊥
   no_callee s f args i q h =
-      let own_so : Option Fault = own_called tables names k (callee_of tables k s.place f) (types_of tables k s.place args) i in
-      no_callee_of (callee_of tables k s.place f) (types_of tables k s.place args) i q (parts2 (bad s Called f) (faults tables names k s.place [] args) own_so h).2
+      let own_so : Option Failure = own_called tables names k (callee_of tables k s.place f) (types_of tables k s.place args) i in
+      no_callee_of (callee_of tables k s.place f) (types_of tables k s.place args) i q (parts2 (bad s Called f) (failures tables names k s.place [] args) own_so h).2
 
   given_of_board : (s : Site) (ps : List BoardParameter) (args : Trees) (i : ℕ) → own_board tables names k s.place ps args i ≡ None → are_given tables k s.place ps args ≡ true
   given_of_board s ps args i h = unless_true (are_given tables k s.place ps args) Mismatch i (last _ (unless (are_given tables k s.place ps args) Mismatch i) h)
@@ -203,11 +203,11 @@ module _ (tables : Tables) (names : Naming) (k : Known) (numbers : Numbering) wh
   served_read Called serves i read h = read
   served_read Served serves i read h = read
 
-  role_read : (g : Option Kind) → IsRead (kind_role g)
+  role_read : (g : Option StaticType) → IsRead (kind_role g)
   role_read None = tt
   role_read (Some v) = tt
 
-  unalone : (x : Bool) (o : Option Fault) (u : Option Kind) (i : ℕ) → (if x then None else o) ≡ None → own (let w : Option Kind = if x then None else u in w) NeedsType i ≡ None → o ≡ None
+  unalone : (x : Bool) (o : Option Failure) (u : Option StaticType) (i : ℕ) → (if x then None else o) ≡ None → own (let w : Option StaticType = if x then None else u in w) NeedsType i ≡ None → o ≡ None
   unalone true o u i h h1 = cc
   unalone false o u i h h1 = h
 
@@ -221,16 +221,16 @@ module _ (tables : Tables) (names : Naming) (k : Known) (numbers : Numbering) wh
   abbrev u_of : Site → Tree → ValueType
   u_of s list = value_type (kind_or_nothing tables names k numbers (items_of tables names k (type_of tables k s.place Free list)))
 
-  super_counts : (s : Site) (i m : ℕ) (args : Trees) (n : ValueType) (u : Option Kind) (d : Option ℕ) → (faults tables names k s.place [] args then own_super tables names k s.place m d u i) ≡ None
-      → ((takes : List Kind) → faults tables names k s.place [] args ≡ None → Counts (handlers_of args) (made_given tables names k numbers s takes args))
+  super_counts : (s : Site) (i m : ℕ) (args : Trees) (n : ValueType) (u : Option StaticType) (d : Option ℕ) → (failures tables names k s.place [] args then own_super tables names k s.place m d u i) ≡ None
+      → ((takes : List StaticType) → failures tables names k s.place [] args ≡ None → Counts (handlers_of args) (made_given tables names k numbers s takes args))
       → Counts (handlers_of args) (elim d [ None ↦ pure amiss | Some j ↦ made_given tables names k numbers s (takes_at k.entries j) args >=> λ xs. pure (e.SuperCall n (routine_number numbers j) xs) ])
-  super_counts s i m args n u None h given = let z : own_super tables names k s.place m None u i ≡ None = last (faults tables names k s.place [] args) (own_super tables names k s.place m None u i) h in cc
+  super_counts s i m args n u None h given = let z : own_super tables names k s.place m None u i ≡ None = last (failures tables names k s.place [] args) (own_super tables names k s.place m None u i) h in cc
   super_counts s i m args n u (Some j) h given =
       counts_one (handlers_of args) (made_given tables names k numbers s (takes_at k.entries j) args) (λ xs. e.SuperCall n (routine_number numbers j) xs)
-      (given (takes_at k.entries j) (first (faults tables names k s.place [] args) (own_super tables names k s.place m (Some j) u i) h))
+      (given (takes_at k.entries j) (first (failures tables names k s.place [] args) (own_super tables names k s.place m (Some j) u i) h))
 
   mutual
-    pub tree_counts : (s : Site) (r : Role) (g : Option Kind) (a : Tree) → IsRead r → bad s r a ≡ None → Counts (handlers a) (mk s g a)
+    pub tree_counts : (s : Site) (r : Role) (g : Option StaticType) (a : Tree) → IsRead r → bad s r a ≡ None → Counts (handlers a) (mk s g a)
     tree_counts s r g (Num i n) read h = λ m n. refl
     tree_counts s r g (Text i n) read h = λ m n. refl
     tree_counts s r g (Truth i x) read h = λ m n. refl
@@ -265,51 +265,51 @@ module _ (tables : Tables) (names : Naming) (k : Known) (numbers : Numbering) wh
         counts_two (handlers a) (handlers j) (mk s None a) (mk s None j) (λ x y. e.Item (noted tables names k numbers s g (Item i a j)) x y) (tree_counts s Free None a tt ha) (tree_counts s Free None j tt hj)
     tree_counts s r g (Items i none) read h = λ m n. refl
     tree_counts s r g (Items i (more a rest)) read h =
-        let (ha, hr, ho) = parts2 (bad s Free a) (faults tables names k s.place [] rest) _ h in
+        let (ha, hr, ho) = parts2 (bad s Free a) (failures tables names k s.place [] rest) _ h in
         counts_two (handlers a) (handlers_of rest) (mk s None a) (made_items tables names k numbers s (type_in tables names k numbers s a) rest) (λ x xs. e.Items (noted tables names k numbers s g (Items i (more a rest))) (e.more x xs))
         (tree_counts s Free None a tt ha) (items_counts s (type_in tables names k numbers s a) rest hr)
     tree_counts s r g (Call i f args) read h =
         call_counts s i f args (noted tables names k numbers s g (Call i f args)) (board_callee tables k s.place f) refl h
         (λ takes h'. given_counts s takes args h') (λ ps h' q. asked_counts s ps args h' q)
-    tree_counts s r g (SuperCall i None args) read h = let z : fault_at Mismatch i ≡ None = last (faults tables names k s.place [] args) (fault_at Mismatch i) h in cc
+    tree_counts s r g (SuperCall i None args) read h = let z : failure_at Mismatch i ≡ None = last (failures tables names k s.place [] args) (failure_at Mismatch i) h in cc
     tree_counts s r g (SuperCall i (Some m) args) read h =
         super_counts s i m args (noted tables names k numbers s g (SuperCall i (Some m) args)) (type_of tables k s.place r (SuperCall i (Some m) args)) (super_method tables k s.place.this m) h (λ takes h'. given_counts s takes args h')
     tree_counts s r g (Make i x args) read h =
         let class = class_found tables names k numbers (finds tables k s.place x) in
-        counts_one (handlers_of args) (made_given tables names k numbers s (maker_takes_of k.classes class) args) (λ xs. e.Make (t.Object class) class xs) (given_counts s (maker_takes_of k.classes class) args (first (faults tables names k s.place [] args) _ h))
+        counts_one (handlers_of args) (made_given tables names k numbers s (maker_takes_of k.classes class) args) (λ xs. e.Make (t.Object class) class xs) (given_counts s (maker_takes_of k.classes class) args (first (failures tables names k s.place [] args) _ h))
     tree_counts s r g (Handler i body) read h =
         let serves : Bool = serves_itself tables names k s.place body in
-        absurd (served_read r serves i read (last (handler_fault tables names k s.place body) (unless (is_served r && serves) BadHandler i) h))
+        absurd (served_read r serves i read (last (handler_failure tables names k s.place body) (unless (is_served r && serves) BadHandler i) h))
 
-    pub given_counts : (s : Site) (takes : List Kind) (args : Trees) → faults tables names k s.place [] args ≡ None → Counts (handlers_of args) (made_given tables names k numbers s takes args)
+    pub given_counts : (s : Site) (takes : List StaticType) (args : Trees) → failures tables names k s.place [] args ≡ None → Counts (handlers_of args) (made_given tables names k numbers s takes args)
     given_counts s takes none h = λ m n. refl
     given_counts s takes (more a rest) h =
         counts_two (handlers a) (handlers_of rest) (mk s (next_given takes) a) (made_given tables names k numbers s (later_given takes) rest) (λ x xs. e.more x xs)
-        (tree_counts s Given (next_given takes) a tt (first (bad s Given a) (faults tables names k s.place [] rest) h)) (given_counts s (later_given takes) rest (last (bad s Given a) (faults tables names k s.place [] rest) h))
+        (tree_counts s Given (next_given takes) a tt (first (bad s Given a) (failures tables names k s.place [] rest) h)) (given_counts s (later_given takes) rest (last (bad s Given a) (failures tables names k s.place [] rest) h))
 
-    items_counts : (s : Site) (u : Kind) (args : Trees) → faults tables names k s.place [] args ≡ None → Counts (handlers_of args) (made_items tables names k numbers s u args)
+    items_counts : (s : Site) (u : StaticType) (args : Trees) → failures tables names k s.place [] args ≡ None → Counts (handlers_of args) (made_items tables names k numbers s u args)
     items_counts s u none h = λ m n. refl
     items_counts s u (more a rest) h =
         counts_two (handlers a) (handlers_of rest) (mk s (Some u) a) (made_items tables names k numbers s u rest) (λ x xs. e.more x xs)
-        (tree_counts s Given (Some u) a tt (first (bad s Given a) (faults tables names k s.place [] rest) h)) (items_counts s u rest (last (bad s Given a) (faults tables names k s.place [] rest) h))
+        (tree_counts s Given (Some u) a tt (first (bad s Given a) (failures tables names k s.place [] rest) h)) (items_counts s u rest (last (bad s Given a) (failures tables names k s.place [] rest) h))
 
-    call_counts : (s : Site) (i : ℕ) (f : Tree) (args : Trees) (n : ValueType) (b : Option BoardCall) → board_callee tables k s.place f ≡ b → call_fault s i f args b ≡ None
-        → ((takes : List Kind) → faults tables names k s.place [] args ≡ None → Counts (handlers_of args) (made_given tables names k numbers s takes args))
-        → ((ps : List BoardParameter) → faults tables names k s.place ps args ≡ None → are_given tables k s.place ps args ≡ true → Counts (handlers_of args) (made_asked tables names k numbers s ps args))
+    call_counts : (s : Site) (i : ℕ) (f : Tree) (args : Trees) (n : ValueType) (b : Option BoardCall) → board_callee tables k s.place f ≡ b → call_failure s i f args b ≡ None
+        → ((takes : List StaticType) → failures tables names k s.place [] args ≡ None → Counts (handlers_of args) (made_given tables names k numbers s takes args))
+        → ((ps : List BoardParameter) → failures tables names k s.place ps args ≡ None → are_given tables k s.place ps args ≡ true → Counts (handlers_of args) (made_asked tables names k numbers s ps args))
         → Counts (handlers f + handlers_of args) (call_made s n f args b)
     call_counts s i f args n (Some call) q h given asked =
         let ps : List BoardParameter = (row_of call).takes in
         let none_so : handlers f ≡ 0 = board_plain s f call q in
         counts_as (handlers_of args) (handlers f + handlers_of args) (call_made s n f args (Some call))
         (counts_one (handlers_of args) (made_asked tables names k numbers s ps args) (λ xs. e.Call n (board_target call (row_of call).action) xs)
-        (asked ps (first (faults tables names k s.place ps args) (own_board tables names k s.place ps args i) h)
-        (given_of_board s ps args i (last (faults tables names k s.place ps args) (own_board tables names k s.place ps args i) h)))) (omega (arith, none_so))
+        (asked ps (first (failures tables names k s.place ps args) (own_board tables names k s.place ps args i) h)
+        (given_of_board s ps args i (last (failures tables names k s.place ps args) (own_board tables names k s.place ps args i) h)))) (omega (arith, none_so))
     call_counts s i (Name j x) args n None q h given asked =
-        let (hf, ha, ho) = parts2 (bad s Called (Name j x)) (faults tables names k s.place [] args) _ h in
+        let (hf, ha, ho) = parts2 (bad s Called (Name j x)) (failures tables names k s.place [] args) _ h in
         counts_as (handlers_of args) (0 + handlers_of args) (call_made s n (Name j x) args None)
         (counts_one (handlers_of args) (made_given tables names k numbers s (call_takes tables names k numbers s (Name j x)) args) (λ xs. e.Call n (c.Function (routine_of tables names k numbers (finds tables k s.place x))) xs) (given (call_takes tables names k numbers s (Name j x)) ha)) (omega arith)
     call_counts s i (Member j a m) args n None q h given asked =
-        let (hf, ha, ho) = parts2 (bad s Called (Member j a m)) (faults tables names k s.place [] args) _ h in
+        let (hf, ha, ho) = parts2 (bad s Called (Member j a m)) (failures tables names k s.place [] args) _ h in
         counts_two (handlers a) (handlers_of args) (mk s None a) (made_given tables names k numbers s (call_takes tables names k numbers s (Member j a m)) args)
         (λ x xs. e.Call n (part_target tables names k numbers (part_in tables names k numbers s a m) (class_in tables names k numbers s a) m) (e.more x xs))
         (object_counts s j a m (constant_of tables k s.place a m) (board_callee tables k s.place (Member j a m)) q refl hf (λ h'. tree_counts s Free None a tt h')) (given (call_takes tables names k numbers s (Member j a m)) ha)
@@ -332,28 +332,28 @@ module _ (tables : Tables) (names : Naming) (k : Known) (numbers : Numbering) wh
     call_counts s i (Make j x xs) args n None q h given asked = absurd (no_callee s (Make j x xs) args i refl h)
     call_counts s i (Handler j body) args n None q h given asked = absurd (no_callee s (Handler j body) args i refl h)
 
-    asked_counts : (s : Site) (ps : List BoardParameter) (args : Trees) → faults tables names k s.place ps args ≡ None → are_given tables k s.place ps args ≡ true → Counts (handlers_of args) (made_asked tables names k numbers s ps args)
+    asked_counts : (s : Site) (ps : List BoardParameter) (args : Trees) → failures tables names k s.place ps args ≡ None → are_given tables k s.place ps args ≡ true → Counts (handlers_of args) (made_asked tables names k numbers s ps args)
     asked_counts s ps none h q = λ m n. refl
     asked_counts s [] (more a rest) h q = cc
     asked_counts s (board.Of u ∷ ps) (more a rest) h q =
         let (given_so, rest_so) = both_true (given_to tables k (type_of tables k s.place Given a) u) (are_given tables k s.place ps rest) q in
         counts_two (handlers a) (handlers_of rest) (mk s (asked_given (board.Of u ∷ ps)) a) (made_asked tables names k numbers s ps rest) (λ x xs. e.more x xs)
-        (tree_counts s Given (asked_given (board.Of u ∷ ps)) a tt (first (bad s Given a) (faults tables names k s.place ps rest) h)) (asked_counts s ps rest (last (bad s Given a) (faults tables names k s.place ps rest) h) rest_so)
+        (tree_counts s Given (asked_given (board.Of u ∷ ps)) a tt (first (bad s Given a) (failures tables names k s.place ps rest) h)) (asked_counts s ps rest (last (bad s Given a) (failures tables names k s.place ps rest) h) rest_so)
     asked_counts s (board.Drawing ∷ ps) (more a rest) h q =
         let (draws_so, rest_so) = both_true (is_drawing tables a) (are_given tables k s.place ps rest) q in
         counts_two (handlers a) (handlers_of rest) (pure (drawing tables names k numbers a)) (made_asked tables names k numbers s ps rest) (λ x xs. e.more x xs)
-        (counts_as 0 (handlers a) (pure (drawing tables names k numbers a)) (λ m n. refl) (sym (drawing_plain a draws_so))) (asked_counts s ps rest (last (bad s Given a) (faults tables names k s.place ps rest) h) rest_so)
+        (counts_as 0 (handlers a) (pure (drawing tables names k numbers a)) (λ m n. refl) (sym (drawing_plain a draws_so))) (asked_counts s ps rest (last (bad s Given a) (failures tables names k s.place ps rest) h) rest_so)
     asked_counts s (board.Handler ∷ ps) (more a rest) h q =
         let (serves_so, rest_so) = both_true (is_routine tables k s.place a) (are_given tables k s.place ps rest) q in
         counts_two (handlers a) (handlers_of rest) (argument_made tables names k numbers s (board.Handler ∷ ps) a (mk s None a)) (made_asked tables names k numbers s ps rest) (λ x xs. e.more x xs)
-        (handler_counts s ps a (first (bad s Served a) (faults tables names k s.place ps rest) h) serves_so) (asked_counts s ps rest (last (bad s Served a) (faults tables names k s.place ps rest) h) rest_so)
+        (handler_counts s ps a (first (bad s Served a) (failures tables names k s.place ps rest) h) serves_so) (asked_counts s ps rest (last (bad s Served a) (failures tables names k s.place ps rest) h) rest_so)
 
     handler_counts : (s : Site) (ps : List BoardParameter) (a : Tree) → bad s Served a ≡ None → is_routine tables k s.place a ≡ true → Counts (handlers a) (argument_made tables names k numbers s (board.Handler ∷ ps) a (mk s None a))
     handler_counts s ps (Name i x) h q = λ m n. refl
     handler_counts s ps (Handler i (Does j params gives all arrow)) h q =
         let site' : Site = in_handler_site tables names k numbers s params gives all in
-        let h0 : handler_fault tables names k s.place (Does j params gives all arrow) ≡ None = first (handler_fault tables names k s.place (Does j params gives all arrow)) (unless (serves_itself tables names k s.place (Does j params gives all arrow)) BadHandler i) h in
-        let (h1, h2, h3) = parts2 _ (written_fault names j gives) (statements_fault tables names k site'.place all) h0 in
+        let h0 : handler_failure tables names k s.place (Does j params gives all arrow) ≡ None = first (handler_failure tables names k s.place (Does j params gives all arrow)) (unless (serves_itself tables names k s.place (Does j params gives all arrow)) BadHandler i) h in
+        let (h1, h2, h3) = parts2 _ (written_failure names j gives) (statements_failure tables names k site'.place all) h0 in
         λ m n. ap suc (statements_counts site' all h3 0 (suc n))
     handler_counts s ps (Num i n) h q = cc
     handler_counts s ps (Text i n) h q = cc
@@ -374,28 +374,28 @@ module _ (tables : Tables) (names : Naming) (k : Known) (numbers : Numbering) wh
     handler_counts s ps (SuperCall i m args) h q = cc
     handler_counts s ps (Make i x args) h q = cc
 
-    pub initial_counts : (s : Site) (shape : Option Annotation) (first' : OptionalTree) (i : ℕ) → initial_fault tables names k s.place shape first' ≡ None → own_bound tables names k s.place shape first' i ≡ None
+    pub initial_counts : (s : Site) (shape : Option Annotation) (first' : OptionalTree) (i : ℕ) → initial_failure tables names k s.place shape first' ≡ None → own_bound tables names k s.place shape first' i ≡ None
         → Counts (optional_handlers first') (made_first tables names k numbers s shape first')
     initial_counts s shape absent i h h1 = λ m n. refl
     initial_counts s None (present a) i h h1 =
         counts_one (handlers a) (mk s None a) (λ x. Some x) (tree_counts s Free None a tt (unalone (is_alone a) (bad s Free a) (type_of tables k s.place Free a) i h h1))
     initial_counts s (Some c') (present a) i h h1 = counts_one (handlers a) (mk s (written_kind names (Some c')) a) (λ x. Some x) (tree_counts s Given (written_kind names (Some c')) a tt h)
 
-    optional_counts : (s : Site) (a : OptionalTree) → optional_fault tables names k s.place a ≡ None → Counts (optional_handlers a) (made_optional tables names k numbers s a)
+    optional_counts : (s : Site) (a : OptionalTree) → optional_failure tables names k s.place a ≡ None → Counts (optional_handlers a) (made_optional tables names k numbers s a)
     optional_counts s absent h = λ m n. refl
     optional_counts s (present a) h = counts_one (handlers a) (mk s None a) (λ x. Some x) (tree_counts s Free None a tt h)
 
-    value_counts : (s : Site) (g : Option Kind) (a : OptionalTree) (i : ℕ) → statement_fault tables names k s.place (Return i a) ≡ None → Counts (optional_handlers a) (made_value tables names k numbers s g a)
+    value_counts : (s : Site) (g : Option StaticType) (a : OptionalTree) (i : ℕ) → statement_failure tables names k s.place (Return i a) ≡ None → Counts (optional_handlers a) (made_value tables names k numbers s g a)
     value_counts s g absent i h = λ m n. refl
     value_counts s g (present a) i h = counts_one (handlers a) (mk s g a) (λ x. Some x) (tree_counts s (kind_role s.place.gives) g a (role_read s.place.gives) (first (bad s (kind_role s.place.gives) a) _ h))
 
-    locals_counts : (s : Site) (fixed : Bool) (each : Declarations) → declarations_fault tables names k s.place fixed each ≡ None → Counts (declarations_handlers each) (made_locals tables names k numbers s fixed each)
+    locals_counts : (s : Site) (fixed : Bool) (each : Declarations) → declarations_failure tables names k s.place fixed each ≡ None → Counts (declarations_handlers each) (made_locals tables names k numbers s fixed each)
     locals_counts s fixed ended h = λ m n. refl
     locals_counts s fixed (next (Declare i x shape first') rest) h = λ m n.
         let a : Declaration = Declare i x shape first' in
-        let here : Option Fault = declaration_fault tables names k s.place a in
-        let later : Option Fault = declarations_fault tables names k (after tables names k s.place (Let 0 fixed (next a ended))) fixed rest in
-        let (hw, hi, hl, hb) = parts3 (written_fault names i shape) (initial_fault tables names k s.place shape first') (own_local tables names k s.place x i) (own_bound tables names k s.place shape first' i) (first here later h) in
+        let here : Option Failure = declaration_failure tables names k s.place a in
+        let later : Option Failure = declarations_failure tables names k (after tables names k s.place (Let 0 fixed (next a ended))) fixed rest in
+        let (hw, hi, hl, hb) = parts3 (written_failure names i shape) (initial_failure tables names k s.place shape first') (own_local tables names k s.place x i) (own_bound tables names k s.place shape first' i) (first here later h) in
         let s1 : Site = behind_statement tables names k numbers m s (Let 0 fixed (next a ended)) in
         counts_two (optional_handlers first') (declarations_handlers rest) (made_local tables names k numbers s a) (made_locals tables names k numbers s1 fixed rest) (λ d ds. d ∷ ds)
         (counts_as (optional_handlers first' + 0) (optional_handlers first') (made_local tables names k numbers s a)
@@ -403,33 +403,33 @@ module _ (tables : Tables) (names : Naming) (k : Known) (numbers : Numbering) wh
         (λ l. a_local (t_of s shape first') (λ (j : ℕ). let d : TypedDeclaration = record { name = Local j; first = l } in d)) (initial_counts s shape first' i hi hb) (λ l m' n'. refl)) (omega arith))
         (locals_counts s1 fixed rest (last here later h)) m n
 
-    pub statement_counts : (s : Site) (a : Statement) → statement_fault tables names k s.place a ≡ None → Counts (statement_handlers a) (made_statement tables names k numbers s a)
+    pub statement_counts : (s : Site) (a : Statement) → statement_failure tables names k s.place a ≡ None → Counts (statement_handlers a) (made_statement tables names k numbers s a)
     statement_counts s (Block i all) h = counts_one (statements_handlers all) (made_statements tables names k numbers (in_block s) all) (λ xs. e.Block xs) (statements_counts (in_block s) all h)
     statement_counts s (Let i fixed each) h = counts_one (declarations_handlers each) (made_locals tables names k numbers s fixed each) (λ ds. e.Let fixed ds) (locals_counts s fixed each h)
     statement_counts s (IfOnly i test a) h =
-        let (ht, ha, ho) = parts2 (bad s Free test) (statement_fault tables names k (inner s.place) a) _ h in
+        let (ht, ha, ho) = parts2 (bad s Free test) (statement_failure tables names k (inner s.place) a) _ h in
         counts_two (handlers test) (statement_handlers a) (mk s None test) (made_statement tables names k numbers (in_block s) a) (λ q x. e.IfOnly q x) (tree_counts s Free None test tt ht) (statement_counts (in_block s) a ha)
     statement_counts s (IfElse i test a b) h =
-        let (ht, ha, hb, ho) = parts3 (bad s Free test) (statement_fault tables names k (inner s.place) a) (statement_fault tables names k (inner s.place) b) _ h in
+        let (ht, ha, hb, ho) = parts3 (bad s Free test) (statement_failure tables names k (inner s.place) a) (statement_failure tables names k (inner s.place) b) _ h in
         counts_as (handlers test + (statement_handlers a + statement_handlers b)) (handlers test + statement_handlers a + statement_handlers b) (made_statement tables names k numbers s (IfElse i test a b))
         (counts_bind (handlers test) (statement_handlers a + statement_handlers b) (mk s None test) (λ q. made_statement tables names k numbers (in_block s) a >=> λ x. made_statement tables names k numbers (in_block s) b >=> λ y. pure (e.IfElse q x y))
         (tree_counts s Free None test tt ht)
         (λ q. counts_two (statement_handlers a) (statement_handlers b) (made_statement tables names k numbers (in_block s) a) (made_statement tables names k numbers (in_block s) b) (λ x y. e.IfElse q x y) (statement_counts (in_block s) a ha) (statement_counts (in_block s) b hb))) (omega arith)
     statement_counts s (While i test a) h =
-        let (ht, ha, ho) = parts2 (bad s Free test) (statement_fault tables names k (inner s.place) a) _ h in
+        let (ht, ha, ho) = parts2 (bad s Free test) (statement_failure tables names k (inner s.place) a) _ h in
         counts_two (handlers test) (statement_handlers a) (mk s None test) (made_statement tables names k numbers (in_block s) a) (λ q x. e.While q x) (tree_counts s Free None test tt ht) (statement_counts (in_block s) a ha)
     statement_counts s (DoWhile i a test) h =
-        let (ha, ht, ho) = parts2 (statement_fault tables names k (inner s.place) a) (bad s Free test) _ h in
+        let (ha, ht, ho) = parts2 (statement_failure tables names k (inner s.place) a) (bad s Free test) _ h in
         counts_two (statement_handlers a) (handlers test) (made_statement tables names k numbers (in_block s) a) (mk s None test) (λ x q. e.DoWhile x q) (statement_counts (in_block s) a ha) (tree_counts s Free None test tt ht)
     statement_counts s (For i one test step a) h = λ m n.
         let s0 : Site = in_block s in
         let s1 : Site = first_site tables names k numbers m s0 one in
-        let A : Option Fault = first_fault tables names k (inner s.place) one in
-        let B : Option Fault = optional_fault tables names k s1.place test in
-        let C : Option Fault = optional_fault tables names k s1.place step in
-        let D : Option Fault = statement_fault tables names k (inner s1.place) a in
-        let E : Option Fault = test_fault tables names k s1.place test i in
-        let h' : (A then B then C then D then E) ≡ None = subst (λ (p : Place). (A then optional_fault tables names k p test then optional_fault tables names k p step then statement_fault tables names k (inner p) a then test_fault tables names k p test i) ≡ None) (first_place m s0 one) h in
+        let A : Option Failure = first_failure tables names k (inner s.place) one in
+        let B : Option Failure = optional_failure tables names k s1.place test in
+        let C : Option Failure = optional_failure tables names k s1.place step in
+        let D : Option Failure = statement_failure tables names k (inner s1.place) a in
+        let E : Option Failure = test_failure tables names k s1.place test i in
+        let h' : (A then B then C then D then E) ≡ None = subst (λ (p : NameScope). (A then optional_failure tables names k p test then optional_failure tables names k p step then statement_failure tables names k (inner p) a then test_failure tables names k p test i) ≡ None) (first_place m s0 one) h in
         let (hA, hB, hC, hD, hE) = parts4 A B C D E h' in
         let F0 : ℕ = first_handlers one in
         let T0 : ℕ = optional_handlers test in
@@ -442,8 +442,8 @@ module _ (tables : Tables) (names : Naming) (k : Known) (numbers : Numbering) wh
         (λ l. counts_bind T0 (U0 + J) (made_optional tables names k numbers s1 test) (λ q. made_optional tables names k numbers s1 step >=> λ y. made_statement tables names k numbers (in_block s1) a >=> λ x. pure (e.For l q y x)) (optional_counts s1 test hB)
         (λ q. counts_two U0 J (made_optional tables names k numbers s1 step) (made_statement tables names k numbers (in_block s1) a) (λ y x. e.For l q y x) (optional_counts s1 step hC) (statement_counts (in_block s1) a hD)))) (omega arith) m n
     statement_counts s (ForOf i fixed x list a) h = λ m n.
-        let p1 : Place = looped tables names k s.place fixed x list in
-        let (hl, ha, hd, ho) = parts3 (bad s Free list) (statement_fault tables names k (inner p1) a) (unless (not (is_dollar tables.names x)) UnknownName i) (unless (is_list tables names k (type_of tables k s.place Free list)) Mismatch i) h in
+        let p1 : NameScope = looped tables names k s.place fixed x list in
+        let (hl, ha, hd, ho) = parts3 (bad s Free list) (statement_failure tables names k (inner p1) a) (unless (not (is_dollar tables.names x)) UnknownName i) (unless (is_list tables names k (type_of tables k s.place Free list)) Mismatch i) h in
         let u : ValueType = u_of s list in
         let s1 : Site = record { place = inner p1; spots = s.spots ++ Local m ∷ [] } in
         let J : ℕ = statement_handlers a in
@@ -460,14 +460,14 @@ module _ (tables : Tables) (names : Naming) (k : Known) (numbers : Numbering) wh
     statement_counts s (Plain i a) h = counts_one (handlers a) (mk s None a) (λ x. e.Plain x) (tree_counts s Free None a tt h)
     statement_counts s (Empty i) h = λ m n. refl
 
-    opening_counts : (s : Site) (a : OptionalStatement) → first_fault tables names k s.place a ≡ None → Counts (first_handlers a) (made_opening tables names k numbers s a)
+    opening_counts : (s : Site) (a : OptionalStatement) → first_failure tables names k s.place a ≡ None → Counts (first_handlers a) (made_opening tables names k numbers s a)
     opening_counts s omitted h = λ m n. refl
     opening_counts s (written a) h = counts_one (statement_handlers a) (made_statement tables names k numbers s a) (λ x. e.written x) (statement_counts s a h)
 
-    pub statements_counts : (s : Site) (all : Statements) → statements_fault tables names k s.place all ≡ None → Counts (statements_handlers all) (made_statements tables names k numbers s all)
+    pub statements_counts : (s : Site) (all : Statements) → statements_failure tables names k s.place all ≡ None → Counts (statements_handlers all) (made_statements tables names k numbers s all)
     statements_counts s done h = λ m n. refl
     statements_counts s (also a rest) h = λ m n.
         let s1 : Site = behind_statement tables names k numbers m s a in
-        let ha = first (statement_fault tables names k s.place a) (statements_fault tables names k (after tables names k s.place a) rest) h in
-        let hr = last (statement_fault tables names k s.place a) (statements_fault tables names k (after tables names k s.place a) rest) h in
+        let ha = first (statement_failure tables names k s.place a) (statements_failure tables names k (after tables names k s.place a) rest) h in
+        let hr = last (statement_failure tables names k s.place a) (statements_failure tables names k (after tables names k s.place a) rest) h in
         counts_two (statement_handlers a) (statements_handlers rest) (made_statement tables names k numbers s a) (made_statements tables names k numbers s1 rest) (λ x xs. e.also x xs) (statement_counts s a ha) (statements_counts s1 rest hr) m n

@@ -10,7 +10,7 @@ use Rattle.sts_base.specs.Distinct.{IsDistinct}
 use Rattle.sts_base.specs.declared.tables.Tables.{Tables}
 use Rattle.sts_lexer.specs.Laws.{IsRead}
 use Rattle.sts_lexer.specs.Uses.{TakesUp, TakeUp, name_entry, text_entry}
-use Rattle.sts_lexer.specs.declared.token.Kind.{Kind}
+use Rattle.sts_lexer.specs.declared.token.TokenKind.{TokenKind}
 use Rattle.sts_lexer.specs.declared.token.Token.{Token}
 use Rattle.sts_lexer.proofs.Laws.{one_numbering}
 use Rattle.sts_syntax.specs.Programs.{Program}
@@ -18,7 +18,7 @@ use Rattle.sts_grammar.specs.Texts.{source, no_entries}
 use Rattle.sts_grammar.specs.Units.{AreParts}
 use Rattle.sts_grammar.specs.Laws.{OneProgram}
 use Rattle.sts_prelude.specs.inner.Library as l
-use Rattle.sts_prelude.specs.Spelled.{IsLibrary}
+use Rattle.sts_prelude.specs.Spelled.{IsLibraryTree}
 use Rattle.sts_prelude.specs.declared.text.TheConstants.{LIBRARY}
 use Rattle.sts_prelude.proofs.Laws.{own, own_tokens, own_tokenized, library_spelled}
 
@@ -51,7 +51,7 @@ abbrev next_of : Option ℕ → ℕ → Option ℕ
 next_of None n = Some n
 next_of (Some e) n = if nat_lt e n then Some n else (if e == n then Some (n + 1) else None)
 
-abbrev taken_to : (Kind → Option ℕ) → List Token → ℕ → Option ℕ
+abbrev taken_to : (TokenKind → Option ℕ) → List Token → ℕ → Option ℕ
 taken_to entry_of [] n = Some n
 taken_to entry_of (t ∷ rest) n = elim (next_of (entry_of t.kind) n) [ None ↦ None | Some m ↦ taken_to entry_of rest m ]
 
@@ -67,7 +67,7 @@ takes_up (Some e) n m h = older (nat_lt e n) refl h
     older true q g = inl (ltb-true e n q, sym (same_Some n m g))
     older false q g = same (e == n) refl g
 
-take_up : (entry_of : Kind → Option ℕ) (all : List Token) (n m : ℕ) → taken_to entry_of all n ≡ Some m → TakeUp entry_of all n m
+take_up : (entry_of : TokenKind → Option ℕ) (all : List Token) (n m : ℕ) → taken_to entry_of all n ≡ Some m → TakeUp entry_of all n m
 take_up entry_of [] n m h = sym (same_Some n m h)
 take_up entry_of (t ∷ rest) n m h = one (next_of (entry_of t.kind) n) refl h (λ k g. take_up entry_of rest k m g)
   where
@@ -92,10 +92,10 @@ own_read = record {
   in_order = record { names = take_up name_entry own_tokens 0 28 refl; texts = take_up text_entry own_tokens 0 1 refl };
 }
 
-pub library_read : IsLibrary no_entries own (l.library own_tokens)
+pub library_read : IsLibraryTree no_entries own (l.library own_tokens)
 library_read = record { tokens = own_tokens; read = own_tokenized; in_order = own_read.in_order; spelled = library_spelled own own_tokens own_names own_texts own_tokenized }
 
-pub library_first : (one : OneProgram) (new : Tables) (program : Program) → IsDistinct new.names → IsDistinct new.texts → IsLibrary no_entries new program
+pub library_first : (one : OneProgram) (new : Tables) (program : Program) → IsDistinct new.names → IsDistinct new.texts → IsLibraryTree no_entries new program
     → (new ≡ own) × (program ≡ l.library own_tokens)
 library_first one new program names texts h =
     let read : IsRead no_entries LIBRARY.now new h.tokens =

@@ -5,8 +5,8 @@ use Rattle.sts_base.specs.declared.tables.Tables.{Tables}
 use Rattle.sts_lexer.specs.Lexemes.{Lexeme, name, number, quoted, mark}
 use Rattle.sts_lexer.specs.Spaces.{start_of}
 use Rattle.sts_lexer.specs.Tokens.{IsKindOf, AreTokens, IsTokenization}
-use Rattle.sts_lexer.specs.declared.token.Kind.{Kind}
-use Rattle.sts_lexer.specs.declared.token.Kind.TheVariants as k
+use Rattle.sts_lexer.specs.declared.token.TokenKind.{TokenKind}
+use Rattle.sts_lexer.specs.declared.token.TokenKind.TheVariants as k
 use Rattle.sts_lexer.specs.declared.token.Token.{Token}
 use Rattle.sts_syntax.specs.TypeRules.{is_int32}
 use Rattle.sts_syntax.specs.Trees.{Declare, Does}
@@ -25,7 +25,7 @@ cast_fits w h = by_sign (nat_lt w (2 ^ 31)) refl
     by_sign : (c : Bool) → nat_lt w (2 ^ 31) ≡ c → is_int32 (cast_signed w32 w) ≡ true
     by_sign c e = grind arith
 
-kind_fits : (tables : Tables) (lexeme : Lexeme) (x : Kind) → IsKindOf tables lexeme x → (n : ℤ) → x ≡ k.Num n → is_int32 n ≡ true
+kind_fits : (tables : Tables) (lexeme : Lexeme) (x : TokenKind) → IsKindOf tables lexeme x → (n : ℤ) → x ≡ k.Num n → is_int32 n ≡ true
 kind_fits tables (number value) (k.Num int) h n e =
     let one : int ≡ n = cc in
     let fits : value % 2 ^ 32 < 2 ^ 32 = omega arith in
@@ -56,7 +56,7 @@ there [] i x e = cc
 there (y ∷ ys) zero x e = omega arith
 there (y ∷ ys) (suc i) x e = let less : i < length ys = there ys i x e in omega arith
 
-kind_stands : (tables : Tables) (lexeme : Lexeme) (z : Kind) → IsKindOf tables lexeme z → (x : ℕ) → z ≡ k.Text x → x < length tables.texts
+kind_stands : (tables : Tables) (lexeme : Lexeme) (z : TokenKind) → IsKindOf tables lexeme z → (x : ℕ) → z ≡ k.Text x → x < length tables.texts
 kind_stands tables (quoted value) (k.Text entry) h x e = let one : entry ≡ x = cc in subst (λ n. n < length tables.texts) one (there tables.texts entry value h)
 kind_stands tables lexeme (k.Num int) h x e = cc
 kind_stands tables lexeme (k.Name entry) h x e = cc

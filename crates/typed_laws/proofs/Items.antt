@@ -8,22 +8,22 @@ use Rattle.sts_syntax.specs.TypedTrees as e
 use Rattle.sts_syntax.specs.TypedTrees.{TypedTree, TypedStatement, TypedDeclaration}
 use Rattle.sts_syntax.specs.Trees.{Parameter, Num, Text, Truth, Null, This, Name, Unary, Binary, Both, Either, Choice, Set, Bump, Member, Item, Call, SuperCall, Make, Items, Handler, Trees, Statement, Block, Let, IfOnly, IfElse, While, DoWhile, For, ForOf, Return, Break, Continue, Plain, Empty, Statements, done, also, Declaration, Declare, Declarations, ended, next, Routine, Does}
 use Rattle.sts_syntax.specs.Programs.{ClassMember, Field, Method, Constructor, TopLevel, Class, Function, Main}
-use Rattle.sts_scope.specs.declared.kinds.Kind.{Kind}
+use Rattle.sts_scope.specs.declared.kinds.StaticType.{StaticType}
 use Rattle.sts_scope.specs.declared.known.Known.{Known}
 use Rattle.sts_scope.specs.declared.known.This.{This as Self}
 use Rattle.sts_scope.specs.declared.known.This.TheVariants as this
 use Rattle.sts_scope.specs.Kinds.{nothing}
-use Rattle.sts_scope.specs.Faults.{Fault, ◌then◌, fault_at}
+use Rattle.sts_scope.specs.Failures.{Failure, ◌then◌, failure_at}
 use Rattle.sts_scope.specs.Entries.{Naming, item_entries, main_entries, member_entries, global_entries}
-use Rattle.sts_scope.specs.Headings.{written_fault}
+use Rattle.sts_scope.specs.Headings.{written_failure}
 use Rattle.sts_scope.specs.Lookup.{base_of}
-use Rattle.sts_scope.specs.Places.{Place, outside}
+use Rattle.sts_scope.specs.Places.{NameScope, outside}
 use Rattle.sts_scope.specs.Rules.{kind_at, maker_takes_of}
 use Rattle.type_derive.specs.Typing.{types_of}
 use Rattle.type_derive.specs.Returns.{parameter_locals, within}
 use Rattle.type_derive.specs.Derived.{item_sources, main_sources, member_sources, global_sources}
-use Rattle.type_derive.specs.Nodes.{faults, statements_fault, initial_fault, own_bound}
-use Rattle.type_derive.specs.Passes.{field_fault, globals_fault, main_fault, body_fault, made_fault, own_super_call, constructor_fault, members_nodes}
+use Rattle.type_derive.specs.Nodes.{failures, statements_failure, initial_failure, own_bound}
+use Rattle.type_derive.specs.Passes.{field_failure, globals_failure, main_failure, body_failure, made_failure, own_super_call, constructor_failure, members_nodes}
 use Rattle.sts_scope.specs.Handlers.{handlers_of, optional_handlers, routine_handlers, declared_handlers, declarations_handlers, statement_handlers, statements_handlers, members_routines, unwritten}
 use Rattle.type_derive.specs.Making.{pure, ◌>=>◌}
 use Rattle.sts_scope.specs.Numbers.{Numbering, global_number, item_numbers, main_numbers, member_numbers, global_places}
@@ -95,34 +95,34 @@ module _ (names : Naming) where
   item_sourced c (Main a) = main_sourced a
 
 module _ (tables : Tables) (names : Naming) (k : Known) (numbers : Numbering) where
-  pub function_counts : (library : Bool) (n : ℕ) (result : Option Kind) (i : ℕ) (params : List Parameter) (gives : Option Annotation) (all : Statements) (arrow : Bool)
-      → statements_fault tables names k (within (parameter_locals names params) this.Nowhere result library) all ≡ None
+  pub function_counts : (library : Bool) (n : ℕ) (result : Option StaticType) (i : ℕ) (params : List Parameter) (gives : Option Annotation) (all : Statements) (arrow : Bool)
+      → statements_failure tables names k (within (parameter_locals names params) this.Nowhere result library) all ≡ None
       → length (function_made tables names k numbers library n result (Does i params gives all arrow)) ≡ suc (statements_handlers all)
   function_counts library n result i params gives all arrow h = ap suc (statements_counts tables names k numbers (site tables names k numbers this.Nowhere result library 0 params) all h 0 (suc n))
 
-  pub method_counts : (c n : ℕ) (result : Option Kind) (r : Routine) → body_fault tables names k (this.Object c) result r ≡ None → length (method_made tables names k numbers c n result r) ≡ suc (routine_handlers r)
+  pub method_counts : (c n : ℕ) (result : Option StaticType) (r : Routine) → body_failure tables names k (this.Object c) result r ≡ None → length (method_made tables names k numbers c n result r) ≡ suc (routine_handlers r)
   method_counts c n result (Does i params gives all arrow) h = ap suc (statements_counts tables names k numbers (site tables names k numbers (this.Object c) result false 1 params) all h 0 (suc n))
 
-  pub field_counts : (c n : ℕ) (a : Declaration) → field_fault tables names k (this.Object c) a ≡ None → length (initial_made tables names k numbers c n a).routines ≡ declared_handlers a
+  pub field_counts : (c n : ℕ) (a : Declaration) → field_failure tables names k (this.Object c) a ≡ None → length (initial_made tables names k numbers c n a).routines ≡ declared_handlers a
   field_counts c n (Declare i x shape first') h =
       let p = outside (this.Object c) false None in
-      let w = written_fault names i shape in
-      let j = initial_fault tables names k p shape first' in
+      let w = written_failure names i shape in
+      let j = initial_failure tables names k p shape first' in
       let o = own_bound tables names k p shape first' i in
       let r = last w (j then o) h in
       initial_counts tables names k numbers (record { place = p; spots = [] }) shape first' i (first j o r) (last j o r) 0 n
 
-  no_super : (i : ℕ) → fault_at Mismatch i ≡ None → ⊥
+  no_super : (i : ℕ) → failure_at Mismatch i ≡ None → ⊥
   no_super i h = cc
 
   abbrev NotSuper : Statements → Type 0
-  NotSuper all = (i b : ℕ) (p : Place) → made_fault tables names k p i b all ≡ (statements_fault tables names k p all then fault_at Mismatch i)
+  NotSuper all = (i b : ℕ) (p : NameScope) → made_failure tables names k p i b all ≡ (statements_failure tables names k p all then failure_at Mismatch i)
 
-  refused : (all : Statements) (i b : ℕ) (p : Place) → NotSuper all → made_fault tables names k p i b all ≡ None → ⊥
-  refused all i b p same h = no_super i (last (statements_fault tables names k p all) (fault_at Mismatch i) (sym (same i b p) ∙ h))
+  refused : (all : Statements) (i b : ℕ) (p : NameScope) → NotSuper all → made_failure tables names k p i b all ≡ None → ⊥
+  refused all i b p same h = no_super i (last (statements_failure tables names k p all) (failure_at Mismatch i) (sym (same i b p) ∙ h))
 
   -- The statements of a constructor with a base begin with `super(..)`.
-  pub begins_super : (all : Statements) (i b : ℕ) (p : Place) → made_fault tables names k p i b all ≡ None → (j l : ℕ) × (args : Trees) × (rest : Statements) × (all ≡ also (Plain j (SuperCall l None args)) rest)
+  pub begins_super : (all : Statements) (i b : ℕ) (p : NameScope) → made_failure tables names k p i b all ≡ None → (j l : ℕ) × (args : Trees) × (rest : Statements) × (all ≡ also (Plain j (SuperCall l None args)) rest)
   begins_super (also (Plain j (SuperCall l None args)) rest) i b p h = (j, l, args, rest, refl)
   begins_super done i b p h = absurd (refused done i b p (λ i b p. refl) h)
   begins_super (also (Plain j (SuperCall l (Some m) args)) rest) i b p h = absurd (refused (also (Plain j (SuperCall l (Some m) args)) rest) i b p (λ i b p. refl) h)
@@ -158,50 +158,50 @@ module _ (tables : Tables) (names : Naming) (k : Known) (numbers : Numbering) wh
   begins_super (also (Continue j) rest) i b p h = absurd (refused (also (Continue j) rest) i b p (λ i b p. refl) h)
   begins_super (also (Empty j) rest) i b p h = absurd (refused (also (Empty j) rest) i b p (λ i b p. refl) h)
 
-  abbrev pub maker_fault : Place → Option ℕ → ℕ → Statements → Option Fault
-  maker_fault p None i all = statements_fault tables names k p all
-  maker_fault p (Some b) i all = made_fault tables names k p i b all
+  abbrev pub maker_failure : NameScope → Option ℕ → ℕ → Statements → Option Failure
+  maker_failure p None i all = statements_failure tables names k p all
+  maker_failure p (Some b) i all = made_failure tables names k p i b all
 
   made_counts : (s : Site) (base : Option ℕ) (inits : List TypedStatement) (i : ℕ) (all : Statements)
-      → maker_fault s.place base i all ≡ None → Counts (statements_handlers all) (made_statements_of tables names k numbers s base inits all)
+      → maker_failure s.place base i all ≡ None → Counts (statements_handlers all) (made_statements_of tables names k numbers s base inits all)
   made_counts s None inits i all h = counts_one (statements_handlers all) (made_statements tables names k numbers s all) (λ xs. inits before xs) (statements_counts tables names k numbers s all h)
   made_counts s (Some b) inits i all h =
       let (j, l, args, rest, is) = begins_super all i b s.place h in
-      let G : Statements → Type 0 = λ xs. made_fault tables names k s.place i b xs ≡ None → Counts (statements_handlers xs) (made_statements_of tables names k numbers s (Some b) inits xs) in
+      let G : Statements → Type 0 = λ xs. made_failure tables names k s.place i b xs ≡ None → Counts (statements_handlers xs) (made_statements_of tables names k numbers s (Some b) inits xs) in
       let base : G (also (Plain j (SuperCall l None args)) rest) = λ h1.
-      let A = faults tables names k s.place [] args in
+      let A = failures tables names k s.place [] args in
       let B = own_super_call tables names k (types_of tables k s.place args) (maker_takes_of k.classes b) l in
-      let C = statements_fault tables names k s.place rest in
+      let C = statements_failure tables names k s.place rest in
       counts_two (handlers_of args) (statements_handlers rest) (made_given tables names k numbers s (maker_takes_of k.classes b) args) (made_statements tables names k numbers s rest)
       (λ ys xs. e.also (super_called tables names k numbers b ys) (inits before xs)) (given_counts tables names k numbers s (maker_takes_of k.classes b) args (first A (B then C) h1))
       (statements_counts tables names k numbers s rest (last B C (last A (B then C) h1))) in
       subst G (sym is) base h
 
-  pub constructor_case : (self : Self) (base : Option ℕ) (i : ℕ) (params : List Parameter) (gives : Option Annotation) (all : Statements) (arrow : Bool) → constructor_fault tables names k self base (Does i params gives all arrow) ≡ None
-      → maker_fault (within (parameter_locals names params) self (Some nothing) false) base i all ≡ None
+  pub constructor_case : (self : Self) (base : Option ℕ) (i : ℕ) (params : List Parameter) (gives : Option Annotation) (all : Statements) (arrow : Bool) → constructor_failure tables names k self base (Does i params gives all arrow) ≡ None
+      → maker_failure (within (parameter_locals names params) self (Some nothing) false) base i all ≡ None
   constructor_case self None i params gives all arrow h = h
   constructor_case self (Some b) i params gives all arrow h = h
 
-  pub constructor_counts : (c n : ℕ) (inits : List TypedStatement) (r : Routine) → constructor_fault tables names k (this.Object c) (base_of k.classes c) r ≡ None → length (constructor_made tables names k numbers c n inits r) ≡ suc (routine_handlers r)
+  pub constructor_counts : (c n : ℕ) (inits : List TypedStatement) (r : Routine) → constructor_failure tables names k (this.Object c) (base_of k.classes c) r ≡ None → length (constructor_made tables names k numbers c n inits r) ≡ suc (routine_handlers r)
   constructor_counts c n inits (Does i params gives all arrow) h =
       ap suc (made_counts (site tables names k numbers (this.Object c) (Some nothing) false 1 params) (base_of k.classes c) inits i all (constructor_case (this.Object c) (base_of k.classes c) i params gives all arrow h) 0 (suc n))
 
   pub members_counts : (c n d : ℕ) (inits : List TypedStatement) (members : List ClassMember) → members_nodes tables names k c d members ≡ None → length (members_made tables names k numbers c inits n d members) ≡ members_routines members
   members_counts c n d inits [] h = refl
   members_counts c n d inits (Field a ∷ rest) h =
-      let A = field_fault tables names k (this.Object c) a in
+      let A = field_failure tables names k (this.Object c) a in
       let B = members_nodes tables names k c (suc d) rest in
       length-append (initial_made tables names k numbers c n a).routines (members_made tables names k numbers c inits (n + declared_handlers a) (suc d) rest)
       ∙ ap (λ (i : ℕ). i + length (members_made tables names k numbers c inits (n + declared_handlers a) (suc d) rest)) (field_counts c n a (first A B h))
       ∙ ap (λ (i : ℕ). declared_handlers a + i) (members_counts c (n + declared_handlers a) (suc d) inits rest (last A B h))
   members_counts c n d inits (Method x r ∷ rest) h =
-      let A = body_fault tables names k (this.Object c) (kind_at k d) r in
+      let A = body_failure tables names k (this.Object c) (kind_at k d) r in
       let B = members_nodes tables names k c (suc d) rest in
       length-append (method_made tables names k numbers c n (kind_at k d) r) (members_made tables names k numbers c inits (suc n + routine_handlers r) (suc d) rest)
       ∙ ap (λ (i : ℕ). i + length (members_made tables names k numbers c inits (suc n + routine_handlers r) (suc d) rest)) (method_counts c n (kind_at k d) r (first A B h))
       ∙ ap (λ (i : ℕ). suc (routine_handlers r) + i) (members_counts c (suc n + routine_handlers r) (suc d) inits rest (last A B h))
   members_counts c n d inits (Constructor r ∷ rest) h =
-      let A = constructor_fault tables names k (this.Object c) (base_of k.classes c) r in
+      let A = constructor_failure tables names k (this.Object c) (base_of k.classes c) r in
       let B = members_nodes tables names k c d rest in
       length-append (constructor_made tables names k numbers c n inits r) (members_made tables names k numbers c inits (suc n + routine_handlers r) d rest)
       ∙ ap (λ (i : ℕ). i + length (members_made tables names k numbers c inits (suc n + routine_handlers r) d rest)) (constructor_counts c n inits r (first A B h))
@@ -223,20 +223,20 @@ module _ (tables : Tables) (names : Naming) (k : Known) (numbers : Numbering) wh
   abbrev global_make : ℕ → Option TypedTree → TypedDeclaration
   global_make d a = record { name = Global (global_number k d); first = a }
 
-  globals_counts : (d : ℕ) (each : Declarations) → globals_fault tables names k each ≡ None → Counts (declarations_handlers each) (globals_made tables names k numbers d each)
+  globals_counts : (d : ℕ) (each : Declarations) → globals_failure tables names k each ≡ None → Counts (declarations_handlers each) (globals_made tables names k numbers d each)
   globals_counts d ended h = λ m n. refl
   globals_counts d (next (Declare i x shape first') rest) h =
       let p = outside this.Nowhere false None in
-      let w = written_fault names i shape in
-      let j = initial_fault tables names k p shape first' in
+      let w = written_failure names i shape in
+      let j = initial_failure tables names k p shape first' in
       let o = own_bound tables names k p shape first' i in
-      let A = field_fault tables names k this.Nowhere (Declare i x shape first') in
-      let r = last w (j then o) (first A (globals_fault tables names k rest) h) in
+      let A = field_failure tables names k this.Nowhere (Declare i x shape first') in
+      let r = last w (j then o) (first A (globals_failure tables names k rest) h) in
       counts_bind (optional_handlers first') (declarations_handlers rest) (global_made tables names k numbers d (Declare i x shape first')) (λ y. globals_made tables names k numbers (suc d) rest >=> λ ys. pure (y ∷ ys))
       (counts_one (optional_handlers first') (made_first tables names k numbers (record { place = p; spots = [] }) shape first') (global_make d) (initial_counts tables names k numbers (record { place = p; spots = [] }) shape first' i (first j o r) (last j o r)))
-      (λ y. counts_one (declarations_handlers rest) (globals_made tables names k numbers (suc d) rest) (λ ys. y ∷ ys) (globals_counts (suc d) rest (last A (globals_fault tables names k rest) h)))
+      (λ y. counts_one (declarations_handlers rest) (globals_made tables names k numbers (suc d) rest) (λ ys. y ∷ ys) (globals_counts (suc d) rest (last A (globals_failure tables names k rest) h)))
 
-  pub main_counts : (d : ℕ) (a : Statement) → main_fault tables names k a ≡ None → Counts (statement_handlers a) (main_made tables names k numbers d a)
+  pub main_counts : (d : ℕ) (a : Statement) → main_failure tables names k a ≡ None → Counts (statement_handlers a) (main_made tables names k numbers d a)
   main_counts d (Let i fixed each) h = counts_one (declarations_handlers each) (globals_made tables names k numbers d each) (λ ds. e.Let fixed ds) (globals_counts d each h)
   main_counts d (Block i all) h = statement_counts tables names k numbers (record { place = outside this.Nowhere false None; spots = [] }) (Block i all) h
   main_counts d (IfOnly i test a) h = statement_counts tables names k numbers (record { place = outside this.Nowhere false None; spots = [] }) (IfOnly i test a) h

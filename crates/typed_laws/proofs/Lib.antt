@@ -28,7 +28,7 @@ mod FormedTrees
 mod FormedUnits
 mod TextsKept
 mod NamedPrograms
-mod Faultless
+mod NoFailure
 mod Prelude
 mod LibraryRows
 mod LibraryWhole

@@ -11,7 +11,7 @@ use Rattle.sts_syntax.specs.Programs.{Program}
 use Rattle.sts_syntax.specs.Trees.{Parameter, Statement, Statements, also, done, present}
 use Rattle.sts_syntax.specs.TypedTrees.{TypedRoutine}
 use Rattle.sts_syntax.specs.TypeRules.{entry}
-use Rattle.sts_scope.specs.declared.kinds.Kind.{Kind}
+use Rattle.sts_scope.specs.declared.kinds.StaticType.{StaticType}
 use Rattle.sts_scope.specs.declared.known.This.TheVariants as this
 use Rattle.sts_scope.specs.Kinds.{number, text as text_kind, nothing, value_types}
 use Rattle.sts_scope.specs.Entries.{parameter_kinds}
@@ -51,18 +51,18 @@ empty a b h j = rw h (rw j refl)
 behind_test : {A : Type 0} (a : List A) → a ≡ [] → (a ++ []) ++ [] ≡ []
 behind_test a h = rw h refl
 
-module _ (more rest : List (List ℕ)) (text : Program) (kinds : List (Option Kind)) where
+module _ (more rest : List (List ℕ)) (text : Program) (kinds : List (Option StaticType)) where
   abbrev pub N : Numbering
   N = numbering (L ++ text)
 
-  abbrev pub built : ℕ → Option Kind → List Parameter → Statements → Made TypedRoutine
+  abbrev pub built : ℕ → Option StaticType → List Parameter → Statements → Made TypedRoutine
   built n gives params all =
       routine (T more rest text kinds) (names more rest text kinds) (k more rest text kinds) N (value_types (parameter_kinds (names more rest text kinds) params))
       (class_result (T more rest text kinds) (names more rest text kinds) (k more rest text kinds) N gives)
       (made_statements (T more rest text kinds) (names more rest text kinds) (k more rest text kinds) N
       (site (T more rest text kinds) (names more rest text kinds) (k more rest text kinds) N this.Nowhere gives true 0 params) all) n
 
-  leds : (n : ℕ) (gives : Option Kind) → (built n gives (l.parameter own_tokens 3 a.Number ∷ []) (l.show_leds own_tokens 10)).routines ≡ []
+  leds : (n : ℕ) (gives : Option StaticType) → (built n gives (l.parameter own_tokens 3 a.Number ∷ []) (l.show_leds own_tokens 10)).routines ≡ []
   leds n gives = rw (show more rest text kinds, made_tree, made_asked, made_statement, made_statements, made_locals, made_local, made_first, ◌>=>◌, board_callee, own_call, ◌>>=◌, space_of, space) (rw (basic more rest text kinds, made_tree, made_asked, made_statement, made_statements, made_locals, made_local, made_first, ◌>=>◌, board_callee, own_call, ◌>>=◌, space_of, space) (refl))
 
   abbrev none_in : Site → Statement → ℕ → ℕ → Type 0
@@ -75,7 +75,7 @@ module _ (more rest : List (List ℕ)) (text : Program) (kinds : List (Option Ki
       → ((m' n' : ℕ) → none_within (behind_statement (T more rest text kinds) (names more rest text kinds) (k more rest text kinds) N m s a) all m' n') → none_within s (also a all) m n
   also_none s a all m n h g = empty (made_statement (T more rest text kinds) (names more rest text kinds) (k more rest text kinds) N s a m n).routines _ h (g _ _)
 
-  module _ (gives x : Option Kind) where
+  module _ (gives x : Option StaticType) where
     numbers_of_show : (z : List Spot) (m n : ℕ) → none_in (record { place = inner (inner (with (with (within (local 9 (Some number) false ∷ []) this.Nowhere gives true) 11 (Some number) false) 12 x false)); spots = z }) (l.show own_tokens 52) m n
     numbers_of_show z m n = rw (show more rest text kinds, made_tree, made_asked, made_statement, made_statements, made_locals, made_local, made_first, ◌>=>◌, board_callee, own_call, ◌>>=◌, space_of, space) refl
 
@@ -101,17 +101,17 @@ module _ (more rest : List (List ℕ)) (text : Program) (kinds : List (Option Ki
     numbers_of_first : (z : List Spot) (m n : ℕ) → none_in (record { place = (with (within (local 9 (Some number) false ∷ []) this.Nowhere gives true) 11 (Some number) false); spots = z }) (l.first_glyph own_tokens 36) m n
     numbers_of_first z m n = rw (number_glyph more rest text kinds, made_tree, made_asked, made_statement, made_statements, made_locals, made_local, made_first, ◌>=>◌, board_callee, own_call, ◌>>=◌, space_of, space) refl
 
-  numbers_of : (n : ℕ) (gives : Option Kind) → (built n gives (l.parameter own_tokens 25 a.Number ∷ []) (l.show_glyphs own_tokens 32)).routines ≡ []
+  numbers_of : (n : ℕ) (gives : Option StaticType) → (built n gives (l.parameter own_tokens 25 a.Number ∷ []) (l.show_glyphs own_tokens 32)).routines ≡ []
   numbers_of n gives =
       let s0 : Site = site (T more rest text kinds) (names more rest text kinds) (k more rest text kinds) N this.Nowhere gives true 0 (l.parameter own_tokens 25 a.Number ∷ []) in
       let s1 : Site = behind_statement (T more rest text kinds) (names more rest text kinds) (k more rest text kinds) N 0 s0 (l.declare own_tokens 32 (l.number own_tokens 35 (pos 0))) in
       let s2 : ℕ → Site = λ m. behind_statement (T more rest text kinds) (names more rest text kinds) (k more rest text kinds) N m s1 (l.first_glyph own_tokens 36) in
-      let x : Option Kind = bound (T more rest text kinds) (names more rest text kinds) (k more rest text kinds) s1.place None (present (l.glyph own_tokens 39 (l.number own_tokens 43 (pos 0)))) in
+      let x : Option StaticType = bound (T more rest text kinds) (names more rest text kinds) (k more rest text kinds) s1.place None (present (l.glyph own_tokens 39 (l.number own_tokens 43 (pos 0)))) in
       also_none s0 (l.declare own_tokens 32 (l.number own_tokens 35 (pos 0))) (also (l.first_glyph own_tokens 36) (also (l.glyph_loop own_tokens 45) done)) 0 (suc n) refl (λ m m'.
       also_none s1 (l.first_glyph own_tokens 36) (also (l.glyph_loop own_tokens 45) done) m m' (numbers_of_first gives gives s1.spots m m') (λ n n'.
       also_none (s2 m) (l.glyph_loop own_tokens 45) done n n' (numbers_of_loop gives x (s2 m).spots n n') (λ p p'. refl)))
 
-  module _ (gives x : Option Kind) where
+  module _ (gives x : Option StaticType) where
     strings_show : (z : List Spot) (m n : ℕ) → none_in (record { place = inner (inner (with (with (within (local 16 (Some text_kind) false ∷ []) this.Nowhere gives true) 11 (Some number) false) 12 x false)); spots = z }) (l.show own_tokens 108) m n
     strings_show z m n = rw (show more rest text kinds, made_tree, made_asked, made_statement, made_statements, made_locals, made_local, made_first, ◌>=>◌, board_callee, own_call, ◌>>=◌, space_of, space) refl
 
@@ -137,26 +137,26 @@ module _ (more rest : List (List ℕ)) (text : Program) (kinds : List (Option Ki
     strings_first : (z : List Spot) (m n : ℕ) → none_in (record { place = (with (within (local 16 (Some text_kind) false ∷ []) this.Nowhere gives true) 11 (Some number) false); spots = z }) (l.first_glyph own_tokens 92) m n
     strings_first z m n = rw (text_glyph more rest text kinds, made_tree, made_asked, made_statement, made_statements, made_locals, made_local, made_first, ◌>=>◌, board_callee, own_call, ◌>>=◌, space_of, space) refl
 
-  strings : (n : ℕ) (gives : Option Kind) → (built n gives (l.parameter own_tokens 81 a.Text ∷ []) (l.show_glyphs own_tokens 88)).routines ≡ []
+  strings : (n : ℕ) (gives : Option StaticType) → (built n gives (l.parameter own_tokens 81 a.Text ∷ []) (l.show_glyphs own_tokens 88)).routines ≡ []
   strings n gives =
       let s0 : Site = site (T more rest text kinds) (names more rest text kinds) (k more rest text kinds) N this.Nowhere gives true 0 (l.parameter own_tokens 81 a.Text ∷ []) in
       let s1 : Site = behind_statement (T more rest text kinds) (names more rest text kinds) (k more rest text kinds) N 0 s0 (l.declare own_tokens 88 (l.number own_tokens 91 (pos 0))) in
       let s2 : ℕ → Site = λ m. behind_statement (T more rest text kinds) (names more rest text kinds) (k more rest text kinds) N m s1 (l.first_glyph own_tokens 92) in
-      let x : Option Kind = bound (T more rest text kinds) (names more rest text kinds) (k more rest text kinds) s1.place None (present (l.glyph own_tokens 95 (l.number own_tokens 99 (pos 0)))) in
+      let x : Option StaticType = bound (T more rest text kinds) (names more rest text kinds) (k more rest text kinds) s1.place None (present (l.glyph own_tokens 95 (l.number own_tokens 99 (pos 0)))) in
       also_none s0 (l.declare own_tokens 88 (l.number own_tokens 91 (pos 0))) (also (l.first_glyph own_tokens 92) (also (l.glyph_loop own_tokens 101) done)) 0 (suc n) refl (λ m m'.
       also_none s1 (l.first_glyph own_tokens 92) (also (l.glyph_loop own_tokens 101) done) m m' (strings_first gives gives s1.spots m m') (λ n n'.
       also_none (s2 m) (l.glyph_loop own_tokens 101) done n n' (strings_loop gives x (s2 m).spots n n') (λ p p'. refl)))
 
-  lines : (n : ℕ) (gives : Option Kind) → (built n gives (l.parameter own_tokens 137 a.Text ∷ []) (l.write_line own_tokens 144)).routines ≡ []
+  lines : (n : ℕ) (gives : Option StaticType) → (built n gives (l.parameter own_tokens 137 a.Text ∷ []) (l.write_line own_tokens 144)).routines ≡ []
   lines n gives = rw (serial more rest text kinds, made_tree, made_asked, made_statement, made_statements, made_locals, made_local, made_first, ◌>=>◌, board_callee, own_call, ◌>>=◌, space_of, space) (refl)
 
-  absolutes : (n : ℕ) (gives : Option Kind) → (built n gives (l.parameter own_tokens 161 a.Number ∷ []) (l.absolute own_tokens 168)).routines ≡ []
+  absolutes : (n : ℕ) (gives : Option StaticType) → (built n gives (l.parameter own_tokens 161 a.Number ∷ []) (l.absolute own_tokens 168)).routines ≡ []
   absolutes n gives = refl
 
-  least : (n : ℕ) (gives : Option Kind) → (built n gives (l.parameter own_tokens 182 a.Number ∷ l.parameter own_tokens 186 a.Number ∷ []) (l.one_of_two own_tokens 193 6)).routines ≡ []
+  least : (n : ℕ) (gives : Option StaticType) → (built n gives (l.parameter own_tokens 182 a.Number ∷ l.parameter own_tokens 186 a.Number ∷ []) (l.one_of_two own_tokens 193 6)).routines ≡ []
   least n gives = refl
 
-  greatest : (n : ℕ) (gives : Option Kind) → (built n gives (l.parameter own_tokens 205 a.Number ∷ l.parameter own_tokens 209 a.Number ∷ []) (l.one_of_two own_tokens 216 7)).routines ≡ []
+  greatest : (n : ℕ) (gives : Option StaticType) → (built n gives (l.parameter own_tokens 205 a.Number ∷ l.parameter own_tokens 209 a.Number ∷ []) (l.one_of_two own_tokens 216 7)).routines ≡ []
   greatest n gives = refl
 
   module _ (derived : AreDerived (T more rest text kinds) L text kinds) where
@@ -175,7 +175,7 @@ module _ (more rest : List (List ℕ)) (text : Program) (kinds : List (Option Ki
     abbrev Row : BoardCall → ℕ → Type 0
     Row call f = (r : TypedRoutine) × (entry made f ≡ Some r) × (r.params ≡ taken (row_of call).takes) × (r.gives ≡ (row_of call).gives)
 
-    abbrev gives_so : Option Kind → t.ValueType
+    abbrev gives_so : Option StaticType → t.ValueType
     gives_so x = class_result (T more rest text kinds) (names more rest text kinds) (k more rest text kinds) N x
 
     pub rows : (call : BoardCall) (f : ℕ) → (row_of call).action ≡ board.Library f → Row call f

@@ -7,7 +7,7 @@ use Rattle.sts_lexer.specs.declared.token.Token.{Token}
 use Rattle.sts_syntax.specs.BoardTable.{library_size}
 use Rattle.sts_syntax.specs.Programs.{Program}
 use Rattle.sts_syntax.specs.Weights.{routines_weight}
-use Rattle.sts_scope.specs.declared.kinds.Kind.{Kind}
+use Rattle.sts_scope.specs.declared.kinds.StaticType.{StaticType}
 use Rattle.type_derive.specs.Accepted.{AreDerived, typed}
 use Rattle.type_derive.specs.Libraries.{IsLibrary}
 use Rattle.sts_grammar.specs.Laws.{OneProgram}
@@ -17,7 +17,7 @@ use Rattle.sts_prelude.specs.Spelled as spelled
 use Rattle.sts_prelude.specs.declared.text.TheConstants.{LIBRARY}
 use Rattle.sts_prelude.proofs.Laws.{own, own_tokens, own_tokenized, moved, tokens_by, own_tokens_are}
 use Rattle.typed_laws.specs.LibraryLaws.{first}
-use Rattle.typed_laws.proofs.Prelude.{L, formed, faultless}
+use Rattle.typed_laws.proofs.Prelude.{L, formed, no_failure}
 use Rattle.typed_laws.proofs.LibraryRows.{rows}
 use Rattle.typed_laws.proofs.Weights.{light}
 use Rattle.typed_laws.proofs.First.{library_first}
@@ -25,11 +25,11 @@ use Rattle.typed_laws.proofs.First.{library_first}
 unmoved : tokens_by (moved own.names own.names) (moved own.texts own.texts) ≡ own_tokens
 unmoved = refl
 
-computed : (names texts : List (List ℕ)) (text : Program) (kinds : List (Option Kind)) → AreDerived (record { names = own.names ++ names; texts = own.texts ++ texts }) L text kinds
+computed : (names texts : List (List ℕ)) (text : Program) (kinds : List (Option StaticType)) → AreDerived (record { names = own.names ++ names; texts = own.texts ++ texts }) L text kinds
     → IsLibrary (record { names = own.names ++ names; texts = own.texts ++ texts }) L text kinds
-computed names texts text kinds derived = record { functions = tt; formed = formed; faultless = faultless names texts text kinds derived; rows = rows names texts text kinds derived }
+computed names texts text kinds derived = record { functions = tt; formed = formed; no_failure = no_failure names texts text kinds derived; rows = rows names texts text kinds derived }
 
-pub prelude_so : (tokens : List Token) (names texts : List (List ℕ)) (text : Program) (kinds : List (Option Kind)) → IsDistinct first.names → IsDistinct first.texts
+pub prelude_so : (tokens : List Token) (names texts : List (List ℕ)) (text : Program) (kinds : List (Option StaticType)) → IsDistinct first.names → IsDistinct first.texts
     → IsTokenization first LIBRARY.now tokens → AreDerived (record { names = first.names ++ names; texts = first.texts ++ texts }) (l.library tokens) text kinds
     → IsLibrary (record { names = first.names ++ names; texts = first.texts ++ texts }) (l.library tokens) text kinds
 prelude_so tokens names texts text kinds n x read derived =
@@ -38,11 +38,11 @@ prelude_so tokens names texts text kinds n x read derived =
     (computed names texts text kinds
     (subst (λ (ts : List Token). AreDerived (record { names = first.names ++ names; texts = first.texts ++ texts }) (l.library ts) text kinds) is derived))
 
-pub leaves_first : (one : OneProgram) (new : Tables) (program : Program) → IsDistinct new.names → IsDistinct new.texts → spelled.IsLibrary no_entries new program
+pub leaves_first : (one : OneProgram) (new : Tables) (program : Program) → IsDistinct new.names → IsDistinct new.texts → spelled.IsLibraryTree no_entries new program
     → (new ≡ first) × (tokens : List Token) × IsTokenization first LIBRARY.now tokens × (program ≡ l.library tokens)
 leaves_first one new program names texts h = let is = library_first one new program names texts h in (is.0, own_tokens, own_tokenized, is.1)
 
-pub typed_light : (tokens : List Token) (names texts : List (List ℕ)) (text : Program) (kinds : List (Option Kind)) → IsDistinct first.names → IsDistinct first.texts
+pub typed_light : (tokens : List Token) (names texts : List (List ℕ)) (text : Program) (kinds : List (Option StaticType)) → IsDistinct first.names → IsDistinct first.texts
     → IsTokenization first LIBRARY.now tokens → AreDerived (record { names = first.names ++ names; texts = first.texts ++ texts }) (l.library tokens) text kinds
     → routines_weight (take library_size (typed (record { names = first.names ++ names; texts = first.texts ++ texts }) (l.library tokens) text kinds).functions) ≤ 600
 typed_light tokens names texts text kinds n x read derived =

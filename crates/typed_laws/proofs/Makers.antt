@@ -6,7 +6,7 @@ use Rattle.sts_syntax.specs.Types as t
 use Rattle.sts_syntax.specs.TypedTrees.{TypedStatement, TypedRoutine, TypedProgram}
 use Rattle.sts_syntax.specs.Trees.{Routine, Does}
 use Rattle.sts_syntax.specs.Programs.{ClassMember, Field, Method, Constructor, TopLevel, Class, Function, Main, Program}
-use Rattle.sts_scope.specs.declared.kinds.Kind.{Kind}
+use Rattle.sts_scope.specs.declared.kinds.StaticType.{StaticType}
 use Rattle.sts_scope.specs.declared.entries.ClassHead.{ClassHead}
 use Rattle.sts_scope.specs.declared.known.Known.{Known}
 use Rattle.sts_scope.specs.declared.known.This.TheVariants as this
@@ -14,7 +14,7 @@ use Rattle.sts_scope.specs.Kinds.{value_types}
 use Rattle.sts_scope.specs.Entries.{Naming, classes_in, item_entries, heads_of, class_head, maker_takes, routine_takes}
 use Rattle.sts_scope.specs.Rules.{kind_at, maker_takes_of}
 use Rattle.sts_scope.specs.Rules as rules
-use Rattle.type_derive.specs.Passes.{field_fault, body_fault, members_nodes, item_nodes, nodes_fault}
+use Rattle.type_derive.specs.Passes.{field_failure, body_failure, members_nodes, item_nodes, nodes_failure}
 use Rattle.sts_scope.specs.Handlers.{routine_handlers, declared_handlers, statement_handlers, members_routines, unwritten, item_routines}
 use Rattle.sts_scope.specs.Numbers.{Numbering, maker_from, makers_from}
 use Rattle.type_derive.specs.Programs.{function_made, method_made, initial_made, initials, constructor_made, unwritten_made, members_made, class_made, main_made, items_made}
@@ -26,7 +26,7 @@ use Rattle.typed_laws.proofs.Placing.{HasBody, placed_at, placed_more, members_p
 
 -- a class has a written constructor, or none
 abbrev pub Written : Naming → List ClassMember → Type 0
-Written names members = (unwritten members ≡ 0) × (takes : List Kind) × (maker_takes names members ≡ Some takes)
+Written names members = (unwritten members ≡ 0) × (takes : List StaticType) × (maker_takes names members ≡ Some takes)
 
 abbrev pub Unwritten : Naming → List ClassMember → Type 0
 Unwritten names members = (unwritten members ≡ 1) × (maker_takes names members ≡ None) × ((start n : ℕ) → maker_from start n members ≡ start)
@@ -38,17 +38,17 @@ is_written names (Method x r ∷ rest) = elim (is_written names rest) [ inl p �
 is_written names (Constructor r ∷ rest) = inl (refl, routine_takes names r, refl)
 
 -- what a class's constructor takes
-takes_from_head : (classes : List ClassHead) (c : ℕ) (h : ClassHead) (n : ℕ) (takes : List Kind) → slice_get classes c ≡ Some h → h.takes ≡ Some takes → rules.maker_from classes (suc n) c ≡ takes
+takes_from_head : (classes : List ClassHead) (c : ℕ) (h : ClassHead) (n : ℕ) (takes : List StaticType) → slice_get classes c ≡ Some h → h.takes ≡ Some takes → rules.maker_from classes (suc n) c ≡ takes
 takes_from_head classes c h n takes q r =
-    let E : Option ClassHead → List Kind = λ x. elim x [ None ↦ [] | Some class ↦ elim class.takes [ Some takes ↦ takes | None ↦ elim class.base [ None ↦ [] | Some b ↦ rules.maker_from classes n b ] ] ] in
-    let F : Option (List Kind) → List Kind = λ x. elim x [ Some takes ↦ takes | None ↦ elim h.base [ None ↦ [] | Some b ↦ rules.maker_from classes n b ] ] in
+    let E : Option ClassHead → List StaticType = λ x. elim x [ None ↦ [] | Some class ↦ elim class.takes [ Some takes ↦ takes | None ↦ elim class.base [ None ↦ [] | Some b ↦ rules.maker_from classes n b ] ] ] in
+    let F : Option (List StaticType) → List StaticType = λ x. elim x [ Some takes ↦ takes | None ↦ elim h.base [ None ↦ [] | Some b ↦ rules.maker_from classes n b ] ] in
     ap E q ∙ ap F r
 
 some_classes : (classes : List ClassHead) (c : ℕ) (h : ClassHead) → slice_get classes c ≡ Some h → (n : ℕ) × (length classes ≡ suc n)
 some_classes [] c h q = cc
 some_classes (x ∷ xs) c h q = (length xs, refl)
 
-pub takes_of_head : (classes : List ClassHead) (c : ℕ) (h : ClassHead) (takes : List Kind) → slice_get classes c ≡ Some h → h.takes ≡ Some takes → maker_takes_of classes c ≡ takes
+pub takes_of_head : (classes : List ClassHead) (c : ℕ) (h : ClassHead) (takes : List StaticType) → slice_get classes c ≡ Some h → h.takes ≡ Some takes → maker_takes_of classes c ≡ takes
 takes_of_head classes c h takes q r =
     let (n, same) = some_classes classes c h q in
     ap (λ (i : ℕ). rules.maker_from classes i c) same ∙ takes_from_head classes c h n takes q r
@@ -103,7 +103,7 @@ item_length c (Main a) = blank_length (statement_handlers a)
 
 module _ (marks : List (Option ℕ)) where
   -- a written constructor is marked
-  written_marked : (names : Naming) (c start n : ℕ) (members : List ClassMember) (tail : List (Option ℕ)) → Suffix marks n (member_marks c members ++ tail) → (takes : List Kind) → maker_takes names members ≡ Some takes
+  written_marked : (names : Naming) (c start n : ℕ) (members : List ClassMember) (tail : List (Option ℕ)) → Suffix marks n (member_marks c members ++ tail) → (takes : List StaticType) → maker_takes names members ≡ Some takes
       → slice_get marks (maker_from start n members) ≡ Some (Some c)
   written_marked names c start n [] tail s takes q = cc
   written_marked names c start n (Field a ∷ rest) tail s takes q =
@@ -177,16 +177,16 @@ module _ (tables : Tables) (names : Naming) (k : Known) (numbers : Numbering) (P
   make_get c (suc i) (j ∷ js) h near = let near' : i < length js = omega arith in let z : suc c + i ≡ c + suc i = omega arith in subst (λ (x : ℕ). FitsMaker x (get_or js i 0)) z (make_get (suc c) i js h.1 near')
 
   -- a written constructor's function
-  written_body : (c start n d : ℕ) (inits : List TypedStatement) (members : List ClassMember) (takes : List Kind) → members_nodes tables names k c d members ≡ None → Placed P n (members_made tables names k numbers c inits n d members)
+  written_body : (c start n d : ℕ) (inits : List TypedStatement) (members : List ClassMember) (takes : List StaticType) → members_nodes tables names k c d members ≡ None → Placed P n (members_made tables names k numbers c inits n d members)
       → maker_takes names members ≡ Some takes → HasBody tables names k numbers P (t.Object c ∷ value_types takes) (t.Object c) (maker_from start n members)
   written_body c start n d inits [] takes h placed q = cc
   written_body c start n d inits (Field a ∷ rest) takes h placed q =
-      let A = field_fault tables names k (this.Object c) a in
+      let A = field_failure tables names k (this.Object c) a in
       let B = members_nodes tables names k c (suc d) rest in
       written_body c start (n + declared_handlers a) (suc d) inits rest takes (last A B h)
       (placed_at tables names k numbers P n (declared_handlers a) (initial_made tables names k numbers c n a).routines (members_made tables names k numbers c inits (n + declared_handlers a) (suc d) rest) (field_counts tables names k numbers c n a (first A B h)) placed) q
   written_body c start n d inits (Method x r ∷ rest) takes h placed q =
-      let A = body_fault tables names k (this.Object c) (kind_at k d) r in
+      let A = body_failure tables names k (this.Object c) (kind_at k d) r in
       let B = members_nodes tables names k c (suc d) rest in
       written_body c start (suc n + routine_handlers r) (suc d) inits rest takes (last A B h)
       (placed_more tables names k numbers P n (routine_handlers r) (method_made tables names k numbers c n (kind_at k d) r) (members_made tables names k numbers c inits (suc n + routine_handlers r) (suc d) rest) (method_counts tables names k numbers c n (kind_at k d) r (first A B h)) placed) q
@@ -196,7 +196,7 @@ module _ (tables : Tables) (names : Naming) (k : Known) (numbers : Numbering) (P
       let later = members_made tables names k numbers c inits (suc n + routine_handlers r) d rest in
       let own = placed_left P n made later placed in
       let same : routine_takes names r ≡ takes = cc in
-      (_, own.0, ap (λ (us : List Kind). t.Object c ∷ value_types us) same, refl)
+      (_, own.0, ap (λ (us : List StaticType). t.Object c ∷ value_types us) same, refl)
 
   class_makes : (c n d : ℕ) (at x : ℕ) (base : Option ℕ) (base_at : ℕ) (members : List ClassMember) → slice_get k.classes c ≡ Some (class_head names at base base_at members) → members_nodes tables names k c d members ≡ None
       → Placed P n (class_made tables names k numbers c n d members) → FitsMaker c (maker_from n n members)
@@ -206,7 +206,7 @@ module _ (tables : Tables) (names : Naming) (k : Known) (numbers : Numbering) (P
         let body = written_body c n (n + unwritten members) d inits members takes h (members_placed tables names k numbers P c n d members placed) q in
         let at_n : HasBody tables names k numbers P (t.Object c ∷ value_types takes) (t.Object c) (maker_from n n members) = subst (λ (j : ℕ). HasBody tables names k numbers P (t.Object c ∷ value_types takes) (t.Object c) (maker_from n j members)) here body in
         let same : maker_takes_of k.classes c ≡ takes = takes_of_head k.classes c (class_head names at base base_at members) takes head q in
-        subst (λ (us : List Kind). HasBody tables names k numbers P (t.Object c ∷ value_types us) (t.Object c) (maker_from n n members)) (sym same) at_n)
+        subst (λ (us : List StaticType). HasBody tables names k numbers P (t.Object c ∷ value_types us) (t.Object c) (maker_from n n members)) (sym same) at_n)
     | inr (one_so, q, same) ↦ (let inits = initials tables names k numbers c (n + unwritten members) d members in
         let made = unwritten_made tables names k numbers (unwritten members) c inits in
         let own = placed_left P n made (members_made tables names k numbers c inits (n + unwritten members) d members) placed in
@@ -214,13 +214,13 @@ module _ (tables : Tables) (names : Naming) (k : Known) (numbers : Numbering) (P
         subst (λ (j : ℕ). FitsMaker c j) (sym (same n n)) (_, one.0, refl, refl))
   ]
 
-  pub text_makes : (c d m n : ℕ) (text : Program) → Suffix k.classes c (heads_of names text) → nodes_fault tables names k c d text ≡ None → Placed P n (items_made tables names k numbers c d m n text).routines → AllMake c (makers_from n text)
+  pub text_makes : (c d m n : ℕ) (text : Program) → Suffix k.classes c (heads_of names text) → nodes_failure tables names k c d text ≡ None → Placed P n (items_made tables names k numbers c d m n text).routines → AllMake c (makers_from n text)
   text_makes c d m n [] s h placed = tt
   text_makes c d m n (Class at x base base_at members ∷ rest) s h placed =
       let i : TopLevel = Class at x base base_at members in
       let A = item_nodes tables names k c d i in
       let es = item_entries names c i in
-      let B = nodes_fault tables names k (c + classes_in i) (d + length es) rest in
+      let B = nodes_failure tables names k (c + classes_in i) (d + length es) rest in
       let here = class_made tables names k numbers c n (suc d) members in
       let step : c + 1 ≡ suc c = omega arith in
       let later : ℕ → List TypedRoutine = λ c'. (items_made tables names k numbers c' (d + length es) m (n + item_routines i) rest).routines in
@@ -234,7 +234,7 @@ module _ (tables : Tables) (names : Naming) (k : Known) (numbers : Numbering) (P
       let r : Routine = Does j params gives all arrow in
       let i : TopLevel = Function x r in
       let A = item_nodes tables names k c d i in
-      let B = nodes_fault tables names k (c + classes_in i) (d + length (item_entries names c i)) rest in
+      let B = nodes_failure tables names k (c + classes_in i) (d + length (item_entries names c i)) rest in
       let here = function_made tables names k numbers false n (kind_at k d) r in
       let c_step : c ≡ c + 0 = omega arith in
       let d_step : suc d ≡ d + 1 = omega arith in
@@ -249,7 +249,7 @@ module _ (tables : Tables) (names : Naming) (k : Known) (numbers : Numbering) (P
       let i : TopLevel = Main a in
       let A = item_nodes tables names k c d i in
       let es = item_entries names c i in
-      let B = nodes_fault tables names k (c + classes_in i) (d + length es) rest in
+      let B = nodes_failure tables names k (c + classes_in i) (d + length es) rest in
       let here = main_made tables names k numbers d a m n in
       let c_step : c ≡ c + 0 = omega arith in
       let later : ℕ → List TypedRoutine = λ c'. (items_made tables names k numbers c' (d + length es) (m + length here.locals) (n + item_routines i) rest).routines in

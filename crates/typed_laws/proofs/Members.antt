@@ -3,8 +3,8 @@ use Rattle.std.proofs.Common.{◌≡◌, ℕ, zero, suc, ◌+◌, ◌<◌, ◌==
 use Rattle.std.specs.Prelude.{slice_get, ◌⊎◌}
 use Rattle.sts_scope.specs.declared.entries.Owner.{Owner}
 use Rattle.sts_scope.specs.declared.entries.Owner.TheVariants as o
-use Rattle.sts_scope.specs.declared.entries.Sort.{Sort}
-use Rattle.sts_scope.specs.declared.entries.Sort.TheVariants as sort
+use Rattle.sts_scope.specs.declared.entries.DeclarationKind.{DeclarationKind}
+use Rattle.sts_scope.specs.declared.entries.DeclarationKind.TheVariants as sort
 use Rattle.sts_scope.specs.declared.entries.Entry.{Entry}
 use Rattle.sts_scope.specs.declared.known.Known.{Known}
 use Rattle.sts_scope.specs.Bases.{above}
@@ -26,7 +26,7 @@ some_or_none A {B} (Some y) f g = f y refl
 
 -- What the headings say of a declaration: members stand once in their class, fields hide nothing, and methods hide no field.
 module _ (k : Known) where
-  abbrev pub SaneAs : Sort → Owner → ℕ → ℕ → Type 0
+  abbrev pub SaneAs : DeclarationKind → Owner → ℕ → ℕ → Type 0
   SaneAs sort.Field (o.Class c) x d = (is_second k.entries d (o.Class c) x ≡ false) × (inherited k.entries k.classes c x ≡ None) × (c < length k.classes)
   SaneAs sort.Method (o.Class c) x d = (is_second k.entries d (o.Class c) x ≡ false) × (inherits_field k.entries k.classes c x ≡ false) × (c < length k.classes)
   SaneAs sort.Function (o.Class c) x d = ⊥
@@ -53,7 +53,7 @@ module _ (k : Known) where
     -- a member's own declaration
     pub own_number : (d c x : ℕ) (a : Entry) → slice_get k.entries d ≡ Some a → a.owner ≡ o.Class c → a.name ≡ x → number_of c x ≡ Some d
     own_number d c x a h q r =
-        let second : (s : Sort) → SaneAs s (o.Class c) x d → is_second k.entries d (o.Class c) x ≡ false =
+        let second : (s : DeclarationKind) → SaneAs s (o.Class c) x d → is_second k.entries d (o.Class c) x ≡ false =
         λ s. elim s as (λ y. SaneAs y (o.Class c) x d → is_second k.entries d (o.Class c) x ≡ false) [
           | sort.Field ↦ (λ z. z.0)
           | sort.Method ↦ (λ z. z.0)
@@ -73,12 +73,12 @@ module _ (k : Known) where
         (a, ap (λ (j : ℕ). slice_get k.entries j) (at ∙ (let z : 0 + i ≡ i = omega arith in z)) ∙ is, owner_is a.owner c p, eqb-true a.name x q)
 
     pub sort_there : (d : ℕ) (a : Entry) → slice_get k.entries d ≡ Some a → sort_of k.entries d ≡ Some a.sort
-    sort_there d a h = let F : Option Entry → Option Sort = λ x. elim x [ None ↦ None | Some e ↦ Some e.sort ] in ap F h
+    sort_there d a h = let F : Option Entry → Option DeclarationKind = λ x. elim x [ None ↦ None | Some e ↦ Some e.sort ] in ap F h
 
     -- a declaration of a class is one of an existing class
     pub class_within : (d c : ℕ) (a : Entry) → slice_get k.entries d ≡ Some a → a.owner ≡ o.Class c → c < length k.classes
     class_within d c a h q =
-        let go : (s : Sort) → SaneAs s (o.Class c) a.name d → c < length k.classes =
+        let go : (s : DeclarationKind) → SaneAs s (o.Class c) a.name d → c < length k.classes =
         λ s. elim s as (λ y. SaneAs y (o.Class c) a.name d → c < length k.classes) [
           | sort.Field ↦ (λ z. z.2)
           | sort.Method ↦ (λ z. z.2)
@@ -89,7 +89,7 @@ module _ (k : Known) where
         go a.sort (subst (λ (w : Owner). SaneAs a.sort w a.name d) q (sane d a h))
 
     -- names of a class's own members
-    module _ (W : Option Sort → Bool) where
+    module _ (W : Option DeclarationKind → Bool) where
       own_listed : (es : List Entry) (c x : ℕ) → is_listed (own_names W es c) x ≡ true → (i : ℕ) × (a : Entry) × (slice_get es i ≡ Some a) × (a.owner ≡ o.Class c) × (W (Some a.sort) ≡ true) × (a.name ≡ x)
       own_listed [] c x h = cc
       own_listed (e ∷ rest) c x h =
@@ -185,7 +185,7 @@ module _ (k : Known) where
         let H : Option ℕ → Option ℕ = λ y. elim y [ Some i ↦ Some i | None ↦ elim (base_of k.classes c) [ None ↦ None | Some b ↦ member_from k.entries k.classes l b x ] ] in
         ap (λ (i : ℕ). member_from k.entries k.classes i c x) many ∙ ap H q
 
-    module _ (W : Option Sort → Bool) where
+    module _ (W : Option DeclarationKind → Bool) where
       abbrev names_of : ℕ → List ℕ
       names_of c = names_from W k (length k.classes) c
 
@@ -258,7 +258,7 @@ module _ (k : Known) where
         let (a1, is1, owner, name) = number_own c x d r in
         let same : a1 ≡ a = (let z : Some a1 ≡ Some a = sym is1 ∙ is in cc) in
         let here : SaneAs sort.Field (o.Class c) x d =
-        subst (λ (w : Owner). SaneAs sort.Field w x d) (ap (λ (y : Entry). y.owner) (sym same) ∙ owner) (subst (λ (y : ℕ). SaneAs sort.Field a.owner y d) (ap (λ (y : Entry). y.name) (sym same) ∙ name) (subst (λ (y : Sort). SaneAs y a.owner a.name d) s (sane d a is))) in
+        subst (λ (w : Owner). SaneAs sort.Field w x d) (ap (λ (y : Entry). y.owner) (sym same) ∙ owner) (subst (λ (y : ℕ). SaneAs sort.Field a.owner y d) (ap (λ (y : Entry). y.name) (sym same) ∙ name) (subst (λ (y : DeclarationKind). SaneAs y a.owner a.name d) s (sane d a is))) in
         let z : None ≡ Some d' = sym here.1 ∙ inherited_is c b x qb ∙ m in cc
 
     pub own_method_hides : (c b x d d' : ℕ) (a a' : Entry) → base_of k.classes c ≡ Some b → number_of c x ≡ Some d → slice_get k.entries d ≡ Some a → a.sort ≡ sort.Method → member_number k.entries k.classes b x ≡ Some d' → slice_get k.entries d' ≡ Some a' → a'.sort ≡ sort.Field → ⊥
@@ -266,19 +266,19 @@ module _ (k : Known) where
         let (a1, is1, owner, name) = number_own c x d r in
         let same : a1 ≡ a = (let z : Some a1 ≡ Some a = sym is1 ∙ is in cc) in
         let here : SaneAs sort.Method (o.Class c) x d =
-        subst (λ (w : Owner). SaneAs sort.Method w x d) (ap (λ (y : Entry). y.owner) (sym same) ∙ owner) (subst (λ (y : ℕ). SaneAs sort.Method a.owner y d) (ap (λ (y : Entry). y.name) (sym same) ∙ name) (subst (λ (y : Sort). SaneAs y a.owner a.name d) s (sane d a is))) in
+        subst (λ (w : Owner). SaneAs sort.Method w x d) (ap (λ (y : Entry). y.owner) (sym same) ∙ owner) (subst (λ (y : ℕ). SaneAs sort.Method a.owner y d) (ap (λ (y : Entry). y.name) (sym same) ∙ name) (subst (λ (y : DeclarationKind). SaneAs y a.owner a.name d) s (sane d a is))) in
         let F : Option ℕ → Bool = λ y. elim y [ None ↦ false | Some i ↦ is_field (sort_of k.entries i) ] in
-        let yes' : inherits_field k.entries k.classes c x ≡ true = ap F (inherited_is c b x qb ∙ m) ∙ ap is_field (sort_there d' a' is' ∙ ap (λ (y : Sort). Some y) s') in
+        let yes' : inherits_field k.entries k.classes c x ≡ true = ap F (inherited_is c b x qb ∙ m) ∙ ap is_field (sort_there d' a' is' ∙ ap (λ (y : DeclarationKind). Some y) s') in
         let z : true ≡ false = sym yes' ∙ here.1 in cc
 
-    pub field_is : (s : Sort) → is_field (Some s) ≡ true → s ≡ sort.Field
+    pub field_is : (s : DeclarationKind) → is_field (Some s) ≡ true → s ≡ sort.Field
     field_is sort.Field h = refl
     field_is sort.Method h = cc
     field_is sort.Function h = cc
     field_is (sort.Global fixed) h = cc
     field_is (sort.Class i) h = cc
 
-    pub method_is : (s : Sort) → is_method (Some s) ≡ true → s ≡ sort.Method
+    pub method_is : (s : DeclarationKind) → is_method (Some s) ≡ true → s ≡ sort.Method
     method_is sort.Method h = refl
     method_is sort.Field h = cc
     method_is sort.Function h = cc
@@ -290,7 +290,7 @@ module _ (k : Known) where
     member_sort d c x a r is =
         let (a1, is1, owner, name) = number_own c x d r in
         let same : a1 ≡ a = (let z : Some a1 ≡ Some a = sym is1 ∙ is in cc) in
-        let go : (s : Sort) → SaneAs s (o.Class c) a.name d → (s ≡ sort.Field) ⊎ (s ≡ sort.Method) =
+        let go : (s : DeclarationKind) → SaneAs s (o.Class c) a.name d → (s ≡ sort.Field) ⊎ (s ≡ sort.Method) =
         λ s. elim s as (λ y. SaneAs y (o.Class c) a.name d → (y ≡ sort.Field) ⊎ (y ≡ sort.Method)) [
           | sort.Field ↦ (λ z. inl refl)
           | sort.Method ↦ (λ z. inr refl)
@@ -302,14 +302,14 @@ module _ (k : Known) where
 
     pub fields_keep : Keeps is_field
     fields_keep c b x d d' a a' qb r is m is' w = elim (member_sort d c x a r is) [
-      | inl s ↦ ap (λ (y : Sort). is_field (Some y)) s
+      | inl s ↦ ap (λ (y : DeclarationKind). is_field (Some y)) s
       | inr s ↦ absurd (own_method_hides c b x d d' a a' qb r is s m is' (field_is a'.sort w))
     ]
 
     pub methods_keep : Keeps is_method
     methods_keep c b x d d' a a' qb r is m is' w = elim (member_sort d c x a r is) [
       | inl s ↦ absurd (own_field_alone c b x d d' a qb r is s m)
-      | inr s ↦ ap (λ (y : Sort). is_method (Some y)) s
+      | inr s ↦ ap (λ (y : DeclarationKind). is_method (Some y)) s
     ]
 
     -- a member is declared in the class or in one above it

@@ -10,7 +10,7 @@ use Rattle.sts_syntax.specs.TypedTrees.{TypedTree, TypedStatement, TypedStatemen
 use Rattle.sts_syntax.specs.Nodes.{nodes, nodes_of, optional_nodes, declared_nodes, expressions, expressions_of, all_expressions, texts_in, NamesTexts}
 use Rattle.sts_syntax.specs.Trees.{SuperCall, Statement, Let, Plain, Statements, also, Declaration, Declare, Declarations, ended, next, Routine, Does}
 use Rattle.sts_syntax.specs.Programs.{ClassMember, Field, Method, Constructor, Class, Function, Main, Program}
-use Rattle.sts_scope.specs.declared.kinds.Kind.{Kind}
+use Rattle.sts_scope.specs.declared.kinds.StaticType.{StaticType}
 use Rattle.sts_scope.specs.declared.known.Known.{Known}
 use Rattle.sts_scope.specs.declared.known.This.TheVariants as this
 use Rattle.sts_scope.specs.Kinds.{nothing, value_types}
@@ -40,17 +40,17 @@ module _ (n : ℕ) where
   statements_both [] ys h k = k
   statements_both (x ∷ xs) ys h k = (h.0, statements_both xs ys h.1 k)
 
-  passed_names : (i : ℕ) (takes : List Kind) → AllName n (nodes_of (passed_on i takes))
+  passed_names : (i : ℕ) (takes : List StaticType) → AllName n (nodes_of (passed_on i takes))
   passed_names i [] = tt
   passed_names i (u ∷ us) = (tt, passed_names (suc i) us)
 
   module _ (tables : Tables) (names : Naming) (k : Known) (numbers : Numbering) where
-    function_names : (library : Bool) (i : ℕ) (result : Option Kind) (r : Routine) → BodyHas Whatever (Below n) r → RoutinesName n (function_made tables names k numbers library i result r)
+    function_names : (library : Bool) (i : ℕ) (result : Option StaticType) (r : Routine) → BodyHas Whatever (Below n) r → RoutinesName n (function_made tables names k numbers library i result r)
     function_names library i result (Does at params gives all arrow) h =
         routine_names n tables names k numbers (value_types (parameter_kinds names params)) (class_result tables names k numbers result) (made_statements tables names k numbers (site tables names k numbers this.Nowhere result library 0 params) all)
         (statements n tables names k numbers (site tables names k numbers this.Nowhere result library 0 params) false all h) i
 
-    method_names : (c i : ℕ) (result : Option Kind) (r : Routine) → BodyHas Whatever (Below n) r → RoutinesName n (method_made tables names k numbers c i result r)
+    method_names : (c i : ℕ) (result : Option StaticType) (r : Routine) → BodyHas Whatever (Below n) r → RoutinesName n (method_made tables names k numbers c i result r)
     method_names c i result (Does at params gives all arrow) h =
         routine_names n tables names k numbers (t.Object c ∷ value_types (parameter_kinds names params)) (class_result tables names k numbers result) (made_statements tables names k numbers (site tables names k numbers (this.Object c) result false 1 params) all)
         (statements n tables names k numbers (site tables names k numbers (this.Object c) result false 1 params) false all h) i
@@ -85,7 +85,7 @@ module _ (n : ℕ) where
         let s = site tables names k numbers (this.Object c) (Some nothing) false 1 params in
         routine_names n tables names k numbers (t.Object c ∷ value_types (parameter_kinds names params)) (t.Object c) (made_statements_of tables names k numbers s (base_of k.classes c) inits all) (statements_of s (base_of k.classes c) inits all p h) i
 
-    passes_name : (base : Option ℕ) (takes : List Kind) → StatementsName (passes_on tables names k numbers base takes)
+    passes_name : (base : Option ℕ) (takes : List StaticType) → StatementsName (passes_on tables names k numbers base takes)
     passes_name None takes = tt
     passes_name (Some b) takes = ((tt, passed_names 1 takes), tt)
 
@@ -180,7 +180,7 @@ module _ (n : ℕ) where
   texts_below (e.Items u items ∷ rest) h = texts_below rest h.1
   texts_below (e.Handler u f ∷ rest) h = texts_below rest h.1
 
-  pub typed_names : (tables : Tables) (library text : Program) (kinds : List (Option Kind)) → TextsBelow n library → TextsBelow n text → NamesTexts n (typed tables library text kinds)
+  pub typed_names : (tables : Tables) (library text : Program) (kinds : List (Option StaticType)) → TextsBelow n library → TextsBelow n text → NamesTexts n (typed tables library text kinds)
   typed_names tables library text kinds hl ht =
       let names = all_names library text in
       let k = known library text kinds in

@@ -7,10 +7,10 @@ use Rattle.sts_syntax.specs.Types.{ValueType}
 use Rattle.sts_syntax.specs.BoardTable.{row_of}
 use Rattle.sts_syntax.specs.declared.board_calls.BoardCall.{BoardCall}
 use Rattle.sts_syntax.specs.Trees.{Tree, Num, Text, Truth, Null, This, Name, Unary, Binary, Both, Either, Choice, Set, Bump, Member, Item, Call, SuperCall, Make, Items, Handler, none, more}
-use Rattle.sts_scope.specs.declared.kinds.Kind.{Kind}
+use Rattle.sts_scope.specs.declared.kinds.StaticType.{StaticType}
 use Rattle.sts_scope.specs.declared.entries.Owner.TheVariants as o
-use Rattle.sts_scope.specs.declared.entries.Sort.{Sort}
-use Rattle.sts_scope.specs.declared.entries.Sort.TheVariants as sort
+use Rattle.sts_scope.specs.declared.entries.DeclarationKind.{DeclarationKind}
+use Rattle.sts_scope.specs.declared.entries.DeclarationKind.TheVariants as sort
 use Rattle.sts_scope.specs.declared.known.Known.{Known}
 use Rattle.sts_scope.specs.declared.known.Found.{Found}
 use Rattle.sts_scope.specs.declared.known.Found.TheVariants as found
@@ -20,7 +20,7 @@ use Rattle.sts_scope.specs.declared.known.This.{This as Self}
 use Rattle.sts_scope.specs.declared.known.This.TheVariants as this
 use Rattle.sts_scope.specs.Kinds.{number, boolean, nothing, null, object, array, array_of, most_brackets, item, same, is_array, class_of, takes_null}
 use Rattle.sts_scope.specs.Lookup.{entry_number, sort_of, member_number}
-use Rattle.sts_scope.specs.Places.{Place, is_hidden, last_named, found_among, found_around, whole_found, sort_found, entry_found}
+use Rattle.sts_scope.specs.Places.{NameScope, is_hidden, last_named, found_among, found_around, whole_found, sort_found, entry_found}
 use Rattle.sts_scope.specs.Rules.{local_kind, name_kind, this_kind, kind_at, takes_at, is_spelled, array_part, member_part, object_part, class_part, part_of, part_kind, call_kind, all_go, maker_takes_of, operate, prefix, joined, common, choose, assign, counted, element, items_type, comparable, below, goes, all_go_to, is_arithmetic, is_order, is_equality}
 use Rattle.type_derive.specs.declared.roles.Role.TheVariants.{Free, Given}
 use Rattle.type_derive.specs.Typing.{◌>>=◌, Callee, callee, board_kind, finds, constant_of, board_callee, named_callee, part_callee, callee_of, super_method, made, called, type_of, types_of, are_given, settable}
@@ -49,7 +49,7 @@ fixed_some {A} P false a r p h = cc
 
 module _ (k : Known) where
   -- a global, a function and a class are declared so
-  abbrev pub Real : Place → Found → Type 0
+  abbrev pub Real : NameScope → Found → Type 0
   Real p (found.Local i) = Unit {0}
   Real p found.Captured = Unit {0}
   Real p (found.Global d) = (fixed : Bool) × (sort_of k.entries d ≡ Some (sort.Global fixed))
@@ -57,15 +57,15 @@ module _ (k : Known) where
   Real p (found.Class c) = (d : ℕ) × (sort_of k.entries d ≡ Some (sort.Class c))
   Real p found.Unknown = Unit {0}
 
-  module _ (p : Place) where
-    entry_real : (d : ℕ) (s : Sort) → sort_of k.entries d ≡ Some s → Real p (entry_found d s)
+  module _ (p : NameScope) where
+    entry_real : (d : ℕ) (s : DeclarationKind) → sort_of k.entries d ≡ Some s → Real p (entry_found d s)
     entry_real d (sort.Global fixed) h = (fixed, h)
     entry_real d sort.Function h = h
     entry_real d (sort.Class c) h = (d, h)
     entry_real d sort.Field h = tt
     entry_real d sort.Method h = tt
 
-    sort_real : (d : ℕ) (s : Option Sort) → sort_of k.entries d ≡ s → Real p (sort_found d s)
+    sort_real : (d : ℕ) (s : Option DeclarationKind) → sort_of k.entries d ≡ s → Real p (sort_found d s)
     sort_real d None h = tt
     sort_real d (Some s) h = entry_real d s h
 
@@ -85,11 +85,11 @@ module _ (k : Known) where
     among_real x (Some i) = tt
     among_real x None = around_real x (is_some (last_named p.around x))
 
-  pub real : (tables : Tables) (p : Place) (x : ℕ) → Real p (finds tables k p x)
+  pub real : (tables : Tables) (p : NameScope) (x : ℕ) → Real p (finds tables k p x)
   real tables p x = if_real p (is_hidden tables.names p x) found.Unknown (found_among k p x (last_named p.locals x)) (λ e. tt) (λ e. among_real p x (last_named p.locals x))
 
   -- what stands behind a dot
-  abbrev pub HasPart : Kind → ℕ → Part → Type 0
+  abbrev pub HasPart : StaticType → ℕ → Part → Type 0
   HasPart u m (part.Field d) = (c : ℕ) × (class_of u ≡ Some c) × (class_part k (Some c) m ≡ part.Field d)
   HasPart u m (part.Method d) = (c : ℕ) × (class_of u ≡ Some c) × (class_part k (Some c) m ≡ part.Method d)
   HasPart u m part.Length = is_array u ≡ true
@@ -97,11 +97,11 @@ module _ (k : Known) where
   HasPart u m (part.Pop v) = (is_array u ≡ true) × (v ≡ item u)
   HasPart u m part.Missing = Unit {0}
 
-  if_part : (u : Kind) (m : ℕ) (x : Bool) (f g : Part) → HasPart u m f → HasPart u m g → HasPart u m (if x then f else g)
+  if_part : (u : StaticType) (m : ℕ) (x : Bool) (f g : Part) → HasPart u m f → HasPart u m g → HasPart u m (if x then f else g)
   if_part u m true f g a b = a
   if_part u m false f g a b = b
 
-  class_has : (u : Kind) (m c : ℕ) (f : Part) → class_of u ≡ Some c → class_part k (Some c) m ≡ f → (f ≡ part.Length → ⊥) → ((v : Kind) → f ≡ part.Push v → ⊥) → ((v : Kind) → f ≡ part.Pop v → ⊥) → HasPart u m f
+  class_has : (u : StaticType) (m c : ℕ) (f : Part) → class_of u ≡ Some c → class_part k (Some c) m ≡ f → (f ≡ part.Length → ⊥) → ((v : StaticType) → f ≡ part.Push v → ⊥) → ((v : StaticType) → f ≡ part.Pop v → ⊥) → HasPart u m f
   class_has u m c (part.Field d) q r x y z = (c, q, r)
   class_has u m c (part.Method d) q r x y z = (c, q, r)
   class_has u m c part.Length q r x y z = absurd (x refl)
@@ -117,7 +117,7 @@ module _ (k : Known) where
   IsOfClass (part.Push v) = ⊥
   IsOfClass (part.Pop v) = ⊥
 
-  member_of : (d : ℕ) (s : Option Sort) → IsOfClass (member_part d s)
+  member_of : (d : ℕ) (s : Option DeclarationKind) → IsOfClass (member_part d s)
   member_of d (Some sort.Field) = tt
   member_of d (Some sort.Method) = tt
   member_of d (Some sort.Function) = tt
@@ -129,24 +129,24 @@ module _ (k : Known) where
   object_of None = tt
   object_of (Some d) = member_of d (sort_of k.entries d)
 
-  class_is : (u : Kind) (m c : ℕ) (f : Part) → class_of u ≡ Some c → class_part k (Some c) m ≡ f → IsOfClass f → HasPart u m f
+  class_is : (u : StaticType) (m c : ℕ) (f : Part) → class_of u ≡ Some c → class_part k (Some c) m ≡ f → IsOfClass f → HasPart u m f
   class_is u m c f q r i = class_has u m c f q r (λ e. subst IsOfClass e i) (λ v e. subst IsOfClass e i) (λ v e. subst IsOfClass e i)
 
-  class_parts : (u : Kind) (m : ℕ) (c : Option ℕ) → class_of u ≡ c → HasPart u m (class_part k c m)
+  class_parts : (u : StaticType) (m : ℕ) (c : Option ℕ) → class_of u ≡ c → HasPart u m (class_part k c m)
   class_parts u m None q = tt
   class_parts u m (Some c) q = class_is u m c (class_part k (Some c) m) q refl (object_of (member_number k.entries k.classes c m))
 
-  array_parts : (spellings : List (List ℕ)) (u : Kind) (m : ℕ) → is_array u ≡ true → HasPart u m (array_part spellings (item u) m)
+  array_parts : (spellings : List (List ℕ)) (u : StaticType) (m : ℕ) → is_array u ≡ true → HasPart u m (array_part spellings (item u) m)
   array_parts spellings u m h =
       if_part u m (is_spelled spellings m (codes "length")) part.Length _ h
       (if_part u m (is_spelled spellings m (codes "push")) (part.Push (item u)) _ (h, refl)
       (if_part u m (is_spelled spellings m (codes "pop")) (part.Pop (item u)) part.Missing (h, refl) tt))
 
-  parts_of : (spellings : List (List ℕ)) (u : Kind) (m : ℕ) (x : Bool) → is_array u ≡ x → HasPart u m (if x then array_part spellings (item u) m else class_part k (class_of u) m)
+  parts_of : (spellings : List (List ℕ)) (u : StaticType) (m : ℕ) (x : Bool) → is_array u ≡ x → HasPart u m (if x then array_part spellings (item u) m else class_part k (class_of u) m)
   parts_of spellings u m true q = array_parts spellings u m q
   parts_of spellings u m false q = class_parts u m (class_of u) refl
 
-  pub has_part : (spellings : List (List ℕ)) (u : Kind) (m : ℕ) → HasPart u m (part_of spellings k u m)
+  pub has_part : (spellings : List (List ℕ)) (u : StaticType) (m : ℕ) → HasPart u m (part_of spellings k u m)
   unfolding part_of
   has_part spellings u m = parts_of spellings u m (is_array u) refl
 
@@ -159,11 +159,11 @@ board_proper (t.Object c) = refl
 board_proper (t.ListOf u) = refl
 board_proper t.NullType = refl
 
-module _ (tables : Tables) (k : Known) (kinds_proper : (d : ℕ) (u : Kind) → kind_at k d ≡ Some u → IsProper u) where
-  abbrev pub AreProper : Place → Type 0
-  AreProper p = (i : ℕ) (u : Kind) → local_kind p.locals i ≡ Some u → IsProper u
+module _ (tables : Tables) (k : Known) (kinds_proper : (d : ℕ) (u : StaticType) → kind_at k d ≡ Some u → IsProper u) where
+  abbrev pub AreProper : NameScope → Type 0
+  AreProper p = (i : ℕ) (u : StaticType) → local_kind p.locals i ≡ Some u → IsProper u
 
-  works_proper : (op : ℕ) (s u w : Kind) → operate k.classes op s u ≡ Some w → IsProper w
+  works_proper : (op : ℕ) (s u w : StaticType) → operate k.classes op s u ≡ Some w → IsProper w
   unfolding operate
   works_proper op s u w h =
       either_some IsProper (is_equality op) (if comparable k.classes s u then Some boolean else None) (if same s number && same u number then (if is_arithmetic op then Some number else if is_order op then Some boolean else None) else None) w
@@ -172,18 +172,18 @@ module _ (tables : Tables) (k : Known) (kinds_proper : (d : ℕ) (u : Kind) → 
       (λ r e. either_some IsProper (is_arithmetic op) (Some number) (if is_order op then Some boolean else None) r (λ r e. subst IsProper (some_is number r e) refl) (λ r e. fixed_some IsProper (is_order op) boolean r refl e) e)
       (λ r e. cc) e) h
 
-  prefix_proper : (op : ℕ) (s w : Kind) → prefix op s ≡ Some w → IsProper w
+  prefix_proper : (op : ℕ) (s w : StaticType) → prefix op s ≡ Some w → IsProper w
   unfolding prefix
   prefix_proper op s w h =
       either_some IsProper (op == 3) (if same s boolean then Some boolean else None) (if (op == 1 || op == 2 || op == 4) && same s number then Some number else None) w
       (λ r e. fixed_some IsProper (same s boolean) boolean r refl e)
       (λ r e. fixed_some IsProper ((op == 1 || op == 2 || op == 4) && same s number) number r refl e) h
 
-  joined_proper : (s u w : Kind) → joined s u ≡ Some w → IsProper w
+  joined_proper : (s u w : StaticType) → joined s u ≡ Some w → IsProper w
   unfolding joined
   joined_proper s u w h = fixed_some IsProper (same s boolean && same u boolean) boolean w refl h
 
-  choose_proper : (q s u w : Kind) → IsProper s → IsProper u → choose k.classes q s u ≡ Some w → IsProper w
+  choose_proper : (q s u w : StaticType) → IsProper s → IsProper u → choose k.classes q s u ≡ Some w → IsProper w
   unfolding choose common
   choose_proper q s u w a c h =
       either_some IsProper (same q boolean) (common k.classes s u) None w
@@ -191,34 +191,34 @@ module _ (tables : Tables) (k : Known) (kinds_proper : (d : ℕ) (u : Kind) → 
       (λ r e. subst IsProper (some_is s r e) a) (λ r e. fixed_some IsProper (below k.classes s u || (same s null && takes_null u)) u r c e) e)
       (λ r e. cc) h
 
-  assign_operated : (op : ℕ) (o : Option Kind) (u w : Kind) → IsProper u → elim o [ None ↦ None | Some v ↦ if same v u then Some u else None ] ≡ Some w → IsProper w
+  assign_operated : (op : ℕ) (o : Option StaticType) (u w : StaticType) → IsProper u → elim o [ None ↦ None | Some v ↦ if same v u then Some u else None ] ≡ Some w → IsProper w
   assign_operated op None u w a h = cc
   assign_operated op (Some v) u w a h = fixed_some IsProper (same v u) u w a h
 
-  assign_proper : (op : Option ℕ) (u s w : Kind) → IsProper u → assign k.classes op u s ≡ Some w → IsProper w
+  assign_proper : (op : Option ℕ) (u s w : StaticType) → IsProper u → assign k.classes op u s ≡ Some w → IsProper w
   unfolding assign
   assign_proper None u s w a h = let (e, f) = if_some (goes k.classes s u) u w h in subst IsProper f a
   assign_proper (Some op) u s w a h = assign_operated op (operate k.classes op u s) u w a h
 
-  counted_proper : (s w : Kind) → counted s ≡ Some w → IsProper w
+  counted_proper : (s w : StaticType) → counted s ≡ Some w → IsProper w
   unfolding counted
   counted_proper s w h = fixed_some IsProper (same s number) number w refl h
 
-  element_proper : (a i w : Kind) → IsProper a → element a i ≡ Some w → IsProper w
+  element_proper : (a i w : StaticType) → IsProper a → element a i ≡ Some w → IsProper w
   unfolding element
   element_proper a i w p h = fixed_some IsProper (is_array a && same i number) (item a) w p h
 
-  items_proper : (u w : Kind) (us : List Kind) → IsProper u → items_type k.classes u us ≡ Some w → IsProper w
+  items_proper : (u w : StaticType) (us : List StaticType) → IsProper u → items_type k.classes u us ≡ Some w → IsProper w
   unfolding items_type
   items_proper u w us p h =
       let (e, f) = if_gives (all_go_to k.classes u us) (array_of u) w h in
       subst IsProper (if_some (nat_lt u.depth most_brackets) (array u) w f).1 p
 
-  call_proper : (takes : List Kind) (gives : Option Kind) (us : List Kind) (w : Kind) → ((v : Kind) → gives ≡ Some v → IsProper v) → call_kind k.classes takes gives us ≡ Some w → IsProper w
+  call_proper : (takes : List StaticType) (gives : Option StaticType) (us : List StaticType) (w : StaticType) → ((v : StaticType) → gives ≡ Some v → IsProper v) → call_kind k.classes takes gives us ≡ Some w → IsProper w
   unfolding call_kind
   call_proper takes gives us w p h = either_some IsProper (all_go k.classes us takes) gives None w p (λ r e. cc) h
 
-  found_proper : (p : Place) (f : Found) (u : Kind) → AreProper p → name_kind k p f ≡ Some u → IsProper u
+  found_proper : (p : NameScope) (f : Found) (u : StaticType) → AreProper p → name_kind k p f ≡ Some u → IsProper u
   found_proper p (found.Local i) u a h = a i u h
   found_proper p (found.Global d) u a h = kinds_proper d u h
   found_proper p found.Captured u a h = cc
@@ -226,12 +226,12 @@ module _ (tables : Tables) (k : Known) (kinds_proper : (d : ℕ) (u : Kind) → 
   found_proper p (found.Class c) u a h = cc
   found_proper p found.Unknown u a h = cc
 
-  this_proper : (self : Self) (u : Kind) → this_kind self ≡ Some u → IsProper u
+  this_proper : (self : Self) (u : StaticType) → this_kind self ≡ Some u → IsProper u
   this_proper (this.Object c) u h = subst IsProper (some_is (object c) u h) refl
   this_proper (this.Hidden c) u h = cc
   this_proper this.Nowhere u h = cc
 
-  part_proper : (f : Part) (u : Kind) → part_kind k f ≡ Some u → IsProper u
+  part_proper : (f : Part) (u : StaticType) → part_kind k f ≡ Some u → IsProper u
   part_proper (part.Field d) u h = kinds_proper d u h
   part_proper (part.Method d) u h = cc
   part_proper part.Length u h = subst IsProper (some_is number u h) refl
@@ -241,7 +241,7 @@ module _ (tables : Tables) (k : Known) (kinds_proper : (d : ℕ) (u : Kind) → 
 
   -- what a callee takes and gives
   pub record AllProper (c : Callee) : Type 0 where
-    pub gives : (u : Kind) → c.gives ≡ Some u → IsProper u
+    pub gives : (u : StaticType) → c.gives ≡ Some u → IsProper u
 
   named_proper : (f : Found) (c : Callee) → named_callee tables k f ≡ Some c → AllProper c
   named_proper (found.Function d) c h = let q : callee (takes_at k.entries d) (kind_at k d) ≡ c = some_is _ _ h in subst AllProper q (record { gives = λ u e. kinds_proper d u e })
@@ -251,7 +251,7 @@ module _ (tables : Tables) (k : Known) (kinds_proper : (d : ℕ) (u : Kind) → 
   named_proper (found.Class i) c h = cc
   named_proper found.Unknown c h = cc
 
-  member_callee_proper : (u : Kind) (m : ℕ) (f : Part) (c : Callee) → IsProper u → HasPart k u m f → part_callee tables k f ≡ Some c → AllProper c
+  member_callee_proper : (u : StaticType) (m : ℕ) (f : Part) (c : Callee) → IsProper u → HasPart k u m f → part_callee tables k f ≡ Some c → AllProper c
   member_callee_proper u m (part.Method d) c p has h = let q : callee (takes_at k.entries d) (kind_at k d) ≡ c = some_is _ _ h in subst AllProper q (record { gives = λ v e. kinds_proper d v e })
   member_callee_proper u m (part.Push v) c p has h = let q : callee (v ∷ []) (Some nothing) ≡ c = some_is _ _ h in subst AllProper q (record { gives = λ w e. subst IsProper (some_is nothing w e) refl })
   member_callee_proper u m (part.Pop v) c p has h =
@@ -262,16 +262,16 @@ module _ (tables : Tables) (k : Known) (kinds_proper : (d : ℕ) (u : Kind) → 
   member_callee_proper u m part.Length c p has h = cc
   member_callee_proper u m part.Missing c p has h = cc
 
-  constant_proper : (z : Option ℤ) (o : Option Kind) (u : Kind) → ((v : Kind) → o ≡ Some v → IsProper v) → elim z [ Some y ↦ Some number | None ↦ o ] ≡ Some u → IsProper u
+  constant_proper : (z : Option ℤ) (o : Option StaticType) (u : StaticType) → ((v : StaticType) → o ≡ Some v → IsProper v) → elim z [ Some y ↦ Some number | None ↦ o ] ≡ Some u → IsProper u
   constant_proper (Some y) o u f h = subst IsProper (some_is number u h) refl
   constant_proper None o u f h = f u h
 
-  board_call_proper : (b : Option BoardCall) (given : BoardCall → Bool) (o : Option Kind) (u : Kind) → ((v : Kind) → o ≡ Some v → IsProper v)
+  board_call_proper : (b : Option BoardCall) (given : BoardCall → Bool) (o : Option StaticType) (u : StaticType) → ((v : StaticType) → o ≡ Some v → IsProper v)
       → elim b [ Some call ↦ if given call then Some (board_kind (row_of call).gives) else None | None ↦ o ] ≡ Some u → IsProper u
   board_call_proper (Some call) given o u f h = fixed_some IsProper (given call) (board_kind (row_of call).gives) u (board_proper (row_of call).gives) h
   board_call_proper None given o u f h = f u h
 
-  called_proper : (d : Option Callee) (us : Option (List Kind)) (u : Kind) → ((c : Callee) → d ≡ Some c → AllProper c) → called tables k d us ≡ Some u → IsProper u
+  called_proper : (d : Option Callee) (us : Option (List StaticType)) (u : StaticType) → ((c : Callee) → d ≡ Some c → AllProper c) → called tables k d us ≡ Some u → IsProper u
   called_proper d us u f h =
       let (c, q, h1) = bind_some d (λ c. us >>= λ vs. call_kind k.classes c.takes c.gives vs) u h in
       let (vs, r, h2) = bind_some us (λ vs. call_kind k.classes c.takes c.gives vs) u h1 in
@@ -289,10 +289,10 @@ module _ (tables : Tables) (k : Known) (kinds_proper : (d : ℕ) (u : Kind) → 
   made_proper (found.Function d) c h = cc
   made_proper found.Unknown c h = cc
 
-  module _ (p : Place) (a : AreProper p) where
+  module _ (p : NameScope) (a : AreProper p) where
     mutual
       -- an expression whose place gives it no type has one that values have
-      pub proper : (e : Tree) (u : Kind) → type_of tables k p Free e ≡ Some u → IsProper u
+      pub proper : (e : Tree) (u : StaticType) → type_of tables k p Free e ≡ Some u → IsProper u
       proper (Num at n) u h = subst IsProper (some_is _ u h) refl
       proper (Text at n) u h = subst IsProper (some_is _ u h) refl
       proper (Truth at x) u h = subst IsProper (some_is _ u h) refl

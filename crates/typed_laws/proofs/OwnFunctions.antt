@@ -7,7 +7,7 @@ use Rattle.sts_syntax.specs.TypedTrees.{TypedStatement, TypedRoutine, TypedProgr
 use Rattle.sts_syntax.specs.TypeRules.{HasRoutine}
 use Rattle.sts_syntax.specs.Trees.{Statement, Block, Let, IfOnly, IfElse, While, DoWhile, For, ForOf, Return, Break, Continue, Plain, Empty, Declaration, Declare, Declarations, ended, next, Routine, Does}
 use Rattle.sts_syntax.specs.Programs.{ClassMember, Field, Method, Constructor, TopLevel, Class, Function, Main, Program}
-use Rattle.sts_scope.specs.declared.kinds.Kind.{Kind}
+use Rattle.sts_scope.specs.declared.kinds.StaticType.{StaticType}
 use Rattle.sts_scope.specs.declared.entries.Entry.{Entry}
 use Rattle.sts_scope.specs.declared.known.Known.{Known}
 use Rattle.sts_scope.specs.declared.known.This.TheVariants as this
@@ -19,9 +19,9 @@ use Rattle.sts_scope.specs.Rules.{kind_at}
 use Rattle.sts_scope.specs.Scopes.{all_names, library_classes}
 use Rattle.type_derive.specs.Accepted.{known, AreDerived, main_routine, typed, refusal}
 use Rattle.type_derive.specs.Formed.{IsFormedProgram}
-use Rattle.type_derive.specs.Libraries.{OnlyFunctions, library_fault, IsLibrary}
-use Rattle.type_derive.specs.Nodes.{statements_fault}
-use Rattle.type_derive.specs.Passes.{field_fault, body_fault, constructor_fault, members_nodes, item_nodes, nodes_fault}
+use Rattle.type_derive.specs.Libraries.{OnlyFunctions, library_failure, IsLibrary}
+use Rattle.type_derive.specs.Nodes.{statements_failure}
+use Rattle.type_derive.specs.Passes.{field_failure, body_failure, constructor_failure, members_nodes, item_nodes, nodes_failure}
 use Rattle.type_derive.specs.Programs.{function_made, method_made, initial_made, initials, constructor_made, members_made, class_made, main_made, items_made, library_made}
 use Rattle.type_derive.specs.Returns.{parameter_locals, within}
 use Rattle.typed_laws.specs.Stands.{IsProper}
@@ -136,7 +136,7 @@ module _ (tables : Tables) (names : Naming) (k : Known) (numbers : Numbering) (P
   members_agree c n d inits [] h placed = tt
   members_agree c n d inits (Field (Declare i x shape first') ∷ rest) h placed =
       let a : Declaration = Declare i x shape first' in
-      let A = field_fault tables names k (this.Object c) a in
+      let A = field_failure tables names k (this.Object c) a in
       let B = members_nodes tables names k c (suc d) rest in (
         refl,
         members_agree c (n + declared_handlers a) (suc d) inits rest (last A B h)
@@ -145,7 +145,7 @@ module _ (tables : Tables) (names : Naming) (k : Known) (numbers : Numbering) (P
       )
   members_agree c n d inits (Method x (Does i params gives all arrow) ∷ rest) h placed =
       let r : Routine = Does i params gives all arrow in
-      let A = body_fault tables names k (this.Object c) (kind_at k d) r in
+      let A = body_failure tables names k (this.Object c) (kind_at k d) r in
       let B = members_nodes tables names k c (suc d) rest in
       let made = method_made tables names k numbers c n (kind_at k d) r in
       let later = members_made tables names k numbers c inits (suc n + routine_handlers r) (suc d) rest in (
@@ -154,21 +154,21 @@ module _ (tables : Tables) (names : Naming) (k : Known) (numbers : Numbering) (P
             (placed_more tables names k numbers P n (routine_handlers r) made later (method_counts tables names k numbers c n (kind_at k d) r (first A B h)) placed),
       )
   members_agree c n d inits (Constructor r ∷ rest) h placed =
-      let A = constructor_fault tables names k (this.Object c) (base_of k.classes c) r in
+      let A = constructor_failure tables names k (this.Object c) (base_of k.classes c) r in
       let B = members_nodes tables names k c d rest in
       let made = constructor_made tables names k numbers c n inits r in
       let later = members_made tables names k numbers c inits (suc n + routine_handlers r) d rest in
       members_agree c (suc n + routine_handlers r) d inits rest (last A B h)
       (placed_more tables names k numbers P n (routine_handlers r) made later (constructor_counts tables names k numbers c n inits r (first A B h)) placed)
 
-  pub text_agrees : (c d m n : ℕ) (text : Program) → ((j : ℕ) → d ≤ j → F j ≡ false) → nodes_fault tables names k c d text ≡ None
+  pub text_agrees : (c d m n : ℕ) (text : Program) → ((j : ℕ) → d ≤ j → F j ≡ false) → nodes_failure tables names k c d text ≡ None
       → Placed P n (items_made tables names k numbers c d m n text).routines → Agree d (entries_from names c text) (declared_routines text) (numbers_from n text)
   text_agrees c d m n [] own h placed = tt
   text_agrees c d m n (Class at x base base_at members ∷ rest) own h placed =
       let i : TopLevel = Class at x base base_at members in
       let A = item_nodes tables names k c d i in
       let es = item_entries names c i in
-      let B = nodes_fault tables names k (c + classes_in i) (d + length es) rest in
+      let B = nodes_failure tables names k (c + classes_in i) (d + length es) rest in
       let here = class_made tables names k numbers c n (suc d) members in
       let step : c + 1 ≡ suc c = omega arith in
       let later : ℕ → List TypedRoutine = λ c'. (items_made tables names k numbers c' (d + length es) m (n + item_routines i) rest).routines in
@@ -185,7 +185,7 @@ module _ (tables : Tables) (names : Naming) (k : Known) (numbers : Numbering) (P
       let i : TopLevel = Function x r in
       let A = item_nodes tables names k c d i in
       let es = item_entries names c i in
-      let B = nodes_fault tables names k (c + classes_in i) (d + length es) rest in
+      let B = nodes_failure tables names k (c + classes_in i) (d + length es) rest in
       let here = function_made tables names k numbers false n (kind_at k d) r in
       let c_step : c ≡ c + 0 = omega arith in
       let d_step : suc d ≡ d + 1 = omega arith in
@@ -202,7 +202,7 @@ module _ (tables : Tables) (names : Naming) (k : Known) (numbers : Numbering) (P
       let i : TopLevel = Main a in
       let A = item_nodes tables names k c d i in
       let es = item_entries names c i in
-      let B = nodes_fault tables names k (c + classes_in i) (d + length es) rest in
+      let B = nodes_failure tables names k (c + classes_in i) (d + length es) rest in
       let here = main_made tables names k numbers d a m n in
       let c_step : c ≡ c + 0 = omega arith in
       let later : ℕ → List TypedRoutine = λ c'. (items_made tables names k numbers c' (d + length es) (m + length here.locals) (n + item_routines i) rest).routines in
@@ -213,13 +213,13 @@ module _ (tables : Tables) (names : Naming) (k : Known) (numbers : Numbering) (P
       (text_agrees (c + 0) (d + length es) (m + length here.locals) (n + item_routines i) rest (λ e le. own e (omega (arith, le))) (last A B h) placed')
 
   pub library_agrees : (c d n : ℕ) (library : Program) → OnlyFunctions library → ((j : ℕ) → j < d + length (entries_from names c library) → F j ≡ true)
-      → library_fault tables names k d library ≡ None → Placed P n (library_made tables names k numbers d n library) → Agree d (entries_from names c library) (declared_routines library) (numbers_from n library)
+      → library_failure tables names k d library ≡ None → Placed P n (library_made tables names k numbers d n library) → Agree d (entries_from names c library) (declared_routines library) (numbers_from n library)
   library_agrees c d n [] f own h placed = tt
   library_agrees c d n (Function x (Does j params gives all arrow) ∷ rest) f own h placed =
       let r : Routine = Does j params gives all arrow in
       let i : TopLevel = Function x r in
-      let A = statements_fault tables names k (within (parameter_locals names params) this.Nowhere (kind_at k d) true) all in
-      let B = library_fault tables names k (suc d) rest in
+      let A = statements_failure tables names k (within (parameter_locals names params) this.Nowhere (kind_at k d) true) all in
+      let B = library_failure tables names k (suc d) rest in
       let here = function_made tables names k numbers true n (kind_at k d) r in
       let later = library_made tables names k numbers (suc d) (n + item_routines i) rest in
       let count = function_counts tables names k numbers true n (kind_at k d) j params gives all arrow (first A B h) in
@@ -229,8 +229,8 @@ module _ (tables : Tables) (names : Naming) (k : Known) (numbers : Numbering) (P
   library_agrees c d n (Class at x base base_at members ∷ rest) f own h placed = absurd f
   library_agrees c d n (Main a ∷ rest) f own h placed = absurd f
 
-module _ (tables : Tables) (library text : Program) (kinds : List (Option Kind)) (formed : IsFormedProgram text) (derived : AreDerived tables library text kinds) (ok : IsLibrary tables library text kinds)
-    (faultless : refusal tables library text kinds ≡ None) where
+module _ (tables : Tables) (library text : Program) (kinds : List (Option StaticType)) (formed : IsFormedProgram text) (derived : AreDerived tables library text kinds) (ok : IsLibrary tables library text kinds)
+    (no_failure : refusal tables library text kinds ≡ None) where
   abbrev names : Naming
   names = all_names library text
 
@@ -255,7 +255,7 @@ module _ (tables : Tables) (library text : Program) (kinds : List (Option Kind))
   abbrev Agreed : ℕ → List Entry → List (Option Routine) → List ℕ → Type 0
   Agreed d es os ns = Agree tables names k numbers P is_library d es os ns
 
-  proper_so : (d : ℕ) (u : Kind) → kind_at k d ≡ Some u → IsProper u
+  proper_so : (d : ℕ) (u : StaticType) → kind_at k d ≡ Some u → IsProper u
   proper_so = kinds_proper tables library text kinds derived
 
   entries_are : k.entries ≡ entries_from names 0 library ++ entries_from names c0 text
@@ -270,11 +270,11 @@ module _ (tables : Tables) (library text : Program) (kinds : List (Option Kind))
   both_agree =
       let z : k.library ≡ 0 + length (entries_from names 0 library) = omega arith in
       agree_both tables names k numbers P is_library 0 (entries_from names 0 library) (declared_routines library) (numbers_from 0 library) (entries_from names c0 text) (declared_routines text) (numbers_from n0 text)
-      (library_agrees tables names k numbers P is_library 0 0 0 library ok.functions (λ j lt. lt-ltb j k.library (omega (arith, lt))) ok.faultless
-      (front_placed tables library text kinds derived ok formed faultless proper_so))
+      (library_agrees tables names k numbers P is_library 0 0 0 library ok.functions (λ j lt. lt-ltb j k.library (omega (arith, lt))) ok.no_failure
+      (front_placed tables library text kinds derived ok formed no_failure proper_so))
       (subst (λ (j : ℕ). Agreed j (entries_from names c0 text) (declared_routines text) (numbers_from n0 text)) z
-      (text_agrees tables names k numbers P is_library c0 k.library 0 n0 text (λ j le. le-ltb j k.library le) (nodes_none tables library text kinds derived ok formed faultless proper_so)
-      (back_placed tables library text kinds derived ok formed faultless proper_so)))
+      (text_agrees tables names k numbers P is_library c0 k.library 0 n0 text (λ j le. le-ltb j k.library le) (nodes_none tables library text kinds derived ok formed no_failure proper_so)
+      (back_placed tables library text kinds derived ok formed no_failure proper_so)))
 
   all_agree : Agreed 0 k.entries (declared_routines (library ++ text)) numbers.routines
   all_agree =
@@ -286,7 +286,7 @@ module _ (tables : Tables) (library text : Program) (kinds : List (Option Kind))
   own_main = main_routine (items_made tables names k numbers c0 k.library 0 n0 text)
 
   main_at : P.main ≡ all_routines (library ++ text)
-  main_at = main_is tables library text kinds derived ok formed faultless proper_so ∙ sym (routines_joined library text)
+  main_at = main_is tables library text kinds derived ok formed no_failure proper_so ∙ sym (routines_joined library text)
 
   pub functions_declared : FunctionsAreDeclared tables library text kinds
   functions_declared = record {
@@ -296,5 +296,5 @@ module _ (tables : Tables) (library text : Program) (kinds : List (Option Kind))
         subst (λ (j : ℕ). HasItsFunction tables names k numbers P (is_library j) j a (get_or numbers.routines d 0) does) z
         (agree_get tables names k numbers P is_library 0 k.entries (declared_routines (library ++ text)) numbers.routines d a does all_agree e f);
     last = main_at;
-    main = subst (λ (j : ℕ). HasRoutine P j own_main) main_at (main_there tables library text kinds derived ok formed faultless proper_so);
+    main = subst (λ (j : ℕ). HasRoutine P j own_main) main_at (main_there tables library text kinds derived ok formed no_failure proper_so);
   }

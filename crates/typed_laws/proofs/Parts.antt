@@ -14,27 +14,27 @@ use Rattle.sts_syntax.specs.WellTypedPrograms as w'
 use Rattle.sts_syntax.specs.WellTypedPrograms.{declared_names}
 use Rattle.sts_syntax.specs.Trees.{OptionalTree, Statement, Block, Let, IfOnly, IfElse, While, DoWhile, For, ForOf, Return, Break, Continue, Plain, Empty, Declaration, Declare, Declarations, ended, next, Routine, Does}
 use Rattle.sts_syntax.specs.Programs.{ClassMember, TopLevel, Class, Function, Main, Program}
-use Rattle.sts_scope.specs.declared.kinds.Kind.{Kind}
+use Rattle.sts_scope.specs.declared.kinds.StaticType.{StaticType}
 use Rattle.sts_scope.specs.declared.entries.Owner.TheVariants as o
-use Rattle.sts_scope.specs.declared.entries.Sort.TheVariants as sort
+use Rattle.sts_scope.specs.declared.entries.DeclarationKind.TheVariants as sort
 use Rattle.sts_scope.specs.declared.entries.Entry.{Entry}
 use Rattle.sts_scope.specs.declared.entries.ClassHead.{ClassHead}
 use Rattle.sts_scope.specs.declared.known.Known.{Known}
 use Rattle.sts_scope.specs.declared.known.This.TheVariants as this
 use Rattle.sts_scope.specs.Kinds.{nothing, value_type}
-use Rattle.sts_scope.specs.Faults.{◌then◌}
+use Rattle.sts_scope.specs.Failures.{◌then◌}
 use Rattle.sts_scope.specs.Bases.{above}
-use Rattle.sts_scope.specs.Entries.{Naming, classes_in, entry as declared_as, item_entries, main_entries, global_entries, entries_from, member_entries, item_heads, heads_of, class_head, maker_takes}
-use Rattle.sts_scope.specs.Headings.{written_fault, item_fault, headings_fault}
+use Rattle.sts_scope.specs.Entries.{Naming, classes_in, new_entry as declared_as, item_entries, main_entries, global_entries, entries_from, member_entries, item_heads, heads_of, class_head, maker_takes}
+use Rattle.sts_scope.specs.Headings.{written_failure, item_failure, headings_failure}
 use Rattle.sts_scope.specs.Lookup.{base_of}
-use Rattle.sts_scope.specs.Places.{Place, outside}
+use Rattle.sts_scope.specs.Places.{NameScope, outside}
 use Rattle.sts_scope.specs.Rules.{kind_at, maker_takes_of}
 use Rattle.sts_scope.specs.Rules as rules
 use Rattle.typed_laws.proofs.Returning.{gives_value}
 use Rattle.type_derive.specs.Returns.{bound}
 use Rattle.type_derive.specs.Derived.{Source, Stated, item_sources, main_sources, global_sources, sources_from, member_sources, declared_source, follows}
-use Rattle.type_derive.specs.Nodes.{initial_fault, own_bound}
-use Rattle.type_derive.specs.Passes.{field_fault, globals_fault, main_fault, item_nodes, nodes_fault}
+use Rattle.type_derive.specs.Nodes.{initial_failure, own_bound}
+use Rattle.type_derive.specs.Passes.{field_failure, globals_failure, main_failure, item_nodes, nodes_failure}
 use Rattle.type_derive.specs.Formed.{IsFormedDeclaration, IsFormedProgram, IsFormedIn, AreFormedDeclarations}
 use Rattle.sts_scope.specs.Handlers.{optional_handlers, declarations_handlers, statement_handlers, statements_handlers, unwritten, members_routines, item_routines, all_routines}
 use Rattle.type_derive.specs.Making.{Made as Made', pure, ◌>=>◌}
@@ -60,29 +60,29 @@ use Rattle.typed_laws.proofs.Constructors.{Walk, class_sound}
 takes_stay : (classes : List ClassHead) (n c : ℕ) → above classes n c ≡ None → rules.maker_from classes n c ≡ rules.maker_from classes (suc n) c
 takes_stay classes zero c h = cc
 takes_stay classes (suc n) c h =
-    let E : (ℕ → List Kind) → Option ClassHead → List Kind = λ f x. elim x [ None ↦ [] | Some class ↦ elim class.takes [ Some takes ↦ takes | None ↦ elim class.base [ None ↦ [] | Some b ↦ f b ] ] ] in
+    let E : (ℕ → List StaticType) → Option ClassHead → List StaticType = λ f x. elim x [ None ↦ [] | Some class ↦ elim class.takes [ Some takes ↦ takes | None ↦ elim class.base [ None ↦ [] | Some b ↦ f b ] ] ] in
     let B : Option ClassHead → Option ℕ = λ x. elim x [ None ↦ None | Some class ↦ class.base ] in
     let G : Option ℕ → Option ℕ = λ x. elim x [ None ↦ None | Some b ↦ above classes n b ] in
-    let f : ℕ → List Kind = λ b. rules.maker_from classes n b in
-    let g : ℕ → List Kind = λ b. rules.maker_from classes (suc n) b in
+    let f : ℕ → List StaticType = λ b. rules.maker_from classes n b in
+    let g : ℕ → List StaticType = λ b. rules.maker_from classes (suc n) b in
     let go : (x : Option ClassHead) → G (B x) ≡ None → E f x ≡ E g x = λ x. elim x as (λ y. G (B y) ≡ None → E f y ≡ E g y) [
       | None ↦ (λ q. refl)
       | Some class ↦ (λ q.
-          let K : (ℕ → List Kind) → Option ℕ → List Kind = λ j y. elim y [ None ↦ [] | Some b ↦ j b ] in
+          let K : (ℕ → List StaticType) → Option ℕ → List StaticType = λ j y. elim y [ None ↦ [] | Some b ↦ j b ] in
           let base_case : (y : Option ℕ) → G y ≡ None → K f y ≡ K g y =
           λ y. elim y as (λ z. G z ≡ None → K f z ≡ K g z) [ None ↦ (λ r. refl) | Some b ↦ (λ r. takes_stay classes n b r) ] in
-          let F : List Kind → Option (List Kind) → List Kind = λ us y. elim y [ Some takes ↦ takes | None ↦ us ] in
-          ap (λ (us : List Kind). F us class.takes) (base_case class.base q))
+          let F : List StaticType → Option (List StaticType) → List StaticType = λ us y. elim y [ Some takes ↦ takes | None ↦ us ] in
+          ap (λ (us : List StaticType). F us class.takes) (base_case class.base q))
     ] in
     go (slice_get classes c) h
 
 takes_passed : (classes : List ClassHead) (l c b : ℕ) (head : ClassHead) → slice_get classes c ≡ Some head → head.takes ≡ None → base_of classes c ≡ Some b → length classes ≡ suc l → above classes (suc l) c ≡ None → maker_takes_of classes b ≡ maker_takes_of classes c
 takes_passed classes l c b head q r s many ends =
-    let E : Option ClassHead → List Kind = λ x. elim x [ None ↦ [] | Some class ↦ elim class.takes [ Some takes ↦ takes | None ↦ elim class.base [ None ↦ [] | Some b ↦ rules.maker_from classes l b ] ] ] in
+    let E : Option ClassHead → List StaticType = λ x. elim x [ None ↦ [] | Some class ↦ elim class.takes [ Some takes ↦ takes | None ↦ elim class.base [ None ↦ [] | Some b ↦ rules.maker_from classes l b ] ] ] in
     let B : Option ClassHead → Option ℕ = λ x. elim x [ None ↦ None | Some class ↦ class.base ] in
     let G : Option ℕ → Option ℕ = λ x. elim x [ None ↦ None | Some i ↦ above classes l i ] in
-    let F : Option (List Kind) → List Kind = λ y. elim y [ Some takes ↦ takes | None ↦ elim head.base [ None ↦ [] | Some b ↦ rules.maker_from classes l b ] ] in
-    let H : Option ℕ → List Kind = λ y. elim y [ None ↦ [] | Some b ↦ rules.maker_from classes l b ] in
+    let F : Option (List StaticType) → List StaticType = λ y. elim y [ Some takes ↦ takes | None ↦ elim head.base [ None ↦ [] | Some b ↦ rules.maker_from classes l b ] ] in
+    let H : Option ℕ → List StaticType = λ y. elim y [ None ↦ [] | Some b ↦ rules.maker_from classes l b ] in
     let base_so : head.base ≡ Some b = sym (ap B q) ∙ s in
     let none_b : above classes l b ≡ None = sym (ap G s) ∙ ends in
     let c_is : maker_takes_of classes c ≡ rules.maker_from classes l b = ap (λ (i : ℕ). rules.maker_from classes i c) many ∙ ap E q ∙ ap F r ∙ ap H base_so in
@@ -108,20 +108,20 @@ module _ (tables : Tables) (names : Naming) (k : Known) (numbers : Numbering) (P
   global_kind d i x (Some a) first' h near = solved d (declared_source names this.Nowhere (Declare i x (Some a) first')) h near
   global_kind d i x None first' h near = solved d (declared_source names this.Nowhere (Declare i x None first')) h near
 
-  global_good : (S : Setting) (fixed : Bool) (d i x : ℕ) (shape : Option Annotation) (first' : OptionalTree) → S.main ≡ true → IsFormedDeclaration (Declare i x shape first') → field_fault tables names k this.Nowhere (Declare i x shape first') ≡ None
+  global_good : (S : Setting) (fixed : Bool) (d i x : ℕ) (shape : Option Annotation) (first' : OptionalTree) → S.main ≡ true → IsFormedDeclaration (Declare i x shape first') → field_failure tables names k this.Nowhere (Declare i x shape first') ≡ None
       → slice_get sources d ≡ Some (declared_source names this.Nowhere (Declare i x shape first')) → slice_get k.entries d ≡ Some (declared_as i o.Whole x (sort.Global fixed) []) → k.library ≤ d
       → Gives P (λ l. w.MayDeclare P S (Global (global_number k d)) (value_type (unwrap_or (kind_at k d) nothing)) × w.IsInitial P S [] l (value_type (unwrap_or (kind_at k d) nothing))) (optional_handlers first') (made_first tables names k numbers site0 shape first')
   global_good S fixed d i x shape first' main_so formed h src en near =
-      let p : Place = outside this.Nowhere false None in
-      let wf = written_fault names i shape in
-      let jf = initial_fault tables names k p shape first' in
+      let p : NameScope = outside this.Nowhere false None in
+      let wf = written_failure names i shape in
+      let jf = initial_failure tables names k p shape first' in
       let ob = own_bound tables names k p shape first' i in
       let hw : wf ≡ None = first wf (jf then ob) h in
       let hj : jf ≡ None = first jf ob (last wf (jf then ob) h) in
       let ho : ob ≡ None = last jf ob (last wf (jf then ob) h) in
       let (u, q, pu) = bound_known tables names k numbers P (st tables names k numbers P made) S [] site0 shape first' i (stand0 S) hw ho in
       let kind : kind_at k d ≡ Some u = global_kind d i x shape first' src near ∙ q in
-      let same : value_type u ≡ value_type (unwrap_or (kind_at k d) nothing) = ap (λ (y : Option Kind). value_type (unwrap_or y nothing)) (sym kind) in
+      let same : value_type u ≡ value_type (unwrap_or (kind_at k d) nothing) = ap (λ (y : Option StaticType). value_type (unwrap_or y nothing)) (sym kind) in
       let s : Stands tables k numbers P = st tables names k numbers P made in
       let has : entry P.globals (global_number k d) ≡ Some (value_type u) = s.globals d fixed u (sort_there k made.sane made.chained d (declared_as i o.Whole x (sort.Global fixed) []) en) kind in
       let Q : ValueType → Option TypedTree → Type 0 = λ v l. w.MayDeclare P S (Global (global_number k d)) v × w.IsInitial P S [] l v in
@@ -132,14 +132,14 @@ module _ (tables : Tables) (names : Naming) (k : Known) (numbers : Numbering) (P
   global_more : (S : Setting) (g : ℕ) (v : ValueType) (y : TypedDeclaration) (ys : List TypedDeclaration) → ((l : Option TypedTree) × (y ≡ record { name = Global g; first = l }) × w.MayDeclare P S (Global g) v × w.IsInitial P S [] l v) → GlobalsSound S ys → GlobalsSound S (y ∷ ys)
   global_more S g v y ys (l, is, may, initial_so) q = subst (λ (z : TypedDeclaration). GlobalsSound S (z ∷ ys)) (sym is) ((v, may, initial_so, q.0), q.1, q.2)
 
-  globals_good : (S : Setting) (fixed : Bool) (d m n : ℕ) (each : Declarations) (ss : List Source) (es : List Entry) → S.main ≡ true → AreFormedDeclarations each → globals_fault tables names k each ≡ None
+  globals_good : (S : Setting) (fixed : Bool) (d m n : ℕ) (each : Declarations) (ss : List Source) (es : List Entry) → S.main ≡ true → AreFormedDeclarations each → globals_failure tables names k each ≡ None
       → Suffix sources d (global_sources names each ++ ss) → Suffix k.entries d (global_entries fixed each ++ es) → k.library ≤ d
       → Built P S (GlobalsSound S) declared_names [] (declarations_handlers each) m n (globals_made tables names k numbers d each m n)
   globals_good S fixed d m n ended ss es main_so formed h src ent near = good_pure P S (GlobalsSound S) declared_names [] m n [] (tt, refl, refl) refl
   globals_good S fixed d m n (next (Declare i x shape first') rest) ss es main_so formed h src ent near =
       let a : Declaration = Declare i x shape first' in
-      let A = field_fault tables names k this.Nowhere a in
-      let B = globals_fault tables names k rest in
+      let A = field_failure tables names k this.Nowhere a in
+      let B = globals_failure tables names k rest in
       let en : Entry = declared_as i o.Whole x (sort.Global fixed) [] in
       let src0 : Source = declared_source names this.Nowhere a in
       let H : ℕ = optional_handlers first' in
@@ -162,7 +162,7 @@ module _ (tables : Tables) (names : Naming) (k : Known) (numbers : Numbering) (P
   abbrev MainSound : Setting → TypedStatement → Type 0
   MainSound S y = w.IsSound P S y false [] × (w.known_after y [] ≡ [])
 
-  main_good : (S : Setting) (d m n : ℕ) (a : Statement) (ss : List Source) (es : List Entry) → S.main ≡ true → IsFormedIn false a → main_fault tables names k a ≡ None
+  main_good : (S : Setting) (d m n : ℕ) (a : Statement) (ss : List Source) (es : List Entry) → S.main ≡ true → IsFormedIn false a → main_failure tables names k a ≡ None
       → Suffix sources d (main_sources names a ++ ss) → Suffix k.entries d (main_entries a ++ es) → k.library ≤ d
       → Built P S (MainSound S) w'.declared [] (statement_handlers a) m n (main_made tables names k numbers d a m n)
   main_good S d m n (Let i fixed each) ss es main_so formed h src ent near =
@@ -218,8 +218,8 @@ module _ (tables : Tables) (names : Naming) (k : Known) (numbers : Numbering) (P
       pub makers_are : Suffix numbers.makers c (makers_from n text)
       pub marks_are : Suffix marks n (marks_from c text)
       pub behind : k.library ≤ d
-      pub headings : headings_fault names k.entries k.classes c d text ≡ None
-      pub nodes : nodes_fault tables names k c d text ≡ None
+      pub headings : headings_failure names k.entries k.classes c d text ≡ None
+      pub nodes : nodes_failure tables names k c d text ≡ None
       pub formed : IsFormedProgram text
       pub room : n + all_routines text ≤ P.main
 
@@ -249,8 +249,8 @@ module _ (tables : Tables) (names : Naming) (k : Known) (numbers : Numbering) (P
           makers_are = suffix_at numbers.makers (c + length (item_makers n i)) c' (makers_from n' rest) (ap (λ (j : ℕ). c + j) (makers_many' n i)) (suffix_step numbers.makers c (item_makers n i) (makers_from n' rest) t'.makers_are);
           marks_are = suffix_at marks (n + length (item_marks c i)) n' (marks_from c' rest) (ap (λ (j : ℕ). n + j) (item_length c i)) (suffix_step marks n (item_marks c i) (marks_from c' rest) t'.marks_are);
           behind = omega (arith, near);
-          headings = last (item_fault names k.entries k.classes c d i) (headings_fault names k.entries k.classes c' d' rest) t'.headings;
-          nodes = last (item_nodes tables names k c d i) (nodes_fault tables names k c' d' rest) t'.nodes;
+          headings = last (item_failure names k.entries k.classes c d i) (headings_failure names k.entries k.classes c' d' rest) t'.headings;
+          nodes = last (item_nodes tables names k c d i) (nodes_failure tables names k c' d' rest) t'.nodes;
           formed = t'.formed.1;
           room = omega (arith, room_so);
         }
@@ -288,12 +288,12 @@ module _ (tables : Tables) (names : Naming) (k : Known) (numbers : Numbering) (P
           js = numbers_from (n + item_routines i) rest;
           routines = suffix_one numbers.routines d 0 (member_numbers start members ++ numbers_from (n + item_routines i) rest) t'.routines_are;
           behind = omega (arith, near);
-          faultless = first (item_nodes tables names k c d i) (nodes_fault tables names k (c + classes_in i) (d + length (item_entries names c i)) rest) t'.nodes;
+          no_failure = first (item_nodes tables names k c d i) (nodes_failure tables names k (c + classes_in i) (d + length (item_entries names c i)) rest) t'.nodes;
           formed = t'.formed.0;
           placed = members_placed tables names k numbers P c n (suc d) members placed;
         } in
         class_sound tables names k numbers P made sources solved marks marked c near_c (λ b q. made.chained.bases c b q) n (suc d) (d + 1) members tail walk
-        (first (item_fault names k.entries k.classes c d i) (headings_fault names k.entries k.classes (c + classes_in i) (d + length (item_entries names c i)) rest) t'.headings)
+        (first (item_failure names k.entries k.classes c d i) (headings_failure names k.entries k.classes (c + classes_in i) (d + length (item_entries names c i)) rest) t'.headings)
         (suffix_or numbers.makers c (maker_from n n members) (makers_from (n + item_routines i) rest) 0 t'.makers_are) placed
         (λ b q one. takes_passed k.classes l c b head at_c (unwritten_takes members one) q many (ap (λ (j : ℕ). above k.classes j c) (sym many) ∙ made.chained.ends c near_c))
         t'.marks_are (omega (arith, room_so))
@@ -305,7 +305,7 @@ module _ (tables : Tables) (names : Naming) (k : Known) (numbers : Numbering) (P
         let i : TopLevel = Class at x base base_at members in
         let here = class_made tables names k numbers c n (suc d) members in
         let later : Made' TypedStatements = items_made tables names k numbers (suc c) (d + length (item_entries names c i)) m (n + item_routines i) rest in
-        let count = class_counts tables names k numbers c n (suc d) members (first (item_nodes tables names k c d i) (nodes_fault tables names k (c + classes_in i) (d + length (item_entries names c i)) rest) t'.nodes) in
+        let count = class_counts tables names k numbers c n (suc d) members (first (item_nodes tables names k c d i) (nodes_failure tables names k (c + classes_in i) (d + length (item_entries names c i)) rest) t'.nodes) in
         let step : c + 1 ≡ suc c = omega arith in
         let t1 : TextAt (suc c) (d + length (item_entries names c i)) (n + item_routines i) rest = subst (λ (j : ℕ). TextAt j (d + length (item_entries names c i)) (n + item_routines i) rest) step (text_step c d n i rest t') in
         let (each_so, sound_so, declared_so) = text_sound S main_so (suc c) (d + length (item_entries names c i)) m (n + item_routines i) rest t1 (placed_at tables names k numbers P n (item_routines i) here later.routines count placed) kept in
@@ -315,7 +315,7 @@ module _ (tables : Tables) (names : Naming) (k : Known) (numbers : Numbering) (P
         let i : TopLevel = Function x r in
         let here = function_made tables names k numbers false n (kind_at k d) r in
         let later : Made' TypedStatements = items_made tables names k numbers c (suc d) m (n + item_routines i) rest in
-        let h = first (item_nodes tables names k c d i) (nodes_fault tables names k (c + classes_in i) (d + length (item_entries names c i)) rest) t'.nodes in
+        let h = first (item_nodes tables names k c d i) (nodes_failure tables names k (c + classes_in i) (d + length (item_entries names c i)) rest) t'.nodes in
         let count = function_counts tables names k numbers false n (kind_at k d) j params gives all arrow h in
         let room_so : n + (suc (statements_handlers all) + all_routines rest) ≤ P.main = t'.room in
         let c_step : c + 0 ≡ c = omega arith in
@@ -328,7 +328,7 @@ module _ (tables : Tables) (names : Naming) (k : Known) (numbers : Numbering) (P
         let i : TopLevel = Main a in
         let here : Made' TypedStatement = main_made tables names k numbers d a m n in
         let later : Made' TypedStatements = items_made tables names k numbers c (d + length (item_entries names c i)) (m + length here.locals) (n + item_routines i) rest in
-        let h = first (item_nodes tables names k c d i) (nodes_fault tables names k (c + classes_in i) (d + length (item_entries names c i)) rest) t'.nodes in
+        let h = first (item_nodes tables names k c d i) (nodes_failure tables names k (c + classes_in i) (d + length (item_entries names c i)) rest) t'.nodes in
         let count = main_counts tables names k numbers d a h m n in
         let room_so : n + (statement_handlers a + all_routines rest) ≤ P.main = t'.room in
         let c_step : c + 0 ≡ c = omega arith in

@@ -8,11 +8,11 @@ use Rattle.sts_syntax.specs.TypedTrees.{TypedStatement, TypedRoutine, TypedProgr
 use Rattle.sts_syntax.specs.TypeRules.{HasRoutine}
 use Rattle.sts_syntax.specs.Trees.{Statement, Block, Let, IfOnly, IfElse, While, DoWhile, For, ForOf, Return, Break, Continue, Plain, Empty, Declaration, Declare, Declarations, ended, next, Routine, Does}
 use Rattle.sts_syntax.specs.Programs.{ClassMember, Field, Method, Constructor, TopLevel, Class, Function, Main, Program}
-use Rattle.sts_scope.specs.declared.kinds.Kind.{Kind}
+use Rattle.sts_scope.specs.declared.kinds.StaticType.{StaticType}
 use Rattle.sts_scope.specs.declared.entries.Owner.{Owner}
 use Rattle.sts_scope.specs.declared.entries.Owner.TheVariants as o
-use Rattle.sts_scope.specs.declared.entries.Sort.{Sort}
-use Rattle.sts_scope.specs.declared.entries.Sort.TheVariants as sort
+use Rattle.sts_scope.specs.declared.entries.DeclarationKind.{DeclarationKind}
+use Rattle.sts_scope.specs.declared.entries.DeclarationKind.TheVariants as sort
 use Rattle.sts_scope.specs.declared.entries.Entry.{Entry}
 use Rattle.sts_scope.specs.declared.known.Known.{Known}
 use Rattle.sts_scope.specs.declared.known.This.TheVariants as this
@@ -20,7 +20,7 @@ use Rattle.sts_scope.specs.Kinds.{nothing, value_type, value_types}
 use Rattle.sts_scope.specs.Entries.{Naming, classes_in, item_entries, main_entries, member_entries, global_entries, entries_from}
 use Rattle.sts_scope.specs.Lookup.{base_of}
 use Rattle.sts_scope.specs.Rules.{kind_at}
-use Rattle.type_derive.specs.Passes.{field_fault, body_fault, constructor_fault, members_nodes, item_nodes, nodes_fault}
+use Rattle.type_derive.specs.Passes.{field_failure, body_failure, constructor_failure, members_nodes, item_nodes, nodes_failure}
 use Rattle.sts_scope.specs.Handlers.{routine_handlers, declared_handlers, unwritten, item_routines}
 use Rattle.sts_scope.specs.Numbers.{Numbering, member_numbers, global_places, main_numbers, item_numbers, numbers_from}
 use Rattle.type_derive.specs.Programs.{function_made, method_made, initial_made, initials, constructor_made, unwritten_made, members_made, class_made, main_made, items_made}
@@ -36,7 +36,7 @@ module _ (tables : Tables) (names : Naming) (k : Known) (numbers : Numbering) (P
   abbrev pub result_at : ℕ → ValueType
   result_at d = value_type (unwrap_or (kind_at k d) nothing)
 
-  abbrev pub FitsAs : Sort → Owner → List Kind → ℕ → ℕ → Type 0
+  abbrev pub FitsAs : DeclarationKind → Owner → List StaticType → ℕ → ℕ → Type 0
   FitsAs sort.Function owner takes d j = HasBody (value_types takes) (result_at d) j
   FitsAs sort.Method (o.Class c) takes d j = HasBody (t.Object c ∷ value_types takes) (result_at d) j
   FitsAs sort.Method o.Whole takes d j = Unit {0}
@@ -100,7 +100,7 @@ module _ (tables : Tables) (names : Naming) (k : Known) (numbers : Numbering) (P
   members_aligned c n d inits [] h placed = tt
   members_aligned c n d inits (Field (Declare i x shape first') ∷ rest) h placed =
       let a : Declaration = Declare i x shape first' in
-      let A = field_fault tables names k (this.Object c) a in
+      let A = field_failure tables names k (this.Object c) a in
       let B = members_nodes tables names k c (suc d) rest in (
         tt,
         members_aligned c (n + declared_handlers a) (suc d) inits rest (last A B h)
@@ -108,14 +108,14 @@ module _ (tables : Tables) (names : Naming) (k : Known) (numbers : Numbering) (P
       )
   members_aligned c n d inits (Method x (Does i params gives all arrow) ∷ rest) h placed =
       let r : Routine = Does i params gives all arrow in
-      let A = body_fault tables names k (this.Object c) (kind_at k d) r in
+      let A = body_failure tables names k (this.Object c) (kind_at k d) r in
       let B = members_nodes tables names k c (suc d) rest in
       let made = method_made tables names k numbers c n (kind_at k d) r in
       let later = members_made tables names k numbers c inits (suc n + routine_handlers r) (suc d) rest in
       let here = placed_left P n made later placed in
       ((_, here.0, refl, refl), members_aligned c (suc n + routine_handlers r) (suc d) inits rest (last A B h) (placed_more n (routine_handlers r) made later (method_counts tables names k numbers c n (kind_at k d) r (first A B h)) placed))
   members_aligned c n d inits (Constructor r ∷ rest) h placed =
-      let A = constructor_fault tables names k (this.Object c) (base_of k.classes c) r in
+      let A = constructor_failure tables names k (this.Object c) (base_of k.classes c) r in
       let B = members_nodes tables names k c d rest in
       let made = constructor_made tables names k numbers c n inits r in
       let later = members_made tables names k numbers c inits (suc n + routine_handlers r) d rest in
@@ -129,13 +129,13 @@ module _ (tables : Tables) (names : Naming) (k : Known) (numbers : Numbering) (P
       placed_at n (unwritten members) (unwritten_made tables names k numbers (unwritten members) c inits) (members_made tables names k numbers c inits (n + unwritten members) d members) (unwritten_counts tables names k numbers c inits members) placed
 
   -- how a text's functions begin with those of its first part
-  pub text_aligned : (c d m n : ℕ) (text : Program) → nodes_fault tables names k c d text ≡ None → Placed P n (items_made tables names k numbers c d m n text).routines → Aligned d (entries_from names c text) (numbers_from n text)
+  pub text_aligned : (c d m n : ℕ) (text : Program) → nodes_failure tables names k c d text ≡ None → Placed P n (items_made tables names k numbers c d m n text).routines → Aligned d (entries_from names c text) (numbers_from n text)
   text_aligned c d m n [] h placed = tt
   text_aligned c d m n (Class at x base base_at members ∷ rest) h placed =
       let i : TopLevel = Class at x base base_at members in
       let A = item_nodes tables names k c d i in
       let es = item_entries names c i in
-      let B = nodes_fault tables names k (c + classes_in i) (d + length es) rest in
+      let B = nodes_failure tables names k (c + classes_in i) (d + length es) rest in
       let here = class_made tables names k numbers c n (suc d) members in
       let step : c + 1 ≡ suc c = omega arith in
       let later : ℕ → List TypedRoutine = λ c'. (items_made tables names k numbers c' (d + length es) m (n + item_routines i) rest).routines in
@@ -149,7 +149,7 @@ module _ (tables : Tables) (names : Naming) (k : Known) (numbers : Numbering) (P
       let i : TopLevel = Function x r in
       let A = item_nodes tables names k c d i in
       let es = item_entries names c i in
-      let B = nodes_fault tables names k (c + classes_in i) (d + length es) rest in
+      let B = nodes_failure tables names k (c + classes_in i) (d + length es) rest in
       let here = function_made tables names k numbers false n (kind_at k d) r in
       let c_step : c ≡ c + 0 = omega arith in
       let d_step : suc d ≡ d + 1 = omega arith in
@@ -164,7 +164,7 @@ module _ (tables : Tables) (names : Naming) (k : Known) (numbers : Numbering) (P
       let i : TopLevel = Main a in
       let A = item_nodes tables names k c d i in
       let es = item_entries names c i in
-      let B = nodes_fault tables names k (c + classes_in i) (d + length es) rest in
+      let B = nodes_failure tables names k (c + classes_in i) (d + length es) rest in
       let here = main_made tables names k numbers d a m n in
       let c_step : c ≡ c + 0 = omega arith in
       let later : ℕ → List TypedRoutine = λ c'. (items_made tables names k numbers c' (d + length es) (m + length here.locals) (n + item_routines i) rest).routines in

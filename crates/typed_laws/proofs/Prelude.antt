@@ -5,13 +5,13 @@ use Rattle.std.specs.List.{position_from}
 use Rattle.std.proofs.lemmas.Bool.{le-leb}
 use Rattle.sts_base.specs.declared.tables.Tables.{Tables}
 use Rattle.sts_syntax.specs.Programs.{Program}
-use Rattle.sts_scope.specs.declared.kinds.Kind.{Kind}
+use Rattle.sts_scope.specs.declared.kinds.StaticType.{StaticType}
 use Rattle.sts_scope.specs.declared.entries.Owner.TheVariants as o
 use Rattle.sts_scope.specs.declared.known.Known.{Known}
 use Rattle.sts_scope.specs.declared.known.Found.TheVariants as found
 use Rattle.sts_scope.specs.declared.known.This.TheVariants as this
 use Rattle.sts_scope.specs.Entries.{Naming, entries_from}
-use Rattle.sts_scope.specs.Faults.{Fault, ◌then◌}
+use Rattle.sts_scope.specs.Failures.{Failure, ◌then◌}
 use Rattle.sts_scope.specs.Kinds.{number}
 use Rattle.sts_scope.specs.Lookup.{declares, sort_of}
 use Rattle.sts_scope.specs.Places.{local, global_named, whole_found, sort_found}
@@ -19,13 +19,13 @@ use Rattle.sts_scope.specs.Rules.{kind_at}
 use Rattle.sts_scope.specs.Scopes.{all_names}
 use Rattle.type_derive.specs.Derived.{at, Source, Stated, follows}
 use Rattle.type_derive.specs.Returns.{within}
-use Rattle.type_derive.specs.Nodes.{statements_fault}
+use Rattle.type_derive.specs.Nodes.{statements_failure}
 use Rattle.type_derive.specs.Formed.{IsFormedProgram}
 use Rattle.type_derive.specs.Accepted.{known, AreDerived, all_sources}
-use Rattle.type_derive.specs.Libraries.{library_fault}
+use Rattle.type_derive.specs.Libraries.{library_failure}
 use Rattle.sts_prelude.specs.inner.Library as l
 use Rattle.sts_prelude.proofs.Laws.{own, own_tokens}
-use Rattle.typed_laws.proofs.Faultless.{leds, numbers, strings, lines, absolutes, least, greatest}
+use Rattle.typed_laws.proofs.NoFailure.{leds, numbers, strings, lines, absolutes, least, greatest}
 
 abbrev pub L : Program
 L = l.library own_tokens
@@ -43,7 +43,7 @@ hidden : (k : Known) (x : Option ℕ) → ((d : ℕ) → x ≡ Some d → k.libr
 hidden k None h = refl
 hidden k (Some d) h = ap (λ (b : Bool). if b then found.Unknown else sort_found d (sort_of k.entries d)) (le-leb k.library d (h d refl))
 
-kind_is_at : (ks : List (Option Kind)) (d : ℕ) → at ks d ≡ elim (slice_get ks d) [ None ↦ None | Some kind ↦ kind ]
+kind_is_at : (ks : List (Option StaticType)) (d : ℕ) → at ks d ≡ elim (slice_get ks d) [ None ↦ None | Some kind ↦ kind ]
 kind_is_at [] d = refl
 kind_is_at (x ∷ ks) zero = refl
 kind_is_at (x ∷ ks) (suc d) = kind_is_at ks d
@@ -112,7 +112,7 @@ formed = (
   ),
 )
 
-module _ (more rest : List (List ℕ)) (text : Program) (kinds : List (Option Kind)) where
+module _ (more rest : List (List ℕ)) (text : Program) (kinds : List (Option StaticType)) where
   abbrev pub names : Naming
   names = all_names L text
 
@@ -138,9 +138,9 @@ module _ (more rest : List (List ℕ)) (text : Program) (kinds : List (Option Ki
   serial = hidden k (position_from (declares o.Whole 20) 7 (entries_from names 0 text)) (past (declares o.Whole 20) 7 (entries_from names 0 text))
 
   module _ (derived : AreDerived T L text kinds) where
-    pub stated : (d : ℕ) (kind : Option Kind) → d < 7 → slice_get (all_sources L text) d ≡ Some (Stated kind) → kind_at k d ≡ kind
+    pub stated : (d : ℕ) (kind : Option StaticType) → d < 7 → slice_get (all_sources L text) d ≡ Some (Stated kind) → kind_at k d ≡ kind
     stated d kind near h =
-        let F : Option Source → Option Kind = λ x. elim x [ None ↦ None | Some s ↦ follows names T k (nat_lt d k.library) s ] in
+        let F : Option Source → Option StaticType = λ x. elim x [ None ↦ None | Some s ↦ follows names T k (nat_lt d k.library) s ] in
         let long : length kinds ≡ suc (suc (suc (suc (suc (suc (suc (length (entries_from names 0 text)))))))) = derived.each in
         sym (kind_is_at kinds d) ∙ derived.least.solves d (omega (arith, near, long)) ∙ ap F h
 
@@ -153,13 +153,13 @@ module _ (more rest : List (List ℕ)) (text : Program) (kinds : List (Option Ki
     number_6 : kind_at k 6 ≡ Some number
     number_6 = stated 6 (Some number) (omega arith) refl
 
-    all_none : (a b c d e f g : Option Fault) → a ≡ None → b ≡ None → c ≡ None → d ≡ None → e ≡ None → f ≡ None → g ≡ None
+    all_none : (a b c d e f g : Option Failure) → a ≡ None → b ≡ None → c ≡ None → d ≡ None → e ≡ None → f ≡ None → g ≡ None
         → a then b then c then d then e then f then g then None ≡ None
     all_none a b c d e f g p q r s t u v = rw p (rw q (rw r (rw s (rw t (rw u (rw v refl))))))
 
-    pub faultless : library_fault T names k 0 L ≡ None
-    faultless = all_none _ _ _ _ _ _ _ (leds more rest names k (kind_at k 0) show basic) (numbers more rest names k (kind_at k 1) number_glyph show basic)
+    pub no_failure : library_failure T names k 0 L ≡ None
+    no_failure = all_none _ _ _ _ _ _ _ (leds more rest names k (kind_at k 0) show basic) (numbers more rest names k (kind_at k 1) number_glyph show basic)
         (strings more rest names k (kind_at k 2) text_glyph show basic) (lines more rest names k (kind_at k 3) serial)
-        (subst (λ (x : Option Kind). statements_fault T names k (within (local 9 (Some number) false ∷ []) this.Nowhere x true) (l.absolute own_tokens 168) ≡ None) (sym number_4) (absolutes more rest names k))
-        (subst (λ (x : Option Kind). statements_fault T names k (within (local 25 (Some number) false ∷ local 26 (Some number) false ∷ []) this.Nowhere x true) (l.one_of_two own_tokens 193 6) ≡ None) (sym number_5) (least more rest names k))
-        (subst (λ (x : Option Kind). statements_fault T names k (within (local 25 (Some number) false ∷ local 26 (Some number) false ∷ []) this.Nowhere x true) (l.one_of_two own_tokens 216 7) ≡ None) (sym number_6) (greatest more rest names k))
+        (subst (λ (x : Option StaticType). statements_failure T names k (within (local 9 (Some number) false ∷ []) this.Nowhere x true) (l.absolute own_tokens 168) ≡ None) (sym number_4) (absolutes more rest names k))
+        (subst (λ (x : Option StaticType). statements_failure T names k (within (local 25 (Some number) false ∷ local 26 (Some number) false ∷ []) this.Nowhere x true) (l.one_of_two own_tokens 193 6) ≡ None) (sym number_5) (least more rest names k))
+        (subst (λ (x : Option StaticType). statements_failure T names k (within (local 25 (Some number) false ∷ local 26 (Some number) false ∷ []) this.Nowhere x true) (l.one_of_two own_tokens 216 7) ≡ None) (sym number_6) (greatest more rest names k))

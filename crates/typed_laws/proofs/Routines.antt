@@ -12,7 +12,7 @@ use Rattle.sts_syntax.specs.WellTyped.{Setting, Has, HasThis}
 use Rattle.sts_syntax.specs.WellTyped as w
 use Rattle.sts_syntax.specs.WellTypedPrograms.{IsRoutine, IsBodyOf, base_of_maker, is_maker, setting}
 use Rattle.sts_syntax.specs.Trees.{Parameter, Statements}
-use Rattle.sts_scope.specs.declared.kinds.Kind.{Kind}
+use Rattle.sts_scope.specs.declared.kinds.StaticType.{StaticType}
 use Rattle.sts_scope.specs.declared.entries.ClassHead.{ClassHead}
 use Rattle.sts_scope.specs.declared.known.Known.{Known}
 use Rattle.sts_scope.specs.declared.known.This.{This as Self}
@@ -23,7 +23,7 @@ use Rattle.sts_scope.specs.Lookup.{base_of}
 use Rattle.sts_scope.specs.Rules.{local_kind}
 use Rattle.typed_laws.proofs.Returning.{give_value}
 use Rattle.type_derive.specs.Returns.{parameter_locals, within}
-use Rattle.type_derive.specs.Nodes.{statements_fault}
+use Rattle.type_derive.specs.Nodes.{statements_failure}
 use Rattle.sts_scope.specs.Handlers.{statements_handlers}
 use Rattle.type_derive.specs.Formed.{AreFormedIn}
 use Rattle.sts_scope.specs.Numbers.{Numbering, maker_number}
@@ -51,12 +51,12 @@ module _ (tables : Tables) (names : Naming) (k : Known) (numbers : Numbering) (P
   Stand S known s = At tables names k numbers P st S known s
 
   -- parameters stand behind those before them
-  params_have : (S : Setting) (before : List ValueType) (params : List Parameter) → S.routine.params ≡ before ++ value_types (parameter_kinds names params) → (j : ℕ) (u : Kind) → local_kind (parameter_locals names params) j ≡ Some u
+  params_have : (S : Setting) (before : List ValueType) (params : List Parameter) → S.routine.params ≡ before ++ value_types (parameter_kinds names params) → (j : ℕ) (u : StaticType) → local_kind (parameter_locals names params) j ≡ Some u
       → Has P S [] (get_or (parameter_spots (length before) params) j (Global 0)) (value_type u)
   params_have S before [] q j u h = cc
   params_have S before (p ∷ rest) q zero u h =
       let v : ValueType = value_type (unwrap_or (written_kind names p.shape) nothing) in
-      let same : v ≡ value_type u = ap (λ (o : Option Kind). value_type (unwrap_or o nothing)) h in
+      let same : v ≡ value_type u = ap (λ (o : Option StaticType). value_type (unwrap_or o nothing)) h in
       ap (λ (us : List ValueType). entry us (length before)) q ∙ entry_at before (value_types (parameter_kinds names rest)) v ∙ ap (λ (y : ValueType). Some y) same
   params_have S before (p ∷ rest) q (suc j) u h =
       let v : ValueType = value_type (unwrap_or (written_kind names p.shape) nothing) in
@@ -64,7 +64,7 @@ module _ (tables : Tables) (names : Naming) (k : Known) (numbers : Numbering) (P
       let long : length (before ++ v ∷ []) ≡ suc (length before) = length-append before (v ∷ []) ∙ (let z : length before + 1 ≡ suc (length before) = omega arith in z) in
       subst (λ (i : ℕ). Has P S [] (get_or (parameter_spots i rest) j (Global 0)) (value_type u)) long (params_have S (before ++ v ∷ []) rest q' j u h)
 
-  params_proper : (params : List Parameter) (j : ℕ) (u : Kind) → local_kind (parameter_locals names params) j ≡ Some u → IsProper u
+  params_proper : (params : List Parameter) (j : ℕ) (u : StaticType) → local_kind (parameter_locals names params) j ≡ Some u → IsProper u
   params_proper [] j u h = cc
   params_proper (p ∷ rest) zero u h = written_proper names p.shape u h
   params_proper (p ∷ rest) (suc j) u h = params_proper rest j u h
@@ -73,7 +73,7 @@ module _ (tables : Tables) (names : Naming) (k : Known) (numbers : Numbering) (P
   params_even i [] = refl
   params_even i (p ∷ rest) = ap suc (params_even (suc i) rest)
 
-  pub site_stand : (S : Setting) (self : Self) (result : Option Kind) (library : Bool) (before : List ValueType) (params : List Parameter) → S.routine.params ≡ before ++ value_types (parameter_kinds names params)
+  pub site_stand : (S : Setting) (self : Self) (result : Option StaticType) (library : Bool) (before : List ValueType) (params : List Parameter) → S.routine.params ≡ before ++ value_types (parameter_kinds names params)
       → ((c : ℕ) → self ≡ this.Object c → HasThis P S (t.Object c)) → Stand S [] (site tables names k numbers self result library (length before) params)
   site_stand S self result library before params q this_so =
       record { even = params_even (length before) params; here = λ i u h. params_have S before params q i u h; proper = λ i u h. params_proper params i u h; this = this_so }
@@ -177,17 +177,17 @@ module _ (tables : Tables) (names : Naming) (k : Known) (numbers : Numbering) (P
         (inner_sound n r h.0 (suffix_head marks n None (blank (length rs) ++ tail) s) near_n, inners_sound (suc n) rs tail h.1 (suffix_one marks n None (blank (length rs) ++ tail) s) near')
 
     -- what `return` gives in a function that is no constructor
-    plain_answers : (f : ℕ) (r : TypedRoutine) (result : Option Kind) (b : Bool) → is_maker P.classes f ≡ false → f < P.main → r.gives ≡ value_type (unwrap_or result nothing) → ((u : Kind) → result ≡ Some u → IsProper u)
+    plain_answers : (f : ℕ) (r : TypedRoutine) (result : Option StaticType) (b : Bool) → is_maker P.classes f ≡ false → f < P.main → r.gives ≡ value_type (unwrap_or result nothing) → ((u : StaticType) → result ≡ Some u → IsProper u)
         → Answered tables names k numbers P st (setting P f r) result b
     plain_answers f r result b h near gives proper =
         let answer_is : w.answer (setting P f r) ≡ Some r.gives =
         ap (λ (x : Bool). let y : Option ValueType = if x then None else Some (if is_maker P.classes f then t.Nothing else r.gives) in y) (below_main f near)
         ∙ ap (λ (x : Bool). Some (if x then t.Nothing else r.gives)) h in
-        ((λ q. (r.gives, answer_is)), (λ q v same. (answer_is ∙ ap (λ (y : ValueType). Some y) (gives ∙ ap (λ (o : Option Kind). value_type (unwrap_or o nothing)) same), proper v same)))
+        ((λ q. (r.gives, answer_is)), (λ q v same. (answer_is ∙ ap (λ (y : ValueType). Some y) (gives ∙ ap (λ (o : Option StaticType). value_type (unwrap_or o nothing)) same), proper v same)))
 
     -- a function or a method, and the functions in it
-    pub body_sound : (self : Self) (result : Option Kind) (library : Bool) (before : List ValueType) (params : List Parameter) (all : Statements) (n : ℕ) (tail : List (Option ℕ))
-        → AreFormedIn false all → statements_fault tables names k (within (parameter_locals names params) self result library) all ≡ None → ((u : Kind) → result ≡ Some u → IsProper u)
+    pub body_sound : (self : Self) (result : Option StaticType) (library : Bool) (before : List ValueType) (params : List Parameter) (all : Statements) (n : ℕ) (tail : List (Option ℕ))
+        → AreFormedIn false all → statements_failure tables names k (within (parameter_locals names params) self result library) all ≡ None → ((u : StaticType) → result ≡ Some u → IsProper u)
         → (let x = made_statements tables names k numbers (site tables names k numbers self result library (length before) params) all 0 (suc n) in
         let r : TypedRoutine = record { params = before ++ value_types (parameter_kinds names params); locals = x.locals; gives = value_type (unwrap_or result nothing); all = x.it } in
         Placed P n (r ∷ x.routines) → ((c : ℕ) → self ≡ this.Object c → HasThis P (setting P n r) (t.Object c)) → Suffix marks n (blank (suc (statements_handlers all)) ++ tail) → n + suc (statements_handlers all) ≤ P.main → Each n (r ∷ x.routines))

@@ -12,7 +12,7 @@ use Rattle.sts_syntax.specs.TypedTrees.{TypedTree, TypedProgram}
 use Rattle.sts_syntax.specs.TypeRules.{entry, GoesTo}
 use Rattle.sts_syntax.specs.WellTyped.{Setting, Has, HasThis, IsTyped}
 use Rattle.sts_syntax.specs.WellTyped as w
-use Rattle.sts_scope.specs.declared.kinds.Kind.{Kind}
+use Rattle.sts_scope.specs.declared.kinds.StaticType.{StaticType}
 use Rattle.sts_scope.specs.declared.known.Known.{Known}
 use Rattle.sts_scope.specs.declared.known.Local.{Local as Scoped}
 use Rattle.sts_scope.specs.declared.known.Found.{Found}
@@ -31,34 +31,34 @@ use Rattle.typed_laws.proofs.OneNode.{both_true, either_true, same_is, goes_to}
 use Rattle.typed_laws.proofs.Names.{Real, some_is}
 
 -- what a list of locals has behind its last
-pub kind_split : (ls : List Scoped) (l : Scoped) (i : ℕ) (u : Kind) → local_kind (ls ++ l ∷ []) i ≡ Some u → ((i < length ls) × (local_kind ls i ≡ Some u)) ⊎ ((i ≡ length ls) × (l.kind ≡ Some u))
+pub kind_split : (ls : List Scoped) (l : Scoped) (i : ℕ) (u : StaticType) → local_kind (ls ++ l ∷ []) i ≡ Some u → ((i < length ls) × (local_kind ls i ≡ Some u)) ⊎ ((i ≡ length ls) × (l.kind ≡ Some u))
 kind_split [] l zero u h = inr (refl, h)
 kind_split [] l (suc i) u h = cc
 kind_split (a ∷ ls) l zero u h = inl (omega arith, h)
 kind_split (a ∷ ls) l (suc i) u h = elim (kind_split ls l i u h) [ inl p ↦ inl (omega (arith, p.0), p.1) | inr p ↦ inr (ap suc p.0, p.1) ]
 
 -- what is given to `[]`, else the type itself
-abbrev pub seen : Option Kind → Kind → Kind
+abbrev pub seen : Option StaticType → StaticType → StaticType
 seen None u = u
 seen (Some v) u = if is_proper_base u.base then u else v
 
-pub seen_proper : (g : Option Kind) (u : Kind) → IsProper u → seen g u ≡ u
+pub seen_proper : (g : Option StaticType) (u : StaticType) → IsProper u → seen g u ≡ u
 seen_proper None u p = refl
-seen_proper (Some v) u p = let F : Bool → Kind = λ (x : Bool). if x then u else v in ap F p
+seen_proper (Some v) u p = let F : Bool → StaticType = λ (x : Bool). if x then u else v in ap F p
 
-pub seen_empty : (v u : Kind) → is_proper_base u.base ≡ false → seen (Some v) u ≡ v
-seen_empty v u p = let F : Bool → Kind = λ (x : Bool). if x then u else v in ap F p
+pub seen_empty : (v u : StaticType) → is_proper_base u.base ≡ false → seen (Some v) u ≡ v
+seen_empty v u p = let F : Bool → StaticType = λ (x : Bool). if x then u else v in ap F p
 
 -- `[]` stands only where an array is given
-abbrev pub Suits : Option Kind → Kind → Type 0
+abbrev pub Suits : Option StaticType → StaticType → Type 0
 Suits None u = Unit {0}
 Suits (Some v) u = is_proper_base u.base ≡ false → is_array v ≡ true
 
-abbrev pub Wanted : Option Kind → Type 0
+abbrev pub Wanted : Option StaticType → Type 0
 Wanted None = Unit {0}
 Wanted (Some v) = IsProper v
 
-pub improper : (u : Kind) → is_proper_base u.base ≡ false → IsProper u → ⊥
+pub improper : (u : StaticType) → is_proper_base u.base ≡ false → IsProper u → ⊥
 improper u p q = let r : true ≡ false = sym q ∙ p in cc
 
 pub by_cases : (A : Type 0) (x : Bool) → (x ≡ true → A) → (x ≡ false → A) → A
@@ -66,15 +66,15 @@ by_cases A true f g = f refl
 by_cases A false f g = g refl
 
 module _ (classes : List ClassHead) (P : TypedProgram) where
-  no_class_below : (v : Kind) (c : Option ℕ) → elim c [ None ↦ false | Some m ↦ false ] ≡ true → ⊥
+  no_class_below : (v : StaticType) (c : Option ℕ) → elim c [ None ↦ false | Some m ↦ false ] ≡ true → ⊥
   no_class_below v None h = cc
   no_class_below v (Some m) h = cc
 
-  pub empty_is_not_below : (v : Kind) → below classes empty v ≡ true → ⊥
+  pub empty_is_not_below : (v : StaticType) → below classes empty v ≡ true → ⊥
   unfolding below class_of
   empty_is_not_below v h = cc
 
-  pub nothing_below_empty : (v : Kind) → below classes v empty ≡ true → ⊥
+  pub nothing_below_empty : (v : StaticType) → below classes v empty ≡ true → ⊥
   unfolding below class_of
   nothing_below_empty v h = no_class_below v (class_of v) h
 
@@ -82,12 +82,12 @@ module _ (classes : List ClassHead) (P : TypedProgram) where
   unfolding same
   empty_is_not_null h = cc
 
-  pub empty_suits : (v : Kind) → IsProper v → goes classes empty v ≡ true → is_array v ≡ true
+  pub empty_suits : (v : StaticType) → IsProper v → goes classes empty v ≡ true → is_array v ≡ true
   unfolding goes
   empty_suits v p h = elim (either_true (same empty v || below classes empty v || (same empty null && takes_null v)) (same empty empty && is_array v) h) [
     | inl h ↦ elim (either_true (same empty v || below classes empty v) (same empty null && takes_null v) h) [
       | inl h ↦ elim (either_true (same empty v) (below classes empty v) h) [
-        | inl e ↦ absurd (improper v (ap (λ (x : Kind). is_proper_base x.base) (sym (same_is empty v e))) p)
+        | inl e ↦ absurd (improper v (ap (λ (x : StaticType). is_proper_base x.base) (sym (same_is empty v e))) p)
         | inr e ↦ absurd (empty_is_not_below v e)
       ]
       | inr e ↦ absurd (empty_is_not_null (both_true (same empty null) (takes_null v) e).0)
@@ -97,17 +97,17 @@ module _ (classes : List ClassHead) (P : TypedProgram) where
 
 module _ (tables : Tables) (names : Naming) (k : Known) (numbers : Numbering) (P : TypedProgram) (st : Stands tables k numbers P) where
   -- a type of a place that may give one: it is `[]`'s, or one that values have
-  abbrev pub IsEmptyOr : Kind → Type 0
+  abbrev pub IsEmptyOr : StaticType → Type 0
   IsEmptyOr u = IsProper u ⊎ (u ≡ empty)
 
-  pub suits_given : (u v : Kind) → IsEmptyOr u → IsProper v → goes k.classes u v ≡ true → Suits (Some v) u
+  pub suits_given : (u v : StaticType) → IsEmptyOr u → IsProper v → goes k.classes u v ≡ true → Suits (Some v) u
   suits_given u v (inl p) q h = λ e. absurd (improper u e p)
-  suits_given u v (inr r) q h = λ e. empty_suits k.classes P v q (subst (λ (x : Kind). goes k.classes x v ≡ true) r h)
+  suits_given u v (inr r) q h = λ e. empty_suits k.classes P v q (subst (λ (x : StaticType). goes k.classes x v ≡ true) r h)
 
-  pub given_goes : (u v : Kind) → goes k.classes u v ≡ true → GoesTo P (value_type (seen (Some v) u)) (value_type v)
+  pub given_goes : (u v : StaticType) → goes k.classes u v ≡ true → GoesTo P (value_type (seen (Some v) u)) (value_type v)
   given_goes u v h = by_cases (GoesTo P (value_type (seen (Some v) u)) (value_type v)) (is_proper_base u.base)
-      (λ e. subst (λ (x : Kind). GoesTo P (value_type x) (value_type v)) (sym (seen_proper (Some v) u e)) (goes_to k.classes P st.bases u v e h))
-      (λ e. inl (ap (λ (x : Kind). value_type x) (seen_empty v u e)))
+      (λ e. subst (λ (x : StaticType). GoesTo P (value_type x) (value_type v)) (sym (seen_proper (Some v) u e)) (goes_to k.classes P st.bases u v e h))
+      (λ e. inl (ap (λ (x : StaticType). value_type x) (seen_empty v u e)))
 
   -- an expression is well typed, of this type
   abbrev pub IsGood : Setting → List ℕ → ValueType → TypedTree → Type 0
@@ -116,8 +116,8 @@ module _ (tables : Tables) (names : Naming) (k : Known) (numbers : Numbering) (P
   -- What is known at a place: each name of this function in scope is a parameter or a local of its type.
   pub record At (S : Setting) (known : List ℕ) (s : Site) : Type 0 where
     pub even : length s.spots ≡ length s.place.locals
-    pub here : (i : ℕ) (u : Kind) → local_kind s.place.locals i ≡ Some u → Has P S known (get_or s.spots i (Global 0)) (value_type u)
-    pub proper : (i : ℕ) (u : Kind) → local_kind s.place.locals i ≡ Some u → IsProper u
+    pub here : (i : ℕ) (u : StaticType) → local_kind s.place.locals i ≡ Some u → Has P S known (get_or s.spots i (Global 0)) (value_type u)
+    pub proper : (i : ℕ) (u : StaticType) → local_kind s.place.locals i ≡ Some u → IsProper u
     pub this : (c : ℕ) → s.place.this ≡ this.Object c → HasThis P S (t.Object c)
 
   has_more : (S : Setting) (known : List ℕ) (m : ℕ) (x : Spot) (u : ValueType) → Has P S known x u → Has P S (m ∷ known) x u
@@ -129,8 +129,8 @@ module _ (tables : Tables) (names : Naming) (k : Known) (numbers : Numbering) (P
   at_block S known s a = record { even = a.even; here = a.here; proper = a.proper; this = a.this }
 
   -- behind a new local
-  pub at_local : (S : Setting) (known : List ℕ) (s : Site) (x : ℕ) (kind : Option Kind) (fixed : Bool) (m : ℕ) → At S known s
-      → ((u : Kind) → kind ≡ Some u → (entry S.routine.locals m ≡ Some (value_type u)) × IsProper u) → At S (m ∷ known) (record { place = with s.place x kind fixed; spots = s.spots ++ Local m ∷ [] })
+  pub at_local : (S : Setting) (known : List ℕ) (s : Site) (x : ℕ) (kind : Option StaticType) (fixed : Bool) (m : ℕ) → At S known s
+      → ((u : StaticType) → kind ≡ Some u → (entry S.routine.locals m ≡ Some (value_type u)) × IsProper u) → At S (m ∷ known) (record { place = with s.place x kind fixed; spots = s.spots ++ Local m ∷ [] })
   at_local S known s x kind fixed m a new =
       let l : Scoped = local x kind fixed in
       record {
@@ -147,7 +147,7 @@ module _ (tables : Tables) (names : Naming) (k : Known) (numbers : Numbering) (P
         this = a.this;
       }
 
-  pub name_good : (S : Setting) (known : List ℕ) (s : Site) (f : Found) (u : Kind) → At S known s → Real k s.place f → name_kind k s.place f ≡ Some u → Has P S known (spot_of tables names k numbers s f) (value_type u)
+  pub name_good : (S : Setting) (known : List ℕ) (s : Site) (f : Found) (u : StaticType) → At S known s → Real k s.place f → name_kind k s.place f ≡ Some u → Has P S known (spot_of tables names k numbers s f) (value_type u)
   name_good S known s (found.Local i) u a r h = a.here i u h
   name_good S known s (found.Global d) u a r h = st.globals d r.0 u r.1 h
   name_good S known s found.Captured u a r h = cc
@@ -155,7 +155,7 @@ module _ (tables : Tables) (names : Naming) (k : Known) (numbers : Numbering) (P
   name_good S known s (found.Class c) u a r h = cc
   name_good S known s found.Unknown u a r h = cc
 
-  pub this_good : (S : Setting) (known : List ℕ) (s : Site) (self : Self) (u : Kind) → At S known s → s.place.this ≡ self → this_kind self ≡ Some u → HasThis P S (value_type u)
-  this_good S known s (this.Object c) u a r h = subst (λ (x : Kind). HasThis P S (value_type x)) (some_is (object c) u h) (a.this c r)
+  pub this_good : (S : Setting) (known : List ℕ) (s : Site) (self : Self) (u : StaticType) → At S known s → s.place.this ≡ self → this_kind self ≡ Some u → HasThis P S (value_type u)
+  this_good S known s (this.Object c) u a r h = subst (λ (x : StaticType). HasThis P S (value_type x)) (some_is (object c) u h) (a.this c r)
   this_good S known s (this.Hidden c) u a r h = cc
   this_good S known s this.Nowhere u a r h = cc

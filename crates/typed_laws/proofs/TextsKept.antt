@@ -14,7 +14,7 @@ use Rattle.sts_syntax.specs.BoardTable as board
 use Rattle.sts_syntax.specs.BoardTable.{BoardParameter, row_of}
 use Rattle.sts_syntax.specs.declared.board_calls.BoardCall.{BoardCall}
 use Rattle.sts_syntax.specs.Trees.{Tree, Num, Text, Truth, Null, This, Name, Unary, Binary, Both, Either, Choice, Set, Bump, Member, Item, Call, SuperCall, Make, Items, Handler, Trees, none, more, OptionalTree, absent, present, Statement, Block, Let, IfOnly, IfElse, While, DoWhile, For, ForOf, Return, Break, Continue, Plain, Empty, OptionalStatement, omitted, written, Statements, done, also, Declaration, Declare, Declarations, ended, next, Routine, Does}
-use Rattle.sts_scope.specs.declared.kinds.Kind.{Kind}
+use Rattle.sts_scope.specs.declared.kinds.StaticType.{StaticType}
 use Rattle.sts_scope.specs.declared.known.Known.{Known}
 use Rattle.sts_scope.specs.declared.known.Part.{Part}
 use Rattle.sts_scope.specs.declared.known.Part.TheVariants as part
@@ -151,10 +151,10 @@ module _ (n : ℕ) where
         → RoutinesName ((routine tables names k numbers params gives all i).it ∷ (routine tables names k numbers params gives all i).routines)
     routine_names params gives all h i = let x = h 0 (suc i) in (x.it, x.routines)
 
-    abbrev M : Site → Option Kind → Tree → Making TypedTree
+    abbrev M : Site → Option StaticType → Tree → Making TypedTree
     M s g a = made_tree tables names k numbers s g a
 
-    abbrev G : Site → List Kind → Trees → Making TypedTrees
+    abbrev G : Site → List StaticType → Trees → Making TypedTrees
     G s takes all = made_given tables names k numbers s takes all
 
     abbrev W : Site → Statement → Making TypedStatement
@@ -163,10 +163,10 @@ module _ (n : ℕ) where
     abbrev X : Site → Statements → Making TypedStatements
     X s all = made_statements tables names k numbers s all
 
-    abbrev note : Site → Option Kind → Tree → ValueType
+    abbrev note : Site → Option StaticType → Tree → ValueType
     note s g a = noted tables names k numbers s g a
 
-    member_names : (s : Site) (g : Option Kind) (at : ℕ) (a : Tree) (m : ℕ) (o : Option ℤ) → Makes OfTree (M s None a) → Makes OfTree (elim o [
+    member_names : (s : Site) (g : Option StaticType) (at : ℕ) (a : Tree) (m : ℕ) (o : Option ℤ) → Makes OfTree (M s None a) → Makes OfTree (elim o [
       | Some z ↦ pure (e.Num t.Number z)
       | None ↦ made_tree tables names k numbers s None a >=> λ x. pure (member_read tables names k numbers (noted tables names k numbers s g (Member at a m)) (part_in tables names k numbers s a m) (class_in tables names k numbers s a) m x)
     ])
@@ -175,7 +175,7 @@ module _ (n : ℕ) where
         one_of OfTree OfTree (M s None a) (λ x. member_read tables names k numbers (note s g (Member at a m)) (part_in tables names k numbers s a m) (class_in tables names k numbers s a) m x) h
         (λ x p. read_names (note s g (Member at a m)) (part_in tables names k numbers s a m) (class_in tables names k numbers s a) m x p)
 
-    call_names : (s : Site) (g : Option Kind) (at : ℕ) (f : Tree) (args : Trees) (o : Option BoardCall) → ((call : BoardCall) → Makes OfTrees (made_asked tables names k numbers s (row_of call).takes args))
+    call_names : (s : Site) (g : Option StaticType) (at : ℕ) (f : Tree) (args : Trees) (o : Option BoardCall) → ((call : BoardCall) → Makes OfTrees (made_asked tables names k numbers s (row_of call).takes args))
         → Makes OfTree (made_call tables names k numbers s (note s g (Call at f args)) f (G s (call_takes tables names k numbers s f) args)) → Makes OfTree (elim o [
           | Some call ↦ made_asked tables names k numbers s (row_of call).takes args >=> λ xs. pure (e.Call (noted tables names k numbers s g (Call at f args)) (board_target call (row_of call).action) xs)
           | None ↦ made_call tables names k numbers s (noted tables names k numbers s g (Call at f args)) f (made_given tables names k numbers s (call_takes tables names k numbers s f) args)
@@ -184,7 +184,7 @@ module _ (n : ℕ) where
         one_of OfTrees OfTree (made_asked tables names k numbers s (row_of call).takes args) (λ xs. e.Call (note s g (Call at f args)) (board_target call (row_of call).action) xs) (h call) (λ xs p. (tt, p))
     call_names s g at f args None h h' = h'
 
-    super_names : (s : Site) (g : Option Kind) (at m : ℕ) (args : Trees) (o : Option ℕ) → ((d : ℕ) → Makes OfTrees (G s (takes_at k.entries d) args)) → Makes OfTree (elim o [
+    super_names : (s : Site) (g : Option StaticType) (at m : ℕ) (args : Trees) (o : Option ℕ) → ((d : ℕ) → Makes OfTrees (G s (takes_at k.entries d) args)) → Makes OfTree (elim o [
       | None ↦ pure amiss
       | Some d ↦ made_given tables names k numbers s (takes_at k.entries d) args >=> λ xs. pure (e.SuperCall (noted tables names k numbers s g (SuperCall at (Some m) args)) (routine_number numbers d) xs)
     ])
@@ -193,7 +193,7 @@ module _ (n : ℕ) where
         one_of OfTrees OfTree (G s (takes_at k.entries d) args) (λ xs. e.SuperCall (note s g (SuperCall at (Some m) args)) (routine_number numbers d) xs) (h d) (λ xs p. (tt, p))
 
     mutual
-      pub tree : (s : Site) (g : Option Kind) (a : Tree) → TreeHas Whatever (Below n) a → Makes OfTree (made_tree tables names k numbers s g a)
+      pub tree : (s : Site) (g : Option StaticType) (a : Tree) → TreeHas Whatever (Below n) a → Makes OfTree (made_tree tables names k numbers s g a)
       tree s g (Num at z) h = makes_pure OfTree (e.Num t.Number z) (tt, tt)
       tree s g (Text at x) h = makes_pure OfTree (e.Text t.Text x) (h, tt)
       tree s g (Truth at b) h = makes_pure OfTree (e.Truth t.Boolean b) (tt, tt)
@@ -236,12 +236,12 @@ module _ (n : ℕ) where
           (λ x xs o q. (tt, both (nodes x) (nodes_of xs) o q))
       call_of s u _ args h p = makes_pure OfTree amiss (tt, tt)
 
-      pub given : (s : Site) (takes : List Kind) (all : Trees) → TreesHave Whatever (Below n) all → Makes OfTrees (made_given tables names k numbers s takes all)
+      pub given : (s : Site) (takes : List StaticType) (all : Trees) → TreesHave Whatever (Below n) all → Makes OfTrees (made_given tables names k numbers s takes all)
       given s takes none h = makes_pure OfTrees e.none tt
       given s takes (more a rest) h =
           two_of OfTree OfTrees OfTrees (M s (next_given takes) a) (G s (later_given takes) rest) (λ x xs. e.more x xs) (tree s (next_given takes) a h.0) (given s (later_given takes) rest h.1) (λ x xs p q. both (nodes x) (nodes_of xs) p q)
 
-      items : (s : Site) (u : Kind) (all : Trees) → TreesHave Whatever (Below n) all → Makes OfTrees (made_items tables names k numbers s u all)
+      items : (s : Site) (u : StaticType) (all : Trees) → TreesHave Whatever (Below n) all → Makes OfTrees (made_items tables names k numbers s u all)
       items s u none h = makes_pure OfTrees e.none tt
       items s u (more a rest) h =
           two_of OfTree OfTrees OfTrees (M s (Some u) a) (made_items tables names k numbers s u rest) (λ x xs. e.more x xs) (tree s (Some u) a h.0) (items s u rest h.1) (λ x xs p q. both (nodes x) (nodes_of xs) p q)
@@ -263,7 +263,7 @@ module _ (n : ℕ) where
       optional s absent h = makes_pure OfOption None tt
       optional s (present a) h = one_of OfTree OfOption (M s None a) (λ x. Some x) (tree s None a h) (λ x p. p)
 
-      value : (s : Site) (g : Option Kind) (o : OptionalTree) → OptionHas Whatever (Below n) o → Makes OfOption (made_value tables names k numbers s g o)
+      value : (s : Site) (g : Option StaticType) (o : OptionalTree) → OptionHas Whatever (Below n) o → Makes OfOption (made_value tables names k numbers s g o)
       value s g absent h = makes_pure OfOption None tt
       value s g (present a) h = one_of OfTree OfOption (M s g a) (λ x. Some x) (tree s g a h) (λ x p. p)
 

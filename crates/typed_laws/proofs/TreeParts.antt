@@ -19,7 +19,7 @@ use Rattle.sts_syntax.specs.WellTyped.{Setting, IsTyped, IsTarget, IsHandler, Ar
 use Rattle.sts_syntax.specs.WellTyped as w
 use Rattle.sts_syntax.specs.WellTypedPrograms.{declared_local}
 use Rattle.sts_syntax.specs.Trees.{Tree, Num, Text, Truth, Null, This, Name, Unary, Binary, Both, Either, Choice, Set, Bump, Member, Item, Call, SuperCall, Make, Items, Handler, Trees, none, more, Statement, Block, Let, IfOnly, IfElse, While, DoWhile, For, ForOf, Return, Break, Continue, Plain, Empty, Statements, OptionalStatement, omitted, written, Declaration, Declare, Declarations, ended, next}
-use Rattle.sts_scope.specs.declared.kinds.Kind.{Kind}
+use Rattle.sts_scope.specs.declared.kinds.StaticType.{StaticType}
 use Rattle.sts_scope.specs.declared.known.Known.{Known}
 use Rattle.sts_scope.specs.declared.known.Found.{Found}
 use Rattle.sts_scope.specs.declared.known.Found.TheVariants as found
@@ -28,15 +28,15 @@ use Rattle.sts_scope.specs.declared.known.Part.TheVariants as part
 use Rattle.sts_scope.specs.declared.known.This.{This as Self}
 use Rattle.sts_scope.specs.declared.known.This.TheVariants as this
 use Rattle.sts_scope.specs.Kinds.{number, boolean, nothing, null, empty, object, array, array_of, most_brackets, item, same, is_array, class_of, takes_null, value_type, value_types}
-use Rattle.sts_scope.specs.Faults.{Fault, ◌then◌, unless, own}
+use Rattle.sts_scope.specs.Failures.{Failure, ◌then◌, unless, own}
 use Rattle.sts_scope.specs.Entries.{Naming}
-use Rattle.sts_scope.specs.Places.{Place}
+use Rattle.sts_scope.specs.Places.{NameScope}
 use Rattle.sts_scope.specs.Rules.{name_kind, kind_at, takes_at, maker_takes_of, part_of, part_kind, part_settable, operate, assign, comparable, below, is_equality, is_arithmetic, is_order, items_type, all_go, all_go_to, goes, call_kind, serves, none_taken, is_nothing}
 use Rattle.type_derive.specs.declared.roles.Role.{Role}
 use Rattle.type_derive.specs.declared.roles.Role.TheVariants.{Free, Given, Called, Served}
 use Rattle.type_derive.specs.Typing.{◌>>=◌, Callee, callee, names_function, board_kind, space, space_of, finds, constant_of, board_callee, named_callee, part_callee, callee_of, super_method, made, called, given_to, type_of, types_of, are_given, is_drawing, drawn, spelling, text_at}
 use Rattle.type_derive.specs.Returns.{declared, all_declared, after, after_first}
-use Rattle.type_derive.specs.Nodes.{kind_role, is_called, fault, faults, is_list, own_name, own_member, own_called, own_board, fits}
+use Rattle.type_derive.specs.Nodes.{kind_role, is_called, failure, failures, is_list, own_name, own_member, own_called, own_board, fits}
 use Rattle.sts_scope.specs.Handlers.{handlers, handlers_of}
 use Rattle.type_derive.specs.Making.{Making, pure, ◌>=>◌, a_local}
 use Rattle.sts_scope.specs.Numbers.{Numbering, field_names, slot_names, place_among, routine_number}
@@ -60,20 +60,20 @@ module _ (tables : Tables) (names : Naming) (k : Known) (numbers : Numbering) (P
   abbrev Stand : Setting → List ℕ → Site → Type 0
   Stand S known s = At tables names k numbers P st S known s
 
-  abbrev mk : Site → Option Kind → Tree → Making TypedTree
+  abbrev mk : Site → Option StaticType → Tree → Making TypedTree
   mk s g a = made_tree tables names k numbers s g a
 
-  abbrev ty : Site → Role → Tree → Option Kind
+  abbrev ty : Site → Role → Tree → Option StaticType
   ty s r a = type_of tables k s.place r a
 
-  abbrev bad : Site → Role → Tree → Option Fault
-  bad s r a = fault tables names k s.place r a
+  abbrev bad : Site → Role → Tree → Option Failure
+  bad s r a = failure tables names k s.place r a
 
-  pub free_proper : (S : Setting) (known : List ℕ) (s : Site) → Stand S known s → (a : Tree) (u : Kind) → ty s Free a ≡ Some u → IsProper u
+  pub free_proper : (S : Setting) (known : List ℕ) (s : Site) → Stand S known s → (a : Tree) (u : StaticType) → ty s Free a ≡ Some u → IsProper u
   free_proper S known s at a u h = proper tables k st.kinds_proper s.place at.proper a u h
 
   -- A type that its place gives: of `[]`, or one that values have.
-  pub given_proper : (S : Setting) (known : List ℕ) (s : Site) → Stand S known s → (a : Tree) (u : Kind) → ty s Given a ≡ Some u → IsEmptyOr tables names k numbers P st u
+  pub given_proper : (S : Setting) (known : List ℕ) (s : Site) → Stand S known s → (a : Tree) (u : StaticType) → ty s Given a ≡ Some u → IsEmptyOr tables names k numbers P st u
   given_proper S known s at (Items i none) u h = inr (sym (some_is empty u h))
   given_proper S known s at (Items i (more a rest)) u h = inl (free_proper S known s at (Items i (more a rest)) u h)
   given_proper S known s at (Num i n) u h = inl (free_proper S known s at (Num i n) u h)
@@ -98,9 +98,9 @@ module _ (tables : Tables) (names : Naming) (k : Known) (numbers : Numbering) (P
   given_proper S known s at (Handler i body) u h = cc
 
   -- what gives a good tree of a type gives it where its place may give one too
-  pub seen_as : (S : Setting) (known : List ℕ) (g : Option Kind) (u : Kind) (h j : ℕ) (f : Making TypedTree) → IsProper u → Gives P (Good S known (value_type u)) h f → h ≡ j → Gives P (Good S known (value_type (seen g u))) j f
+  pub seen_as : (S : Setting) (known : List ℕ) (g : Option StaticType) (u : StaticType) (h j : ℕ) (f : Making TypedTree) → IsProper u → Gives P (Good S known (value_type u)) h f → h ≡ j → Gives P (Good S known (value_type (seen g u))) j f
   seen_as S known g u h j f p gives same =
-      gives_as P (Good S known (value_type u)) (Good S known (value_type (seen g u))) h j f gives (λ x q. (q.0, q.1 ∙ ap (λ (v : Kind). value_type v) (sym (seen_proper g u p)))) same
+      gives_as P (Good S known (value_type u)) (Good S known (value_type (seen g u))) h j f gives (λ x q. (q.0, q.1 ∙ ap (λ (v : StaticType). value_type v) (sym (seen_proper g u p)))) same
 
   -- what one, two or three children give
   pub one : (S : Setting) (known : List ℕ) (Q : TypedTree → Type 0) (u : ValueType) (h : ℕ) (f : Making TypedTree) (make : TypedTree → TypedTree)
@@ -173,7 +173,7 @@ module _ (tables : Tables) (names : Naming) (k : Known) (numbers : Numbering) (P
       (sp, q, constant_int32 sp (spelling tables m) z h1)
 
   -- a member that is read
-  read_good : (S : Setting) (known : List ℕ) (v u : Kind) (m : ℕ) (x : TypedTree) (f : Part) → Good S known (value_type v) x → HasPart k v m f → part_kind k f ≡ Some u
+  read_good : (S : Setting) (known : List ℕ) (v u : StaticType) (m : ℕ) (x : TypedTree) (f : Part) → Good S known (value_type v) x → HasPart k v m f → part_kind k f ≡ Some u
       → Good S known (value_type u) (member_read tables names k numbers (value_type u) f (unwrap_or (class_of v) 0) m x)
   read_good S known v u m x (part.Field d) g has h =
       let (i, q, r) = has in
@@ -184,24 +184,24 @@ module _ (tables : Tables) (names : Naming) (k : Known) (numbers : Numbering) (P
       ((g.0, i, g.1 ∙ class_type v i q, field'), refl)
   read_good S known v u m x part.Length g has h =
       let q : number ≡ u = some_is number u h in
-      ((g.0, value_type (item v), g.1 ∙ array_type v has, ap (λ (y : Kind). value_type y) (sym q)), refl)
+      ((g.0, value_type (item v), g.1 ∙ array_type v has, ap (λ (y : StaticType). value_type y) (sym q)), refl)
   read_good S known v u m x (part.Method d) g has h = cc
   read_good S known v u m x (part.Push y) g has h = cc
   read_good S known v u m x (part.Pop y) g has h = cc
   read_good S known v u m x part.Missing g has h = cc
 
   -- a member of what is of the type v, where its tree has the type that is noted
-  read_made : (S : Setting) (known : List ℕ) (s : Site) (a : Tree) (m h : ℕ) (v u : Kind) (n : ValueType) (Q : TypedTree → Type 0) → Gives P (Good S known (value_type v)) h (mk s None a) → ty s Free a ≡ Some v → n ≡ value_type u
+  read_made : (S : Setting) (known : List ℕ) (s : Site) (a : Tree) (m h : ℕ) (v u : StaticType) (n : ValueType) (Q : TypedTree → Type 0) → Gives P (Good S known (value_type v)) h (mk s None a) → ty s Free a ≡ Some v → n ≡ value_type u
       → ((x : TypedTree) → Good S known (value_type v) x → Q (member_read tables names k numbers (value_type u) (part_of tables.names k v m) (unwrap_or (class_of v) 0) m x))
       → Gives P Q h (mk s None a >=> λ x. pure (member_read tables names k numbers n (part_in tables names k numbers s a m) (class_in tables names k numbers s a) m x))
   read_made S known s a m h v u n Q gives q same good =
       let kind : type_in tables names k numbers s a ≡ v = kind_is (ty s Free a) v q in
-      let G : Kind → ValueType → Type 0 = λ y l. Gives P Q h (mk s None a >=> λ x. pure (member_read tables names k numbers l (part_of tables.names k y m) (unwrap_or (class_of y) 0) m x)) in
+      let G : StaticType → ValueType → Type 0 = λ y l. Gives P Q h (mk s None a >=> λ x. pure (member_read tables names k numbers l (part_of tables.names k y m) (unwrap_or (class_of y) 0) m x)) in
       let base : G v (value_type u) = one S known Q (value_type v) h (mk s None a) (λ x. member_read tables names k numbers (value_type u) (part_of tables.names k v m) (unwrap_or (class_of v) 0) m x) gives good in
-      subst (λ (y : Kind). G y n) (sym kind) (subst (λ (l : ValueType). G v l) (sym same) base)
+      subst (λ (y : StaticType). G y n) (sym kind) (subst (λ (l : ValueType). G v l) (sym same) base)
 
   -- calls
-  pub function_call : (S : Setting) (known : List ℕ) (s : Site) (args : Trees) (f : Found) (d : Callee) (u : Kind) (n : ValueType) → Real k s.place f → named_callee tables k f ≡ Some d → d.gives ≡ Some u → n ≡ value_type u
+  pub function_call : (S : Setting) (known : List ℕ) (s : Site) (args : Trees) (f : Found) (d : Callee) (u : StaticType) (n : ValueType) → Real k s.place f → named_callee tables k f ≡ Some d → d.gives ≡ Some u → n ≡ value_type u
       → Gives P (AreGiven P S known (parameters_of (value_types d.takes))) (handlers_of args) (made_given tables names k numbers s d.takes args)
       → Gives P (Good S known (value_type u)) (handlers_of args) (made_given tables names k numbers s (routine_takes tables names k numbers f) args >=> λ xs. pure (e.Call n (c.Function (routine_of tables names k numbers f)) xs))
   function_call S known s args (found.Function i) d u n r q g same gives =
@@ -233,7 +233,7 @@ module _ (tables : Tables) (names : Naming) (k : Known) (numbers : Numbering) (P
   popped S known n x (e.more z zs) p q g = absurd g
 
   -- what a method call is, with its arguments
-  sent_good : (S : Setting) (known : List ℕ) (v u : Kind) (m : ℕ) (n : ValueType) (x : TypedTree) (xs : TypedTrees) (f : Part) (d : Callee) → Good S known (value_type v) x → HasPart k v m f → part_callee tables k f ≡ Some d
+  sent_good : (S : Setting) (known : List ℕ) (v u : StaticType) (m : ℕ) (n : ValueType) (x : TypedTree) (xs : TypedTrees) (f : Part) (d : Callee) → Good S known (value_type v) x → HasPart k v m f → part_callee tables k f ≡ Some d
       → d.gives ≡ Some u → n ≡ value_type u → AreGiven P S known (parameters_of (value_types d.takes)) xs
       → Good S known (value_type u) (e.Call n (part_target tables names k numbers f (unwrap_or (class_of v) 0) m) (e.more x xs))
   sent_good S known v u m n x xs (part.Method i) d g has q r same given =
@@ -251,19 +251,19 @@ module _ (tables : Tables) (names : Naming) (k : Known) (numbers : Numbering) (P
       let is : callee (y ∷ []) (Some nothing) ≡ d = some_is _ d q in
       let result : nothing ≡ u = some_is nothing u (ap (λ (z : Callee). z.gives) is ∙ r) in
       let given' : AreGiven P S known (board.Of (value_type y) ∷ []) xs = subst (λ (z : Callee). AreGiven P S known (parameters_of (value_types z.takes)) xs) (sym is) given in
-      let kind : w.type_of x ≡ t.ListOf (value_type y) = g.1 ∙ array_type v has.0 ∙ ap (λ (z : Kind). t.ListOf (value_type z)) (sym has.1) in
-      (pushed S known n x xs (value_type y) g.0 kind given' (same ∙ ap (λ (z : Kind). value_type z) (sym result)), same)
+      let kind : w.type_of x ≡ t.ListOf (value_type y) = g.1 ∙ array_type v has.0 ∙ ap (λ (z : StaticType). t.ListOf (value_type z)) (sym has.1) in
+      (pushed S known n x xs (value_type y) g.0 kind given' (same ∙ ap (λ (z : StaticType). value_type z) (sym result)), same)
   sent_good S known v u m n x xs (part.Pop y) d g has q r same given =
       let is : callee [] (Some y) ≡ d = some_is _ d q in
       let result : y ≡ u = some_is y u (ap (λ (z : Callee). z.gives) is ∙ r) in
       let given' : AreGiven P S known [] xs = subst (λ (z : Callee). AreGiven P S known (parameters_of (value_types z.takes)) xs) (sym is) given in
-      let kind : w.type_of x ≡ t.ListOf n = g.1 ∙ array_type v has.0 ∙ ap (λ (z : Kind). t.ListOf (value_type z)) (sym has.1 ∙ result) ∙ ap t.ListOf (sym same) in
+      let kind : w.type_of x ≡ t.ListOf n = g.1 ∙ array_type v has.0 ∙ ap (λ (z : StaticType). t.ListOf (value_type z)) (sym has.1 ∙ result) ∙ ap t.ListOf (sym same) in
       (popped S known n x xs g.0 kind given', same)
   sent_good S known v u m n x xs (part.Field i) d g has q r same given = cc
   sent_good S known v u m n x xs part.Length d g has q r same given = cc
   sent_good S known v u m n x xs part.Missing d g has q r same given = cc
 
-  not_comparable : (v : Kind) → IsProper v → comparable k.classes v empty ≡ true → ⊥
+  not_comparable : (v : StaticType) → IsProper v → comparable k.classes v empty ≡ true → ⊥
   unfolding comparable
   not_comparable v p h =
       let A : Bool = same v empty && not (same v nothing) in
@@ -280,7 +280,7 @@ module _ (tables : Tables) (names : Naming) (k : Known) (numbers : Numbering) (P
         | inr q ↦ empty_null (both_true (same empty null) (takes_null v) q).0
       ]
 
-  not_operated : (op : ℕ) (v u : Kind) → IsProper v → operate k.classes op v empty ≡ Some u → ⊥
+  not_operated : (op : ℕ) (v u : StaticType) → IsProper v → operate k.classes op v empty ≡ Some u → ⊥
   unfolding operate
   not_operated op v u p h = elim (if_cases (is_equality op) (if comparable k.classes v empty then Some boolean else None) (if same v number && same empty number then (if is_arithmetic op then Some number else if is_order op then Some boolean else None) else None) u h) [
     | inl (holds, q) ↦ not_comparable v p (if_some (comparable k.classes v empty) boolean u q).0
@@ -291,37 +291,37 @@ module _ (tables : Tables) (names : Naming) (k : Known) (numbers : Numbering) (P
   ]
 
   -- an assignment
-  set_operated : (S : Setting) (known : List ℕ) (op : ℕ) (v r u : Kind) (n : ValueType) (x y : TypedTree) (o : Option Kind) → IsTarget P S known x → w.type_of x ≡ value_type v → IsEmptyOr tables names k numbers P st r → IsProper v
+  set_operated : (S : Setting) (known : List ℕ) (op : ℕ) (v r u : StaticType) (n : ValueType) (x y : TypedTree) (o : Option StaticType) → IsTarget P S known x → w.type_of x ≡ value_type v → IsEmptyOr tables names k numbers P st r → IsProper v
       → Good S known (value_type (seen (Some v) r)) y → operate k.classes op v r ≡ o → elim o [ None ↦ None | Some z ↦ if same z v then Some v else None ] ≡ Some u → n ≡ value_type u → Good S known (value_type u) (e.Set n (Some op) x y)
   set_operated S known op v r u n x y None a q i p g m h same_n = cc
-  set_operated S known op v r u n x y (Some z) a q (inr i) p g m h same_n = absurd (not_operated op v z p (subst (λ (s : Kind). operate k.classes op v s ≡ Some z) i m))
+  set_operated S known op v r u n x y (Some z) a q (inr i) p g m h same_n = absurd (not_operated op v z p (subst (λ (s : StaticType). operate k.classes op v s ≡ Some z) i m))
   set_operated S known op v r u n x y (Some z) a q (inl i) p g m h same_n =
       let (zv, vu) = if_some (same z v) v u h in
       let works_so : Works P op (value_type v) (value_type r) (value_type z) = works k.classes P st.bases op v r z p m in
-      let kind_y : w.type_of y ≡ value_type r = g.1 ∙ ap (λ (s : Kind). value_type s) (seen_proper (Some v) r i) in
-      let kind_n : n ≡ value_type v = same_n ∙ ap (λ (s : Kind). value_type s) (sym vu) in
+      let kind_y : w.type_of y ≡ value_type r = g.1 ∙ ap (λ (s : StaticType). value_type s) (seen_proper (Some v) r i) in
+      let kind_n : n ≡ value_type v = same_n ∙ ap (λ (s : StaticType). value_type s) (sym vu) in
       let works_y : Works P op (value_type v) (w.type_of y) (value_type z) = subst (λ (s : ValueType). Works P op (value_type v) s (value_type z)) (sym kind_y) works_so in
       let works_z : Works P op (value_type v) (w.type_of y) n = subst (λ (s : ValueType). Works P op (value_type v) (w.type_of y) s) (same_types z v zv ∙ sym kind_n) works_y in
       let works_n : Works P op n (w.type_of y) n = subst (λ (s : ValueType). Works P op s (w.type_of y) n) (sym kind_n) works_z in
       ((a, g.0, kind_n ∙ sym q, works_n), same_n)
 
-  pub set_good : (S : Setting) (known : List ℕ) (op : Option ℕ) (v r u : Kind) (n : ValueType) (x y : TypedTree) → IsTarget P S known x → w.type_of x ≡ value_type v → IsEmptyOr tables names k numbers P st r → IsProper v
+  pub set_good : (S : Setting) (known : List ℕ) (op : Option ℕ) (v r u : StaticType) (n : ValueType) (x y : TypedTree) → IsTarget P S known x → w.type_of x ≡ value_type v → IsEmptyOr tables names k numbers P st r → IsProper v
       → Good S known (value_type (seen (Some v) r)) y → assign k.classes op v r ≡ Some u → n ≡ value_type u → Good S known (value_type u) (e.Set n op x y)
   unfolding assign
   set_good S known None v r u n x y a q i p g h same_n =
       let (goes_so, vu) = if_some (goes k.classes r v) v u h in
-      let kind_n : n ≡ value_type v = same_n ∙ ap (λ (s : Kind). value_type s) (sym vu) in
+      let kind_n : n ≡ value_type v = same_n ∙ ap (λ (s : StaticType). value_type s) (sym vu) in
       let go : GoesTo P (value_type (seen (Some v) r)) (value_type v) = given_goes tables names k numbers P st r v goes_so in
       let go_y : GoesTo P (w.type_of y) (value_type v) = subst (λ (s : ValueType). GoesTo P s (value_type v)) (sym g.1) go in
       let go_n : GoesTo P (w.type_of y) n = subst (λ (s : ValueType). GoesTo P (w.type_of y) s) (sym kind_n) go_y in
       ((a, g.0, kind_n ∙ sym q, go_n), same_n)
   set_good S known (Some op) v r u n x y a q i p g h same_n = set_operated S known op v r u n x y (operate k.classes op v r) a q i p g refl h same_n
 
-  assign_operated : (op : ℕ) (v r u : Kind) (o : Option Kind) → r ≡ empty → IsProper v → operate k.classes op v r ≡ o → elim o [ None ↦ None | Some z ↦ if same z v then Some v else None ] ≡ Some u → Suits (Some v) r
+  assign_operated : (op : ℕ) (v r u : StaticType) (o : Option StaticType) → r ≡ empty → IsProper v → operate k.classes op v r ≡ o → elim o [ None ↦ None | Some z ↦ if same z v then Some v else None ] ≡ Some u → Suits (Some v) r
   assign_operated op v r u None i p q h = cc
-  assign_operated op v r u (Some z) i p q h = absurd (not_operated op v z p (subst (λ (s : Kind). operate k.classes op v s ≡ Some z) i q))
+  assign_operated op v r u (Some z) i p q h = absurd (not_operated op v z p (subst (λ (s : StaticType). operate k.classes op v s ≡ Some z) i q))
 
-  pub assign_suits : (op : Option ℕ) (v r u : Kind) → IsEmptyOr tables names k numbers P st r → IsProper v → assign k.classes op v r ≡ Some u → Suits (Some v) r
+  pub assign_suits : (op : Option ℕ) (v r u : StaticType) → IsEmptyOr tables names k numbers P st r → IsProper v → assign k.classes op v r ≡ Some u → Suits (Some v) r
   unfolding assign
   assign_suits None v r u i p h = suits_given tables names k numbers P st r v i p (if_some (goes k.classes r v) v u h).0
   assign_suits (Some op) v r u (inl i) p h = λ q. absurd (improper r q i)
@@ -333,7 +333,7 @@ module _ (tables : Tables) (names : Naming) (k : Known) (numbers : Numbering) (P
   super_this (this.Hidden i) m d h = cc
   super_this this.Nowhere m d h = cc
 
-  super_good : (S : Setting) (known : List ℕ) (s : Site) (m d : ℕ) (u : Kind) (n : ValueType) (xs : TypedTrees) → Stand S known s → super_method tables k s.place.this m ≡ Some d → kind_at k d ≡ Some u → n ≡ value_type u
+  super_good : (S : Setting) (known : List ℕ) (s : Site) (m d : ℕ) (u : StaticType) (n : ValueType) (xs : TypedTrees) → Stand S known s → super_method tables k s.place.this m ≡ Some d → kind_at k d ≡ Some u → n ≡ value_type u
       → AreGiven P S known (parameters_of (value_types (takes_at k.entries d))) xs → Good S known (value_type u) (e.SuperCall n (routine_number numbers d) xs)
   super_good S known s m d u n xs at q h same_n given =
       let (i, self, r) = super_this s.place.this m d q in
@@ -342,14 +342,14 @@ module _ (tables : Tables) (names : Naming) (k : Known) (numbers : Numbering) (P
       subst (λ (y : ValueType). IsMember P base (routine_number numbers d) (value_types (takes_at k.entries d)) y) (sym same_n) member in
       ((value_types (takes_at k.entries d), (i, class, base, slot, above, at.this i self, has, based, has_above, stands, member_n), given), same_n)
 
-  pub make_good : (S : Setting) (known : List ℕ) (s : Site) (f : Found) (d : Callee) (u : Kind) (xs : TypedTrees) → Real k s.place f → made tables k f ≡ Some d → d.gives ≡ Some u
+  pub make_good : (S : Setting) (known : List ℕ) (s : Site) (f : Found) (d : Callee) (u : StaticType) (xs : TypedTrees) → Real k s.place f → made tables k f ≡ Some d → d.gives ≡ Some u
       → AreGiven P S known (parameters_of (value_types d.takes)) xs → Good S known (value_type u) (e.Make (t.Object (class_found tables names k numbers f)) (class_found tables names k numbers f) xs)
   make_good S known s (found.Class i) d u xs r q h given =
       let is : callee (maker_takes_of k.classes i) (Some (object i)) ≡ d = some_is _ d q in
       let kind : object i ≡ u = some_is (object i) u (ap (λ (y : Callee). y.gives) is ∙ h) in
       let (class, has, member) = st.makers r.0 i r.1 in
       let given_i : AreGiven P S known (parameters_of (value_types (maker_takes_of k.classes i))) xs = subst (λ (y : Callee). AreGiven P S known (parameters_of (value_types y.takes)) xs) (sym is) given in
-      ((class, value_types (maker_takes_of k.classes i), has, member, given_i, refl), ap (λ (y : Kind). value_type y) kind)
+      ((class, value_types (maker_takes_of k.classes i), has, member, given_i, refl), ap (λ (y : StaticType). value_type y) kind)
   make_good S known s (found.Local i) d u xs r q h given = cc
   make_good S known s (found.Global i) d u xs r q h given = cc
   make_good S known s (found.Function i) d u xs r q h given = cc
@@ -373,7 +373,7 @@ module _ (tables : Tables) (names : Naming) (k : Known) (numbers : Numbering) (P
   takes_of_found found.Captured d q = cc
   takes_of_found found.Unknown d q = cc
 
-  pub takes_of_part : (v : Kind) (m : ℕ) (f : Part) (d : Callee) → IsProper v → HasPart k v m f → part_callee tables k f ≡ Some d → EachProper d.takes
+  pub takes_of_part : (v : StaticType) (m : ℕ) (f : Part) (d : Callee) → IsProper v → HasPart k v m f → part_callee tables k f ≡ Some d → EachProper d.takes
   takes_of_part v m (part.Method i) d p has q = subst (λ (y : Callee). EachProper y.takes) (some_is _ d q) (st.takes_proper i)
   takes_of_part v m (part.Push y) d p has q = subst (λ (z : Callee). EachProper z.takes) (some_is _ d q) (subst IsProper (sym has.1) p, tt)
   takes_of_part v m (part.Pop y) d p has q = subst (λ (z : Callee). EachProper z.takes) (some_is _ d q) tt
@@ -397,34 +397,34 @@ module _ (tables : Tables) (names : Naming) (k : Known) (numbers : Numbering) (P
   part_takes_are part.Length d q = cc
   part_takes_are part.Missing d q = cc
 
-  call_parts : (takes : List Kind) (gives : Option Kind) (us : List Kind) (u : Kind) → call_kind k.classes takes gives us ≡ Some u → (all_go k.classes us takes ≡ true) × (gives ≡ Some u)
+  call_parts : (takes : List StaticType) (gives : Option StaticType) (us : List StaticType) (u : StaticType) → call_kind k.classes takes gives us ≡ Some u → (all_go k.classes us takes ≡ true) × (gives ≡ Some u)
   unfolding call_kind
   call_parts takes gives us u h = elim (if_cases (all_go k.classes us takes) gives None u h) [ inl q ↦ q | inr q ↦ (let z : None ≡ Some u = q.1 in cc) ]
 
-  pub called_parts : (d : Option Callee) (ts : Option (List Kind)) (u : Kind) → called tables k d ts ≡ Some u → (x : Callee) × (us : List Kind) × (d ≡ Some x) × (ts ≡ Some us) × (all_go k.classes us x.takes ≡ true) × (x.gives ≡ Some u)
+  pub called_parts : (d : Option Callee) (ts : Option (List StaticType)) (u : StaticType) → called tables k d ts ≡ Some u → (x : Callee) × (us : List StaticType) × (d ≡ Some x) × (ts ≡ Some us) × (all_go k.classes us x.takes ≡ true) × (x.gives ≡ Some u)
   called_parts d ts u h =
       let (x, q, h1) = bind_some d (λ x. ts >>= λ us. call_kind k.classes x.takes x.gives us) u h in
       let (us, r, h2) = bind_some ts (λ us. call_kind k.classes x.takes x.gives us) u h1 in
       let (a, b) = call_parts x.takes x.gives us u h2 in
       (x, us, q, r, a, b)
 
-  pub go_parts : (s v : Kind) (ss vs : List Kind) → all_go k.classes (s ∷ ss) (v ∷ vs) ≡ true → (goes k.classes s v ≡ true) × (all_go k.classes ss vs ≡ true)
+  pub go_parts : (s v : StaticType) (ss vs : List StaticType) → all_go k.classes (s ∷ ss) (v ∷ vs) ≡ true → (goes k.classes s v ≡ true) × (all_go k.classes ss vs ≡ true)
   unfolding all_go
   go_parts s v ss vs h = both_true (goes k.classes s v) (all_go k.classes ss vs) h
 
-  pub go_none : (v : Kind) (vs : List Kind) → all_go k.classes [] (v ∷ vs) ≡ true → ⊥
+  pub go_none : (v : StaticType) (vs : List StaticType) → all_go k.classes [] (v ∷ vs) ≡ true → ⊥
   unfolding all_go
   go_none v vs h = cc
 
-  pub go_more : (s : Kind) (ss : List Kind) → all_go k.classes (s ∷ ss) [] ≡ true → ⊥
+  pub go_more : (s : StaticType) (ss : List StaticType) → all_go k.classes (s ∷ ss) [] ≡ true → ⊥
   unfolding all_go
   go_more s ss h = cc
 
-  pub go_to_parts : (v s : Kind) (ss : List Kind) → all_go_to k.classes v (s ∷ ss) ≡ true → (goes k.classes s v ≡ true) × (all_go_to k.classes v ss ≡ true)
+  pub go_to_parts : (v s : StaticType) (ss : List StaticType) → all_go_to k.classes v (s ∷ ss) ≡ true → (goes k.classes s v ≡ true) × (all_go_to k.classes v ss ≡ true)
   unfolding all_go_to
   go_to_parts v s ss h = both_true (goes k.classes s v) (all_go_to k.classes v ss) h
 
-  pub items_parts : (v u : Kind) (us : List Kind) → items_type k.classes v us ≡ Some u → (all_go_to k.classes v us ≡ true) × (array v ≡ u)
+  pub items_parts : (v u : StaticType) (us : List StaticType) → items_type k.classes v us ≡ Some u → (all_go_to k.classes v us ≡ true) × (array v ≡ u)
   unfolding items_type
   items_parts v u us h = let (e, f) = if_gives (all_go_to k.classes v us) (array_of v) u h in (e, (if_some (nat_lt v.depth most_brackets) (array v) u f).1)
 
@@ -468,11 +468,11 @@ module _ (tables : Tables) (names : Naming) (k : Known) (numbers : Numbering) (P
   constant_handlers : (s : Site) (a : Tree) (m : ℕ) (z : ℤ) → constant_of tables k s.place a m ≡ Some z → 0 ≡ handlers a
   constant_handlers s a m z h = let (sp, q, r) = constant_is s a m z h in sym (space_alone s a sp q)
 
-  no_value : (s : Site) (a : Tree) (m : ℕ) (z : ℤ) (u : Kind) → constant_of tables k s.place a m ≡ Some z → ty s Free a ≡ Some u → ⊥
+  no_value : (s : Site) (a : Tree) (m : ℕ) (z : ℤ) (u : StaticType) → constant_of tables k s.place a m ≡ Some z → ty s Free a ≡ Some u → ⊥
   no_value s a m z u h q = let (sp, r, i) = constant_is s a m z h in let n : None ≡ Some u = sym (space_valueless s a sp r) ∙ q in cc
 
-  abbrev member_fault : Site → Role → ℕ → Tree → ℕ → Option ℤ → Option BoardCall → Option Fault
-  member_fault s r i a m z b = elim z [
+  abbrev member_failure : Site → Role → ℕ → Tree → ℕ → Option ℤ → Option BoardCall → Option Failure
+  member_failure s r i a m z b = elim z [
     | Some y ↦ None
     | None ↦ elim b [
       | Some call ↦ unless (is_called r) BadHandler i
@@ -481,21 +481,21 @@ module _ (tables : Tables) (names : Naming) (k : Known) (numbers : Numbering) (P
   ]
 
   -- a member whose value is read has no failure before it
-  read_fault : (s : Site) (g : Option Kind) (i : ℕ) (a : Tree) (m : ℕ) (b : Option BoardCall) → member_fault s (kind_role g) i a m None b ≡ None → bad s Free a ≡ None
-  read_fault s g i a m (Some call) h = absurd (not_called g i h)
-  read_fault s g i a m None h = first (bad s Free a) (own_member tables names k (kind_role g) (ty s Free a) m i) h
+  read_failure : (s : Site) (g : Option StaticType) (i : ℕ) (a : Tree) (m : ℕ) (b : Option BoardCall) → member_failure s (kind_role g) i a m None b ≡ None → bad s Free a ≡ None
+  read_failure s g i a m (Some call) h = absurd (not_called g i h)
+  read_failure s g i a m None h = first (bad s Free a) (own_member tables names k (kind_role g) (ty s Free a) m i) h
 
   -- nor has one that is called
-  pub called_fault : (s : Site) (i : ℕ) (a : Tree) (m : ℕ) (u : Kind) (z : Option ℤ) (b : Option BoardCall) → constant_of tables k s.place a m ≡ z → b ≡ None → ty s Free a ≡ Some u → member_fault s Called i a m z b ≡ None → bad s Free a ≡ None
-  called_fault s i a m u (Some y) b q n t h = absurd (no_value s a m y u q t)
-  called_fault s i a m u None (Some call) q n t h = cc
-  called_fault s i a m u None None q n t h = first (bad s Free a) (own_member tables names k Called (ty s Free a) m i) h
+  pub called_failure : (s : Site) (i : ℕ) (a : Tree) (m : ℕ) (u : StaticType) (z : Option ℤ) (b : Option BoardCall) → constant_of tables k s.place a m ≡ z → b ≡ None → ty s Free a ≡ Some u → member_failure s Called i a m z b ≡ None → bad s Free a ≡ None
+  called_failure s i a m u (Some y) b q n t h = absurd (no_value s a m y u q t)
+  called_failure s i a m u None (Some call) q n t h = cc
+  called_failure s i a m u None None q n t h = first (bad s Free a) (own_member tables names k Called (ty s Free a) m i) h
 
-  abbrev pub call_fault : Site → ℕ → Tree → Trees → Option BoardCall → Option Fault
-  call_fault s i f args (Some call) = faults tables names k s.place (row_of call).takes args then own_board tables names k s.place (row_of call).takes args i
-  call_fault s i f args None = bad s Called f then faults tables names k s.place [] args then own_called tables names k (callee_of tables k s.place f) (types_of tables k s.place args) i
+  abbrev pub call_failure : Site → ℕ → Tree → Trees → Option BoardCall → Option Failure
+  call_failure s i f args (Some call) = failures tables names k s.place (row_of call).takes args then own_board tables names k s.place (row_of call).takes args i
+  call_failure s i f args None = bad s Called f then failures tables names k s.place [] args then own_called tables names k (callee_of tables k s.place f) (types_of tables k s.place args) i
 
-  abbrev pub call_type : Site → Tree → Trees → Option BoardCall → Option Kind
+  abbrev pub call_type : Site → Tree → Trees → Option BoardCall → Option StaticType
   call_type s f args (Some call) = if are_given tables k s.place (row_of call).takes args then Some (board_kind (row_of call).gives) else None
   call_type s f args None = called tables k (callee_of tables k s.place f) (types_of tables k s.place args)
 
@@ -533,7 +533,7 @@ module _ (tables : Tables) (names : Naming) (k : Known) (numbers : Numbering) (P
       let (taken_none, gives_nothing) = both_true (none_taken (takes_at k.entries d)) (is_nothing (kind_at k d)) h in
       let (u, q, z) = nothing_is (kind_at k d) gives_nothing in
       let (body, has, params, gives) = st.functions d u r q in
-      (body, has, params ∙ ap (λ (us : List Kind). value_types us) (none_is (takes_at k.entries d) taken_none), gives ∙ z)
+      (body, has, params ∙ ap (λ (us : List StaticType). value_types us) (none_is (takes_at k.entries d) taken_none), gives ∙ z)
   plain_serves (found.Local i) s r h = cc
   plain_serves (found.Global i) s r h = cc
   plain_serves (found.Class i) s r h = cc
@@ -541,7 +541,7 @@ module _ (tables : Tables) (names : Naming) (k : Known) (numbers : Numbering) (P
   plain_serves found.Unknown s r h = cc
 
   -- where a handler is wanted and it has no failure
-  pub served_so : (p : Place) (f : Found) (at : ℕ) → names_function tables k f ≡ true → own_name tables names k Served p f at ≡ None → serves k f ≡ true
+  pub served_so : (p : NameScope) (f : Found) (at : ℕ) → names_function tables k f ≡ true → own_name tables names k Served p f at ≡ None → serves k f ≡ true
   served_so p (found.Function d) at h bad =
       unless_true (serves k (found.Function d)) BadHandler at (last (own (kind_at k d) NeedsType at) (unless (serves k (found.Function d)) BadHandler at) bad)
   served_so p (found.Local i) at h bad = cc
@@ -550,7 +550,7 @@ module _ (tables : Tables) (names : Naming) (k : Known) (numbers : Numbering) (P
   served_so p found.Captured at h bad = cc
   served_so p found.Unknown at h bad = cc
 
-  pub given_to_is : (o : Option Kind) (u : ValueType) → given_to tables k o u ≡ true → (v : Kind) × (o ≡ Some v) × (goes k.classes v (board_kind u) ≡ true)
+  pub given_to_is : (o : Option StaticType) (u : ValueType) → given_to tables k o u ≡ true → (v : StaticType) × (o ≡ Some v) × (goes k.classes v (board_kind u) ≡ true)
   given_to_is None u h = cc
   given_to_is (Some v) u h = (v, refl, h)
 
@@ -580,31 +580,31 @@ module _ (tables : Tables) (names : Naming) (k : Known) (numbers : Numbering) (P
 
   -- what a member gives, where its object is well typed
   abbrev FreeTyped : Setting → List ℕ → Site → Tree → Type 0
-  FreeTyped S known s a = (v : Kind) → bad s Free a ≡ None → ty s Free a ≡ Some v → Gives P (Good S known (value_type v)) (handlers a) (mk s None a)
+  FreeTyped S known s a = (v : StaticType) → bad s Free a ≡ None → ty s Free a ≡ Some v → Gives P (Good S known (value_type v)) (handlers a) (mk s None a)
 
   abbrev pub ArgumentsTyped : Setting → List ℕ → Site → Trees → Type 0
-  ArgumentsTyped S known s args = (takes us : List Kind) → EachProper takes → faults tables names k s.place [] args ≡ None → types_of tables k s.place args ≡ Some us → all_go k.classes us takes ≡ true
+  ArgumentsTyped S known s args = (takes us : List StaticType) → EachProper takes → failures tables names k s.place [] args ≡ None → types_of tables k s.place args ≡ Some us → all_go k.classes us takes ≡ true
       → Gives P (AreGiven P S known (parameters_of (value_types takes))) (handlers_of args) (made_given tables names k numbers s takes args)
 
   abbrev pub AskedTyped : Setting → List ℕ → Site → Trees → Type 0
-  AskedTyped S known s args = (ps : List BoardParameter) → faults tables names k s.place ps args ≡ None → are_given tables k s.place ps args ≡ true → are_plain ps ≡ true
+  AskedTyped S known s args = (ps : List BoardParameter) → failures tables names k s.place ps args ≡ None → are_given tables k s.place ps args ≡ true → are_plain ps ≡ true
       → Gives P (Asked S known ps) (handlers_of args) (made_asked tables names k numbers s ps args)
 
   -- a member, which may be a constant of the board
-  pub member : (S : Setting) (known : List ℕ) (s : Site) (g : Option Kind) (i : ℕ) (a : Tree) (m : ℕ) (u : Kind) (n : ValueType) (z : Option ℤ) (b : Option BoardCall) → Stand S known s → IsFormed a → constant_of tables k s.place a m ≡ z
-      → member_fault s (kind_role g) i a m z b ≡ None → elim z [ Some y ↦ Some number | None ↦ ty s Free a >>= λ v. part_kind k (part_of tables.names k v m) ] ≡ Some u → n ≡ value_type u → IsProper u → FreeTyped S known s a
+  pub member : (S : Setting) (known : List ℕ) (s : Site) (g : Option StaticType) (i : ℕ) (a : Tree) (m : ℕ) (u : StaticType) (n : ValueType) (z : Option ℤ) (b : Option BoardCall) → Stand S known s → IsFormed a → constant_of tables k s.place a m ≡ z
+      → member_failure s (kind_role g) i a m z b ≡ None → elim z [ Some y ↦ Some number | None ↦ ty s Free a >>= λ v. part_kind k (part_of tables.names k v m) ] ≡ Some u → n ≡ value_type u → IsProper u → FreeTyped S known s a
       → Gives P (Good S known (value_type (seen g u))) (handlers a)
       (elim z [ Some y ↦ pure (e.Num t.Number y) | None ↦ mk s None a >=> λ x. pure (member_read tables names k numbers n (part_in tables names k numbers s a m) (class_in tables names k numbers s a) m x) ])
   member S known s g i a m u n (Some y) b at f c' h q same_n p free =
       let (sp, r, int) = constant_is s a m y c' in
-      seen_as S known g u 0 (handlers a) (pure (e.Num t.Number y)) p (gives_pure P (Good S known (value_type u)) (e.Num t.Number y) ((refl, int), ap (λ (x : Kind). value_type x) (some_is number u q))) (constant_handlers s a m y c')
+      seen_as S known g u 0 (handlers a) (pure (e.Num t.Number y)) p (gives_pure P (Good S known (value_type u)) (e.Num t.Number y) ((refl, int), ap (λ (x : StaticType). value_type x) (some_is number u q))) (constant_handlers s a m y c')
   member S known s g i a m u n None b at f c' h q same_n p free =
       let (v, r, q1) = bind_some (ty s Free a) (λ v. part_kind k (part_of tables.names k v m)) u q in
       seen_as S known g u (handlers a) (handlers a) (mk s None a >=> λ x. pure (member_read tables names k numbers n (part_in tables names k numbers s a m) (class_in tables names k numbers s a) m x)) p
-      (read_made S known s a m (handlers a) v u n (Good S known (value_type u)) (free v (read_fault s g i a m b h) r) r same_n (λ x l. read_good S known v u m x (part_of tables.names k v m) l (has_part k tables.names v m) q1)) refl
+      (read_made S known s a m (handlers a) v u n (Good S known (value_type u)) (free v (read_failure s g i a m b h) r) r same_n (λ x l. read_good S known v u m x (part_of tables.names k v m) l (has_part k tables.names v m) q1)) refl
 
   -- a member that may be set is a field
-  field_target : (S : Setting) (known : List ℕ) (v u : Kind) (m : ℕ) (x : TypedTree) (f : Part) → part_settable f ≡ true → Good S known (value_type v) x → HasPart k v m f → part_kind k f ≡ Some u
+  field_target : (S : Setting) (known : List ℕ) (v u : StaticType) (m : ℕ) (x : TypedTree) (f : Part) → part_settable f ≡ true → Good S known (value_type v) x → HasPart k v m f → part_kind k f ≡ Some u
       → IsTarget P S known (member_read tables names k numbers (value_type u) f (unwrap_or (class_of v) 0) m x) × (w.type_of (member_read tables names k numbers (value_type u) f (unwrap_or (class_of v) 0) m x) ≡ value_type u)
   field_target S known v u m x (part.Field d) may g has h = read_good S known v u m x (part.Field d) g has h
   field_target S known v u m x part.Length may g has h = cc
@@ -613,23 +613,23 @@ module _ (tables : Tables) (names : Naming) (k : Known) (numbers : Numbering) (P
   field_target S known v u m x (part.Pop y) may g has h = cc
   field_target S known v u m x part.Missing may g has h = cc
 
-  part_may : (o : Option Kind) (v : Kind) (m : ℕ) → o ≡ Some v → elim o [ None ↦ false | Some y ↦ part_settable (part_of tables.names k y m) ] ≡ true → part_settable (part_of tables.names k v m) ≡ true
+  part_may : (o : Option StaticType) (v : StaticType) (m : ℕ) → o ≡ Some v → elim o [ None ↦ false | Some y ↦ part_settable (part_of tables.names k y m) ] ≡ true → part_settable (part_of tables.names k v m) ≡ true
   part_may None v m q h = cc
-  part_may (Some y) v m q h = subst (λ (l : Kind). part_settable (part_of tables.names k l m) ≡ true) (some_is y v q) h
+  part_may (Some y) v m q h = subst (λ (l : StaticType). part_settable (part_of tables.names k l m) ≡ true) (some_is y v q) h
 
-  pub member_target : (S : Setting) (known : List ℕ) (s : Site) (i : ℕ) (a : Tree) (m : ℕ) (u : Kind) (n : ValueType) (z : Option ℤ) (b : Option BoardCall) → constant_of tables k s.place a m ≡ z
-      → member_fault s Free i a m z b ≡ None → elim z [ Some y ↦ Some number | None ↦ ty s Free a >>= λ v. part_kind k (part_of tables.names k v m) ] ≡ Some u → n ≡ value_type u
+  pub member_target : (S : Setting) (known : List ℕ) (s : Site) (i : ℕ) (a : Tree) (m : ℕ) (u : StaticType) (n : ValueType) (z : Option ℤ) (b : Option BoardCall) → constant_of tables k s.place a m ≡ z
+      → member_failure s Free i a m z b ≡ None → elim z [ Some y ↦ Some number | None ↦ ty s Free a >>= λ v. part_kind k (part_of tables.names k v m) ] ≡ Some u → n ≡ value_type u
       → elim z [ Some y ↦ false | None ↦ elim (ty s Free a) [ None ↦ false | Some y ↦ part_settable (part_of tables.names k y m) ] ] ≡ true → FreeTyped S known s a
       → Gives P (λ l. IsTarget P S known l × (w.type_of l ≡ value_type u)) (handlers a)
       (elim z [ Some y ↦ pure (e.Num t.Number y) | None ↦ mk s None a >=> λ x. pure (member_read tables names k numbers n (part_in tables names k numbers s a m) (class_in tables names k numbers s a) m x) ])
   member_target S known s i a m u n (Some y) b c' h q same_n may free = cc
   member_target S known s i a m u n None b c' h q same_n may free =
       let (v, r, q1) = bind_some (ty s Free a) (λ v. part_kind k (part_of tables.names k v m)) u q in
-      read_made S known s a m (handlers a) v u n (λ l. IsTarget P S known l × (w.type_of l ≡ value_type u)) (free v (read_fault s None i a m b h) r) r same_n
+      read_made S known s a m (handlers a) v u n (λ l. IsTarget P S known l × (w.type_of l ≡ value_type u)) (free v (read_failure s None i a m b h) r) r same_n
       (λ x l. field_target S known v u m x (part_of tables.names k v m) (part_may (ty s Free a) v m r may) l (has_part k tables.names v m) q1)
 
-  pub super : (S : Setting) (known : List ℕ) (s : Site) (g : Option Kind) (m : ℕ) (args : Trees) (u : Kind) (n : ValueType) (d : Option ℕ) → Stand S known s → AreFormed args → super_method tables k s.place.this m ≡ d
-      → faults tables names k s.place [] args ≡ None → called tables k (d >>= λ j. Some (callee (takes_at k.entries j) (kind_at k j))) (types_of tables k s.place args) ≡ Some u → n ≡ value_type u → IsProper u → ArgumentsTyped S known s args
+  pub super : (S : Setting) (known : List ℕ) (s : Site) (g : Option StaticType) (m : ℕ) (args : Trees) (u : StaticType) (n : ValueType) (d : Option ℕ) → Stand S known s → AreFormed args → super_method tables k s.place.this m ≡ d
+      → failures tables names k s.place [] args ≡ None → called tables k (d >>= λ j. Some (callee (takes_at k.entries j) (kind_at k j))) (types_of tables k s.place args) ≡ Some u → n ≡ value_type u → IsProper u → ArgumentsTyped S known s args
       → Gives P (Good S known (value_type (seen g u))) (handlers_of args)
       (elim d [ None ↦ pure amiss | Some j ↦ made_given tables names k numbers s (takes_at k.entries j) args >=> λ xs. pure (e.SuperCall n (routine_number numbers j) xs) ])
   super S known s g m args u n None at f is h q same_n p typed = cc
@@ -645,23 +645,23 @@ module _ (tables : Tables) (names : Naming) (k : Known) (numbers : Numbering) (P
       (λ xs ps. gives_pure P Q (e.SuperCall n (routine_number numbers j) xs) (super_good S known s m j u n xs at is result_j same_n ps))) (omega arith)
 
   -- a call of the board
-  pub board_call : (S : Setting) (known : List ℕ) (s : Site) (g : Option Kind) (i : ℕ) (c' : Tree) (args : Trees) (u : Kind) (n : ValueType) (b : BoardCall) → board_callee tables k s.place c' ≡ Some b
-      → call_fault s i c' args (Some b) ≡ None → call_type s c' args (Some b) ≡ Some u → n ≡ value_type u → IsProper u → AskedTyped S known s args
+  pub board_call : (S : Setting) (known : List ℕ) (s : Site) (g : Option StaticType) (i : ℕ) (c' : Tree) (args : Trees) (u : StaticType) (n : ValueType) (b : BoardCall) → board_callee tables k s.place c' ≡ Some b
+      → call_failure s i c' args (Some b) ≡ None → call_type s c' args (Some b) ≡ Some u → n ≡ value_type u → IsProper u → AskedTyped S known s args
       → Gives P (Good S known (value_type (seen g u))) (handlers c' + handlers_of args) (call_made s n c' args (Some b))
   board_call S known s g i c' args u n b is h q same_n p asked =
       let ps : List BoardParameter = (row_of b).takes in
       let (are, kind) = if_some (are_given tables k s.place ps args) (board_kind (row_of b).gives) u q in
-      let result : n ≡ (row_of b).gives = same_n ∙ ap (λ (x : Kind). value_type x) (sym kind) ∙ gives_plain b in
+      let result : n ≡ (row_of b).gives = same_n ∙ ap (λ (x : StaticType). value_type x) (sym kind) ∙ gives_plain b in
       let Q : TypedTree → Type 0 = Good S known (value_type u) in
       let none_before : 0 ≡ handlers c' = board_handlers s c' b is in
       seen_as S known g u (handlers_of args + 0) (handlers c' + handlers_of args) (call_made s n c' args (Some b)) p
       (gives_bind P (Asked S known ps) Q (handlers_of args) 0 (made_asked tables names k numbers s ps args) (λ xs. pure (e.Call n (board_target b (row_of b).action) xs))
-      (asked ps (first (faults tables names k s.place ps args) (own_board tables names k s.place ps args i) h) are (takes_plain b))
+      (asked ps (first (failures tables names k s.place ps args) (own_board tables names k s.place ps args i) h) are (takes_plain b))
       (λ xs qs. gives_pure P Q (e.Call n (board_target b (row_of b).action) xs) (board_good S known b (row_of b).action n xs refl (action_fits b) result qs, same_n)))
       (omega (arith, none_before))
 
   -- a method's call, where its object is well typed
-  pub member_call : (S : Setting) (known : List ℕ) (s : Site) (a : Tree) (m : ℕ) (args : Trees) (us : List Kind) (v u : Kind) (d : Callee) (n : ValueType) → Stand S known s → ty s Free a ≡ Some v → part_callee tables k (part_of tables.names k v m) ≡ Some d
+  pub member_call : (S : Setting) (known : List ℕ) (s : Site) (a : Tree) (m : ℕ) (args : Trees) (us : List StaticType) (v u : StaticType) (d : Callee) (n : ValueType) → Stand S known s → ty s Free a ≡ Some v → part_callee tables k (part_of tables.names k v m) ≡ Some d
       → d.gives ≡ Some u → n ≡ value_type u → Gives P (Good S known (value_type v)) (handlers a) (mk s None a)
       → Gives P (AreGiven P S known (parameters_of (value_types d.takes))) (handlers_of args) (made_given tables names k numbers s d.takes args)
       → Gives P (Good S known (value_type u)) (handlers a + (handlers_of args + 0))
@@ -670,7 +670,7 @@ module _ (tables : Tables) (names : Naming) (k : Known) (numbers : Numbering) (P
   member_call S known s a m args us v u d n at r q result same_n object typed =
       let kind : type_in tables names k numbers s a ≡ v = kind_is (ty s Free a) v r in
       let Q : TypedTree → Type 0 = Good S known (value_type u) in
-      let G : Kind → List Kind → Type 0 = λ y takes. Gives P Q (handlers a + (handlers_of args + 0)) (mk s None a >=> λ x. made_given tables names k numbers s takes args
+      let G : StaticType → List StaticType → Type 0 = λ y takes. Gives P Q (handlers a + (handlers_of args + 0)) (mk s None a >=> λ x. made_given tables names k numbers s takes args
       >=> λ xs. pure (e.Call n (part_target tables names k numbers (part_of tables.names k y m) (unwrap_or (class_of y) 0) m) (e.more x xs))) in
       let base : G v d.takes =
       gives_bind P (Good S known (value_type v)) Q (handlers a) (handlers_of args + 0) (mk s None a)
@@ -680,14 +680,14 @@ module _ (tables : Tables) (names : Naming) (k : Known) (numbers : Numbering) (P
       (λ xs ps. gives_pure P Q (e.Call n (part_target tables names k numbers (part_of tables.names k v m) (unwrap_or (class_of v) 0) m) (e.more x xs))
       (sent_good S known v u m n x xs (part_of tables.names k v m) d p (has_part k tables.names v m) q result same_n ps))) in
       let takes_so : part_takes tables names k numbers (part_of tables.names k v m) ≡ d.takes = part_takes_are (part_of tables.names k v m) d q in
-      let at_v : G v (part_takes tables names k numbers (part_of tables.names k v m)) = subst (λ (l : List Kind). G v l) (sym takes_so) base in
-      subst (λ (y : Kind). G y (part_takes tables names k numbers (part_of tables.names k y m))) (sym kind) at_v
+      let at_v : G v (part_takes tables names k numbers (part_of tables.names k v m)) = subst (λ (l : List StaticType). G v l) (sym takes_so) base in
+      subst (λ (y : StaticType). G y (part_takes tables names k numbers (part_of tables.names k y m))) (sym kind) at_v
 
-  pub list_is : (o : Option Kind) → is_list tables names k o ≡ true → (u : Kind) × (o ≡ Some u) × (is_array u ≡ true)
+  pub list_is : (o : Option StaticType) → is_list tables names k o ≡ true → (u : StaticType) × (o ≡ Some u) × (is_array u ≡ true)
   list_is None h = cc
   list_is (Some u) h = (u, refl, h)
 
-  pub fits_is : (o l : Option Kind) → fits k o l ≡ true → (u : Kind) × (v : Kind) × (o ≡ Some u) × (l ≡ Some v) × (goes k.classes u v ≡ true)
+  pub fits_is : (o l : Option StaticType) → fits k o l ≡ true → (u : StaticType) × (v : StaticType) × (o ≡ Some u) × (l ≡ Some v) × (goes k.classes u v ≡ true)
   fits_is (Some u) (Some v) h = (u, v, refl, refl, h)
   fits_is (Some u) None h = cc
   fits_is None (Some v) h = cc
@@ -703,11 +703,11 @@ module _ (tables : Tables) (names : Naming) (k : Known) (numbers : Numbering) (P
         this = λ i h. absurd (hidden_is s.place.this i h);
       }
 
-  gives_declared : (p : Place) (fixed : Bool) (each : Declarations) → (all_declared tables names k p fixed each).gives ≡ p.gives
+  gives_declared : (p : NameScope) (fixed : Bool) (each : Declarations) → (all_declared tables names k p fixed each).gives ≡ p.gives
   gives_declared p fixed ended = refl
   gives_declared p fixed (next (Declare i x shape first) rest) = gives_declared (declared tables names k p fixed (Declare i x shape first)) fixed rest
 
-  pub gives_after : (p : Place) (a : Statement) → (after tables names k p a).gives ≡ p.gives
+  pub gives_after : (p : NameScope) (a : Statement) → (after tables names k p a).gives ≡ p.gives
   gives_after p (Let i fixed each) = gives_declared p fixed each
   gives_after p (Block i all) = refl
   gives_after p (IfOnly i test a) = refl
@@ -722,7 +722,7 @@ module _ (tables : Tables) (names : Naming) (k : Known) (numbers : Numbering) (P
   gives_after p (Plain i a) = refl
   gives_after p (Empty i) = refl
 
-  gives_first : (p : Place) (a : OptionalStatement) → (after_first tables names k p a).gives ≡ p.gives
+  gives_first : (p : NameScope) (a : OptionalStatement) → (after_first tables names k p a).gives ≡ p.gives
   gives_first p omitted = refl
   gives_first p (written a) = gives_after p a
 
@@ -763,7 +763,7 @@ module _ (tables : Tables) (names : Naming) (k : Known) (numbers : Numbering) (P
       → w.AreDeclared P S (m ∷ known) ds → Stand S (w.known_behind ds (m ∷ known)) (record { place = all_declared tables names k (declared tables names k s.place fixed a) fixed rest; spots = (s.spots ++ Local m ∷ []) ++ spots_from i rest })
       → w.AreDeclared P S known (d ∷ ds) × Stand S (w.known_behind (d ∷ ds) known) (record { place = all_declared tables names k s.place fixed (next a rest); spots = s.spots ++ spots_from m (next a rest) })
   declared_more S known s fixed a rest m i v d ds xs step dq all at =
-      let p : Place = all_declared tables names k (declared tables names k s.place fixed a) fixed rest in
+      let p : NameScope = all_declared tables names k (declared tables names k s.place fixed a) fixed rest in
       let spots_so : (s.spots ++ Local m ∷ []) ++ spots_from i rest ≡ s.spots ++ spots_from m (next a rest) =
       ap (λ (j : ℕ). (s.spots ++ Local m ∷ []) ++ spots_from j rest) step ∙ append_assoc s.spots (Local m ∷ []) (spots_from (suc m) rest) in
       let known_so : w.known_behind ds (m ∷ known) ≡ w.known_behind (d ∷ ds) known = ap (λ (ks : List ℕ). w.known_behind ds ks) (sym (declared_known S known m v d dq)) in (

@@ -21,14 +21,14 @@ use Rattle.sts_syntax.specs.WellTypedPrograms as w'
 use Rattle.sts_syntax.specs.WellTypedPrograms.{declared_local, declared_names, first_declared}
 use Rattle.sts_syntax.specs.Annotations as s
 use Rattle.sts_syntax.specs.Trees.{Tree, Num, Text, Truth, Null, This, Name, Unary, Binary, Both, Either, Choice, Set, Bump, Member, Item, Call, SuperCall, Make, Items, Handler, Trees, none, more, OptionalTree, absent, present, Statement, Block, Let, IfOnly, IfElse, While, DoWhile, For, ForOf, Return, Break, Continue, Plain, Empty, Statements, done, also, OptionalStatement, omitted, written, Declaration, Declare, Declarations, ended, next, Does}
-use Rattle.sts_scope.specs.declared.kinds.Kind.{Kind}
+use Rattle.sts_scope.specs.declared.kinds.StaticType.{StaticType}
 use Rattle.sts_scope.specs.declared.known.Known.{Known}
 use Rattle.sts_scope.specs.declared.known.Found.{Found}
 use Rattle.sts_scope.specs.Kinds.{number, boolean, text, nothing, null, empty, item, same, is_array, value_type, value_types}
-use Rattle.sts_scope.specs.Faults.{Fault, ◌then◌, unless, own}
+use Rattle.sts_scope.specs.Failures.{Failure, ◌then◌, unless, own}
 use Rattle.sts_scope.specs.Entries.{Naming, kind_of}
-use Rattle.sts_scope.specs.Places.{Place, inner}
-use Rattle.sts_scope.specs.Headings.{type_name_fault, type_fault, written_fault}
+use Rattle.sts_scope.specs.Places.{NameScope, inner}
+use Rattle.sts_scope.specs.Headings.{type_name_failure, type_failure, written_failure}
 use Rattle.sts_scope.specs.Globals.{is_dollar}
 use Rattle.sts_scope.specs.Rules.{maker_takes_of, part_of, operate, prefix, joined, choose, assign, counted, element, items_type, all_go, all_go_to, goes, is_nothing, is_boolean}
 use Rattle.type_derive.specs.declared.roles.Role.{Role}
@@ -36,7 +36,7 @@ use Rattle.type_derive.specs.declared.roles.Role.TheVariants.{Free, Given, Calle
 use Rattle.type_derive.specs.Typing.{◌>>=◌, board_kind, finds, constant_of, board_callee, named_callee, part_callee, callee_of, super_method, made, given_to, type_of, types_of, are_given, settable, is_routine, is_drawing}
 use Rattle.typed_laws.proofs.Returning.{give_value, gives_value}
 use Rattle.type_derive.specs.Returns.{is_alone, bound, all_declared, after, items_of, looped}
-use Rattle.type_derive.specs.Nodes.{kind_role, fault, faults, handler_fault, is_list, initial_fault, optional_fault, test_fault, declaration_fault, declarations_fault, statement_fault, first_fault, statements_fault, own_local, own_bound, own_called, own_super, own_make, fits}
+use Rattle.type_derive.specs.Nodes.{kind_role, failure, failures, handler_failure, is_list, initial_failure, optional_failure, test_failure, declaration_failure, declarations_failure, statement_failure, first_failure, statements_failure, own_local, own_bound, own_called, own_super, own_make, fits}
 use Rattle.sts_scope.specs.Handlers.{handlers, handlers_of, optional_handlers, declarations_handlers, statement_handlers, first_handlers, statements_handlers}
 use Rattle.type_derive.specs.Making.{Making, pure, ◌>=>◌, a_local}
 use Rattle.sts_scope.specs.Numbers.{Numbering}
@@ -51,7 +51,7 @@ use Rattle.typed_laws.proofs.Names.{bind_some, some_is, either_some, real, has_p
 use Rattle.typed_laws.proofs.Sites.{seen, Suits, Wanted, suits_given, given_goes, at_block, at_local, IsGood, At, name_good, this_good}
 use Rattle.typed_laws.proofs.Boards.{are_plain, plain_first, plain_rest}
 use Rattle.typed_laws.proofs.TreeFacts.{nothing_either, noted_is, kind_is, parts2, parts3, settable_is, test_is, alone_is, unless_waived, parts4, kind_proper}
-use Rattle.typed_laws.proofs.TreeParts.{free_proper, given_proper, seen_as, one, two, function_call, set_good, assign_suits, make_good, make_takes, takes_of_found, takes_of_part, takes_of_made, called_parts, go_parts, go_none, go_more, go_to_parts, items_parts, Asked, called_fault, call_fault, call_type, call_made, plain_serves, served_so, given_to_is, drawing_good, ArgumentsTyped, AskedTyped, member, member_target, super, board_call, member_call, list_is, fits_is, handler_stand, gives_after, Declared, declared_one, declare, first_place, first_gives, declared_more}
+use Rattle.typed_laws.proofs.TreeParts.{free_proper, given_proper, seen_as, one, two, function_call, set_good, assign_suits, make_good, make_takes, takes_of_found, takes_of_part, takes_of_made, called_parts, go_parts, go_none, go_more, go_to_parts, items_parts, Asked, called_failure, call_failure, call_type, call_made, plain_serves, served_so, given_to_is, drawing_good, ArgumentsTyped, AskedTyped, member, member_target, super, board_call, member_call, list_is, fits_is, handler_stand, gives_after, Declared, declared_one, declare, first_place, first_gives, declared_more}
 
 module _ (tables : Tables) (names : Naming) (k : Known) (numbers : Numbering) (P : TypedProgram) (st : Stands tables k numbers P) where
   abbrev Good : Setting → List ℕ → ValueType → TypedTree → Type 0
@@ -60,36 +60,36 @@ module _ (tables : Tables) (names : Naming) (k : Known) (numbers : Numbering) (P
   abbrev Stand : Setting → List ℕ → Site → Type 0
   Stand S known s = At tables names k numbers P st S known s
 
-  abbrev mk : Site → Option Kind → Tree → Making TypedTree
+  abbrev mk : Site → Option StaticType → Tree → Making TypedTree
   mk s g a = made_tree tables names k numbers s g a
 
-  abbrev ty : Site → Role → Tree → Option Kind
+  abbrev ty : Site → Role → Tree → Option StaticType
   ty s r a = type_of tables k s.place r a
 
-  abbrev bad : Site → Role → Tree → Option Fault
-  bad s r a = fault tables names k s.place r a
+  abbrev bad : Site → Role → Tree → Option Failure
+  bad s r a = failure tables names k s.place r a
 
   -- types that are written
-  type_known : (i : ℕ) (a : Annotation) → type_fault names i a ≡ None → (u : Kind) × (kind_of names a ≡ Some u) × IsProper u
+  type_known : (i : ℕ) (a : Annotation) → type_failure names i a ≡ None → (u : StaticType) × (kind_of names a ≡ Some u) × IsProper u
   type_known i a h =
-      let r = own_has (kind_of names a) UnknownName i (last (type_name_fault names a) (own (kind_of names a) UnknownName i) h) in
+      let r = own_has (kind_of names a) UnknownName i (last (type_name_failure names a) (own (kind_of names a) UnknownName i) h) in
       (r.it, r.is, kind_proper names a r.it r.is)
 
   stand_same : (S : Setting) (known : List ℕ) (s : Site) → Stand S known s → Stand S known (record { place = s.place; spots = s.spots ++ [] })
   stand_same S known s at = subst (λ (xs : List Spot). Stand S known (record { place = s.place; spots = xs })) (sym (append-nil s.spots)) (record { even = at.even; here = at.here; proper = at.proper; this = at.this })
 
   -- What a `return` of the function gives. Where no value is returned, its type doesn't matter.
-  abbrev pub Answered : Setting → Option Kind → Bool → Type 0
-  Answered S g b = (is_nothing g ≡ true → (v : ValueType) × (w.answer S ≡ Some v)) × (b ≡ true → (v : Kind) → g ≡ Some v → (w.answer S ≡ Some (value_type v)) × IsProper v)
+  abbrev pub Answered : Setting → Option StaticType → Bool → Type 0
+  Answered S g b = (is_nothing g ≡ true → (v : ValueType) × (w.answer S ≡ Some v)) × (b ≡ true → (v : StaticType) → g ≡ Some v → (w.answer S ≡ Some (value_type v)) × IsProper v)
 
-  answered_left : (S : Setting) (g : Option Kind) (a b : Bool) → Answered S g (a || b) → Answered S g a
+  answered_left : (S : Setting) (g : Option StaticType) (a b : Bool) → Answered S g (a || b) → Answered S g a
   answered_left S g a b h = (h.0, λ q v r. h.1 (ap (λ (x : Bool). x || b) q) v r)
 
   or_true : (a b : Bool) → b ≡ true → (a || b) ≡ true
   or_true true b h = refl
   or_true false b h = h
 
-  answered_right : (S : Setting) (g : Option Kind) (a b : Bool) → Answered S g (a || b) → Answered S g b
+  answered_right : (S : Setting) (g : Option StaticType) (a b : Bool) → Answered S g (a || b) → Answered S g b
   answered_right S g a b h = (h.0, λ q v r. h.1 (or_true a b q) v r)
 
   -- a statement that is sound, and what is known behind it
@@ -100,8 +100,8 @@ module _ (tables : Tables) (names : Naming) (k : Known) (numbers : Numbering) (P
   SoundFirst S known s m a x = w.IsSoundFirst P S x known × Stand S (w.known_after_first x known) (first_site tables names k numbers m s a)
 
   -- the type of a declared name
-  pub bound_known : (S : Setting) (known : List ℕ) (s : Site) (shape : Option Annotation) (first : OptionalTree) (i : ℕ) → Stand S known s → written_fault names i shape ≡ None → own_bound tables names k s.place shape first i ≡ None
-      → (u : Kind) × (bound tables names k s.place shape first ≡ Some u) × IsProper u
+  pub bound_known : (S : Setting) (known : List ℕ) (s : Site) (shape : Option Annotation) (first : OptionalTree) (i : ℕ) → Stand S known s → written_failure names i shape ≡ None → own_bound tables names k s.place shape first i ≡ None
+      → (u : StaticType) × (bound tables names k s.place shape first ≡ Some u) × IsProper u
   bound_known S known s (Some a) first i at h h' = type_known i a h
   bound_known S known s None absent i at h h' = let r = own_has (bound tables names k s.place None absent) NeedsType i h' in (r.it, r.is, (let z : None ≡ Some r.it = r.is in cc))
   bound_known S known s None (present a) i at h h' =
@@ -109,44 +109,44 @@ module _ (tables : Tables) (names : Naming) (k : Known) (numbers : Numbering) (P
       (r.it, r.is, either_some IsProper (is_alone a) None (ty s Free a) r.it (λ v q. cc) (λ v q. free_proper tables names k numbers P st S known s at a v q) r.is)
 
   -- `return` with a value
-  return_value : (S : Setting) (known : List ℕ) (x : TypedTree) (u v : Kind) → Good S known (value_type (seen (Some v) u)) x → goes k.classes u v ≡ true → w.answer S ≡ Some (value_type v) → w.IsReturned P S known (Some x) (w.answer S)
+  return_value : (S : Setting) (known : List ℕ) (x : TypedTree) (u v : StaticType) → Good S known (value_type (seen (Some v) u)) x → goes k.classes u v ≡ true → w.answer S ≡ Some (value_type v) → w.IsReturned P S known (Some x) (w.answer S)
   return_value S known x u v g go answer =
       subst (λ (o : Option ValueType). w.IsReturned P S known (Some x) o) (sym answer) (g.0, subst (λ (y : ValueType). GoesTo P y (value_type v)) (sym g.1) (given_goes tables names k numbers P st u v go))
 
-  as_test : (S : Setting) (known : List ℕ) (s : Site) (a : Tree) (i : ℕ) → ((u : Kind) → ty s Free a ≡ Some u → Gives P (Good S known (value_type u)) (handlers a) (mk s None a)) → unless (is_boolean (ty s Free a)) Mismatch i ≡ None
+  as_test : (S : Setting) (known : List ℕ) (s : Site) (a : Tree) (i : ℕ) → ((u : StaticType) → ty s Free a ≡ Some u → Gives P (Good S known (value_type u)) (handlers a) (mk s None a)) → unless (is_boolean (ty s Free a)) Mismatch i ≡ None
       → Gives P (w.IsTest P S known) (handlers a) (mk s None a)
   as_test S known s a i typed_so h =
       let (u, q, b) = test_is (ty s Free a) (unless_true (is_boolean (ty s Free a)) Mismatch i h) in
       gives_as P (Good S known (value_type u)) (w.IsTest P S known) (handlers a) (handlers a) (mk s None a) (typed_so u q) (λ x g. (g.0, g.1 ∙ b)) refl
 
-  as_plain : (S : Setting) (known : List ℕ) (s : Site) (a : Tree) → ((u : Kind) → ty s Free a ≡ Some u → Gives P (Good S known (value_type u)) (handlers a) (mk s None a)) → bad s Free a ≡ None → Gives P (IsTyped P S known) (handlers a) (mk s None a)
+  as_plain : (S : Setting) (known : List ℕ) (s : Site) (a : Tree) → ((u : StaticType) → ty s Free a ≡ Some u → Gives P (Good S known (value_type u)) (handlers a) (mk s None a)) → bad s Free a ≡ None → Gives P (IsTyped P S known) (handlers a) (mk s None a)
   as_plain S known s a typed_so h =
       let has = typed tables names k s.place Free a tt h in
       gives_as P (Good S known (value_type has.it)) (IsTyped P S known) (handlers a) (handlers a) (mk s None a) (typed_so has.it has.is) (λ x g. g.0) refl
 
   -- in the body of a `for of`
-  abbrev looped_place : Site → Bool → ℕ → Tree → Place
+  abbrev looped_place : Site → Bool → ℕ → Tree → NameScope
   looped_place s fixed x list = looped tables names k s.place fixed x list
 
-  for_stand : (S : Setting) (known : List ℕ) (s : Site) (fixed : Bool) (x : ℕ) (list : Tree) (v : Kind) (m : ℕ) → Stand S known s → items_of tables names k (ty s Free list) ≡ Some (item v) → entry S.routine.locals m ≡ Some (value_type (item v)) → IsProper v
+  for_stand : (S : Setting) (known : List ℕ) (s : Site) (fixed : Bool) (x : ℕ) (list : Tree) (v : StaticType) (m : ℕ) → Stand S known s → items_of tables names k (ty s Free list) ≡ Some (item v) → entry S.routine.locals m ≡ Some (value_type (item v)) → IsProper v
       → Stand S (m ∷ known) (record { place = inner (looped_place s fixed x list); spots = s.spots ++ Local m ∷ [] })
   for_stand S known s fixed x list v m at q has p =
       let at1 = at_local tables names k numbers P st S known (in_block s) x (items_of tables names k (ty s Free list)) fixed m (at_block tables names k numbers P st S known s at)
-      (λ l lq. let il : item v ≡ l = some_is (item v) l (sym q ∙ lq) in (has ∙ ap (λ (y : Kind). Some (value_type y)) il, subst IsProper il p)) in
+      (λ l lq. let il : item v ≡ l = some_is (item v) l (sym q ∙ lq) in (has ∙ ap (λ (y : StaticType). Some (value_type y)) il, subst IsProper il p)) in
       record { even = at1.even; here = at1.here; proper = at1.proper; this = at1.this }
 
   mutual
     -- an expression, where its place gives it a type or none
-    pub tree : (S : Setting) (known : List ℕ) (s : Site) (g : Option Kind) (a : Tree) (u : Kind) → Stand S known s → IsFormed a → Wanted g → bad s (kind_role g) a ≡ None → ty s (kind_role g) a ≡ Some u → Suits g u
+    pub tree : (S : Setting) (known : List ℕ) (s : Site) (g : Option StaticType) (a : Tree) (u : StaticType) → Stand S known s → IsFormed a → Wanted g → bad s (kind_role g) a ≡ None → ty s (kind_role g) a ≡ Some u → Suits g u
         → Gives P (Good S known (value_type (seen g u))) (handlers a) (mk s g a)
     tree S known s g (Num i n) u at f g' h q z =
-        seen_as tables names k numbers P st S known g u 0 0 (pure (e.Num t.Number n)) (free_proper tables names k numbers P st S known s at (Num i n) u q) (gives_pure P (Good S known (value_type u)) (e.Num t.Number n) ((refl, f), ap (λ (y : Kind). value_type y) (some_is number u q))) refl
+        seen_as tables names k numbers P st S known g u 0 0 (pure (e.Num t.Number n)) (free_proper tables names k numbers P st S known s at (Num i n) u q) (gives_pure P (Good S known (value_type u)) (e.Num t.Number n) ((refl, f), ap (λ (y : StaticType). value_type y) (some_is number u q))) refl
     tree S known s g (Text i n) u at f g' h q z =
-        seen_as tables names k numbers P st S known g u 0 0 (pure (e.Text t.Text n)) (free_proper tables names k numbers P st S known s at (Text i n) u q) (gives_pure P (Good S known (value_type u)) (e.Text t.Text n) (refl, ap (λ (y : Kind). value_type y) (some_is text u q))) refl
+        seen_as tables names k numbers P st S known g u 0 0 (pure (e.Text t.Text n)) (free_proper tables names k numbers P st S known s at (Text i n) u q) (gives_pure P (Good S known (value_type u)) (e.Text t.Text n) (refl, ap (λ (y : StaticType). value_type y) (some_is text u q))) refl
     tree S known s g (Truth i x) u at f g' h q z =
-        seen_as tables names k numbers P st S known g u 0 0 (pure (e.Truth t.Boolean x)) (free_proper tables names k numbers P st S known s at (Truth i x) u q) (gives_pure P (Good S known (value_type u)) (e.Truth t.Boolean x) (refl, ap (λ (y : Kind). value_type y) (some_is boolean u q))) refl
+        seen_as tables names k numbers P st S known g u 0 0 (pure (e.Truth t.Boolean x)) (free_proper tables names k numbers P st S known s at (Truth i x) u q) (gives_pure P (Good S known (value_type u)) (e.Truth t.Boolean x) (refl, ap (λ (y : StaticType). value_type y) (some_is boolean u q))) refl
     tree S known s g (Null i) u at f g' h q z =
-        seen_as tables names k numbers P st S known g u 0 0 (pure (e.Null t.NullType)) (free_proper tables names k numbers P st S known s at (Null i) u q) (gives_pure P (Good S known (value_type u)) (e.Null t.NullType) (refl, ap (λ (y : Kind). value_type y) (some_is null u q))) refl
+        seen_as tables names k numbers P st S known g u 0 0 (pure (e.Null t.NullType)) (free_proper tables names k numbers P st S known s at (Null i) u q) (gives_pure P (Good S known (value_type u)) (e.Null t.NullType) (refl, ap (λ (y : StaticType). value_type y) (some_is null u q))) refl
     tree S known s g (This i) u at f g' h q z =
         let n : ValueType = noted tables names k numbers s g (This i) in
         let same_n : n ≡ value_type u = noted_is (ty s (kind_role g) (This i)) u q in
@@ -185,7 +185,7 @@ module _ (tables : Tables) (names : Naming) (k : Known) (numbers : Numbering) (P
         seen_as tables names k numbers P st S known g u (handlers a + handlers b) (handlers a + handlers b) (mk s None a >=> λ x. mk s None b >=> λ l. pure (e.Both t.Boolean x l)) (free_proper tables names k numbers P st S known s at (Both i a b) u q)
         (two tables names k numbers P st S known (Good S known (value_type u)) (Good S known (value_type v)) (Good S known (value_type y)) (handlers a) (handlers b) (mk s None a) (mk s None b) (λ x l. e.Both t.Boolean x l)
         (tree S known s None a v at f.0 tt ha r tt) (tree S known s None b y at f.1 tt hb r1 tt)
-        (λ x l p o. ((p.0, o.0, p.1 ∙ bv, o.1 ∙ by, refl), ap (λ (c : Kind). value_type c) (sym bu)))) refl
+        (λ x l p o. ((p.0, o.0, p.1 ∙ bv, o.1 ∙ by, refl), ap (λ (c : StaticType). value_type c) (sym bu)))) refl
     tree S known s g (Either i a b) u at f g' h q z =
         let (v, r, q1) = bind_some (ty s Free a) (λ v. ty s Free b >>= λ y. joined v y) u q in
         let (y, r1, q2) = bind_some (ty s Free b) (λ y. joined v y) u q1 in
@@ -194,7 +194,7 @@ module _ (tables : Tables) (names : Naming) (k : Known) (numbers : Numbering) (P
         seen_as tables names k numbers P st S known g u (handlers a + handlers b) (handlers a + handlers b) (mk s None a >=> λ x. mk s None b >=> λ l. pure (e.Either t.Boolean x l)) (free_proper tables names k numbers P st S known s at (Either i a b) u q)
         (two tables names k numbers P st S known (Good S known (value_type u)) (Good S known (value_type v)) (Good S known (value_type y)) (handlers a) (handlers b) (mk s None a) (mk s None b) (λ x l. e.Either t.Boolean x l)
         (tree S known s None a v at f.0 tt ha r tt) (tree S known s None b y at f.1 tt hb r1 tt)
-        (λ x l p o. ((p.0, o.0, p.1 ∙ bv, o.1 ∙ by, refl), ap (λ (c : Kind). value_type c) (sym bu)))) refl
+        (λ x l p o. ((p.0, o.0, p.1 ∙ bv, o.1 ∙ by, refl), ap (λ (c : StaticType). value_type c) (sym bu)))) refl
     tree S known s g (Choice i c a b) u at f g' h q z =
         let (l, r0, q0) = bind_some (ty s Free c) (λ l. ty s Free a >>= λ v. ty s Free b >>= λ y. choose k.classes l v y) u q in
         let (v, r, q1) = bind_some (ty s Free a) (λ v. ty s Free b >>= λ y. choose k.classes l v y) u q0 in
@@ -221,7 +221,7 @@ module _ (tables : Tables) (names : Naming) (k : Known) (numbers : Numbering) (P
         let py = given_proper tables names k numbers P st S known s at a y r1 in
         let kind : type_in tables names k numbers s x ≡ v = kind_is (ty s Free x) v r in
         let Q : TypedTree → Type 0 = Good S known (value_type u) in
-        let G : Kind → Type 0 = λ o. Gives P Q (handlers x + handlers a) (mk s None x >=> λ l. mk s (Some o) a >=> λ d. pure (e.Set n op l d)) in
+        let G : StaticType → Type 0 = λ o. Gives P Q (handlers x + handlers a) (mk s None x >=> λ l. mk s (Some o) a >=> λ d. pure (e.Set n op l d)) in
         let base : G v =
         two tables names k numbers P st S known Q (λ l. IsTarget P S known l × (w.type_of l ≡ value_type v)) (Good S known (value_type (seen (Some v) y))) (handlers x) (handlers a) (mk s None x) (mk s (Some v) a) (λ l d. e.Set n op l d)
         (target S known s x v at f.0 hx r may) (tree S known s (Some v) a y at f.1 pv ha r1 (assign_suits tables names k numbers P st op v y u py pv assigned))
@@ -237,7 +237,7 @@ module _ (tables : Tables) (names : Naming) (k : Known) (numbers : Numbering) (P
         seen_as tables names k numbers P st S known g u (handlers x) (handlers x) (mk s None x >=> λ l. pure (e.Bump t.Number l by late)) (free_proper tables names k numbers P st S known s at (Bump i x by late) u q)
         (gives_as P Q Q (handlers x + 0) (handlers x) (mk s None x >=> λ l. pure (e.Bump t.Number l by late))
         (gives_bind P (λ l. IsTarget P S known l × (w.type_of l ≡ value_type v)) Q (handlers x) 0 (mk s None x) (λ l. pure (e.Bump t.Number l by late)) (target S known s x v at f.0 hx r may)
-        (λ l p. gives_pure P Q (e.Bump t.Number l by late) ((p.0, p.1 ∙ nv, refl, f.1), ap (λ (y : Kind). value_type y) (sym nu)))) (λ l p. p) (omega arith)) refl
+        (λ l p. gives_pure P Q (e.Bump t.Number l by late) ((p.0, p.1 ∙ nv, refl, f.1), ap (λ (y : StaticType). value_type y) (sym nu)))) (λ l p. p) (omega arith)) refl
     tree S known s g (Member i a m) u at f g' h q z =
         member tables names k numbers P st S known s g i a m u (noted tables names k numbers s g (Member i a m)) (constant_of tables k s.place a m) (board_callee tables k s.place (Member i a m)) at f refl h q
         (noted_is (ty s (kind_role g) (Member i a m)) u q) (free_proper tables names k numbers P st S known s at (Member i a m) u q) (λ v h' q'. tree S known s None a v at f tt h' q' tt)
@@ -255,20 +255,20 @@ module _ (tables : Tables) (names : Naming) (k : Known) (numbers : Numbering) (P
     tree S known s None (Items i none) u at f g' h q z = cc
     tree S known s (Some v) (Items i none) u at f g' h q z =
         let is : empty ≡ u = some_is empty u q in
-        let array_v : is_array v ≡ true = z (ap (λ (y : Kind). is_proper_base y.base) (sym is)) in
-        let kind : value_type v ≡ value_type (seen (Some v) u) = ap (λ (y : Kind). value_type (seen (Some v) y)) is in
+        let array_v : is_array v ≡ true = z (ap (λ (y : StaticType). is_proper_base y.base) (sym is)) in
+        let kind : value_type v ≡ value_type (seen (Some v) u) = ap (λ (y : StaticType). value_type (seen (Some v) y)) is in
         gives_pure P (Good S known (value_type (seen (Some v) u))) (e.Items (value_type v) e.none) ((value_type (item v), array_type v array_v, tt), kind)
     tree S known s g (Items i (more a rest)) u at f g' h q z =
         let (v, r, q1) = bind_some (ty s Free a) (λ v. types_of tables k s.place rest >>= λ us. items_type k.classes v us) u q in
         let (us, r1, q2) = bind_some (types_of tables k s.place rest) (λ us. items_type k.classes v us) u q1 in
         let (go, array_u) = items_parts tables names k numbers P st v u us q2 in
-        let (ha, hr, ho) = parts2 (bad s Free a) (faults tables names k s.place [] rest) (own (ty s (kind_role g) (Items i (more a rest))) Mismatch i) h in
+        let (ha, hr, ho) = parts2 (bad s Free a) (failures tables names k s.place [] rest) (own (ty s (kind_role g) (Items i (more a rest))) Mismatch i) h in
         let n : ValueType = noted tables names k numbers s g (Items i (more a rest)) in
         let same_n : n ≡ value_type u = noted_is (ty s (kind_role g) (Items i (more a rest))) u q in
-        let list_n : n ≡ t.ListOf (value_type v) = same_n ∙ ap (λ (y : Kind). value_type y) (sym array_u) ∙ arrayed v in
+        let list_n : n ≡ t.ListOf (value_type v) = same_n ∙ ap (λ (y : StaticType). value_type y) (sym array_u) ∙ arrayed v in
         let kind : type_in tables names k numbers s a ≡ v = kind_is (ty s Free a) v r in
         let Q : TypedTree → Type 0 = Good S known (value_type u) in
-        let G : Kind → Type 0 = λ o. Gives P Q (handlers a + (handlers_of rest + 0)) (mk s None a >=> λ x. made_items tables names k numbers s o rest >=> λ xs. pure (e.Items n (e.more x xs))) in
+        let G : StaticType → Type 0 = λ o. Gives P Q (handlers a + (handlers_of rest + 0)) (mk s None a >=> λ x. made_items tables names k numbers s o rest >=> λ xs. pure (e.Items n (e.more x xs))) in
         let base : G v =
         gives_bind P (Good S known (value_type v)) Q (handlers a) (handlers_of rest + 0) (mk s None a) (λ x. made_items tables names k numbers s v rest >=> λ xs. pure (e.Items n (e.more x xs)))
         (tree S known s None a v at f.0 tt ha r tt)
@@ -282,16 +282,16 @@ module _ (tables : Tables) (names : Naming) (k : Known) (numbers : Numbering) (P
         (λ takes us p' h' q' go. given S known s takes us args at f.1 p' h' q' go) (λ ps h' q' y. asked S known s ps args at f.1 h' q' y)
     tree S known s g (SuperCall i None args) u at f g' h q z = cc
     tree S known s g (SuperCall i (Some m) args) u at f g' h q z =
-        super tables names k numbers P st S known s g m args u (noted tables names k numbers s g (SuperCall i (Some m) args)) (super_method tables k s.place.this m) at f refl (first (faults tables names k s.place [] args) (own_super tables names k s.place m (super_method tables k s.place.this m) (ty s (kind_role g) (SuperCall i (Some m) args)) i) h) q
+        super tables names k numbers P st S known s g m args u (noted tables names k numbers s g (SuperCall i (Some m) args)) (super_method tables k s.place.this m) at f refl (first (failures tables names k s.place [] args) (own_super tables names k s.place m (super_method tables k s.place.this m) (ty s (kind_role g) (SuperCall i (Some m) args)) i) h) q
         (noted_is (ty s (kind_role g) (SuperCall i (Some m) args)) u q) (free_proper tables names k numbers P st S known s at (SuperCall i (Some m) args) u q)
         (λ takes us p' h' q' go. given S known s takes us args at f p' h' q' go)
     tree S known s g (Make i x args) u at f g' h q z =
         let l : Found = finds tables k s.place x in
         let (d, us, is, ts, go, result) = called_parts tables names k numbers P st (made tables k l) (types_of tables k s.place args) u q in
-        let ha : faults tables names k s.place [] args ≡ None = first (faults tables names k s.place [] args) (own_make tables names k l (made tables k l) (ty s (kind_role g) (Make i x args)) i) h in
+        let ha : failures tables names k s.place [] args ≡ None = first (failures tables names k s.place [] args) (own_make tables names k l (made tables k l) (ty s (kind_role g) (Make i x args)) i) h in
         let class : ℕ = class_found tables names k numbers l in
         let Q : TypedTree → Type 0 = Good S known (value_type u) in
-        let G : List Kind → Type 0 = λ o. Gives P Q (handlers_of args + 0) (made_given tables names k numbers s o args >=> λ xs. pure (e.Make (t.Object class) class xs)) in
+        let G : List StaticType → Type 0 = λ o. Gives P Q (handlers_of args + 0) (made_given tables names k numbers s o args >=> λ xs. pure (e.Make (t.Object class) class xs)) in
         let base : G d.takes =
         gives_bind P (AreGiven P S known (parameters_of (value_types d.takes))) Q (handlers_of args) 0 (made_given tables names k numbers s d.takes args) (λ xs. pure (e.Make (t.Object class) class xs))
         (given S known s d.takes us args at f (takes_of_made tables names k numbers P st l d is) ha ts go)
@@ -301,7 +301,7 @@ module _ (tables : Tables) (names : Naming) (k : Known) (numbers : Numbering) (P
     tree S known s g (Handler i body) u at f g' h q z = cc
 
     -- what may be set
-    target : (S : Setting) (known : List ℕ) (s : Site) (x : Tree) (v : Kind) → Stand S known s → IsFormed x → bad s Free x ≡ None → ty s Free x ≡ Some v → settable tables k s.place x ≡ true
+    target : (S : Setting) (known : List ℕ) (s : Site) (x : Tree) (v : StaticType) → Stand S known s → IsFormed x → bad s Free x ≡ None → ty s Free x ≡ Some v → settable tables k s.place x ≡ true
         → Gives P (λ l. IsTarget P S known l × (w.type_of l ≡ value_type v)) (handlers x) (mk s None x)
     target S known s (Name i x) v at f h q may =
         let n : ValueType = noted tables names k numbers s None (Name i x) in
@@ -340,61 +340,61 @@ module _ (tables : Tables) (names : Naming) (k : Known) (numbers : Numbering) (P
     target S known s (Make i x args) v at f h q may = cc
     target S known s (Handler i body) v at f h q may = cc
 
-    items : (S : Setting) (known : List ℕ) (s : Site) (v : Kind) (us : List Kind) (args : Trees) → Stand S known s → AreFormed args → IsProper v → faults tables names k s.place [] args ≡ None → types_of tables k s.place args ≡ Some us
+    items : (S : Setting) (known : List ℕ) (s : Site) (v : StaticType) (us : List StaticType) (args : Trees) → Stand S known s → AreFormed args → IsProper v → failures tables names k s.place [] args ≡ None → types_of tables k s.place args ≡ Some us
         → all_go_to k.classes v us ≡ true → Gives P (AreItems P S known (value_type v)) (handlers_of args) (made_items tables names k numbers s v args)
     items S known s v us none at f p h q go = gives_pure P (AreItems P S known (value_type v)) e.none tt
     items S known s v us (more a rest) at f p h q go =
         let (y, r, q1) = bind_some (ty s Given a) (λ y. types_of tables k s.place rest >>= λ ys. Some (y ∷ ys)) us q in
         let (ys, r1, q2) = bind_some (types_of tables k s.place rest) (λ ys. Some (y ∷ ys)) us q1 in
-        let (go_y, go_ys) = go_to_parts tables names k numbers P st v y ys (subst (λ (l : List Kind). all_go_to k.classes v l ≡ true) (sym (some_is (y ∷ ys) us q2)) go) in
+        let (go_y, go_ys) = go_to_parts tables names k numbers P st v y ys (subst (λ (l : List StaticType). all_go_to k.classes v l ≡ true) (sym (some_is (y ∷ ys) us q2)) go) in
         let R : TypedTrees → Type 0 = AreItems P S known (value_type v) in
         let py = given_proper tables names k numbers P st S known s at a y r in
         gives_as P R R (handlers a + (handlers_of rest + 0)) (handlers a + handlers_of rest) (mk s (Some v) a >=> λ x. made_items tables names k numbers s v rest >=> λ xs. pure (e.more x xs))
         (gives_bind P (Good S known (value_type (seen (Some v) y))) R (handlers a) (handlers_of rest + 0) (mk s (Some v) a) (λ x. made_items tables names k numbers s v rest >=> λ xs. pure (e.more x xs))
-        (tree S known s (Some v) a y at f.0 p (first (bad s Given a) (faults tables names k s.place [] rest) h) r (suits_given tables names k numbers P st y v py p go_y))
+        (tree S known s (Some v) a y at f.0 p (first (bad s Given a) (failures tables names k s.place [] rest) h) r (suits_given tables names k numbers P st y v py p go_y))
         (λ x o. gives_bind P R R (handlers_of rest) 0 (made_items tables names k numbers s v rest) (λ xs. pure (e.more x xs))
-        (items S known s v ys rest at f.1 p (last (bad s Given a) (faults tables names k s.place [] rest) h) r1 go_ys)
+        (items S known s v ys rest at f.1 p (last (bad s Given a) (failures tables names k s.place [] rest) h) r1 go_ys)
         (λ xs os. gives_pure P R (e.more x xs) (o.0, subst (λ (c : ValueType). GoesTo P c (value_type v)) (sym o.1) (given_goes tables names k numbers P st y v go_y), os))))
         (λ x o. o) (omega arith)
 
-    pub given : (S : Setting) (known : List ℕ) (s : Site) (takes us : List Kind) (args : Trees) → Stand S known s → AreFormed args → EachProper takes → faults tables names k s.place [] args ≡ None → types_of tables k s.place args ≡ Some us
+    pub given : (S : Setting) (known : List ℕ) (s : Site) (takes us : List StaticType) (args : Trees) → Stand S known s → AreFormed args → EachProper takes → failures tables names k s.place [] args ≡ None → types_of tables k s.place args ≡ Some us
         → all_go k.classes us takes ≡ true → Gives P (AreGiven P S known (parameters_of (value_types takes))) (handlers_of args) (made_given tables names k numbers s takes args)
     given S known s [] us none at f p h q go = gives_pure P (AreGiven P S known []) e.none tt
-    given S known s (v ∷ vs) us none at f p h q go = absurd (go_none tables names k numbers P st v vs (subst (λ (l : List Kind). all_go k.classes l (v ∷ vs) ≡ true) (sym (some_is [] us q)) go))
+    given S known s (v ∷ vs) us none at f p h q go = absurd (go_none tables names k numbers P st v vs (subst (λ (l : List StaticType). all_go k.classes l (v ∷ vs) ≡ true) (sym (some_is [] us q)) go))
     given S known s [] us (more a rest) at f p h q go =
         let (y, r, q1) = bind_some (ty s Given a) (λ y. types_of tables k s.place rest >>= λ ys. Some (y ∷ ys)) us q in
         let (ys, r1, q2) = bind_some (types_of tables k s.place rest) (λ ys. Some (y ∷ ys)) us q1 in
-        absurd (go_more tables names k numbers P st y ys (subst (λ (l : List Kind). all_go k.classes l [] ≡ true) (sym (some_is (y ∷ ys) us q2)) go))
+        absurd (go_more tables names k numbers P st y ys (subst (λ (l : List StaticType). all_go k.classes l [] ≡ true) (sym (some_is (y ∷ ys) us q2)) go))
     given S known s (v ∷ vs) us (more a rest) at f p h q go =
         let (y, r, q1) = bind_some (ty s Given a) (λ y. types_of tables k s.place rest >>= λ ys. Some (y ∷ ys)) us q in
         let (ys, r1, q2) = bind_some (types_of tables k s.place rest) (λ ys. Some (y ∷ ys)) us q1 in
-        let (go_y, go_ys) = go_parts tables names k numbers P st y v ys vs (subst (λ (l : List Kind). all_go k.classes l (v ∷ vs) ≡ true) (sym (some_is (y ∷ ys) us q2)) go) in
+        let (go_y, go_ys) = go_parts tables names k numbers P st y v ys vs (subst (λ (l : List StaticType). all_go k.classes l (v ∷ vs) ≡ true) (sym (some_is (y ∷ ys) us q2)) go) in
         let R : TypedTrees → Type 0 = AreGiven P S known (parameters_of (value_types (v ∷ vs))) in
         let R' : TypedTrees → Type 0 = AreGiven P S known (parameters_of (value_types vs)) in
         let py = given_proper tables names k numbers P st S known s at a y r in
         gives_as P R R (handlers a + (handlers_of rest + 0)) (handlers a + handlers_of rest) (mk s (Some v) a >=> λ x. made_given tables names k numbers s vs rest >=> λ xs. pure (e.more x xs))
         (gives_bind P (Good S known (value_type (seen (Some v) y))) R (handlers a) (handlers_of rest + 0) (mk s (Some v) a) (λ x. made_given tables names k numbers s vs rest >=> λ xs. pure (e.more x xs))
-        (tree S known s (Some v) a y at f.0 p.0 (first (bad s Given a) (faults tables names k s.place [] rest) h) r (suits_given tables names k numbers P st y v py p.0 go_y))
+        (tree S known s (Some v) a y at f.0 p.0 (first (bad s Given a) (failures tables names k s.place [] rest) h) r (suits_given tables names k numbers P st y v py p.0 go_y))
         (λ x o. gives_bind P R' R (handlers_of rest) 0 (made_given tables names k numbers s vs rest) (λ xs. pure (e.more x xs))
-        (given S known s vs ys rest at f.1 p.1 (last (bad s Given a) (faults tables names k s.place [] rest) h) r1 go_ys)
+        (given S known s vs ys rest at f.1 p.1 (last (bad s Given a) (failures tables names k s.place [] rest) h) r1 go_ys)
         (λ xs os. gives_pure P R (e.more x xs) (o.0, subst (λ (c : ValueType). GoesTo P c (value_type v)) (sym o.1) (given_goes tables names k numbers P st y v go_y), os))))
         (λ x o. o) (omega arith)
 
-    call : (S : Setting) (known : List ℕ) (s : Site) (g : Option Kind) (i : ℕ) (c' : Tree) (args : Trees) (u : Kind) (n : ValueType) (b : Option BoardCall) → Stand S known s → IsFormed c' → board_callee tables k s.place c' ≡ b
-        → call_fault tables names k numbers P st s i c' args b ≡ None → call_type tables names k numbers P st s c' args b ≡ Some u → n ≡ value_type u → IsProper u → ArgumentsTyped tables names k numbers P st S known s args → AskedTyped tables names k numbers P st S known s args
+    call : (S : Setting) (known : List ℕ) (s : Site) (g : Option StaticType) (i : ℕ) (c' : Tree) (args : Trees) (u : StaticType) (n : ValueType) (b : Option BoardCall) → Stand S known s → IsFormed c' → board_callee tables k s.place c' ≡ b
+        → call_failure tables names k numbers P st s i c' args b ≡ None → call_type tables names k numbers P st s c' args b ≡ Some u → n ≡ value_type u → IsProper u → ArgumentsTyped tables names k numbers P st S known s args → AskedTyped tables names k numbers P st S known s args
         → Gives P (Good S known (value_type (seen g u))) (handlers c' + handlers_of args) (call_made tables names k numbers P st s n c' args b)
     call S known s g i c' args u n (Some b) at f is h q same_n p typed asked' = board_call tables names k numbers P st S known s g i c' args u n b is h q same_n p asked'
     call S known s g i (Name j x) args u n None at f is h q same_n p typed asked' =
         let l : Found = finds tables k s.place x in
         let (d, us, q1, ts, go, result) = called_parts tables names k numbers P st (named_callee tables k l) (types_of tables k s.place args) u q in
-        let (hf, ha, ho) = parts2 (bad s Called (Name j x)) (faults tables names k s.place [] args) (own_called tables names k (named_callee tables k l) (types_of tables k s.place args) i) h in
+        let (hf, ha, ho) = parts2 (bad s Called (Name j x)) (failures tables names k s.place [] args) (own_called tables names k (named_callee tables k l) (types_of tables k s.place args) i) h in
         seen_as tables names k numbers P st S known g u (handlers_of args) (0 + handlers_of args) (made_given tables names k numbers s (routine_takes tables names k numbers l) args >=> λ xs. pure (e.Call n (c.Function (routine_of tables names k numbers l)) xs)) p
         (function_call tables names k numbers P st S known s args l d u n (real k tables s.place x) q1 result same_n (typed d.takes us (takes_of_found tables names k numbers P st l d q1) ha ts go)) (omega arith)
     call S known s g i (Member j a m) args u n None at f is h q same_n p typed asked' =
         let (d, us, q1, ts, go, result) = called_parts tables names k numbers P st (callee_of tables k s.place (Member j a m)) (types_of tables k s.place args) u q in
         let (v, r, q2) = bind_some (ty s Free a) (λ v. part_callee tables k (part_of tables.names k v m)) d q1 in
-        let (hf, ha, ho) = parts2 (bad s Called (Member j a m)) (faults tables names k s.place [] args) (own_called tables names k (callee_of tables k s.place (Member j a m)) (types_of tables k s.place args) i) h in
-        let free_a : bad s Free a ≡ None = called_fault tables names k numbers P st s j a m v (constant_of tables k s.place a m) (board_callee tables k s.place (Member j a m)) refl is r hf in
+        let (hf, ha, ho) = parts2 (bad s Called (Member j a m)) (failures tables names k s.place [] args) (own_called tables names k (callee_of tables k s.place (Member j a m)) (types_of tables k s.place args) i) h in
+        let free_a : bad s Free a ≡ None = called_failure tables names k numbers P st s j a m v (constant_of tables k s.place a m) (board_callee tables k s.place (Member j a m)) refl is r hf in
         let takes_so : EachProper d.takes = takes_of_part tables names k numbers P st v m (part_of tables.names k v m) d (free_proper tables names k numbers P st S known s at a v r) (has_part k tables.names v m) q2 in
         seen_as tables names k numbers P st S known g u (handlers a + (handlers_of args + 0)) (handlers a + handlers_of args)
         (mk s None a >=> λ x. made_given tables names k numbers s (part_takes tables names k numbers (part_in tables names k numbers s a m)) args
@@ -419,7 +419,7 @@ module _ (tables : Tables) (names : Naming) (k : Known) (numbers : Numbering) (P
     call S known s g i (Make j x xs) args u n None at f is h q same_n p typed asked' = cc
     call S known s g i (Handler j body) args u n None at f is h q same_n p typed asked' = cc
 
-    asked : (S : Setting) (known : List ℕ) (s : Site) (ps : List BoardParameter) (args : Trees) → Stand S known s → AreFormed args → faults tables names k s.place ps args ≡ None → are_given tables k s.place ps args ≡ true → are_plain ps ≡ true
+    asked : (S : Setting) (known : List ℕ) (s : Site) (ps : List BoardParameter) (args : Trees) → Stand S known s → AreFormed args → failures tables names k s.place ps args ≡ None → are_given tables k s.place ps args ≡ true → are_plain ps ≡ true
         → Gives P (Asked tables names k numbers P st S known ps) (handlers_of args) (made_asked tables names k numbers s ps args)
     asked S known s [] none at f h q y = gives_pure P (Asked tables names k numbers P st S known []) e.none tt
     asked S known s [] (more a rest) at f h q y = cc
@@ -429,15 +429,15 @@ module _ (tables : Tables) (names : Naming) (k : Known) (numbers : Numbering) (P
     asked S known s (board.Of v ∷ ps) (more a rest) at f h q y =
         let (given_so, rest_so) = both_true (given_to tables k (ty s Given a) v) (are_given tables k s.place ps rest) q in
         let (l, r, go) = given_to_is tables names k numbers P st (ty s Given a) v given_so in
-        let z : Kind = board_kind v in
+        let z : StaticType = board_kind v in
         let pz : IsProper z = board_proper v in
         let pl = given_proper tables names k numbers P st S known s at a l r in
         let R : TypedTrees → Type 0 = Asked tables names k numbers P st S known (board.Of v ∷ ps) in
         gives_as P R R (handlers a + (handlers_of rest + 0)) (handlers a + handlers_of rest) (mk s (Some z) a >=> λ x. made_asked tables names k numbers s ps rest >=> λ xs. pure (e.more x xs))
         (gives_bind P (Good S known (value_type (seen (Some z) l))) R (handlers a) (handlers_of rest + 0) (mk s (Some z) a) (λ x. made_asked tables names k numbers s ps rest >=> λ xs. pure (e.more x xs))
-        (tree S known s (Some z) a l at f.0 pz (first (bad s Given a) (faults tables names k s.place ps rest) h) r (suits_given tables names k numbers P st l z pl pz go))
+        (tree S known s (Some z) a l at f.0 pz (first (bad s Given a) (failures tables names k s.place ps rest) h) r (suits_given tables names k numbers P st l z pl pz go))
         (λ x o. gives_bind P (Asked tables names k numbers P st S known ps) R (handlers_of rest) 0 (made_asked tables names k numbers s ps rest) (λ xs. pure (e.more x xs))
-        (asked S known s ps rest at f.1 (last (bad s Given a) (faults tables names k s.place ps rest) h) rest_so (plain_rest v ps y))
+        (asked S known s ps rest at f.1 (last (bad s Given a) (failures tables names k s.place ps rest) h) rest_so (plain_rest v ps y))
         (λ xs os. gives_pure P R (e.more x xs) (o.0, subst (λ (c : ValueType). GoesTo P c v) (sym o.1) (subst (λ (c : ValueType). GoesTo P (value_type (seen (Some z) l)) c) (plain_first v ps y) (given_goes tables names k numbers P st l z go)), os))))
         (λ x o. o) (omega arith)
     asked S known s (board.Drawing ∷ ps) (more a rest) at f h q y =
@@ -448,7 +448,7 @@ module _ (tables : Tables) (names : Naming) (k : Known) (numbers : Numbering) (P
         (gives_bind P (Good S known t.Number) R 0 (handlers_of rest + 0) (pure (drawing tables names k numbers a)) (λ x. made_asked tables names k numbers s ps rest >=> λ xs. pure (e.more x xs))
         (gives_pure P (Good S known t.Number) (drawing tables names k numbers a) good)
         (λ x o. gives_bind P (Asked tables names k numbers P st S known ps) R (handlers_of rest) 0 (made_asked tables names k numbers s ps rest) (λ xs. pure (e.more x xs))
-        (asked S known s ps rest at f.1 (last (bad s Given a) (faults tables names k s.place ps rest) h) rest_so y)
+        (asked S known s ps rest at f.1 (last (bad s Given a) (failures tables names k s.place ps rest) h) rest_so y)
         (λ xs os. gives_pure P R (e.more x xs) (o, os))))
         (λ x o. o) (omega (arith, none_in))
     asked S known s (board.Handler ∷ ps) (more a rest) at f h q y =
@@ -457,9 +457,9 @@ module _ (tables : Tables) (names : Naming) (k : Known) (numbers : Numbering) (P
         let made : Making TypedTree = argument_made tables names k numbers s (board.Handler ∷ ps) a (mk s None a) in
         gives_as P R R (handlers a + (handlers_of rest + 0)) (handlers a + handlers_of rest) (made >=> λ x. made_asked tables names k numbers s ps rest >=> λ xs. pure (e.more x xs))
         (gives_bind P (IsHandler P) R (handlers a) (handlers_of rest + 0) made (λ x. made_asked tables names k numbers s ps rest >=> λ xs. pure (e.more x xs))
-        (handler S known s ps a at f.0 (first (bad s Served a) (faults tables names k s.place ps rest) h) serves_so)
+        (handler S known s ps a at f.0 (first (bad s Served a) (failures tables names k s.place ps rest) h) serves_so)
         (λ x o. gives_bind P (Asked tables names k numbers P st S known ps) R (handlers_of rest) 0 (made_asked tables names k numbers s ps rest) (λ xs. pure (e.more x xs))
-        (asked S known s ps rest at f.1 (last (bad s Served a) (faults tables names k s.place ps rest) h) rest_so y)
+        (asked S known s ps rest at f.1 (last (bad s Served a) (failures tables names k s.place ps rest) h) rest_so y)
         (λ xs os. gives_pure P R (e.more x xs) (o, os))))
         (λ x o. o) (omega arith)
 
@@ -470,17 +470,17 @@ module _ (tables : Tables) (names : Naming) (k : Known) (numbers : Numbering) (P
         (plain_serves tables names k numbers P st (finds tables k s.place x) s (real k tables s.place x) (served_so tables names k numbers P st s.place (finds tables k s.place x) i q h))
     handler S known s ps (Handler i (Does j [] gives all arrow)) at f h q =
         let site' : Site = in_handler_site tables names k numbers s [] gives all in
-        let bad_inside : Option Fault = written_fault names j gives then statements_fault tables names k site'.place all in
+        let bad_inside : Option Failure = written_failure names j gives then statements_failure tables names k site'.place all in
         let serves : Bool = is_nothing site'.place.gives in
         let h1 : bad_inside ≡ None = first bad_inside (unless serves BadHandler i) h in
         let served : serves ≡ true = unless_true serves BadHandler i (last bad_inside (unless serves BadHandler i) h) in
-        let h2 : statements_fault tables names k site'.place all ≡ None = last (written_fault names j gives) (statements_fault tables names k site'.place all) h1 in
+        let h2 : statements_failure tables names k site'.place all ≡ None = last (written_failure names j gives) (statements_failure tables names k site'.place all) h1 in
         let answer_is : (S' : Setting) → S'.routine.gives ≡ t.Nothing → S'.main ≡ false → w.answer S' ≡ Some t.Nothing = λ S' n o.
         ap (λ (x : Bool). let y : Option ValueType = if x then None else Some (if S'.maker then t.Nothing else S'.routine.gives) in y) o
         ∙ ap (λ (u : ValueType). Some (if S'.maker then t.Nothing else u)) n ∙ ap (λ (u : ValueType). Some u) (nothing_either S'.maker) in
         let answers : (S' : Setting) → S'.routine.gives ≡ t.Nothing → S'.main ≡ false → Answered S' site'.place.gives (give_value all) = λ S' n o. (
           (λ b. (t.Nothing, answer_is S' n o)),
-          (λ b v same. let z : v ≡ nothing = same_is v nothing (sym (ap is_nothing same) ∙ served) in (answer_is S' n o ∙ ap (λ (y : Kind). Some (value_type y)) (sym z), subst IsProper (sym z) refl)),
+          (λ b v same. let z : v ≡ nothing = same_is v nothing (sym (ap is_nothing same) ∙ served) in (answer_is S' n o ∙ ap (λ (y : StaticType). Some (value_type y)) (sym z), subst IsProper (sym z) refl)),
         ) in
         λ m n placed.
         let made = made_statements tables names k numbers site' all 0 (suc n) in
@@ -493,7 +493,7 @@ module _ (tables : Tables) (names : Naming) (k : Known) (numbers : Numbering) (P
         let inner_so : IsInner P r = record { nothing = refl; body = λ S' same o. subst (λ (x : TypedRoutine). w.AreSound P S' made.it false []) same (build S' same o).0; locals = locals_so } in
         ((r, placed.0, refl, refl), refl, (inner_so, inners), ap suc count)
     handler S known s ps (Handler i (Does j (l ∷ ls) gives all arrow)) at f h q =
-        let z : unless false BadHandler i ≡ None = last (handler_fault tables names k s.place (Does j (l ∷ ls) gives all arrow)) (unless false BadHandler i) h in cc
+        let z : unless false BadHandler i ≡ None = last (handler_failure tables names k s.place (Does j (l ∷ ls) gives all arrow)) (unless false BadHandler i) h in cc
     handler S known s ps (Num i n) at f h q = cc
     handler S known s ps (Text i n) at f h q = cc
     handler S known s ps (Truth i x) at f h q = cc
@@ -514,8 +514,8 @@ module _ (tables : Tables) (names : Naming) (k : Known) (numbers : Numbering) (P
     handler S known s ps (Make i x args) at f h q = cc
 
     -- an initialiser
-    pub initial : (S : Setting) (known : List ℕ) (s : Site) (shape : Option Annotation) (first : OptionalTree) (i : ℕ) (u : Kind) → Stand S known s → MayBeFormed first → written_fault names i shape ≡ None
-        → initial_fault tables names k s.place shape first ≡ None → own_bound tables names k s.place shape first i ≡ None → bound tables names k s.place shape first ≡ Some u
+    pub initial : (S : Setting) (known : List ℕ) (s : Site) (shape : Option Annotation) (first : OptionalTree) (i : ℕ) (u : StaticType) → Stand S known s → MayBeFormed first → written_failure names i shape ≡ None
+        → initial_failure tables names k s.place shape first ≡ None → own_bound tables names k s.place shape first i ≡ None → bound tables names k s.place shape first ≡ Some u
         → Gives P (λ l. w.IsInitial P S known l (value_type u)) (optional_handlers first) (made_first tables names k numbers s shape first)
     initial S known s shape absent i u at f h h1 h2 q = gives_pure P (λ l. w.IsInitial P S known l (value_type u)) None tt
     initial S known s None (present a) i u at f h h1 h2 q =
@@ -531,15 +531,15 @@ module _ (tables : Tables) (names : Naming) (k : Known) (numbers : Numbering) (P
         let pv : IsProper v = subst IsProper (some_is v' v (sym r2 ∙ r1)) pv' in
         let pl = given_proper tables names k numbers P st S known s at a l r in
         let R : Option TypedTree → Type 0 = λ o. w.IsInitial P S known o (value_type v) in
-        let G : Option Kind → Type 0 = λ o. Gives P R (handlers a + 0) (mk s o a >=> λ x. pure (Some x)) in
+        let G : Option StaticType → Type 0 = λ o. Gives P R (handlers a + 0) (mk s o a >=> λ x. pure (Some x)) in
         let base : G (Some v) =
         gives_bind P (Good S known (value_type (seen (Some v) l))) R (handlers a) 0 (mk s (Some v) a) (λ x. pure (Some x)) (tree S known s (Some v) a l at f pv h1 r (suits_given tables names k numbers P st l v pl pv go))
         (λ x o. gives_pure P R (Some x) (o.0, subst (λ (y : ValueType). GoesTo P y (value_type v)) (sym o.1) (given_goes tables names k numbers P st l v go))) in
         gives_as P R (λ o. w.IsInitial P S known o (value_type u)) (handlers a + 0) (handlers a) (mk s (kind_of names c') a >=> λ x. pure (Some x)) (subst G (sym r1) base)
-        (λ o p. subst (λ (y : Kind). w.IsInitial P S known o (value_type y)) (sym uv) p) (omega arith)
+        (λ o p. subst (λ (y : StaticType). w.IsInitial P S known o (value_type y)) (sym uv) p) (omega arith)
 
     -- the tests and steps of a `for`
-    test_typed : (S : Setting) (known : List ℕ) (s : Site) (a : OptionalTree) (i : ℕ) → Stand S known s → MayBeFormed a → optional_fault tables names k s.place a ≡ None → test_fault tables names k s.place a i ≡ None
+    test_typed : (S : Setting) (known : List ℕ) (s : Site) (a : OptionalTree) (i : ℕ) → Stand S known s → MayBeFormed a → optional_failure tables names k s.place a ≡ None → test_failure tables names k s.place a i ≡ None
         → Gives P (w.MayTest P S known) (optional_handlers a) (made_optional tables names k numbers s a)
     test_typed S known s absent i at f h h1 = gives_pure P (w.MayTest P S known) None tt
     test_typed S known s (present a) i at f h h1 =
@@ -547,7 +547,7 @@ module _ (tables : Tables) (names : Naming) (k : Known) (numbers : Numbering) (P
         gives_as P R R (handlers a + 0) (handlers a) (mk s None a >=> λ x. pure (Some x))
         (gives_bind P (w.IsTest P S known) R (handlers a) 0 (mk s None a) (λ x. pure (Some x)) (as_test S known s a i (λ u q. tree S known s None a u at f tt h q tt) h1) (λ x o. gives_pure P R (Some x) o)) (λ x o. o) (omega arith)
 
-    step_typed : (S : Setting) (known : List ℕ) (s : Site) (a : OptionalTree) → Stand S known s → MayBeFormed a → optional_fault tables names k s.place a ≡ None → Gives P (w.MayStep P S known) (optional_handlers a) (made_optional tables names k numbers s a)
+    step_typed : (S : Setting) (known : List ℕ) (s : Site) (a : OptionalTree) → Stand S known s → MayBeFormed a → optional_failure tables names k s.place a ≡ None → Gives P (w.MayStep P S known) (optional_handlers a) (made_optional tables names k numbers s a)
     step_typed S known s absent at f h = gives_pure P (w.MayStep P S known) None tt
     step_typed S known s (present a) at f h =
         let R : Option TypedTree → Type 0 = w.MayStep P S known in
@@ -555,20 +555,20 @@ module _ (tables : Tables) (names : Naming) (k : Known) (numbers : Numbering) (P
         (gives_bind P (IsTyped P S known) R (handlers a) 0 (mk s None a) (λ x. pure (Some x)) (as_plain S known s a (λ u q. tree S known s None a u at f tt h q tt) h) (λ x o. gives_pure P R (Some x) o)) (λ x o. o) (omega arith)
 
     -- what is returned
-    value_typed : (S : Setting) (known : List ℕ) (s : Site) (g : Option Kind) (a : OptionalTree) (i : ℕ) → Stand S known s → MayBeFormed a → s.place.gives ≡ g → statement_fault tables names k s.place (Return i a) ≡ None → Answered S g (gives_value (Return i a))
+    value_typed : (S : Setting) (known : List ℕ) (s : Site) (g : Option StaticType) (a : OptionalTree) (i : ℕ) → Stand S known s → MayBeFormed a → s.place.gives ≡ g → statement_failure tables names k s.place (Return i a) ≡ None → Answered S g (gives_value (Return i a))
         → Gives P (λ x. w.IsReturned P S known x (w.answer S)) (optional_handlers a) (made_value tables names k numbers s s.place.gives a)
     value_typed S known s g absent i at f same h answers =
-        let bare : is_nothing g ≡ true = subst (λ (o : Option Kind). is_nothing o ≡ true) same (unless_true (is_nothing s.place.gives) Mismatch i h) in
+        let bare : is_nothing g ≡ true = subst (λ (o : Option StaticType). is_nothing o ≡ true) same (unless_true (is_nothing s.place.gives) Mismatch i h) in
         let (v, q) = answers.0 bare in
         gives_pure P (λ x. w.IsReturned P S known x (w.answer S)) None (subst (λ (o : Option ValueType). w.IsReturned P S known None o) (sym q) tt)
     value_typed S known s g (present a) i at f same h answers =
-        let o : Option Kind = s.place.gives in
+        let o : Option StaticType = s.place.gives in
         let h1 : bad s (kind_role o) a ≡ None = first (bad s (kind_role o) a) (unless (fits k (ty s (kind_role o) a) o) Mismatch i) h in
         let h2 : fits k (ty s (kind_role o) a) o ≡ true = unless_true (fits k (ty s (kind_role o) a) o) Mismatch i (last (bad s (kind_role o) a) (unless (fits k (ty s (kind_role o) a) o) Mismatch i) h) in
         let R : Option TypedTree → Type 0 = λ x. w.IsReturned P S known x (w.answer S) in
         let (u, v, r, r1, go) = fits_is tables names k numbers P st (ty s (kind_role o) a) o h2 in
         let (answer, pv) = answers.1 refl v (sym same ∙ r1) in
-        let G : Option Kind → Type 0 = λ y. bad s (kind_role y) a ≡ None → ty s (kind_role y) a ≡ Some u → Gives P R (handlers a) (mk s y a >=> λ x. pure (Some x)) in
+        let G : Option StaticType → Type 0 = λ y. bad s (kind_role y) a ≡ None → ty s (kind_role y) a ≡ Some u → Gives P R (handlers a) (mk s y a >=> λ x. pure (Some x)) in
         let base : G (Some v) = λ h1 r.
         gives_as P R R (handlers a + 0) (handlers a) (mk s (Some v) a >=> λ x. pure (Some x))
         (gives_bind P (Good S known (value_type (seen (Some v) u))) R (handlers a) 0 (mk s (Some v) a) (λ x. pure (Some x))
@@ -577,16 +577,16 @@ module _ (tables : Tables) (names : Naming) (k : Known) (numbers : Numbering) (P
         subst G (sym r1) base h1 r
 
     -- names that are declared in a block
-    locals : (S : Setting) (known : List ℕ) (s : Site) (fixed : Bool) (each : Declarations) (m n : ℕ) → Stand S known s → AreFormedDeclarations each → declarations_fault tables names k s.place fixed each ≡ None
+    locals : (S : Setting) (known : List ℕ) (s : Site) (fixed : Bool) (each : Declarations) (m n : ℕ) → Stand S known s → AreFormedDeclarations each → declarations_failure tables names k s.place fixed each ≡ None
         → Built P S (λ ds. w.AreDeclared P S known ds × Stand S (w.known_behind ds known) (record { place = all_declared tables names k s.place fixed each; spots = s.spots ++ spots_from m each })) declared_names [] (declarations_handlers each) m n
         (made_locals tables names k numbers s fixed each m n)
     locals S known s fixed ended m n at f h = good_pure P S (λ ds. w.AreDeclared P S known ds × Stand S (w.known_behind ds known) (record { place = s.place; spots = s.spots ++ [] })) declared_names [] m n [] (tt, stand_same S known s at) refl
     locals S known s fixed (next (Declare i x shape one') rest) m n at f h =
-        let p : Place = s.place in
+        let p : NameScope = s.place in
         let a : Declaration = Declare i x shape one' in
-        let later : Option Fault = declarations_fault tables names k (after tables names k p (Let 0 fixed (next a ended))) fixed rest in
-        let here : Option Fault = declaration_fault tables names k p a in
-        let (hw, hi, hl, hb) = parts3 (written_fault names i shape) (initial_fault tables names k p shape one') (own_local tables names k p x i) (own_bound tables names k p shape one' i) (first here later h) in
+        let later : Option Failure = declarations_failure tables names k (after tables names k p (Let 0 fixed (next a ended))) fixed rest in
+        let here : Option Failure = declaration_failure tables names k p a in
+        let (hw, hi, hl, hb) = parts3 (written_failure names i shape) (initial_failure tables names k p shape one') (own_local tables names k p x i) (own_bound tables names k p shape one' i) (first here later h) in
         let hr : later ≡ None = last here later h in
         let (u, q, pu) = bound_known S known s shape one' i at hw hb in
         let v : ValueType = value_type u in
@@ -601,14 +601,14 @@ module _ (tables : Tables) (names : Naming) (k : Known) (numbers : Numbering) (P
         (λ d dq i' o' at_i.
         let step : i' ≡ suc m = at_i ∙ ap (λ (ns : List ℕ). m + length ns) (declared_one tables names k numbers P st S known m v d dq) ∙ (let z : m + 1 ≡ suc m = omega arith in z) in
         let stand1 : (e : entry S.routine.locals m ≡ Some v) → Stand S (m ∷ known) s1 = λ e. at_local tables names k numbers P st S known s x (bound tables names k p shape one') fixed m at
-        (λ l lq. let ul : u ≡ l = some_is u l (sym q ∙ lq) in (e ∙ ap (λ (y : Kind). Some (value_type y)) ul, subst IsProper ul pu)) in
+        (λ l lq. let ul : u ≡ l = some_is u l (sym q ∙ lq) in (e ∙ ap (λ (y : StaticType). Some (value_type y)) ul, subst IsProper ul pu)) in
         good_bind P S (λ ds. E ds i') declared_names R declared_names (declared_local d.name) (declarations_handlers rest) 0 i' o' (made_locals tables names k numbers s1 fixed rest) (λ ds. pure (d ∷ ds))
         (locals S (m ∷ known) s1 fixed rest i' o' (stand1 dq.3) f.1 hr)
         (λ ds es i2 o2. good_pure P S R declared_names (declared_local d.name ++ declared_names ds) i2 o2 (d ∷ ds) (declared_more tables names k numbers P st S known s fixed a rest m i' v d ds s1.spots step dq es.0 es.1) refl)))
         (λ l. l) (omega arith)
 
     -- what stands first in the head of a `for`
-    opening : (S : Setting) (known : List ℕ) (s : Site) (a : OptionalStatement) (m n : ℕ) → Stand S known s → IsFormedFirst a → first_fault tables names k s.place a ≡ None
+    opening : (S : Setting) (known : List ℕ) (s : Site) (a : OptionalStatement) (m n : ℕ) → Stand S known s → IsFormedFirst a → first_failure tables names k s.place a ≡ None
         → Built P S (SoundFirst S known s m a) first_declared [] (first_handlers a) m n (made_opening tables names k numbers s a m n)
     opening S known s omitted m n at f h = good_pure P S (SoundFirst S known s m omitted) first_declared [] m n e.omitted (tt, record { even = at.even; here = at.here; proper = at.proper; this = at.this }) refl
     opening S known s (written (Let i fixed each)) m n at f h =
@@ -645,7 +645,7 @@ module _ (tables : Tables) (names : Naming) (k : Known) (numbers : Numbering) (P
     opening S known s (written (Empty i)) m n at f h = absurd f.0
 
     -- a statement: g is what a `return` gives
-    pub statement : (S : Setting) (known : List ℕ) (s : Site) (looped : Bool) (g : Option Kind) (a : Statement) (m n : ℕ) → Stand S known s → IsFormedIn looped a → s.place.gives ≡ g → statement_fault tables names k s.place a ≡ None
+    pub statement : (S : Setting) (known : List ℕ) (s : Site) (looped : Bool) (g : Option StaticType) (a : Statement) (m n : ℕ) → Stand S known s → IsFormedIn looped a → s.place.gives ≡ g → statement_failure tables names k s.place a ≡ None
         → Answered S g (gives_value a) → Built P S (Sound S known s looped m a) w'.declared [] (statement_handlers a) m n (made_statement tables names k numbers s a m n)
     statement S known s looped g (Block i all) m n at f same h answers =
         let R = Sound S known s looped m (Block i all) in
@@ -663,7 +663,7 @@ module _ (tables : Tables) (names : Naming) (k : Known) (numbers : Numbering) (P
         (λ ds q i1 o1. good_pure P S R w'.declared (declared_names ds) i1 o1 (e.Let fixed ds) (q.0, q.1) refl)) (λ l. l) (omega arith)
     statement S known s looped g (IfOnly i test a) m n at f same h answers =
         let R = Sound S known s looped m (IfOnly i test a) in
-        let (ht, ha, hb) = parts2 (bad s Free test) (statement_fault tables names k (inner s.place) a) (unless (is_boolean (ty s Free test)) Mismatch i) h in
+        let (ht, ha, hb) = parts2 (bad s Free test) (statement_failure tables names k (inner s.place) a) (unless (is_boolean (ty s Free test)) Mismatch i) h in
         let J : ℕ = statement_handlers a in
         good_as P S R R w'.declared [] (handlers test + (J + 0)) (handlers test + J) m n (made_statement tables names k numbers s (IfOnly i test a) m n)
         (good_free P S (w.IsTest P S known) R w'.declared [] (handlers test) (J + 0) m n (mk s None test) (λ q. made_statement tables names k numbers (in_block s) a >=> λ x. pure (e.IfOnly q x))
@@ -673,7 +673,7 @@ module _ (tables : Tables) (names : Naming) (k : Known) (numbers : Numbering) (P
         (λ x xq i2 o2. good_pure P S R w'.declared (w'.declared x) i2 o2 (e.IfOnly q x) ((tq, xq.0), stand_same S known s at) refl))) (λ l. l) (omega arith)
     statement S known s looped g (IfElse i test a b) m n at f same h answers =
         let R = Sound S known s looped m (IfElse i test a b) in
-        let (ht, ha, hb, ho) = parts3 (bad s Free test) (statement_fault tables names k (inner s.place) a) (statement_fault tables names k (inner s.place) b) (unless (is_boolean (ty s Free test)) Mismatch i) h in
+        let (ht, ha, hb, ho) = parts3 (bad s Free test) (statement_failure tables names k (inner s.place) a) (statement_failure tables names k (inner s.place) b) (unless (is_boolean (ty s Free test)) Mismatch i) h in
         let J : ℕ = statement_handlers a in
         let L : ℕ = statement_handlers b in
         good_as P S R R w'.declared [] (handlers test + (J + (L + 0))) (handlers test + J + L) m n (made_statement tables names k numbers s (IfElse i test a b) m n)
@@ -686,7 +686,7 @@ module _ (tables : Tables) (names : Naming) (k : Known) (numbers : Numbering) (P
         (λ y yq i3 o3. good_pure P S R w'.declared (w'.declared x ++ w'.declared y) i3 o3 (e.IfElse q x y) ((tq, xq.0, yq.0), stand_same S known s at) refl)))) (λ l. l) (omega arith)
     statement S known s looped g (While i test a) m n at f same h answers =
         let R = Sound S known s looped m (While i test a) in
-        let (ht, ha, hb) = parts2 (bad s Free test) (statement_fault tables names k (inner s.place) a) (unless (is_boolean (ty s Free test)) Mismatch i) h in
+        let (ht, ha, hb) = parts2 (bad s Free test) (statement_failure tables names k (inner s.place) a) (unless (is_boolean (ty s Free test)) Mismatch i) h in
         let J : ℕ = statement_handlers a in
         good_as P S R R w'.declared [] (handlers test + (J + 0)) (handlers test + J) m n (made_statement tables names k numbers s (While i test a) m n)
         (good_free P S (w.IsTest P S known) R w'.declared [] (handlers test) (J + 0) m n (mk s None test) (λ q. made_statement tables names k numbers (in_block s) a >=> λ x. pure (e.While q x))
@@ -696,7 +696,7 @@ module _ (tables : Tables) (names : Naming) (k : Known) (numbers : Numbering) (P
         (λ x xq i2 o2. good_pure P S R w'.declared (w'.declared x) i2 o2 (e.While q x) ((tq, xq.0), stand_same S known s at) refl))) (λ l. l) (omega arith)
     statement S known s looped g (DoWhile i a test) m n at f same h answers =
         let R = Sound S known s looped m (DoWhile i a test) in
-        let (ha, ht, hb) = parts2 (statement_fault tables names k (inner s.place) a) (bad s Free test) (unless (is_boolean (ty s Free test)) Mismatch i) h in
+        let (ha, ht, hb) = parts2 (statement_failure tables names k (inner s.place) a) (bad s Free test) (unless (is_boolean (ty s Free test)) Mismatch i) h in
         let J : ℕ = statement_handlers a in
         good_as P S R R w'.declared [] (J + (handlers test + 0)) (J + handlers test) m n (made_statement tables names k numbers s (DoWhile i a test) m n)
         (good_bind P S (Sound S known (in_block s) true m a) w'.declared R w'.declared [] J (handlers test + 0) m n (made_statement tables names k numbers (in_block s) a) (λ x. mk s None test >=> λ q. pure (e.DoWhile x q))
@@ -708,12 +708,12 @@ module _ (tables : Tables) (names : Naming) (k : Known) (numbers : Numbering) (P
         let R = Sound S known s looped m (For i one' test step a) in
         let s0 : Site = in_block s in
         let s1 : Site = first_site tables names k numbers m s0 one' in
-        let A : Option Fault = first_fault tables names k (inner s.place) one' in
-        let B : Option Fault = optional_fault tables names k s1.place test in
-        let C : Option Fault = optional_fault tables names k s1.place step in
-        let D : Option Fault = statement_fault tables names k (inner s1.place) a in
-        let E : Option Fault = test_fault tables names k s1.place test i in
-        let h' : (A then B then C then D then E) ≡ None = subst (λ (p : Place). (A then optional_fault tables names k p test then optional_fault tables names k p step then statement_fault tables names k (inner p) a then test_fault tables names k p test i) ≡ None) (first_place tables names k numbers P st m s0 one') h in
+        let A : Option Failure = first_failure tables names k (inner s.place) one' in
+        let B : Option Failure = optional_failure tables names k s1.place test in
+        let C : Option Failure = optional_failure tables names k s1.place step in
+        let D : Option Failure = statement_failure tables names k (inner s1.place) a in
+        let E : Option Failure = test_failure tables names k s1.place test i in
+        let h' : (A then B then C then D then E) ≡ None = subst (λ (p : NameScope). (A then optional_failure tables names k p test then optional_failure tables names k p step then statement_failure tables names k (inner p) a then test_failure tables names k p test i) ≡ None) (first_place tables names k numbers P st m s0 one') h in
         let (hA, hB, hC, hD, hE) = parts4 A B C D E h' in
         let at0 : Stand S known s0 = at_block tables names k numbers P st S known s at in
         let F0 : ℕ = first_handlers one' in
@@ -735,11 +735,11 @@ module _ (tables : Tables) (names : Naming) (k : Known) (numbers : Numbering) (P
         (λ x xq i4 o4. good_pure P S R w'.declared (first_declared l ++ w'.declared x) i4 o4 (e.For l q y x) ((lq.0, tq, yq, xq.0), stand_same S known s at) refl))))) (λ l. l) (omega arith)
     statement S known s looped g (ForOf i fixed x list a) m n at f same h answers =
         let R = Sound S known s looped m (ForOf i fixed x list a) in
-        let p1 : Place = looped_place s fixed x list in
-        let (hl, ha, hd, ho) = parts3 (bad s Free list) (statement_fault tables names k (inner p1) a) (unless (not (is_dollar tables.names x)) UnknownName i) (unless (is_list tables names k (ty s Free list)) Mismatch i) h in
+        let p1 : NameScope = looped_place s fixed x list in
+        let (hl, ha, hd, ho) = parts3 (bad s Free list) (statement_failure tables names k (inner p1) a) (unless (not (is_dollar tables.names x)) UnknownName i) (unless (is_list tables names k (ty s Free list)) Mismatch i) h in
         let (v, q, av) = list_is tables names k numbers P st (ty s Free list) (unless_true (is_list tables names k (ty s Free list)) Mismatch i ho) in
         let pv : IsProper v = free_proper tables names k numbers P st S known s at list v q in
-        let items_so : items_of tables names k (ty s Free list) ≡ Some (item v) = ap (λ (o : Option Kind). items_of tables names k o) q ∙ ap (λ (y : Bool). let o : Option Kind = if y then Some (item v) else None in o) av in
+        let items_so : items_of tables names k (ty s Free list) ≡ Some (item v) = ap (λ (o : Option StaticType). items_of tables names k o) q ∙ ap (λ (y : Bool). let o : Option StaticType = if y then Some (item v) else None in o) av in
         let u : ValueType = value_type (unwrap_or (items_of tables names k (ty s Free list)) nothing) in
         let same_u : u ≡ value_type (item v) = noted_is (items_of tables names k (ty s Free list)) (item v) items_so in
         let s1 : Site = record { place = inner p1; spots = s.spots ++ Local m ∷ [] } in
@@ -776,7 +776,7 @@ module _ (tables : Tables) (names : Naming) (k : Known) (numbers : Numbering) (P
         (λ x q o1. good_pure P S R w'.declared [] m o1 (e.Plain x) (q, stand_same S known s at) refl)) (λ l. l) (omega arith)
     statement S known s looped g (Empty i) m n at f same h answers = good_pure P S (Sound S known s looped m (Empty i)) w'.declared [] m n e.Empty (tt, stand_same S known s at) refl
 
-    pub statements : (S : Setting) (known : List ℕ) (s : Site) (looped : Bool) (g : Option Kind) (all : Statements) (m n : ℕ) → Stand S known s → AreFormedIn looped all → s.place.gives ≡ g → statements_fault tables names k s.place all ≡ None
+    pub statements : (S : Setting) (known : List ℕ) (s : Site) (looped : Bool) (g : Option StaticType) (all : Statements) (m n : ℕ) → Stand S known s → AreFormedIn looped all → s.place.gives ≡ g → statements_failure tables names k s.place all ≡ None
         → Answered S g (give_value all) → Built P S (λ xs. w.AreSound P S xs looped known) w'.all_declared [] (statements_handlers all) m n (made_statements tables names k numbers s all m n)
     statements S known s looped g done m n at f same h answers = good_pure P S (λ xs. w.AreSound P S xs looped known) w'.all_declared [] m n e.done tt refl
     statements S known s looped g (also a rest) m n at f same h answers =
@@ -784,8 +784,8 @@ module _ (tables : Tables) (names : Naming) (k : Known) (numbers : Numbering) (P
         let s1 : Site = behind_statement tables names k numbers m s a in
         let H : ℕ = statement_handlers a in
         let J : ℕ = statements_handlers rest in
-        let ha = first (statement_fault tables names k s.place a) (statements_fault tables names k (after tables names k s.place a) rest) h in
-        let hr = last (statement_fault tables names k s.place a) (statements_fault tables names k (after tables names k s.place a) rest) h in
+        let ha = first (statement_failure tables names k s.place a) (statements_failure tables names k (after tables names k s.place a) rest) h in
+        let hr = last (statement_failure tables names k s.place a) (statements_failure tables names k (after tables names k s.place a) rest) h in
         good_as P S R R w'.all_declared [] (H + (J + 0)) (H + J) m n (made_statements tables names k numbers s (also a rest) m n)
         (good_bind P S (Sound S known s looped m a) w'.declared R w'.all_declared [] H (J + 0) m n (made_statement tables names k numbers s a) (λ x. made_statements tables names k numbers s1 rest >=> λ xs. pure (e.also x xs))
         (statement S known s looped g a m n at f.0 same ha (answered_left S g (gives_value a) (give_value rest) answers))

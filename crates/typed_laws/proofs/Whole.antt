@@ -8,34 +8,34 @@ use Rattle.sts_syntax.specs.WellTyped.{Setting}
 use Rattle.sts_syntax.specs.WellTypedPrograms.{IsWellTyped, IsRoutine, IsBodyOf, base_of_maker, setting}
 use Rattle.sts_syntax.specs.Trees.{Routine, Does}
 use Rattle.sts_syntax.specs.Programs.{TopLevel, Class, Function, Main, Program}
-use Rattle.sts_scope.specs.declared.kinds.Kind.{Kind}
+use Rattle.sts_scope.specs.declared.kinds.StaticType.{StaticType}
 use Rattle.sts_scope.specs.declared.entries.Owner.TheVariants as o
-use Rattle.sts_scope.specs.declared.entries.Sort.TheVariants as sort
+use Rattle.sts_scope.specs.declared.entries.DeclarationKind.TheVariants as sort
 use Rattle.sts_scope.specs.declared.entries.Owner.{Owner}
-use Rattle.sts_scope.specs.declared.entries.Sort.{Sort}
+use Rattle.sts_scope.specs.declared.entries.DeclarationKind.{DeclarationKind}
 use Rattle.sts_scope.specs.declared.entries.Entry.{Entry}
 use Rattle.sts_scope.specs.declared.known.Known.{Known}
 use Rattle.sts_scope.specs.declared.known.This.TheVariants as this
-use Rattle.sts_scope.specs.Faults.{Fault, ◌then◌}
+use Rattle.sts_scope.specs.Failures.{Failure, ◌then◌}
 use Rattle.sts_scope.specs.Entries.{Naming, classes_in, class_names, item_entries, entries_from, heads_of}
-use Rattle.sts_scope.specs.Bases.{bases_fault, chains_fault}
-use Rattle.sts_scope.specs.Globals.{names_fault}
-use Rattle.sts_scope.specs.Headings.{headings_fault}
+use Rattle.sts_scope.specs.Bases.{bases_failure, chains_failure}
+use Rattle.sts_scope.specs.Globals.{names_failure}
+use Rattle.sts_scope.specs.Headings.{headings_failure}
 use Rattle.sts_scope.specs.Scopes.{all_names, library_classes, heading_refusal}
 use Rattle.sts_scope.specs.Rules.{kind_at}
 use Rattle.type_derive.specs.Returns.{parameter_locals, within}
 use Rattle.type_derive.specs.Derived.{Source, item_sources, sources_from, follows, at}
-use Rattle.type_derive.specs.Nodes.{statements_fault}
-use Rattle.type_derive.specs.Passes.{all_overrides, item_nodes, nodes_fault}
+use Rattle.type_derive.specs.Nodes.{statements_failure}
+use Rattle.type_derive.specs.Passes.{all_overrides, item_nodes, nodes_failure}
 use Rattle.type_derive.specs.Formed.{IsFormedProgram}
 use Rattle.sts_scope.specs.Handlers.{statements_handlers, item_routines, all_routines}
 use Rattle.type_derive.specs.Making.{Made as Made'}
 use Rattle.sts_scope.specs.Numbers.{Numbering, numbering, numbers_from, makers_from, item_numbers}
 use Rattle.type_derive.specs.Programs.{function_made, class_made, main_made, items_made, library_made}
-use Rattle.type_derive.specs.Limits.{limits_fault}
+use Rattle.type_derive.specs.Limits.{limits_failure}
 use Rattle.type_derive.specs.Accepted.{known, all_sources, AreDerived, main_routine, typed, type_refusal, refusal}
 use Rattle.typed_laws.specs.Stands.{IsProper}
-use Rattle.type_derive.specs.Libraries.{OnlyFunctions, library_fault, IsLibrary}
+use Rattle.type_derive.specs.Libraries.{OnlyFunctions, library_failure, IsLibrary}
 use Rattle.typed_laws.proofs.Typed.{last, first}
 use Rattle.typed_laws.proofs.Makings.{Placed, placed_left, placed_right, kept_all}
 use Rattle.typed_laws.proofs.Suffixes.{Suffix, suffix_all, suffix_step, suffix_at}
@@ -153,12 +153,12 @@ module _ (P : TypedProgram) where
 
 module _ (tables : Tables) (names : Naming) (k : Known) (numbers : Numbering) where
   -- as many functions as the trees have
-  text_counts : (c d m n : ℕ) (text : Program) → nodes_fault tables names k c d text ≡ None → length (items_made tables names k numbers c d m n text).routines ≡ all_routines text
+  text_counts : (c d m n : ℕ) (text : Program) → nodes_failure tables names k c d text ≡ None → length (items_made tables names k numbers c d m n text).routines ≡ all_routines text
   text_counts c d m n [] h = refl
   text_counts c d m n (Class at x base base_at members ∷ rest) h =
       let i : TopLevel = Class at x base base_at members in
       let A = item_nodes tables names k c d i in
-      let B = nodes_fault tables names k (c + classes_in i) (d + length (item_entries names c i)) rest in
+      let B = nodes_failure tables names k (c + classes_in i) (d + length (item_entries names c i)) rest in
       let here = class_made tables names k numbers c n (suc d) members in
       let later : ℕ → List TypedRoutine = λ c'. (items_made tables names k numbers c' (d + length (item_entries names c i)) m (n + item_routines i) rest).routines in
       let step : suc c ≡ c + 1 = omega arith in
@@ -168,7 +168,7 @@ module _ (tables : Tables) (names : Naming) (k : Known) (numbers : Numbering) wh
       let r : Routine = Does j params gives all arrow in
       let i : TopLevel = Function x r in
       let A = item_nodes tables names k c d i in
-      let B = nodes_fault tables names k (c + classes_in i) (d + length (item_entries names c i)) rest in
+      let B = nodes_failure tables names k (c + classes_in i) (d + length (item_entries names c i)) rest in
       let here = function_made tables names k numbers false n (kind_at k d) r in
       let later : ℕ → ℕ → List TypedRoutine = λ c' d'. (items_made tables names k numbers c' d' m (n + item_routines i) rest).routines in
       let c_step : c ≡ c + 0 = omega arith in
@@ -178,19 +178,19 @@ module _ (tables : Tables) (names : Naming) (k : Known) (numbers : Numbering) wh
   text_counts c d m n (Main a ∷ rest) h =
       let i : TopLevel = Main a in
       let A = item_nodes tables names k c d i in
-      let B = nodes_fault tables names k (c + classes_in i) (d + length (item_entries names c i)) rest in
+      let B = nodes_failure tables names k (c + classes_in i) (d + length (item_entries names c i)) rest in
       let here = main_made tables names k numbers d a m n in
       let later : ℕ → List TypedRoutine = λ c'. (items_made tables names k numbers c' (d + length (item_entries names c i)) (m + length here.locals) (n + item_routines i) rest).routines in
       let c_step : c ≡ c + 0 = omega arith in
       length-append here.routines (later c) ∙ ap (λ (j : ℕ). j + length (later c)) (main_counts tables names k numbers d a (first A B h) m n)
       ∙ ap (λ (c' : ℕ). item_routines i + length (later c')) c_step ∙ ap (λ (j : ℕ). item_routines i + j) (text_counts (c + 0) (d + length (item_entries names c i)) (m + length here.locals) (n + item_routines i) rest (last A B h))
 
-  library_counts : (d n : ℕ) (library : Program) → OnlyFunctions library → library_fault tables names k d library ≡ None → length (library_made tables names k numbers d n library) ≡ all_routines library
+  library_counts : (d n : ℕ) (library : Program) → OnlyFunctions library → library_failure tables names k d library ≡ None → length (library_made tables names k numbers d n library) ≡ all_routines library
   library_counts d n [] f h = refl
   library_counts d n (Function x (Does j params gives all arrow) ∷ rest) f h =
       let r : Routine = Does j params gives all arrow in
-      let A = statements_fault tables names k (within (parameter_locals names params) this.Nowhere (kind_at k d) true) all in
-      let B = library_fault tables names k (suc d) rest in
+      let A = statements_failure tables names k (within (parameter_locals names params) this.Nowhere (kind_at k d) true) all in
+      let B = library_failure tables names k (suc d) rest in
       let here = function_made tables names k numbers true n (kind_at k d) r in
       let later = library_made tables names k numbers (suc d) (n + item_routines (Function x r)) rest in
       length-append here later ∙ ap (λ (j : ℕ). j + length later) (function_counts tables names k numbers true n (kind_at k d) j params gives all arrow (first A B h))
@@ -199,14 +199,14 @@ module _ (tables : Tables) (names : Naming) (k : Known) (numbers : Numbering) wh
   library_counts d n (Main a ∷ rest) f h = absurd f
 
   module _ (P : TypedProgram) where
-    library_aligned : (c d n : ℕ) (library : Program) → OnlyFunctions library → library_fault tables names k d library ≡ None → Placed P n (library_made tables names k numbers d n library)
+    library_aligned : (c d n : ℕ) (library : Program) → OnlyFunctions library → library_failure tables names k d library ≡ None → Placed P n (library_made tables names k numbers d n library)
         → Aligned tables names k numbers P d (entries_from names c library) (numbers_from n library)
     library_aligned c d n [] f h placed = tt
     library_aligned c d n (Function x (Does j params gives all arrow) ∷ rest) f h placed =
         let r : Routine = Does j params gives all arrow in
         let i : TopLevel = Function x r in
-        let A = statements_fault tables names k (within (parameter_locals names params) this.Nowhere (kind_at k d) true) all in
-        let B = library_fault tables names k (suc d) rest in
+        let A = statements_failure tables names k (within (parameter_locals names params) this.Nowhere (kind_at k d) true) all in
+        let B = library_failure tables names k (suc d) rest in
         let here = function_made tables names k numbers true n (kind_at k d) r in
         let later = library_made tables names k numbers (suc d) (n + item_routines i) rest in
         let count = function_counts tables names k numbers true n (kind_at k d) j params gives all arrow (first A B h) in
@@ -216,14 +216,14 @@ module _ (tables : Tables) (names : Naming) (k : Known) (numbers : Numbering) wh
     library_aligned c d n (Class at x base base_at members ∷ rest) f h placed = absurd f
     library_aligned c d n (Main a ∷ rest) f h placed = absurd f
 
-    library_sound : (made : Made tables names k numbers P) (marks : List (Option ℕ)) (marked : AllMarked marks 0 numbers.makers) (c d n : ℕ) (library : Program) (tail : List (Option ℕ)) → OnlyFunctions library → IsFormedProgram library → library_fault tables names k d library ≡ None
+    library_sound : (made : Made tables names k numbers P) (marks : List (Option ℕ)) (marked : AllMarked marks 0 numbers.makers) (c d n : ℕ) (library : Program) (tail : List (Option ℕ)) → OnlyFunctions library → IsFormedProgram library → library_failure tables names k d library ≡ None
         → Placed P n (library_made tables names k numbers d n library) → Suffix marks n (marks_from c library ++ tail) → n + all_routines library ≤ P.main → Each tables names k numbers P made n (library_made tables names k numbers d n library)
     library_sound made marks marked c d n [] tail f formed h placed s room = tt
     library_sound made marks marked c d n (Function x (Does j params gives all arrow) ∷ rest) tail f formed h placed s room =
         let r : Routine = Does j params gives all arrow in
         let i : TopLevel = Function x r in
-        let A = statements_fault tables names k (within (parameter_locals names params) this.Nowhere (kind_at k d) true) all in
-        let B = library_fault tables names k (suc d) rest in
+        let A = statements_failure tables names k (within (parameter_locals names params) this.Nowhere (kind_at k d) true) all in
+        let B = library_failure tables names k (suc d) rest in
         let here = function_made tables names k numbers true n (kind_at k d) r in
         let later = library_made tables names k numbers (suc d) (n + item_routines i) rest in
         let count = function_counts tables names k numbers true n (kind_at k d) j params gives all arrow (first A B h) in
@@ -237,15 +237,15 @@ module _ (tables : Tables) (names : Naming) (k : Known) (numbers : Numbering) wh
     library_sound made marks marked c d n (Class at x base base_at members ∷ rest) tail f formed h placed s room = absurd f
     library_sound made marks marked c d n (Main a ∷ rest) tail f formed h placed s room = absurd f
 
-  library_each : (Q : Sort → Owner → ℕ → ℕ → Type 0) → ((x d : ℕ) → Q sort.Function o.Whole x d) → (c d : ℕ) (library : Program) → OnlyFunctions library → EachIs Q d (entries_from names c library)
+  library_each : (Q : DeclarationKind → Owner → ℕ → ℕ → Type 0) → ((x d : ℕ) → Q sort.Function o.Whole x d) → (c d : ℕ) (library : Program) → OnlyFunctions library → EachIs Q d (entries_from names c library)
   library_each Q q c d [] f = tt
   library_each Q q c d (Function x (Does j params gives all arrow) ∷ rest) f = (q x d, library_each Q q (c + 0) (suc d) rest f)
   library_each Q q c d (Class at x base base_at members ∷ rest) f = absurd f
   library_each Q q c d (Main a ∷ rest) f = absurd f
 
 -- what the least table of types says of one declaration
-module _ (tables : Tables) (library text : Program) (kinds : List (Option Kind)) (derived : AreDerived tables library text kinds) where
-  kind_is_at : (ks : List (Option Kind)) (d : ℕ) → at ks d ≡ elim (slice_get ks d) [ None ↦ None | Some kind ↦ kind ]
+module _ (tables : Tables) (library text : Program) (kinds : List (Option StaticType)) (derived : AreDerived tables library text kinds) where
+  kind_is_at : (ks : List (Option StaticType)) (d : ℕ) → at ks d ≡ elim (slice_get ks d) [ None ↦ None | Some kind ↦ kind ]
   kind_is_at [] d = refl
   kind_is_at (x ∷ ks) zero = refl
   kind_is_at (x ∷ ks) (suc d) = kind_is_at ks d
@@ -259,7 +259,7 @@ module _ (tables : Tables) (library text : Program) (kinds : List (Option Kind))
       → kind_at (known library text kinds) d ≡ follows (all_names library text) tables (known library text kinds) (nat_lt d (known library text kinds).library) source
   solved_at d source h =
       let k : Known = known library text kinds in
-      let F : Option Source → Option Kind = λ x. elim x [ None ↦ None | Some s ↦ follows (all_names library text) tables k (nat_lt d k.library) s ] in
+      let F : Option Source → Option StaticType = λ x. elim x [ None ↦ None | Some s ↦ follows (all_names library text) tables k (nat_lt d k.library) s ] in
       sym (kind_is_at kinds d) ∙ derived.least.solves d (source_within d source h) ∙ ap F h
 
   not_library : (i j : ℕ) → j ≤ i → nat_lt i j ≡ false
@@ -271,8 +271,8 @@ module _ (tables : Tables) (library text : Program) (kinds : List (Option Kind))
       let k : Known = known library text kinds in
       solved_at d source h ∙ ap (λ (b : Bool). follows (all_names library text) tables k b source) (not_library d k.library near)
 
-  module _ (ok : IsLibrary tables library text kinds) (formed : IsFormedProgram text) (faultless : refusal tables library text kinds ≡ None)
-      (proper : (d : ℕ) (u : Kind) → kind_at (known library text kinds) d ≡ Some u → IsProper u) where
+  module _ (ok : IsLibrary tables library text kinds) (formed : IsFormedProgram text) (no_failure : refusal tables library text kinds ≡ None)
+      (proper : (d : ℕ) (u : StaticType) → kind_at (known library text kinds) d ≡ Some u → IsProper u) where
     abbrev names : Naming
     names = all_names library text
 
@@ -304,32 +304,32 @@ module _ (tables : Tables) (library text : Program) (kinds : List (Option Kind))
     c0_is = ap (λ (xs : List ℕ). length xs) (no_classes library ok.functions)
 
     -- the passes
-    abbrev pass_names : Option Fault
-    pass_names = names_fault tables.names k.entries k.library (drop k.library k.entries)
+    abbrev pass_names : Option Failure
+    pass_names = names_failure tables.names k.entries k.library (drop k.library k.entries)
 
-    abbrev pass_bases : Option Fault
-    pass_bases = bases_fault (drop c0 k.classes)
+    abbrev pass_bases : Option Failure
+    pass_bases = bases_failure (drop c0 k.classes)
 
-    abbrev pass_chains : Option Fault
-    pass_chains = chains_fault k.classes c0 (drop c0 k.classes)
+    abbrev pass_chains : Option Failure
+    pass_chains = chains_failure k.classes c0 (drop c0 k.classes)
 
-    abbrev pass_headings : Option Fault
-    pass_headings = headings_fault names k.entries k.classes c0 k.library text
+    abbrev pass_headings : Option Failure
+    pass_headings = headings_failure names k.entries k.classes c0 k.library text
 
-    abbrev pass_overrides : Option Fault
+    abbrev pass_overrides : Option Failure
     pass_overrides = all_overrides k names c0 k.library text
 
-    abbrev pass_nodes : Option Fault
-    pass_nodes = nodes_fault tables names k c0 k.library text
+    abbrev pass_nodes : Option Failure
+    pass_nodes = nodes_failure tables names k c0 k.library text
 
-    abbrev pass_limits : Option Fault
-    pass_limits = limits_fault tables.texts P
+    abbrev pass_limits : Option Failure
+    pass_limits = limits_failure tables.texts P
 
     headings_none : heading_refusal tables.names library text ≡ None
-    headings_none = first (heading_refusal tables.names library text) (type_refusal tables library text kinds) faultless
+    headings_none = first (heading_refusal tables.names library text) (type_refusal tables library text kinds) no_failure
 
     types_none : type_refusal tables library text kinds ≡ None
-    types_none = last (heading_refusal tables.names library text) (type_refusal tables library text kinds) faultless
+    types_none = last (heading_refusal tables.names library text) (type_refusal tables library text kinds) no_failure
 
     chains_none : pass_chains ≡ None
     chains_none = first pass_chains pass_headings (last pass_bases (pass_chains then pass_headings) (last pass_names (pass_bases then pass_chains then pass_headings) headings_none))
@@ -387,7 +387,7 @@ module _ (tables : Tables) (library text : Program) (kinds : List (Option Kind))
 
     -- the functions
     front_many : length front ≡ n0
-    front_many = library_counts tables names k numbers 0 0 library ok.functions ok.faultless
+    front_many = library_counts tables names k numbers 0 0 library ok.functions ok.no_failure
 
     back_many : length back.routines ≡ all_routines text
     back_many = text_counts tables names k numbers c0 k.library 0 n0 text nodes_none
@@ -440,7 +440,7 @@ module _ (tables : Tables) (library text : Program) (kinds : List (Option Kind))
         let (before2, at2, is2) = text_numbers in
         subst (λ (es : List Entry). Aligned tables names k numbers P 0 es numbers.routines) (sym is') (subst (λ (js : List ℕ). Aligned tables names k numbers P 0 (entries_from names 0 library ++ entries_from names c0 text) js) (sym is2)
         (aligned_both tables names k numbers P 0 (entries_from names 0 library) (entries_from names c0 text) (numbers_from 0 library) (numbers_from n0 text)
-        (library_aligned tables names k numbers P 0 0 0 library ok.functions ok.faultless front_placed)
+        (library_aligned tables names k numbers P 0 0 0 library ok.functions ok.no_failure front_placed)
         (subst (λ (j : ℕ). Aligned tables names k numbers P j (entries_from names c0 text) (numbers_from n0 text)) (let z : k.library ≡ 0 + length (entries_from names 0 library) = omega arith in z)
         (text_aligned tables names k numbers P c0 k.library 0 n0 text nodes_none back_placed))))
 
@@ -450,11 +450,11 @@ module _ (tables : Tables) (library text : Program) (kinds : List (Option Kind))
 
     chained_all : AreChained k
     chained_all = record {
-      ends = λ c near. all_chains_end k.classes c (subst (λ (j : ℕ). chains_fault k.classes j (drop j k.classes) ≡ None) c0_is chains_none) near;
+      ends = λ c near. all_chains_end k.classes c (subst (λ (j : ℕ). chains_failure k.classes j (drop j k.classes) ≡ None) c0_is chains_none) near;
       bases = λ c b h. bases_within names (library ++ text) (λ x b' q. q) c b h;
     }
 
-    at_zero : (Q : Sort → Owner → ℕ → ℕ → Type 0) (d : ℕ) (a : Entry) → EachIs Q 0 k.entries → slice_get k.entries d ≡ Some a → Q a.sort a.owner a.name d
+    at_zero : (Q : DeclarationKind → Owner → ℕ → ℕ → Type 0) (d : ℕ) (a : Entry) → EachIs Q 0 k.entries → slice_get k.entries d ≡ Some a → Q a.sort a.owner a.name d
     at_zero Q d a h q = subst (λ (j : ℕ). Q a.sort a.owner a.name j) (let z : 0 + d ≡ d = omega arith in z) (each_is_get Q 0 k.entries d a h q)
 
     made_all : Made tables names k numbers P
@@ -470,8 +470,8 @@ module _ (tables : Tables) (library text : Program) (kinds : List (Option Kind))
           let here = at_zero (AgreesAs names k) d a agree_all h in
           let h1 = subst (λ (y : ℕ). AgreesAs names k a.sort a.owner y d) q here in
           let h2 = subst (λ (y : Owner). AgreesAs names k a.sort y x d) w h1 in
-          subst (λ (y : Sort). AgreesAs names k y (o.Class c) x d) s h2;
-      results = λ d a h s. subst (λ (y : Sort). ResultAs names k tables y a.owner a.name d) s (at_zero (ResultAs names k tables) d a result_all h);
+          subst (λ (y : DeclarationKind). AgreesAs names k y (o.Class c) x d) s h2;
+      results = λ d a h s. subst (λ (y : DeclarationKind). ResultAs names k tables y a.owner a.name d) s (at_zero (ResultAs names k tables) d a result_all h);
       rows = λ call f q. let (r, has, params, gives) = ok.rows call f q in (r, entry_left (front ++ back.routines) (own_main ∷ []) f r (entry_left front back.routines f r has), params, gives);
       kinds_proper = proper;
       takes_proper = λ d. takes_proper names 0 d (library ++ text);
@@ -513,7 +513,7 @@ module _ (tables : Tables) (library text : Program) (kinds : List (Option Kind))
         let S : Setting = setting P P.main own_main in
         let (each_back, sound_so, declared_so) = text_sound tables names k numbers P made_all (all_sources library text) solved marks marked S main_true c0 k.library 0 n0 text text_at back_placed (kept_all P S back.locals refl) in
         let each_front : Each tables names k numbers P made_all 0 front =
-        library_sound tables names k numbers P made_all marks marked 0 0 0 library (marks_from 0 text) ok.functions ok.formed ok.faultless front_placed library_marks (omega (arith, main_is)) in
+        library_sound tables names k numbers P made_all marks marked 0 0 0 library (marks_from 0 text) ok.functions ok.formed ok.no_failure front_placed library_marks (omega (arith, main_is)) in
         let main_routine_so : IsRoutine P P.main own_main = record { body = subst (λ (x : Option ℕ). IsBodyOf P x S back.it) (sym main_base) sound_so; locals = declared_so } in
         let z : 0 + length (front ++ back.routines) ≡ P.main = omega (arith, length-append front back.routines) in
         let each_main : Each tables names k numbers P made_all (0 + length (front ++ back.routines)) (own_main ∷ []) = (subst (λ (j : ℕ). IsRoutine P j own_main) (sym z) main_routine_so, tt) in

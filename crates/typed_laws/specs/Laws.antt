@@ -5,14 +5,14 @@ use Rattle.sts_syntax.specs.Trees.{Tree}
 use Rattle.sts_syntax.specs.Programs.{Program}
 use Rattle.sts_syntax.specs.TypedTrees.{TypedProgram}
 use Rattle.sts_syntax.specs.WellTypedPrograms.{IsWellTyped, IsProgramWithinLimits}
-use Rattle.sts_scope.specs.declared.kinds.Kind.{Kind}
+use Rattle.sts_scope.specs.declared.kinds.StaticType.{StaticType}
 use Rattle.sts_scope.specs.declared.known.Known.{Known}
 use Rattle.sts_scope.specs.Entries.{Naming}
-use Rattle.sts_scope.specs.Places.{Place}
+use Rattle.sts_scope.specs.Places.{NameScope}
 use Rattle.type_derive.specs.declared.roles.Role.{Role}
 use Rattle.type_derive.specs.declared.roles.Role.TheVariants.{Free, Given, Called, Served}
 use Rattle.type_derive.specs.Typing.{type_of}
-use Rattle.type_derive.specs.Nodes.{fault}
+use Rattle.type_derive.specs.Nodes.{failure}
 use Rattle.type_derive.specs.Formed.{IsFormedProgram}
 use Rattle.type_derive.specs.Accepted.{AreDerived, IsAccepted, refusal}
 use Rattle.type_derive.specs.Libraries.{IsLibrary}
@@ -27,16 +27,16 @@ IsRead Served = ⊥
 
 -- an expression without a failure has a type, where it is read
 abbrev pub HasTypes : Type 0
-HasTypes = (tables : Tables) (names : Naming) (k : Known) (p : Place) (r : Role) (e : Tree) → IsRead r → fault tables names k p r e ≡ None → IsSome (type_of tables k p r e)
+HasTypes = (tables : Tables) (names : Naming) (k : Known) (p : NameScope) (r : Role) (e : Tree) → IsRead r → failure tables names k p r e ≡ None → IsSome (type_of tables k p r e)
 
 -- The typed program of an accepted text is well typed and within the counted limits, where the text has a tree as the grammar gives it, behind a library of functions
 -- that have no failure.
 abbrev pub AcceptedIsWellTyped : Type 0
 AcceptedIsWellTyped = (tables : Tables) (library text : Program) (P : TypedProgram) → IsFormedProgram text
-    → ((kinds : List (Option Kind)) → AreDerived tables library text kinds → IsLibrary tables library text kinds)
+    → ((kinds : List (Option StaticType)) → AreDerived tables library text kinds → IsLibrary tables library text kinds)
     → IsAccepted tables library text P → IsWellTyped P × IsProgramWithinLimits P tables.texts
 
 -- In the typed program of an accepted text, with the types that its declarations have, the function at the number of a declaration is the typed function of this declaration.
 abbrev pub FunctionsAreTheirs : Type 0
-FunctionsAreTheirs = (tables : Tables) (library text : Program) (kinds : List (Option Kind)) → IsFormedProgram text → AreDerived tables library text kinds
+FunctionsAreTheirs = (tables : Tables) (library text : Program) (kinds : List (Option StaticType)) → IsFormedProgram text → AreDerived tables library text kinds
     → IsLibrary tables library text kinds → refusal tables library text kinds ≡ None → FunctionsAreDeclared tables library text kinds

@@ -7,7 +7,7 @@ use Rattle.sts_lexer.specs.declared.token.Token.{Token}
 use Rattle.sts_syntax.specs.BoardTable.{library_size}
 use Rattle.sts_syntax.specs.Programs.{Program}
 use Rattle.sts_syntax.specs.Weights.{routines_weight}
-use Rattle.sts_scope.specs.declared.kinds.Kind.{Kind}
+use Rattle.sts_scope.specs.declared.kinds.StaticType.{StaticType}
 use Rattle.type_derive.specs.Accepted.{AreDerived, typed}
 use Rattle.type_derive.specs.Libraries.{IsLibrary}
 use Rattle.sts_grammar.specs.Texts.{no_entries}
@@ -27,18 +27,18 @@ first = record {
 
 -- The library's functions stand before any text: where its names and its text are the first of the tables, it is a library as the law of accepted texts asks.
 abbrev pub PreludeIsLibrary : Type 0
-PreludeIsLibrary = (tokens : List Token) (names texts : List (List ℕ)) (text : Program) (kinds : List (Option Kind)) → IsDistinct first.names → IsDistinct first.texts
+PreludeIsLibrary = (tokens : List Token) (names texts : List (List ℕ)) (text : Program) (kinds : List (Option StaticType)) → IsDistinct first.names → IsDistinct first.texts
     → IsTokenization first LIBRARY.now tokens → AreDerived (record { names = first.names ++ names; texts = first.texts ++ texts }) (library tokens) text kinds
     → IsLibrary (record { names = first.names ++ names; texts = first.texts ++ texts }) (library tokens) text kinds
 
 -- Where no entry stood before the library, it leaves these tables, and its tree is the one that its tokens spell.
 abbrev pub LibraryLeavesFirst : Type 0
-LibraryLeavesFirst = (new : Tables) (program : Program) → IsDistinct new.names → IsDistinct new.texts → spelled.IsLibrary no_entries new program
+LibraryLeavesFirst = (new : Tables) (program : Program) → IsDistinct new.names → IsDistinct new.texts → spelled.IsLibraryTree no_entries new program
     → (new ≡ first) × (tokens : List Token) × IsTokenization first LIBRARY.now tokens × (program ≡ library tokens)
 
 -- The library's typed functions, which stand first in each program, weigh at most 600.
 abbrev pub TypedLibraryIsLight : Type 0
-TypedLibraryIsLight = (tokens : List Token) (names texts : List (List ℕ)) (text : Program) (kinds : List (Option Kind)) → IsDistinct first.names → IsDistinct first.texts
+TypedLibraryIsLight = (tokens : List Token) (names texts : List (List ℕ)) (text : Program) (kinds : List (Option StaticType)) → IsDistinct first.names → IsDistinct first.texts
     → IsTokenization first LIBRARY.now tokens → AreDerived (record { names = first.names ++ names; texts = first.texts ++ texts }) (library tokens) text kinds
     → routines_weight (take library_size (typed (record { names = first.names ++ names; texts = first.texts ++ texts }) (library tokens) text kinds).functions) ≤ 600
 
@@ -47,4 +47,4 @@ pub record LibraryIsRead : Type 0 where
   pub names : IsDistinct first.names
   pub texts : IsDistinct first.texts
   pub program : Program
-  pub read : spelled.IsLibrary no_entries first program
+  pub read : spelled.IsLibraryTree no_entries first program

@@ -5,11 +5,11 @@ use Rattle.sts_syntax.specs.TypedTrees.{TypedRoutine, TypedProgram}
 use Rattle.sts_syntax.specs.TypeRules.{HasRoutine}
 use Rattle.sts_syntax.specs.Trees.{Statement, Let, Declarations, ended, next, Routine}
 use Rattle.sts_syntax.specs.Programs.{ClassMember, Field, Method, Constructor, TopLevel, Class, Function, Main, Program}
-use Rattle.sts_scope.specs.declared.kinds.Kind.{Kind}
+use Rattle.sts_scope.specs.declared.kinds.StaticType.{StaticType}
 use Rattle.sts_scope.specs.declared.entries.Owner.{Owner}
 use Rattle.sts_scope.specs.declared.entries.Owner.TheVariants as o
-use Rattle.sts_scope.specs.declared.entries.Sort.{Sort}
-use Rattle.sts_scope.specs.declared.entries.Sort.TheVariants as sort
+use Rattle.sts_scope.specs.declared.entries.DeclarationKind.{DeclarationKind}
+use Rattle.sts_scope.specs.declared.entries.DeclarationKind.TheVariants as sort
 use Rattle.sts_scope.specs.declared.entries.Entry.{Entry}
 use Rattle.sts_scope.specs.declared.known.Known.{Known}
 use Rattle.sts_scope.specs.Entries.{Naming, routine_entry}
@@ -50,11 +50,11 @@ StandFrom P n [] = Unit {0}
 StandFrom P n (r ∷ rest) = HasRoutine P n r × StandFrom P (suc n) rest
 
 -- The typed function of a routine that is the whole text's or a class's, and behind it those of the function expressions in it. The library's know the library's names alone.
-abbrev pub own_functions : Tables → Naming → Known → Numbering → Owner → (library : Bool) → ℕ → Option Kind → Routine → List TypedRoutine
+abbrev pub own_functions : Tables → Naming → Known → Numbering → Owner → (library : Bool) → ℕ → Option StaticType → Routine → List TypedRoutine
 own_functions tables names k numbers o.Whole library n result r = function_made tables names k numbers library n result r
 own_functions tables names k numbers (o.Class c) library n result r = method_made tables names k numbers c n result r
 
-abbrev pub is_function_or_method : Sort → Bool
+abbrev pub is_function_or_method : DeclarationKind → Bool
 is_function_or_method sort.Function = true
 is_function_or_method sort.Method = true
 is_function_or_method _ = false
@@ -67,7 +67,7 @@ HasItsFunction tables names k numbers P library d a n (Some r) =
     (a ≡ routine_entry names a.owner a.name a.sort r) × StandFrom P n (own_functions tables names k numbers a.owner library n (kind_at k d) r)
 
 -- In the typed program of a text behind a library each declaration has its function, and the main program is the last one.
-pub record FunctionsAreDeclared (tables : Tables) (library text : Program) (kinds : List (Option Kind)) : Type 0 where
+pub record FunctionsAreDeclared (tables : Tables) (library text : Program) (kinds : List (Option StaticType)) : Type 0 where
   pub as_many : length (declared_routines (library ++ text)) ≡ length (known library text kinds).entries
   pub each : (d : ℕ) (a : Entry) (does : Option Routine) → slice_get (known library text kinds).entries d ≡ Some a → slice_get (declared_routines (library ++ text)) d ≡ Some does
       → HasItsFunction tables (all_names library text) (known library text kinds) (numbering (library ++ text)) (typed tables library text kinds)

@@ -6,26 +6,26 @@ use Rattle.sts_syntax.specs.Trees as t
 use Rattle.sts_syntax.specs.Trees.{none, more, present, done, also, ended, next, Declare, Does}
 use Rattle.sts_syntax.specs.Programs.{Field, Method, Class, Function, Main, Program}
 use Rattle.sts_syntax.specs.TypedTrees.{TypedProgram}
-use Rattle.sts_scope.specs.declared.kinds.Kind.{Kind}
-use Rattle.sts_scope.specs.Faults.{Fault}
+use Rattle.sts_scope.specs.declared.kinds.StaticType.{StaticType}
+use Rattle.sts_scope.specs.Failures.{Failure}
 use Rattle.type_derive.specs.Accepted.{refusal, typed, derivation, known}
 
 -- a table of so many declarations, all without a type
-abbrev pub hollow : {A : Type 0} → List A → List (Option Kind)
+abbrev pub hollow : {A : Type 0} → List A → List (Option StaticType)
 hollow [] = []
 hollow (a ∷ rest) = None ∷ hollow rest
 
 -- what the rules give from a table
-abbrev pub given_from : Tables → Program → List (Option Kind) → ℕ → List (Option Kind) → List (Option Kind)
+abbrev pub given_from : Tables → Program → List (Option StaticType) → ℕ → List (Option StaticType) → List (Option StaticType)
 given_from tables text kinds d [] = []
 given_from tables text kinds d (o ∷ rest) = derivation tables [] text kinds d ∷ given_from tables text kinds (suc d) rest
 
 -- the table after so many rounds
-abbrev pub rounds : Tables → Program → ℕ → List (Option Kind)
+abbrev pub rounds : Tables → Program → ℕ → List (Option StaticType)
 rounds tables text zero = hollow (known [] text []).entries
 rounds tables text (suc n) = let kinds = rounds tables text n in given_from tables text kinds 0 kinds
 
-abbrev pub refused : Tables → Program → Option Fault
+abbrev pub refused : Tables → Program → Option Failure
 refused tables text = refusal tables [] text (rounds tables text 4)
 
 abbrev pub built : Tables → Program → TypedProgram

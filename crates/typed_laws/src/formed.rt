@@ -7,7 +7,7 @@ ghost use Rattle.sts_syntax.specs.Programs.{Program};
 ghost use Rattle.sts_grammar.specs.Units.{IsProgram};
 ghost use Rattle.sts_grammar.specs.Texts.{source};
 ghost use Rattle.sts_syntax.specs.Nodes.{NamesTexts};
-ghost use Rattle.sts_scope.specs.declared.kinds.Kind.{Kind};
+ghost use Rattle.sts_scope.specs.declared.kinds.StaticType.{StaticType};
 ghost use Rattle.type_derive.specs.Formed.{IsFormedProgram, TextsBelow};
 ghost use Rattle.type_derive.specs.Accepted.{typed};
 
@@ -21,5 +21,5 @@ pub fn spelled_programs_are_formed()
 
 /// The texts of a typed program are those of the library and the text that it is made of.
 pub fn typed_programs_name_texts_of_their_trees()
-    ensures { (n : ℕ) (tables : Tables) (library text : Program) (kinds : List (Option Kind)) → TextsBelow n library → TextsBelow n text → NamesTexts n (typed tables library text kinds) }
+    ensures { (n : ℕ) (tables : Tables) (library text : Program) (kinds : List (Option StaticType)) → TextsBelow n library → TextsBelow n text → NamesTexts n (typed tables library text kinds) }
 {}

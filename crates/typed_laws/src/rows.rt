@@ -5,16 +5,16 @@ ghost use Rattle.sts_syntax.specs.Types as t;
 ghost use Rattle.sts_syntax.specs.TypedTrees as e;
 ghost use Rattle.sts_syntax.specs.declared.typed.Callee.TheVariants as c;
 ghost use Rattle.sts_syntax.specs.declared.board_calls.BoardCall.TheVariants.{WriteNumber};
-ghost use Rattle.sts_scope.specs.Faults.{fault_at};
+ghost use Rattle.sts_scope.specs.Failures.{failure_at};
 ghost use Rattle.typed_laws.specs.Rows.{refused, built, sum_names, written_sum, unknown_names, unknown, v_names, null_alone, a_names, own_base, array_names, arrays, captured_names, captured, empties, no_names, overriding_names, overriding, handler_names, bad_handler, call_names, calling, calling_itself};
 
 /// Texts with one failure.
 pub fn rows_of_failures()
-    ensures unknown { refused unknown_names unknown ≡ fault_at UnknownName 19 }
-    ensures null_alone { refused v_names null_alone ≡ fault_at NeedsType 4 }
-    ensures own_base { refused a_names own_base ≡ fault_at ClassCycle 6 }
-    ensures arrays { refused array_names arrays ≡ fault_at Mismatch 80 }
-    ensures captured { refused captured_names captured ≡ fault_at Captures 101 }
+    ensures unknown { refused unknown_names unknown ≡ failure_at UnknownName 19 }
+    ensures null_alone { refused v_names null_alone ≡ failure_at NeedsType 4 }
+    ensures own_base { refused a_names own_base ≡ failure_at ClassCycle 6 }
+    ensures arrays { refused array_names arrays ≡ failure_at Mismatch 80 }
+    ensures captured { refused captured_names captured ≡ failure_at Captures 101 }
 {}
 
 /// A text without one, and its typed tree.
@@ -30,14 +30,14 @@ pub fn rows_of_accepted()
 
 /// Overriding methods, handlers, and results that are derived.
 pub fn rows_of_functions()
-    ensures overriding { refused overriding_names overriding ≡ fault_at Mismatch 46 }
-    ensures bad_handler { refused handler_names bad_handler ≡ fault_at BadHandler 47 }
+    ensures overriding { refused overriding_names overriding ≡ failure_at Mismatch 46 }
+    ensures bad_handler { refused handler_names bad_handler ≡ failure_at BadHandler 47 }
     ensures derived { refused call_names calling ≡ None }
-    ensures underived { refused call_names calling_itself ≡ fault_at NeedsType 22 }
+    ensures underived { refused call_names calling_itself ≡ failure_at NeedsType 22 }
 {}
 
 /// The weight of the main program: 4 and 1 a statement.
 pub fn rows_of_limits()
     ensures at_the_limit { refused no_names (empties 1196) ≡ None }
-    ensures over_the_limit { refused no_names (empties 1197) ≡ fault_at OverLimit 0 }
+    ensures over_the_limit { refused no_names (empties 1197) ≡ failure_at OverLimit 0 }
 {}

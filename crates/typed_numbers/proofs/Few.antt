@@ -6,7 +6,7 @@ use Rattle.std.proofs.lemmas.Bool.Decides.{nat_tests}
 use Rattle.sts_scope.specs.declared.entries.Owner.TheVariants.{Class}
 use Rattle.sts_scope.specs.declared.entries.ClassHead.{ClassHead}
 use Rattle.sts_scope.specs.declared.entries.Entry.{Entry}
-use Rattle.sts_scope.specs.declared.entries.Sort.{Sort}
+use Rattle.sts_scope.specs.declared.entries.DeclarationKind.{DeclarationKind}
 use Rattle.sts_scope.specs.declared.known.Known.{Known}
 use Rattle.sts_scope.specs.Lookup.{base_of, is_field, same_owner}
 use Rattle.sts_scope.specs.Numbers.{is_method, own_names, added, names_from}
@@ -55,7 +55,7 @@ pub few_slots : (k : Known) (c : ℕ) → counts_fit k ≡ true → length (get_
 few_slots k c h = short_at (names_upto is_method k (length k.classes)) c (are_few k h).slots
 
 -- those that a class which isn't there has are own ones, and each is declared
-one_more : (which : Option Sort → Bool) (own : Bool) (e : Entry) (names : List ℕ) (n : ℕ) → length names ≤ n
+one_more : (which : Option DeclarationKind → Bool) (own : Bool) (e : Entry) (names : List ℕ) (n : ℕ) → length names ≤ n
     → length (elim own as (λ z. List ℕ) [ true ↦ elim (which (Some e.sort)) as (λ z. List ℕ) [ true ↦ e.name ∷ names | false ↦ names ] | false ↦ names ]) ≤ suc n
 one_more which false e names n h = omega (arith, h)
 one_more which true e names n h = by (which (Some e.sort))
@@ -64,7 +64,7 @@ one_more which true e names n h = by (which (Some e.sort))
     by true = omega (arith, h)
     by false = omega (arith, h)
 
-own_few : (which : Option Sort → Bool) (es : List Entry) (c : ℕ) → length (own_names which es c) ≤ length es
+own_few : (which : Option DeclarationKind → Bool) (es : List Entry) (c : ℕ) → length (own_names which es c) ≤ length es
 own_few which [] c = omega arith
 own_few which (e ∷ es) c = one_more which (same_owner e.owner (Class c)) e (own_names which es c) (length es) (own_few which es c)
 
@@ -73,7 +73,7 @@ no_base [] c l = refl
 no_base (x ∷ xs) zero l = absurd (omega (arith, l))
 no_base (x ∷ xs) (suc c) l = no_base xs c (omega (arith, l))
 
-pub few_behind : (which : Option Sort → Bool) (k : Known) (n c : ℕ) → length k.classes ≤ c → length (names_from which k n c) ≤ length k.entries
+pub few_behind : (which : Option DeclarationKind → Bool) (k : Known) (n c : ℕ) → length k.classes ≤ c → length (names_from which k n c) ≤ length k.entries
 few_behind which k zero c l = omega arith
 few_behind which k (suc n) c l = by (base_of k.classes c) (no_base k.classes c l)
   where

@@ -1,6 +1,6 @@
 -- What the builder of typed trees keeps, as the definitions see it.
 use Rattle.std.specs.Prelude.{ℕ, zero, suc, Bool, Option, Some, None, List, [], ◌∷◌, ◌++◌, ◌+◌, length, if◌then◌else◌}
-use Rattle.sts_scope.specs.declared.entries.Sort.{Sort}
+use Rattle.sts_scope.specs.declared.entries.DeclarationKind.{DeclarationKind}
 use Rattle.sts_scope.specs.declared.entries.Entry.{Entry}
 use Rattle.sts_scope.specs.declared.known.Known.{Known}
 use Rattle.sts_scope.specs.Scopes.{is_global}
@@ -14,7 +14,7 @@ abbrev pub numbering_of : Numbers → Numbering
 numbering_of n = record { routines = n.routines; makers = n.makers }
 
 -- a class's fields, or its methods
-abbrev pub picks : Members → Option Sort → Bool
+abbrev pub picks : Members → Option DeclarationKind → Bool
 picks Fields = is_field
 picks Methods = is_method
 
@@ -24,12 +24,12 @@ chain_from k zero c = []
 chain_from k (suc n) c = c ∷ elim (base_of k.classes c) [ None ↦ [] | Some b ↦ chain_from k n b ]
 
 -- The names of their fields or methods, those of the last one first, and behind them the new ones of each.
-abbrev pub names_along : (Option Sort → Bool) → Known → List ℕ → List ℕ
+abbrev pub names_along : (Option DeclarationKind → Bool) → Known → List ℕ → List ℕ
 names_along which k [] = []
 names_along which k (c ∷ rest) = added (names_along which k rest) (own_names which k.entries c)
 
 -- the names of each of the first classes
-abbrev pub names_upto : (Option Sort → Bool) → Known → ℕ → List (List ℕ)
+abbrev pub names_upto : (Option DeclarationKind → Bool) → Known → ℕ → List (List ℕ)
 names_upto which k zero = []
 names_upto which k (suc n) = names_upto which k n ++ names_from which k (length k.classes) n ∷ []
 

@@ -9,7 +9,7 @@ ghost use Rattle.typed_numbers.specs.Counts.{counts_fit};
 
 use std::alloc::Global;
 use sts_base::{NoMemory, Seq};
-use sts_scope::{Entry, Environment, Owner, Sort};
+use sts_scope::{DeclarationKind, Entry, Environment, Owner};
 
 /// What of a class has numbers.
 #[derive(Clone, Copy)]
@@ -20,12 +20,12 @@ pub enum Members {
 
 impl Members {
     /// Whether it is such a member.
-    fn pick(self, sort: Sort) -> bool
+    fn pick(self, sort: DeclarationKind) -> bool
         ensures { result ≡ picks self (Some sort) }
     {
         match (self, sort) {
-            (Members::Fields, Sort::Field) => true,
-            (Members::Methods, Sort::Method) => true,
+            (Members::Fields, DeclarationKind::Field) => true,
+            (Members::Methods, DeclarationKind::Method) => true,
             _ => false,
         }
     }
@@ -151,12 +151,15 @@ pub fn all_names(
     Ok(all)
 }
 
-pub fn is_global(sort: Sort) -> bool
+pub fn is_global(sort: DeclarationKind) -> bool
     ensures { result ≡ scope.is_global sort }
 {
     match sort {
-        Sort::Global { fixed: _ } => true,
-        Sort::Function | Sort::Class(_) | Sort::Field | Sort::Method => false,
+        DeclarationKind::Global { fixed: _ } => true,
+        DeclarationKind::Function
+        | DeclarationKind::Class(_)
+        | DeclarationKind::Field
+        | DeclarationKind::Method => false,
     }
 }
 

@@ -7,7 +7,7 @@ use Rattle.sts_syntax.specs.Trees.{Statement}
 use Rattle.sts_scope.specs.declared.known.Known.{Known}
 use Rattle.sts_scope.specs.declared.known.Local.{Local}
 use Rattle.sts_scope.specs.Entries.{Naming}
-use Rattle.sts_scope.specs.Places.{Place}
+use Rattle.sts_scope.specs.Places.{NameScope}
 use Rattle.type_derive.specs.Built.{Site, in_block, behind_statement, new_spots}
 use Rattle.type_derive.specs.Moves.{Extends, left}
 use Rattle.sts_scope.specs.Numbers.{Numbering}
@@ -22,18 +22,18 @@ taken : {A : Type 0} (xs ys : List A) → take (length xs) (xs ++ ys) ≡ xs
 taken [] ys = refl
 taken (x ∷ xs) ys = ap (λ zs. x ∷ zs) (taken xs ys)
 
-abbrev pub site_of : Place → List Spot → Site
+abbrev pub site_of : NameScope → List Spot → Site
 site_of p xs = record { place = p; spots = xs }
 
-pub site_is : (p q : Place) (xs ys : List Spot) → p ≡ q → xs ≡ ys → site_of p xs ≡ site_of q ys
-site_is p q xs ys e f = ap (λ (r : Place). site_of r xs) e ∙ ap (λ (zs : List Spot). site_of q zs) f
+pub site_is : (p q : NameScope) (xs ys : List Spot) → p ≡ q → xs ≡ ys → site_of p xs ≡ site_of q ys
+site_is p q xs ys e f = ap (λ (r : NameScope). site_of r xs) e ∙ ap (λ (zs : List Spot). site_of q zs) f
 
 pub grown_not : (p : Site) → Grown p p
 grown_not p = record {
   locals = [];
   spots = [];
   block = p.place.block;
-  place_is = ap {B = Place} (λ (ls : List Local). record p.place { locals = ls }) (sym (append-nil p.place.locals));
+  place_is = ap {B = NameScope} (λ (ls : List Local). record p.place { locals = ls }) (sym (append-nil p.place.locals));
   spots_are = sym (append-nil p.spots);
 }
 
@@ -51,8 +51,8 @@ grown_further p q r g h = record {
   locals = g.locals ++ h.locals;
   spots = g.spots ++ h.spots;
   block = h.block;
-  place_is = h.place_is ∙ ap {B = Place} (λ (s : Place). record s { locals = s.locals ++ h.locals; block = h.block }) g.place_is
-      ∙ ap {B = Place} (λ (ls : List Local). record p.place { locals = ls; block = h.block }) (append_assoc p.place.locals g.locals h.locals);
+  place_is = h.place_is ∙ ap {B = NameScope} (λ (s : NameScope). record s { locals = s.locals ++ h.locals; block = h.block }) g.place_is
+      ∙ ap {B = NameScope} (λ (ls : List Local). record p.place { locals = ls; block = h.block }) (append_assoc p.place.locals g.locals h.locals);
   spots_are = h.spots_are ∙ ap (λ (xs : List Spot). xs ++ h.spots) g.spots_are ∙ append_assoc p.spots g.spots h.spots;
 }
 
@@ -61,11 +61,11 @@ grown_block p = record {
   locals = [];
   spots = [];
   block = length p.place.locals;
-  place_is = ap {B = Place} (λ (ls : List Local). record p.place { locals = ls; block = length p.place.locals }) (sym (append-nil p.place.locals));
+  place_is = ap {B = NameScope} (λ (ls : List Local). record p.place { locals = ls; block = length p.place.locals }) (sym (append-nil p.place.locals));
   spots_are = sym (append-nil p.spots);
 }
 
-grown_place : (p : Site) (q : Place) (xs : List Spot) → Extends p.place q → Grown p (record { place = q; spots = p.spots ++ xs })
+grown_place : (p : Site) (q : NameScope) (xs : List Spot) → Extends p.place q → Grown p (record { place = q; spots = p.spots ++ xs })
 grown_place p q xs (more, e) = record { locals = more; spots = xs; block = p.place.block; place_is = e; spots_are = refl }
 
 pub grown_behind : (t : Tables) (f : Naming) (k : Known) (n : Numbering) (m : ℕ) (p : Site) (a : Statement) → Grown p (behind_statement t f k n m p a)
@@ -80,9 +80,9 @@ grown_on_ok l m p q a (Err x) h = tt
 pub site_closed : (p q r : Site) (n block spots : ℕ) → Grown p q → r.place ≡ left q.place n block → r.spots ≡ take spots q.spots → n ≡ length p.place.locals → block ≡ p.place.block → spots ≡ length p.spots → r ≡ p
 site_closed p q r n block spots g hp hs en eb es =
     let P : r.place ≡ p.place =
-    hp ∙ ap {B = Place} (λ (s : Place). left s n block) g.place_is
-    ∙ ap {B = Place} (λ (m : ℕ). record p.place { locals = take m (p.place.locals ++ g.locals); block = block }) en
-    ∙ ap {B = Place} (λ (b : ℕ). record p.place { locals = take (length p.place.locals) (p.place.locals ++ g.locals); block = b }) eb
-    ∙ ap {B = Place} (λ (ls : List Local). record p.place { locals = ls }) (taken p.place.locals g.locals) in
+    hp ∙ ap {B = NameScope} (λ (s : NameScope). left s n block) g.place_is
+    ∙ ap {B = NameScope} (λ (m : ℕ). record p.place { locals = take m (p.place.locals ++ g.locals); block = block }) en
+    ∙ ap {B = NameScope} (λ (b : ℕ). record p.place { locals = take (length p.place.locals) (p.place.locals ++ g.locals); block = b }) eb
+    ∙ ap {B = NameScope} (λ (ls : List Local). record p.place { locals = ls }) (taken p.place.locals g.locals) in
     let S : r.spots ≡ p.spots = hs ∙ ap (λ (xs : List Spot). take spots xs) g.spots_are ∙ ap (λ (m : ℕ). take m (p.spots ++ g.spots)) es ∙ taken p.spots g.spots in
     site_is r.place p.place r.spots p.spots P S

@@ -11,7 +11,7 @@ use Rattle.sts_syntax.specs.TypedTrees as e
 use Rattle.sts_syntax.specs.TypedTrees.{TypedTree, TypedTrees, TypedRoutine}
 use Rattle.sts_syntax.specs.Trees.{Tree, Num, Text, Truth, Null, This, Name, Unary, Binary, Both, Either, Choice, Set, Bump, Member, Item, Call, SuperCall, Make, Items, Handler, Trees, none, more}
 use Rattle.sts_syntax.specs.Views.{tree, trees}
-use Rattle.sts_scope.specs.declared.kinds.Kind.{Kind}
+use Rattle.sts_scope.specs.declared.kinds.StaticType.{StaticType}
 use Rattle.sts_scope.specs.Kinds.{nothing}
 use Rattle.sts_scope.specs.Rules as rule
 use Rattle.type_derive.specs.Built as b
@@ -30,34 +30,34 @@ use Rattle.typed_trees.proofs.GivenTrees.{next_at, later_at}
 use Rattle.typed_numbers.proofs.Laws.{items_is}
 use Rattle.typed_trees.proofs.Made.{alone}
 
-none_noted : (given kind : Option Kind) (at : ℕ) (xs : List Expr) → length xs < 1 → s.noted given ≡ type_noted given kind (Items at (trees xs))
+none_noted : (given kind : Option StaticType) (at : ℕ) (xs : List Expr) → length xs < 1 → s.noted given ≡ type_noted given kind (Items at (trees xs))
 none_noted given kind at [] h = refl
 none_noted given kind at (x ∷ xs) h = absurd (omega (arith, h))
 
-some_noted : (given kind : Option Kind) (at : ℕ) (xs : List Expr) → 1 ≤ length xs → s.noted kind ≡ type_noted given kind (Items at (trees xs))
+some_noted : (given kind : Option StaticType) (at : ℕ) (xs : List Expr) → 1 ≤ length xs → s.noted kind ≡ type_noted given kind (Items at (trees xs))
 some_noted given kind at [] h = absurd (omega (arith, h))
 some_noted given kind at (x ∷ xs) h = refl
 
-pub empty_noted : (given kind : Option Kind) (a : Expr) (items xs : List Expr) → a.node ≡ n.Items items → xs ≡ items → length xs < 1 → s.noted given ≡ type_noted given kind (tree a)
+pub empty_noted : (given kind : Option StaticType) (a : Expr) (items xs : List Expr) → a.node ≡ n.Items items → xs ≡ items → length xs < 1 → s.noted given ≡ type_noted given kind (tree a)
 empty_noted given kind a items xs is same h =
     none_noted given kind a.at xs h ∙ ap (λ (q : List Expr). type_noted given kind (Items a.at (trees q))) same ∙ sym (ap (type_noted given kind) (items_is a items is))
 
-pub items_noted : (given kind : Option Kind) (a : Expr) (items xs : List Expr) → a.node ≡ n.Items items → xs ≡ items → 1 ≤ length xs → s.noted kind ≡ type_noted given kind (tree a)
+pub items_noted : (given kind : Option StaticType) (a : Expr) (items xs : List Expr) → a.node ≡ n.Items items → xs ≡ items → 1 ≤ length xs → s.noted kind ≡ type_noted given kind (tree a)
 items_noted given kind a items xs is same h =
     some_noted given kind a.at xs h ∙ ap (λ (q : List Expr). type_noted given kind (Items a.at (trees q))) same ∙ sym (ap (type_noted given kind) (items_is a items is))
 
 -- a list whose places are given types
-pub kinds_made : (p : Plan) (st : b.Site) (us : List Kind) (i : ℕ) (args : Trees) (m k : ℕ) → arguments_made p st (Kinds us) i args m k ≡ given_made p st (drop i us) args m k
+pub kinds_made : (p : Plan) (st : b.Site) (us : List StaticType) (i : ℕ) (args : Trees) (m k : ℕ) → arguments_made p st (Kinds us) i args m k ≡ given_made p st (drop i us) args m k
 unfolding tree_made given_made arguments_made
 kinds_made p st us i none m k = refl
 kinds_made p st us i (more a rest) m k =
     let x = tree_made p st (slice_get us i) a m k in
-    let all : Option Kind → List Kind → Made TypedTrees = λ g vs. (tree_made p st g a >=> λ y. given_made p st vs rest >=> λ ys. pure (e.more y ys)) m k in
+    let all : Option StaticType → List StaticType → Made TypedTrees = λ g vs. (tree_made p st g a >=> λ y. given_made p st vs rest >=> λ ys. pure (e.more y ys)) m k in
     ap (λ (y : Made TypedTrees). made_of (e.more x.it y.it) (x.locals ++ (y.locals ++ [])) (x.routines ++ (y.routines ++ []))) (kinds_made p st us (suc i) rest (m + length x.locals) (k + length x.routines))
-    ∙ ap (λ (vs : List Kind). all (slice_get us i) vs) (sym (later_at us i)) ∙ ap (λ (g : Option Kind). all g (b.later_given (drop i us))) (sym (next_at us i))
+    ∙ ap (λ (vs : List StaticType). all (slice_get us i) vs) (sym (later_at us i)) ∙ ap (λ (g : Option StaticType). all g (b.later_given (drop i us))) (sym (next_at us i))
 
 -- items behind the first
-alike_made : (p : Plan) (st : b.Site) (u : Kind) (i : ℕ) (args : Trees) (m k : ℕ) → arguments_made p st (Alike u) (suc i) args m k ≡ items_made p st u args m k
+alike_made : (p : Plan) (st : b.Site) (u : StaticType) (i : ℕ) (args : Trees) (m k : ℕ) → arguments_made p st (Alike u) (suc i) args m k ≡ items_made p st u args m k
 unfolding tree_made items_made arguments_made
 alike_made p st u i none m k = refl
 alike_made p st u i (more a rest) m k =
@@ -138,8 +138,8 @@ drop_none : {A : Type 0} (xs : List A) → drop 0 xs ≡ xs
 drop_none [] = refl
 drop_none (x ∷ xs) = refl
 
-pub kinds_alone : (p : Plan) (st : b.Site) (us : List Kind) (args : Trees) (m k : ℕ) → behind_made p st (Kinds us) e.none args m k ≡ given_made p st us args m k
-kinds_alone p st us args m k = args_alone p st (Kinds us) args m k ∙ kinds_made p st us 0 args m k ∙ ap (λ (vs : List Kind). given_made p st vs args m k) (drop_none us)
+pub kinds_alone : (p : Plan) (st : b.Site) (us : List StaticType) (args : Trees) (m k : ℕ) → behind_made p st (Kinds us) e.none args m k ≡ given_made p st us args m k
+kinds_alone p st us args m k = args_alone p st (Kinds us) args m k ∙ kinds_made p st us 0 args m k ∙ ap (λ (vs : List StaticType). given_made p st vs args m k) (drop_none us)
 
 -- a call without an object
 call_alone : (p : Plan) (st : b.Site) (h : Head) (at : ℕ) (f : Tree) (args : Trees) (m k : ℕ) → call.has_object h ≡ false
@@ -163,7 +163,7 @@ super_is p st u at x args m k (Some d) = ap (node_of p u (head.Super d)) (sym (k
 abbrev made_call : Plan → b.Site → ValueType → Tree → Making TypedTrees → Making TypedTree
 made_call p = b.made_call p.tables.now (naming p) p.known.now (numbering_of p.numbers.now)
 
-abbrev call_takes : Plan → b.Site → Tree → List Kind
+abbrev call_takes : Plan → b.Site → Tree → List StaticType
 call_takes p = b.call_takes p.tables.now (naming p) p.known.now (numbering_of p.numbers.now)
 
 called_is : (p : Plan) (st : b.Site) (u : ValueType) (at : ℕ) (f : Tree) (args : Trees) (m k : ℕ)
@@ -183,7 +183,7 @@ called_is p st u at (Member i a x) args m k =
     let us = call.part_takes p part in
     let all : Made TypedTrees → Made TypedTrees = λ y. made_of (e.more z.it y.it) (z.locals ++ (y.locals ++ [])) (z.routines ++ (y.routines ++ [])) in
     let one : Made TypedTrees → Made TypedTree = λ y. made_of (head_node p u h y.it) y.locals y.routines in
-    ap (λ y. one (all y)) (ap (λ (vs : List Kind). given_made p st vs args i j) (sym (drop_none us)) ∙ sym (kinds_made p st us 0 args i j))
+    ap (λ y. one (all y)) (ap (λ (vs : List StaticType). given_made p st vs args i j) (sym (drop_none us)) ∙ sym (kinds_made p st us 0 args i j))
     ∙ sym (alone (all (arguments_made p st (Kinds us) 0 args i j)) (head_node p u h (all (arguments_made p st (Kinds us) 0 args i j)).it))
     ∙ ap (node_of p u h) (sym (one_before (tree_made p st None a) (λ y. e.more y e.none) (λ ys. behind_made p st (Kinds us) ys args) m k))
 called_is p st u at (Num i v) args m k = refl
@@ -220,7 +220,7 @@ call_made p st u at f args m k (Some board) =
     (ap (λ (qs : List BoardParameter). asked_made p st qs args m k) (sym (drop_none ps)) ∙ sym (asks_made p st ps 0 args m k) ∙ sym (args_alone p st (Asks ps) args m k) ∙ call_alone p st h at f args m k refl)
 
 -- an array: its first item, and the others behind it
-items_behind : (p : Plan) (st : b.Site) (u : ValueType) (v : Kind) (a : Tree) (rest : Trees) (m k : ℕ)
+items_behind : (p : Plan) (st : b.Site) (u : ValueType) (v : StaticType) (a : Tree) (rest : Trees) (m k : ℕ)
     → (let y = arguments_made p st (Alike v) 0 (more a rest) m k in made_of (e.Items u y.it) y.locals y.routines)
     ≡ (tree_made p st None a >=> λ x. items_made p st v rest >=> λ xs. pure (e.Items u (e.more x xs))) m k
 unfolding arguments_made
@@ -230,7 +230,7 @@ items_behind p st u v a rest m k =
     (alike_made p st v 0 rest (m + length x.locals) (k + length x.routines))
 
 -- A node with a list is made by what it is.
-pub head_is : (p : Plan) (st : b.Site) (g : Option Kind) (x : Tree) (m k : ℕ) → has_list x ≡ true
+pub head_is : (p : Plan) (st : b.Site) (g : Option StaticType) (x : Tree) (m k : ℕ) → has_list x ≡ true
     → head_made p st (type_noted g (tree_kind p st g x) x) (head_of p st x) x m k ≡ tree_made p st g x m k
 unfolding tree_made tree_kind given_made asked_made items_made head_made head_of passed_made behind_made arguments_made
 head_is p st g (Items at none) m k is = refl

@@ -11,7 +11,7 @@ use Rattle.sts_syntax.specs.Views.{tree, statement, form_statement, optional_exp
 use Rattle.sts_syntax.specs.Types.{ValueType, value_types}
 use Rattle.sts_syntax.specs.Annotations.{Annotation}
 use Rattle.sts_syntax.specs.TypedTrees.{TypedTree, TypedRoutine, OptionalTypedStatement}
-use Rattle.sts_scope.specs.declared.kinds.Kind.{Kind}
+use Rattle.sts_scope.specs.declared.kinds.StaticType.{StaticType}
 use Rattle.sts_scope.specs.Entries.{written_kind}
 use Rattle.sts_syntax.specs.TypedViews.{typed_routines}
 use Rattle.type_derive.specs.Making.{Made, Making, pure, ◌>=>◌, a_local}
@@ -111,15 +111,15 @@ turns_is p st g q None c step a is = ap (turns_made p st g) (for_is q c step a i
 turns_is p st g q (Some first) c step a is = ap (turns_made p st g) (for_first_is q first c step a is)
 
 -- an expression that may be left out, and one that is there
-pub value_built : (p : Plan) (st : Site) (g : Option Kind) (q : Option Expr) (a : Expr) (c d : Builder) (it : TypedTree) → q ≡ Some a → IsBuilt c d (s.tree_made p st g (tree a)) it → IsBuilt c d (s.value_made p st g (optional_expression q)) (Some it)
+pub value_built : (p : Plan) (st : Site) (g : Option StaticType) (q : Option Expr) (a : Expr) (c d : Builder) (it : TypedTree) → q ≡ Some a → IsBuilt c d (s.tree_made p st g (tree a)) it → IsBuilt c d (s.value_made p st g (optional_expression q)) (Some it)
 unfolding s.value_made s.tree_made
 value_built p st g q a c d it is built = subst (λ (o : Option Expr). IsBuilt c d (s.value_made p st g (optional_expression o)) (Some it)) (sym is) (last c d (s.tree_made p st g (tree a)) (λ y. Some y) it built)
 
 -- an initialiser that is there
-pub first_built : (p : Plan) (st : Site) (shape : Option Annotation) (q : Option Expr) (a : Expr) (g : Option Kind) (c d : Builder) (it : TypedTree)
+pub first_built : (p : Plan) (st : Site) (shape : Option Annotation) (q : Option Expr) (a : Expr) (g : Option StaticType) (c d : Builder) (it : TypedTree)
     → q ≡ Some a → g ≡ written_kind (s.naming p) shape → IsBuilt c d (s.tree_made p st g (tree a)) it → IsBuilt c d (s.first_made p st shape (optional_expression q)) (Some it)
 unfolding s.first_made s.tree_made
 first_built p st shape q a g c d it is given built =
     let W = written_kind (s.naming p) shape in
     subst (λ (o : Option Expr). IsBuilt c d (s.first_made p st shape (optional_expression o)) (Some it)) (sym is)
-    (last c d (s.tree_made p st W (tree a)) (λ y. Some y) it (subst (λ (w : Option Kind). IsBuilt c d (s.tree_made p st w (tree a)) it) given built))
+    (last c d (s.tree_made p st W (tree a)) (λ y. Some y) it (subst (λ (w : Option StaticType). IsBuilt c d (s.tree_made p st w (tree a)) it) given built))

@@ -6,7 +6,7 @@ use Rattle.sts_syntax.specs.declared.trees.Param.{Param}
 use Rattle.sts_syntax.specs.Types as value
 use Rattle.sts_syntax.specs.Types.{ValueType}
 use Rattle.sts_syntax.specs.Views.{parameters, optional_annotation}
-use Rattle.sts_scope.specs.declared.kinds.Kind.{Kind}
+use Rattle.sts_scope.specs.declared.kinds.StaticType.{StaticType}
 use Rattle.sts_scope.specs.Kinds as kind
 use Rattle.sts_scope.specs.Entries.{Naming, written_kind, parameter_kinds}
 use Rattle.sts_syntax.specs.declared.typed.TypedBody.{TypedBody}
@@ -30,7 +30,7 @@ use Rattle.typed_trees.specs.Functions as functions
 use Rattle.typed_trees.proofs.Listed.{next_value, drop_next}
 
 -- one parameter's type more
-pub types_next : (names : Naming) (params : List Param) (i : ℕ) (a : Param) (old new : List Ty) (t : Ty) (o : Option Kind) (all : List ValueType) → i < length params → a ≡ get_or params i a
+pub types_next : (names : Naming) (params : List Param) (i : ℕ) (a : Param) (old new : List Ty) (t : Ty) (o : Option StaticType) (all : List ValueType) → i < length params → a ≡ get_or params i a
     → o ≡ written_kind names (optional_annotation a.shape) → value.value_type t ≡ kind.value_type (unwrap_or o kind.nothing) → new ≡ old ++ t ∷ []
     → value.value_types old ++ kind.value_types (parameter_kinds names (parameters (drop i params))) ≡ all
     → value.value_types new ++ kind.value_types (parameter_kinds names (parameters (drop (i + 1) params))) ≡ all
@@ -72,13 +72,13 @@ both_of l n vs v st all own inner eo ei =
     ap (λ q. q ∷ typed_routines inner) eo ∙ ap (λ q. m.it ∷ q) ei
 
 -- it is that of a text, with what is taken from there
-pub function_whole : (l : Plan) (library : Bool) (n : ℕ) (gives : Option Kind) (body : Body) (vs : List ValueType) (v : ValueType) (st : b.Site) (all : List Stmt)
+pub function_whole : (l : Plan) (library : Bool) (n : ℕ) (gives : Option StaticType) (body : Body) (vs : List ValueType) (v : ValueType) (st : b.Site) (all : List Stmt)
     → vs ≡ kind.value_types (parameter_kinds (naming l) (parameters (out-Body body).params)) → v ≡ functions.class_result l gives → st ≡ functions.site_of l this.Nowhere gives library 0 (parameters (out-Body body).params) → all ≡ (out-Body body).stmts
     → both l n vs v st all ≡ functions.function_made l library n gives (routine body)
 unfolding s.statements_made
 function_whole l library n gives body vs v st all e1 e2 e3 e4 = both_same l n vs _ v _ st _ all _ e1 e2 e3 e4 ∙ sym (ap (λ q. functions.function_made l library n gives q) (routine_parts body))
 
-pub method_whole : (l : Plan) (class n : ℕ) (gives : Option Kind) (body : Body) (vs : List ValueType) (v : ValueType) (st : b.Site) (all : List Stmt)
+pub method_whole : (l : Plan) (class n : ℕ) (gives : Option StaticType) (body : Body) (vs : List ValueType) (v : ValueType) (st : b.Site) (all : List Stmt)
     → vs ≡ value.Object class ∷ kind.value_types (parameter_kinds (naming l) (parameters (out-Body body).params)) → v ≡ functions.class_result l gives → st ≡ functions.site_of l (this.Object class) gives false 1 (parameters (out-Body body).params) → all ≡ (out-Body body).stmts
     → both l n vs v st all ≡ functions.method_made l class n gives (routine body)
 unfolding s.statements_made
@@ -89,7 +89,7 @@ pub params_long : (names : Naming) (params : List Param) → length (kind.value_
 params_long names [] = refl
 params_long names (p ∷ ps) = ap suc (params_long names ps)
 
-pub function_few : (l : Plan) (library : Bool) (n : ℕ) (gives : Option Kind) (body : Body) → n + numbers_taken (functions.function_made l library n gives (routine body)) < 2 ^ 32 → 0 + length (out-Body body).params < 2 ^ 32
+pub function_few : (l : Plan) (library : Bool) (n : ℕ) (gives : Option StaticType) (body : Body) → n + numbers_taken (functions.function_made l library n gives (routine body)) < 2 ^ 32 → 0 + length (out-Body body).params < 2 ^ 32
 function_few l library n gives body h =
     let ps = (out-Body body).params in
     let vs = kind.value_types (parameter_kinds (naming l) (parameters ps)) in
@@ -101,7 +101,7 @@ function_few l library n gives body h =
     subst (λ (xs : List TypedRoutine). n + numbers_taken xs < 2 ^ 32) (sym (function_whole l library n gives body vs v st all refl refl refl refl)) h in
     omega (arith, few, params_long (naming l) ps)
 
-pub method_few : (l : Plan) (class n : ℕ) (gives : Option Kind) (body : Body) → n + numbers_taken (functions.method_made l class n gives (routine body)) < 2 ^ 32 → 1 + length (out-Body body).params < 2 ^ 32
+pub method_few : (l : Plan) (class n : ℕ) (gives : Option StaticType) (body : Body) → n + numbers_taken (functions.method_made l class n gives (routine body)) < 2 ^ 32 → 1 + length (out-Body body).params < 2 ^ 32
 method_few l class n gives body h =
     let ps = (out-Body body).params in
     let us = kind.value_types (parameter_kinds (naming l) (parameters ps)) in

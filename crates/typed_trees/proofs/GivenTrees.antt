@@ -6,7 +6,7 @@ use Rattle.sts_syntax.specs.TypedTrees.{TypedTrees, none, more}
 use Rattle.sts_syntax.specs.TypedViews.{typed_tree, typed_trees}
 use Rattle.sts_syntax.specs.Views.{tree, trees}
 use Rattle.sts_scope.proofs.Laws.{drop_at}
-use Rattle.sts_scope.specs.declared.kinds.Kind.{Kind}
+use Rattle.sts_scope.specs.declared.kinds.StaticType.{StaticType}
 use Rattle.type_derive.specs.Built as b
 use Rattle.type_derive.specs.Making.{Making, pure, ◌>=>◌}
 use Rattle.typed_trees.specs.declared.build_places.Builder.{Builder}
@@ -16,13 +16,13 @@ use Rattle.typed_trees.specs.Sites.{joined}
 use Rattle.typed_trees.specs.Steps.{IsBuilt}
 use Rattle.typed_trees.proofs.Pieces.{then, stays, last, drop_all}
 
-pub next_at : (takes : List Kind) (i : ℕ) → b.next_given (drop i takes) ≡ slice_get takes i
+pub next_at : (takes : List StaticType) (i : ℕ) → b.next_given (drop i takes) ≡ slice_get takes i
 next_at [] zero = refl
 next_at [] (suc i) = refl
 next_at (u ∷ us) zero = refl
 next_at (u ∷ us) (suc i) = next_at us i
 
-pub later_at : (takes : List Kind) (i : ℕ) → b.later_given (drop i takes) ≡ drop (suc i) takes
+pub later_at : (takes : List StaticType) (i : ℕ) → b.later_given (drop i takes) ≡ drop (suc i) takes
 later_at [] zero = refl
 later_at [] (suc i) = refl
 later_at (u ∷ us) zero = refl

@@ -4,7 +4,7 @@ use Rattle.sts_syntax.specs.declared.types.Ty.{Ty}
 use Rattle.sts_syntax.specs.Types as value
 use Rattle.sts_syntax.specs.Types.{ValueType}
 use Rattle.std.proofs.Common.{Option, true, inl, inr, length-append}
-use Rattle.sts_scope.specs.declared.entries.Sort.{Sort}
+use Rattle.sts_scope.specs.declared.entries.DeclarationKind.{DeclarationKind}
 use Rattle.sts_scope.specs.declared.known.Known.{Known}
 use Rattle.sts_scope.specs.Lookup.{is_field}
 use Rattle.sts_scope.specs.Numbers.{is_method, names_from}
@@ -36,11 +36,11 @@ snoc_right : {X : Type 0} (xs : List X) (x d : X) → get_or (xs ++ x ∷ []) (l
 snoc_right [] x d = refl
 snoc_right (y ∷ xs) x d = snoc_right xs x d
 
-pub upto_long : (which : Option Sort → Bool) (k : Known) (n : ℕ) → length (names_upto which k n) ≡ n
+pub upto_long : (which : Option DeclarationKind → Bool) (k : Known) (n : ℕ) → length (names_upto which k n) ≡ n
 upto_long which k zero = refl
 upto_long which k (suc n) = let h = upto_long which k n in let a = length-append (names_upto which k n) (names_from which k (length k.classes) n ∷ []) in omega (arith, a, h)
 
-pub upto_at : (which : Option Sort → Bool) (k : Known) (n c : ℕ) → c < n → get_or (names_upto which k n) c [] ≡ names_from which k (length k.classes) c
+pub upto_at : (which : Option DeclarationKind → Bool) (k : Known) (n c : ℕ) → c < n → get_or (names_upto which k n) c [] ≡ names_from which k (length k.classes) c
 upto_at which k zero c l = absurd (omega arith)
 upto_at which k (suc n) c l =
     let h = upto_long which k n in
@@ -57,10 +57,10 @@ on_ok (Ok x) P Q h p = h p
 on_ok (Err e) P Q h p = tt
 
 -- the names of a class's members, as a plan has them
-pub names_there : (which : Option Sort → Bool) (k : Known) (lists : List (List ℕ)) (c : ℕ) → lists ≡ names_upto which k (length k.classes) → c < length k.classes → c < length lists
+pub names_there : (which : Option DeclarationKind → Bool) (k : Known) (lists : List (List ℕ)) (c : ℕ) → lists ≡ names_upto which k (length k.classes) → c < length k.classes → c < length lists
 names_there which k lists c e l = let h = upto_long which k (length k.classes) in let g = ap (λ (q : List (List ℕ)). length q) e in omega (arith, h, g)
 
-pub names_are : (which : Option Sort → Bool) (k : Known) (lists : List (List ℕ)) (c : ℕ) → lists ≡ names_upto which k (length k.classes) → c < length k.classes → get_or lists c [] ≡ names_from which k (length k.classes) c
+pub names_are : (which : Option DeclarationKind → Bool) (k : Known) (lists : List (List ℕ)) (c : ℕ) → lists ≡ names_upto which k (length k.classes) → c < length k.classes → get_or lists c [] ≡ names_from which k (length k.classes) c
 names_are which k lists c e l = ap (λ (q : List (List ℕ)). get_or q c []) e ∙ upto_at which k (length k.classes) c l
 
 -- 32 bits number them where the declarations are within the limits, and those of a class that isn't there where 32 bits count the declarations
@@ -76,5 +76,5 @@ slots_few k lists c e h =
     let b = few_slots k c h in
     omega (arith, a, b)
 
-pub behind_few : (which : Option Sort → Bool) (k : Known) (c : ℕ) → length k.classes ≤ c → length k.entries < 2 ^ 32 → length (names_from which k (length k.classes) c) ≤ 2 ^ 32
+pub behind_few : (which : Option DeclarationKind → Bool) (k : Known) (c : ℕ) → length k.classes ≤ c → length k.entries < 2 ^ 32 → length (names_from which k (length k.classes) c) ≤ 2 ^ 32
 behind_few which k c l h = (let a = few_behind which k (length k.classes) c l in omega (arith, a, h))

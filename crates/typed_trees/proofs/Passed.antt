@@ -11,7 +11,7 @@ use Rattle.sts_syntax.specs.declared.trees.Node.{Node}
 use Rattle.sts_syntax.specs.declared.trees.Node.TheVariants as n
 use Rattle.std.specs.declared.alloc.Global.{Global}
 use Rattle.std.specs.declared.boxed.Box.{Box}
-use Rattle.sts_scope.specs.declared.kinds.Kind.{Kind}
+use Rattle.sts_scope.specs.declared.kinds.StaticType.{StaticType}
 use Rattle.type_derive.specs.Built as b
 use Rattle.type_derive.specs.Making.{pure}
 use Rattle.typed_trees.specs.declared.build_heads.Head.{Head}
@@ -24,7 +24,7 @@ use Rattle.typed_trees.proofs.BuiltHeads.{head_is, kinds_alone}
 use Rattle.typed_trees.proofs.Pieces.{stays, last, via_at}
 
 -- a node of its list
-pub head_built : (p : Plan) (st : b.Site) (g : Option Kind) (x : Tree) (h : Head) (u : ValueType) (b c : Builder) (xs : TypedTrees) (it : TypedTree)
+pub head_built : (p : Plan) (st : b.Site) (g : Option StaticType) (x : Tree) (h : Head) (u : ValueType) (b c : Builder) (xs : TypedTrees) (it : TypedTree)
     → head_of p st x ≡ Some h → has_list x ≡ true → u ≡ type_noted g (tree_kind p st g x) x → it ≡ head_node p u h xs → IsBuilt b c (passed_made p st h x) xs → IsBuilt b c (tree_made p st g x) it
 unfolding head_made
 head_built p st g x h u b c xs it is list type node built =
@@ -34,7 +34,7 @@ head_built p st g x h u b c xs it is list type node built =
     (sym node) (last b c (passed_made p st h x) (λ ys. head_node p u h ys) xs built)
 
 -- where a tree has a failure
-pub none_built : (p : Plan) (st : b.Site) (g : Option Kind) (x : Tree) (c : Builder) (it : TypedTree)
+pub none_built : (p : Plan) (st : b.Site) (g : Option StaticType) (x : Tree) (c : Builder) (it : TypedTree)
     → head_of p st x ≡ None → has_list x ≡ true → it ≡ b.amiss → IsBuilt c c (tree_made p st g x) it
 unfolding head_made
 none_built p st g x c it is list node =
@@ -43,7 +43,7 @@ none_built p st g x c it is list node =
     (ap (λ (o : Option Head). head_made p st u o x c.local c.function) (sym is) ∙ head_is p st g x c.local c.function list) (sym node) (stays c b.amiss)
 
 -- arguments to which types are given
-pub given_built : (p : Plan) (st : b.Site) (us : List Kind) (args : Trees) (b c : Builder) (first : List TypedExpr) (it : TypedTrees)
+pub given_built : (p : Plan) (st : b.Site) (us : List StaticType) (args : Trees) (b c : Builder) (first : List TypedExpr) (it : TypedTrees)
     → first ≡ [] → IsBuilt b c (behind_made p st (Kinds us) (typed_trees first) args) it → IsBuilt b c (given_made p st us args) it
 given_built p st us args b c first it is built =
     via_at b c (behind_made p st (Kinds us) (typed_trees first) args) (given_made p st us args) it it

@@ -7,7 +7,7 @@ use Rattle.sts_syntax.specs.declared.trees.Expr.{Expr}
 use Rattle.sts_syntax.specs.declared.trees.Node.TheVariants as node
 use Rattle.sts_syntax.specs.Trees.{Tree, Member}
 use Rattle.sts_syntax.specs.Views.{tree, node_tree}
-use Rattle.sts_scope.specs.declared.kinds.Kind.{Kind}
+use Rattle.sts_scope.specs.declared.kinds.StaticType.{StaticType}
 use Rattle.sts_scope.specs.Kinds.{is_array, class_of}
 use Rattle.sts_scope.specs.Rules as rule
 use Rattle.type_derive.specs.Built as b
@@ -17,10 +17,10 @@ use Rattle.typed_trees.specs.declared.build_places.Plan.{Plan}
 use Rattle.typed_trees.specs.Sites.{tree_kind, part_behind}
 
 -- whether what stands behind the dot of what has a type, or none, may be set
-abbrev behind : (p : Plan) → Option Kind → ℕ → Bool
+abbrev behind : (p : Plan) → Option StaticType → ℕ → Bool
 behind p of m = elim of [ None ↦ false | Some u ↦ rule.part_settable (rule.part_of p.tables.now.names p.known.now u m) ]
 
-behind_settable : (p : Plan) (of : Option Kind) (m : ℕ) → rule.part_settable (part_behind p of m) ≡ behind p of m
+behind_settable : (p : Plan) (of : Option StaticType) (m : ℕ) → rule.part_settable (part_behind p of m) ≡ behind p of m
 unfolding rule.part_of is_array class_of
 behind_settable p None m = refl
 behind_settable p (Some u) m = refl
@@ -39,7 +39,7 @@ pub constant_kept : (p : Plan) (s : b.Site) (x : Expr) (a : Box Expr Global) (m 
 constant_kept p s x a m a' z is same c = sym (ap (typing.settable p.tables.now p.known.now s.place) (member_is x a m a' is same) ∙ by_constant p s x.at (tree a') m (Some z) c)
 
 -- a member is set where its part may be
-pub member_set : (p : Plan) (s : b.Site) (x : Expr) (a : Box Expr Global) (m : ℕ) (a' a'' : Expr) (k : Option Kind) (can : Bool) → x.node ≡ node.Member a m → a' ≡ a.value → a'' ≡ a.value → typing.constant_of p.tables.now p.known.now s.place (tree a') m ≡ None
+pub member_set : (p : Plan) (s : b.Site) (x : Expr) (a : Box Expr Global) (m : ℕ) (a' a'' : Expr) (k : Option StaticType) (can : Bool) → x.node ≡ node.Member a m → a' ≡ a.value → a'' ≡ a.value → typing.constant_of p.tables.now p.known.now s.place (tree a') m ≡ None
     → k ≡ tree_kind p s None (tree a'') → can ≡ rule.part_settable (part_behind p k m) → can ≡ typing.settable p.tables.now p.known.now s.place (tree x)
 member_set p s x a m a' a'' k can is same same' c kind may =
     may ∙ ap (λ q. rule.part_settable (part_behind p q m)) (kind ∙ ap (λ (y : Expr). tree_kind p s None (tree y)) (same' ∙ sym same)) ∙ behind_settable p (tree_kind p s None (tree a')) m

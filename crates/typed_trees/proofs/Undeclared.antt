@@ -9,7 +9,7 @@ use Rattle.sts_syntax.specs.declared.typed.Callee.TheVariants as c
 use Rattle.sts_syntax.specs.BoardTable as board
 use Rattle.sts_syntax.specs.BoardTable.{BoardParameter, row_of}
 use Rattle.sts_syntax.specs.Trees.{Tree, Num, Text, Truth, Null, This, Name, Unary, Binary, Both, Either, Choice, Set, Bump, Member, Item, Call, SuperCall, Make, Items, Handler, Trees, none, more}
-use Rattle.sts_scope.specs.declared.kinds.Kind.{Kind}
+use Rattle.sts_scope.specs.declared.kinds.StaticType.{StaticType}
 use Rattle.sts_scope.specs.declared.known.Known.{Known}
 use Rattle.sts_scope.specs.Entries.{Naming}
 use Rattle.sts_scope.specs.Rules.{takes_at, maker_takes_of}
@@ -70,11 +70,11 @@ argument0 t f k w s (board.Handler ∷ ps) (SuperCall at o args) made h m n = re
 argument0 t f k w s (board.Handler ∷ ps) (Make at x args) made h m n = refl
 
 module _ (t : Tables) (f : Naming) (k : Known) (w : Numbering) where
-  abbrev mk : Site → Option Kind → Tree → Making TypedTree
+  abbrev mk : Site → Option StaticType → Tree → Making TypedTree
   mk s g a = made_tree t f k w s g a
 
   mutual
-    pub tree0 : (s : Site) (g : Option Kind) (a : Tree) → Adds0 (made_tree t f k w s g a)
+    pub tree0 : (s : Site) (g : Option StaticType) (a : Tree) → Adds0 (made_tree t f k w s g a)
     tree0 s g (Num at z) = λ m n. refl
     tree0 s g (Text at z) = λ m n. refl
     tree0 s g (Truth at z) = λ m n. refl
@@ -130,11 +130,11 @@ module _ (t : Tables) (f : Naming) (k : Known) (w : Numbering) where
     call0 s v (Make at x xs) args h = λ m n. refl
     call0 s v (Handler at body) args h = λ m n. refl
 
-    given0 : (s : Site) (takes : List Kind) (args : Trees) → Adds0 (made_given t f k w s takes args)
+    given0 : (s : Site) (takes : List StaticType) (args : Trees) → Adds0 (made_given t f k w s takes args)
     given0 s takes none = λ m n. refl
     given0 s takes (more a rest) = two0 (mk s (next_given takes) a) (made_given t f k w s (later_given takes) rest) (λ x xs. e.more x xs) (tree0 s (next_given takes) a) (given0 s (later_given takes) rest)
 
-    items0 : (s : Site) (i : Kind) (args : Trees) → Adds0 (made_items t f k w s i args)
+    items0 : (s : Site) (i : StaticType) (args : Trees) → Adds0 (made_items t f k w s i args)
     items0 s i none = λ m n. refl
     items0 s i (more a rest) = two0 (mk s (Some i) a) (made_items t f k w s i rest) (λ x xs. e.more x xs) (tree0 s (Some i) a) (items0 s i rest)
 

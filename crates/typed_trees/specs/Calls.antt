@@ -12,7 +12,7 @@ use Rattle.sts_syntax.specs.declared.typed.Callee.TheVariants as c
 use Rattle.sts_syntax.specs.TypedTrees as e
 use Rattle.sts_syntax.specs.TypedTrees.{none, more, TypedTree, TypedTrees}
 use Rattle.sts_syntax.specs.TypedViews.{typed_tree}
-use Rattle.sts_scope.specs.declared.kinds.Kind.{Kind}
+use Rattle.sts_scope.specs.declared.kinds.StaticType.{StaticType}
 use Rattle.sts_scope.specs.declared.known.Found.{Found}
 use Rattle.sts_scope.specs.declared.known.Part.{Part}
 use Rattle.sts_scope.specs.Kinds.{nothing}
@@ -34,8 +34,8 @@ use Rattle.typed_trees.specs.declared.build_arguments.Planned.TheVariants as pla
 
 -- What is given to the places of a list: each its type, all behind the first that one's type, or what a call of the board asks for.
 pub data Places : Type 0 where
-  Kinds : List Kind → Places
-  Alike : Kind → Places
+  Kinds : List StaticType → Places
+  Alike : StaticType → Places
   Asks : List BoardParameter → Places
 
 abbrev pub places : Takes → Places
@@ -60,7 +60,7 @@ asked_one p st (Some (board.Of u)) a = tree_made p st (Some (typing.board_kind u
 asked_one p st (Some board.Handler) a = served p st a
 asked_one p st (Some board.Drawing) a = pure (drawing p a)
 
-abbrev pub alike_given : ℕ → Kind → Option Kind
+abbrev pub alike_given : ℕ → StaticType → Option StaticType
 alike_given zero u = None
 alike_given (suc i) u = Some u
 
@@ -81,7 +81,7 @@ arguments_made p st q i t.none = pure none
 arguments_made p st q i (t.more a rest) = argument_made p st q i a >=> λ x. arguments_made p st q (suc i) rest >=> λ xs. pure (more x xs)
 
 -- the type that is given to the items of an array behind the first
-abbrev pub first_kind : Plan → b.Site → Trees → Kind
+abbrev pub first_kind : Plan → b.Site → Trees → StaticType
 first_kind p st t.none = nothing
 first_kind p st (t.more a rest) = unwrap_or (tree_kind p st None a) nothing
 
@@ -112,13 +112,13 @@ head_of p st (SuperCall at m args) = super_head p st m
 head_of p st (Call at f args) = elim (typing.board_callee p.tables.now p.known.now st.place f) [ Some call ↦ Some (head.Board call) | None ↦ called_head p st f ]
 head_of p st a = None
 
-abbrev pub routine_takes : Plan → Found → List Kind
+abbrev pub routine_takes : Plan → Found → List StaticType
 routine_takes p = b.routine_takes p.tables.now (naming p) p.known.now (numbering_of p.numbers.now)
 
 abbrev pub routine_of : Plan → Found → ℕ
 routine_of p = b.routine_of p.tables.now (naming p) p.known.now (numbering_of p.numbers.now)
 
-abbrev pub part_takes : Plan → Part → List Kind
+abbrev pub part_takes : Plan → Part → List StaticType
 part_takes p = b.part_takes p.tables.now (naming p) p.known.now (numbering_of p.numbers.now)
 
 abbrev pub part_target : Plan → Part → ℕ → ℕ → Callee
@@ -147,7 +147,7 @@ head_node p u (head.Named found) xs = e.Call u (c.Function (routine_of p found))
 head_node p u (head.Behind part class m) xs = e.Call u (part_target p part class m) xs
 
 -- the type that such a node is noted to have, whose own type this is: `[]` has that of its place
-abbrev pub type_noted : Option Kind → Option Kind → Tree → ValueType
+abbrev pub type_noted : Option StaticType → Option StaticType → Tree → ValueType
 type_noted given kind (Items at t.none) = s.noted given
 type_noted given kind a = s.noted kind
 

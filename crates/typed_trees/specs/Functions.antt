@@ -3,7 +3,7 @@ use Rattle.std.specs.Prelude.{ℕ, Bool, Option, List}
 use Rattle.sts_syntax.specs.Types.{ValueType}
 use Rattle.sts_syntax.specs.Trees.{Parameter, Routine}
 use Rattle.sts_syntax.specs.TypedTrees.{TypedStatements, TypedRoutine}
-use Rattle.sts_scope.specs.declared.kinds.Kind.{Kind}
+use Rattle.sts_scope.specs.declared.kinds.StaticType.{StaticType}
 use Rattle.sts_scope.specs.declared.known.This.{This}
 use Rattle.type_derive.specs.Built as b
 use Rattle.type_derive.specs.Making.{Made, Making}
@@ -12,16 +12,16 @@ use Rattle.typed_numbers.specs.Building.{numbering_of}
 use Rattle.typed_trees.specs.declared.build_places.Plan.{Plan}
 use Rattle.typed_trees.specs.Sites.{naming}
 
-abbrev pub class_result : Plan → Option Kind → ValueType
+abbrev pub class_result : Plan → Option StaticType → ValueType
 class_result l = p.class_result l.tables.now (naming l) l.known.now (numbering_of l.numbers.now)
 
-abbrev pub function_made : Plan → Bool → ℕ → Option Kind → Routine → List TypedRoutine
+abbrev pub function_made : Plan → Bool → ℕ → Option StaticType → Routine → List TypedRoutine
 function_made l = p.function_made l.tables.now (naming l) l.known.now (numbering_of l.numbers.now)
 
-abbrev pub method_made : Plan → ℕ → ℕ → Option Kind → Routine → List TypedRoutine
+abbrev pub method_made : Plan → ℕ → ℕ → Option StaticType → Routine → List TypedRoutine
 method_made l = p.method_made l.tables.now (naming l) l.known.now (numbering_of l.numbers.now)
 
-abbrev pub site_of : Plan → This → Option Kind → Bool → ℕ → List Parameter → b.Site
+abbrev pub site_of : Plan → This → Option StaticType → Bool → ℕ → List Parameter → b.Site
 site_of l = p.site l.tables.now (naming l) l.known.now (numbering_of l.numbers.now)
 
 -- a function, whose statements are made so

@@ -6,7 +6,7 @@ use Rattle.sts_syntax.specs.Types.{ValueType}
 use Rattle.sts_syntax.specs.TypedTrees as e
 use Rattle.sts_syntax.specs.TypedTrees.{TypedTree}
 use Rattle.sts_syntax.specs.TypedViews.{typed_tree}
-use Rattle.sts_scope.specs.declared.kinds.Kind.{Kind}
+use Rattle.sts_scope.specs.declared.kinds.StaticType.{StaticType}
 use Rattle.sts_scope.specs.Kinds.{nothing}
 use Rattle.sts_scope.specs.Rules as rule
 use Rattle.type_derive.specs.Built as b
@@ -18,7 +18,7 @@ use Rattle.typed_trees.specs.declared.build_operators.Operator.TheVariants as o
 use Rattle.typed_trees.specs.declared.build_places.Plan.{Plan}
 
 -- the type that is given to the place of the last operand, by that of the one before: what is assigned is given its target's
-abbrev pub last_given : Operator → Option Kind → Option Kind
+abbrev pub last_given : Operator → Option StaticType → Option StaticType
 last_given (o.Set op can) u = Some (unwrap_or u nothing)
 last_given (o.Binary op) u = None
 last_given o.Both u = None
@@ -27,7 +27,7 @@ last_given o.Item u = None
 last_given (o.Choice test) u = None
 
 -- the type, by those of the last two operands
-abbrev pub operator_kind : Plan → Operator → Option Kind → Option Kind → Option Kind
+abbrev pub operator_kind : Plan → Operator → Option StaticType → Option StaticType → Option StaticType
 operator_kind p (o.Binary op) x y = x >>= λ u. y >>= λ v. rule.operate p.known.now.classes op u v
 operator_kind p o.Both x y = x >>= λ u. y >>= λ v. rule.joined u v
 operator_kind p o.Either x y = x >>= λ u. y >>= λ v. rule.joined u v
@@ -45,6 +45,6 @@ operator_node (o.Set op can) u x y = e.Set u op x y
 operator_node (o.Choice test) u x y = e.Choice u (typed_tree test.tree.value) x y
 
 -- behind the operand before it, with its type, the last one is made
-unfoldable pub last_made : Plan → b.Site → Operator → Option Kind → TypedTree → Tree → Making TypedTree
+unfoldable pub last_made : Plan → b.Site → Operator → Option StaticType → TypedTree → Tree → Making TypedTree
 last_made p st q k x a =
     tree_made p st (last_given q k) a >=> λ y. pure (operator_node q (noted (operator_kind p q k (tree_kind p st (last_given q k) a))) x y)

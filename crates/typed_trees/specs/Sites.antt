@@ -5,7 +5,7 @@ use Rattle.sts_syntax.specs.BoardTable.{BoardParameter}
 use Rattle.sts_syntax.specs.Trees.{Tree, Trees, OptionalTree, Statement, Statements, OptionalStatement, Declarations, Routine}
 use Rattle.sts_syntax.specs.Types.{ValueType}
 use Rattle.sts_syntax.specs.TypedTrees.{none, more, TypedTree, TypedTrees, TypedStatement, TypedStatements, OptionalTypedStatement, TypedDeclaration, TypedRoutine}
-use Rattle.sts_scope.specs.declared.kinds.Kind.{Kind}
+use Rattle.sts_scope.specs.declared.kinds.StaticType.{StaticType}
 use Rattle.sts_scope.specs.Kinds.{nothing, value_type, class_of}
 use Rattle.sts_scope.specs.Rules.{part_of}
 use Rattle.sts_scope.specs.declared.known.Found.{Found}
@@ -44,23 +44,23 @@ pub record IsPlan (p : Plan) : Type 0 where
 abbrev pub site : Site → b.Site
 site s = record { place = place s.scope; spots = s.spots }
 
-abbrev pub role : Option Kind → Role
+abbrev pub role : Option StaticType → Role
 role given = kind_role given
 
-unfoldable pub tree_kind : Plan → b.Site → Option Kind → Tree → Option Kind
+unfoldable pub tree_kind : Plan → b.Site → Option StaticType → Tree → Option StaticType
 tree_kind p s g e = typing.type_of p.tables.now p.known.now s.place (kind_role g) e
 
-unfoldable pub tree_made : Plan → b.Site → Option Kind → Tree → Making TypedTree
+unfoldable pub tree_made : Plan → b.Site → Option StaticType → Tree → Making TypedTree
 tree_made p = b.made_tree p.tables.now (naming p) p.known.now (numbering_of p.numbers.now)
 
 -- the type that is noted where this one was found, or none
-abbrev pub noted : Option Kind → ValueType
+abbrev pub noted : Option StaticType → ValueType
 noted of = value_type (unwrap_or of nothing)
 
-unfoldable pub given_made : Plan → b.Site → List Kind → Trees → Making TypedTrees
+unfoldable pub given_made : Plan → b.Site → List StaticType → Trees → Making TypedTrees
 given_made p = b.made_given p.tables.now (naming p) p.known.now (numbering_of p.numbers.now)
 
-unfoldable pub items_made : Plan → b.Site → Kind → Trees → Making TypedTrees
+unfoldable pub items_made : Plan → b.Site → StaticType → Trees → Making TypedTrees
 items_made p = b.made_items p.tables.now (naming p) p.known.now (numbering_of p.numbers.now)
 
 unfoldable pub asked_made : Plan → b.Site → List BoardParameter → Trees → Making TypedTrees
@@ -75,7 +75,7 @@ first_made p = b.made_first p.tables.now (naming p) p.known.now (numbering_of p.
 unfoldable pub optional_made : Plan → b.Site → OptionalTree → Making (Option TypedTree)
 optional_made p = b.made_optional p.tables.now (naming p) p.known.now (numbering_of p.numbers.now)
 
-unfoldable pub value_made : Plan → b.Site → Option Kind → OptionalTree → Making (Option TypedTree)
+unfoldable pub value_made : Plan → b.Site → Option StaticType → OptionalTree → Making (Option TypedTree)
 value_made p = b.made_value p.tables.now (naming p) p.known.now (numbering_of p.numbers.now)
 
 unfoldable pub locals_made : Plan → b.Site → Bool → Declarations → Making (List TypedDeclaration)
@@ -105,10 +105,10 @@ spot_of p = b.spot_of p.tables.now (naming p) p.known.now (numbering_of p.number
 abbrev pub member_read : Plan → ValueType → Part → ℕ → ℕ → TypedTree → TypedTree
 member_read p = b.member_read p.tables.now (naming p) p.known.now (numbering_of p.numbers.now)
 
-abbrev pub part_behind : Plan → Option Kind → ℕ → Part
+abbrev pub part_behind : Plan → Option StaticType → ℕ → Part
 part_behind p of m = part_of p.tables.now.names p.known.now (unwrap_or of nothing) m
 
-abbrev pub class_behind : Option Kind → ℕ
+abbrev pub class_behind : Option StaticType → ℕ
 class_behind of = unwrap_or (class_of (unwrap_or of nothing)) 0
 
 -- typed trees behind others

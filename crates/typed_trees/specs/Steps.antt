@@ -6,7 +6,7 @@ use Rattle.sts_syntax.specs.Trees.{Tree, OptionalTree, Statement, Declaration, R
 use Rattle.sts_syntax.specs.Types.{value_types}
 use Rattle.sts_syntax.specs.TypedTrees.{TypedTree, TypedDeclaration, TypedStatement, OptionalTypedStatement, For, Empty}
 use Rattle.sts_syntax.specs.TypedViews.{typed_routines}
-use Rattle.sts_scope.specs.declared.kinds.Kind.{Kind}
+use Rattle.sts_scope.specs.declared.kinds.StaticType.{StaticType}
 use Rattle.type_derive.specs.Built as b
 use Rattle.type_derive.specs.Returns.{is_alone}
 use Rattle.type_derive.specs.Making.{Made, Making, pure, ◌>=>◌}
@@ -64,7 +64,7 @@ turns_made p s f (t.For at first test step a) = turns_of p s f test step a
 turns_made p s f _ = pure Empty
 
 -- The type of a declared name, by the one that is written and its initialiser's.
-abbrev pub bound_kind : Option Annotation → Option Kind → Tree → Option Kind → Option Kind
+abbrev pub bound_kind : Option Annotation → Option StaticType → Tree → Option StaticType → Option StaticType
 bound_kind (Some a) written first kind = written
 bound_kind None written first kind = if is_alone first then None else kind
 

@@ -12,7 +12,7 @@ ghost use Rattle.typed_trees.specs.Sites as s;
 use crate::build_numbers::routine_number;
 use crate::build_places::{Plan, Site};
 use sts_base::Tables;
-use sts_scope::{Base, Found, Kind, flat};
+use sts_scope::{Base, Found, StaticType, flat};
 use sts_syntax::{BoardParameter, Expr, Node, Ty, TypedExpr, TypedNode};
 use type_derive::{draws, name_found};
 
@@ -20,9 +20,9 @@ use type_derive::{draws, name_found};
 #[derive(Clone, Copy)]
 pub enum Takes<'a> {
     /// each its type
-    Given(&'a [Kind]),
+    Given(&'a [StaticType]),
     /// all behind the first one that one's type
-    Alike(Kind),
+    Alike(StaticType),
     /// what a call of the board asks for
     Asked(&'a [BoardParameter]),
 }
@@ -31,7 +31,7 @@ pub enum Takes<'a> {
 #[derive(Drop)]
 pub enum Planned {
     /// it is to be built, where this type is given to its place
-    Built(Option<Kind>),
+    Built(Option<StaticType>),
     /// it is there already
     There(TypedExpr),
 }
@@ -48,7 +48,7 @@ pub fn plan_argument(plan: &Plan, site: &Site, takes: Takes, i: usize, a: &Expr)
 }
 
 /// The type that is given to the i-th place.
-fn given_at(takes: &[Kind], i: usize) -> Option<Kind>
+fn given_at(takes: &[StaticType], i: usize) -> Option<StaticType>
     ensures { result ≡ slice_get takes.now i }
 {
     match takes.get(i) {
@@ -58,7 +58,7 @@ fn given_at(takes: &[Kind], i: usize) -> Option<Kind>
 }
 
 /// The type that is given to the i-th item of an array.
-fn alike_given(i: usize, kind: Kind) -> Option<Kind>
+fn alike_given(i: usize, kind: StaticType) -> Option<StaticType>
     ensures { result ≡ call.alike_given i kind }
 {
     if i == 0 { None } else { Some(kind) }

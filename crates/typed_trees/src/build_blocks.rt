@@ -12,7 +12,7 @@ ghost use Rattle.typed_trees.specs.Steps as steps;
 use crate::build_places::{Plan, Site};
 use crate::spots::Spots;
 use sts_base::{NoMemory, Refused};
-use sts_scope::Kind;
+use sts_scope::StaticType;
 use sts_syntax::{Body, Spot};
 use type_derive::{Context, Mark, declare, enter, handler_result, handler_scope, leave};
 
@@ -61,7 +61,7 @@ pub fn end(site: &mut Site, around: Around)
 pub fn declare_local(
     site: &mut Site,
     x: u32,
-    kind: Option<Kind>,
+    kind: Option<StaticType>,
     fixed: bool,
     local: u32,
 ) -> Result<(), NoMemory>

@@ -12,7 +12,7 @@ use crate::build_heads::{Head, has_object, listed, noted_list, takes_of};
 use crate::build_places::{Builder, Noted, Plan, Site};
 use crate::build_trees::build_tree;
 use sts_base::{NoMemory, Seq};
-use sts_scope::Kind;
+use sts_scope::StaticType;
 use sts_syntax::{Expr, Node, TypedExpr};
 
 /// The i-th expression of a list.
@@ -120,7 +120,7 @@ pub fn build_call(
     plan: &Plan,
     site: &Site,
     builder: &mut Builder,
-    given: Option<Kind>,
+    given: Option<StaticType>,
     e: &Expr,
 ) -> Result<Noted, NoMemory>
     requires plan { IsPlan plan.now }

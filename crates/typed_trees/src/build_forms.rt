@@ -6,14 +6,14 @@ ghost use Rattle.sts_syntax.specs.TypedTrees as t;
 ghost use Rattle.sts_syntax.specs.TypedViews.{typed_routines, typed_statement, typed_statements};
 ghost use Rattle.typed_trees.specs.Sites as s;
 
+use crate::accumulator::Accumulator;
 use crate::build_nodes::{noted_type, or_nothing};
 use crate::build_numbers::one_more;
 use crate::build_places::Builder;
 use crate::build_types::list_of_values;
-use crate::gathered::Gathered;
 use std::alloc::Global;
 use sts_base::{NoMemory, Seq};
-use sts_scope::Kind;
+use sts_scope::StaticType;
 use sts_syntax::{Ty, TypedStmt};
 
 /// What is kept, beside what else was made, else neither. A generic function, in which no form of tree is written out.
@@ -42,7 +42,7 @@ pub fn nothing_built(alloc: Global, next: u32) -> Builder
 {
     Builder {
         locals: Seq::new(alloc),
-        routines: Gathered::new(alloc),
+        routines: Accumulator::new(alloc),
         local: 0,
         function: next,
     }
@@ -64,7 +64,7 @@ fn add_typed(builder: &mut Builder, ty: Ty) -> Result<u32, NoMemory>
 
 /// A further local of this kind, or of none; its number.
 #[tactic(auto, using(crate::proofs::Values::values_append))]
-pub fn add_local(builder: &mut Builder, kind: Option<Kind>) -> Result<u32, NoMemory>
+pub fn add_local(builder: &mut Builder, kind: Option<StaticType>) -> Result<u32, NoMemory>
     ensures number { IfOk result (λ i. i ≡ builder.old.local) }
     ensures locals { OnOk result (value_types builder.new.locals ≡ value_types builder.old.locals ++ s.noted kind ∷ []) }
     ensures routines { OnOk result (builder.new.routines ≡ builder.old.routines) }
@@ -75,7 +75,7 @@ pub fn add_local(builder: &mut Builder, kind: Option<Kind>) -> Result<u32, NoMem
 }
 
 /// The type of an array of what has a type, else of none.
-fn noted_list_type(kind: Option<Kind>) -> Ty
+fn noted_list_type(kind: Option<StaticType>) -> Ty
     ensures { value.value_type result ≡ value.ListOf (s.noted kind) }
 {
     list_of_values(or_nothing(kind))
@@ -83,7 +83,7 @@ fn noted_list_type(kind: Option<Kind>) -> Ty
 
 /// The locals of a loop through an array: the item, the array and how far it is; the number of the first.
 #[tactic(auto, using(crate::proofs::Values::values_append, crate::proofs::Pieces::three))]
-pub fn add_loop(builder: &mut Builder, kind: Option<Kind>) -> Result<u32, NoMemory>
+pub fn add_loop(builder: &mut Builder, kind: Option<StaticType>) -> Result<u32, NoMemory>
     ensures number { IfOk result (λ i. i ≡ builder.old.local) }
     ensures locals { OnOk result (value_types builder.new.locals ≡ value_types builder.old.locals ++ s.noted kind ∷ value.ListOf (s.noted kind) ∷ value.Number ∷ []) }
     ensures routines { OnOk result (builder.new.routines ≡ builder.old.routines) }

@@ -11,15 +11,15 @@ ghost use Rattle.typed_trees.specs.Sites as s;
 ghost use Rattle.typed_trees.specs.Sites.{IsPlan, naming};
 ghost use Rattle.typed_trees.specs.Functions as functions;
 
+use crate::accumulator::Accumulator;
 use crate::build_forms::nothing_built;
 use crate::build_nodes::noted_type;
 use crate::build_numbers::one_more;
 use crate::build_places::{Builder, Plan, Site};
 use crate::build_statements::build_statements;
-use crate::gathered::Gathered;
 use crate::spots::Spots;
 use sts_base::{NoMemory, Seq};
-use sts_scope::{Kind, This, written_kind};
+use sts_scope::{StaticType, This, written_kind};
 use sts_syntax::{Body, Param, Spot, Stmt, Ty, TypedBody, TypedStmt};
 use type_derive::routine_scope;
 
@@ -52,7 +52,7 @@ pub fn add_types(plan: &Plan, all: &mut Seq<Ty>, params: &[Param]) -> Result<(),
 pub fn function_site<'a>(
     plan: &Plan,
     this: This,
-    gives: Option<Kind>,
+    gives: Option<StaticType>,
     library: bool,
     first: u32,
     params: &[Param],
@@ -69,7 +69,7 @@ pub fn function_site<'a>(
 #[derive(Drop)]
 pub struct Function {
     pub own: TypedBody,
-    pub inner: Gathered<TypedBody>,
+    pub inner: Accumulator<TypedBody>,
 }
 
 /// The function with these parameters and this result whose statements these are, and which is number n.
@@ -106,7 +106,7 @@ fn build_function(
 }
 
 /// A function behind others, and those that stand in it behind it.
-pub fn add(routines: &mut Gathered<TypedBody>, function: Function) -> Result<(), NoMemory>
+pub fn add(routines: &mut Accumulator<TypedBody>, function: Function) -> Result<(), NoMemory>
     ensures { OnOk result (typed_routines routines.new ≡ typed_routines routines.old ++ (typed_routine function.own ∷ typed_routines function.inner)) }
 {
     routines.push(function.own)?;
@@ -116,10 +116,10 @@ pub fn add(routines: &mut Gathered<TypedBody>, function: Function) -> Result<(),
 /// A function of the whole text, whose number is n, and those that stand in it.
 pub fn add_function(
     plan: &Plan,
-    routines: &mut Gathered<TypedBody>,
+    routines: &mut Accumulator<TypedBody>,
     library: bool,
     n: u32,
-    gives: Option<Kind>,
+    gives: Option<StaticType>,
     body: &Body,
 ) -> Result<(), NoMemory>
     requires plan { IsPlan plan.now }
@@ -138,10 +138,10 @@ pub fn add_function(
 /// A method of a class, which takes `this` first, and those that stand in it.
 pub fn add_method(
     plan: &Plan,
-    routines: &mut Gathered<TypedBody>,
+    routines: &mut Accumulator<TypedBody>,
     class: u32,
     n: u32,
-    gives: Option<Kind>,
+    gives: Option<StaticType>,
     body: &Body,
 ) -> Result<(), NoMemory>
     requires plan { IsPlan plan.now }

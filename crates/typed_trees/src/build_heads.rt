@@ -16,7 +16,7 @@ use crate::build_numbers::routine_number;
 use crate::build_places::{Noted, Plan, Site};
 use crate::build_spots::{class_behind, part_behind, slot_number};
 use sts_base::{NoMemory, Seq};
-use sts_scope::{Base, Found, Kind, Part, flat};
+use sts_scope::{Base, Found, Part, StaticType, flat};
 use sts_syntax::{BoardAction, BoardCall, Callee, Expr, Node, Ty, TypedExpr, TypedNode};
 use type_derive::{board_callee, name_found, super_method, takes_at};
 
@@ -24,7 +24,7 @@ use type_derive::{board_callee, name_found, super_method, takes_at};
 #[derive(Clone, Copy)]
 pub enum Head {
     /// an array, whose items behind the first are given this type
-    Items(Kind),
+    Items(StaticType),
     /// `new` of the class of this number
     Make(u32),
     /// a base's method, by its number among the declarations
@@ -43,13 +43,18 @@ pub struct ListNode {
     /// what it is; none where the tree has a failure
     pub head: Option<Head>,
     /// its type, if it has one
-    pub kind: Option<Kind>,
+    pub kind: Option<StaticType>,
     /// the type that it is noted to have
     pub ty: Ty,
 }
 
 /// A node with a list, before its parts are built.
-pub fn listed(plan: &Plan, site: &Site, given: Option<Kind>, e: &Expr) -> Result<ListNode, NoMemory>
+pub fn listed(
+    plan: &Plan,
+    site: &Site,
+    given: Option<StaticType>,
+    e: &Expr,
+) -> Result<ListNode, NoMemory>
     ensures head { IfOk result (λ l. l.head ≡ call.head_of plan.now (s.site site.now) (tree e.now)) }
     ensures kind { IfOk result (λ l. l.kind ≡ s.tree_kind plan.now (s.site site.now) given (tree e.now)) }
     ensures noted { IfOk result (λ l. value_type l.ty ≡ call.type_noted given l.kind (tree e.now)) }
@@ -85,7 +90,7 @@ fn head_of(plan: &Plan, site: &Site, e: &Expr) -> Result<Option<Head>, NoMemory>
 }
 
 /// The type that is given to the items of an array behind the first.
-fn first_kind(plan: &Plan, site: &Site, items: &[Expr]) -> Result<Kind, NoMemory>
+fn first_kind(plan: &Plan, site: &Site, items: &[Expr]) -> Result<StaticType, NoMemory>
     ensures { IfOk result (λ u. u ≡ call.first_kind plan.now (s.site site.now) (trees items.now)) }
 {
     match items {
@@ -154,7 +159,7 @@ pub fn takes_of<'a>(plan: &'a Plan, head: &'a Head) -> Takes<'a>
 }
 
 /// What a function takes that a name stands for.
-fn routine_takes<'a>(plan: &'a Plan, found: Found) -> &'a [Kind]
+fn routine_takes<'a>(plan: &'a Plan, found: Found) -> &'a [StaticType]
     ensures { result.now ≡ call.routine_takes plan.now found }
 {
     match found {
@@ -168,7 +173,7 @@ fn routine_takes<'a>(plan: &'a Plan, found: Found) -> &'a [Kind]
 }
 
 /// What is taken of what stands behind a dot.
-fn part_takes<'a>(plan: &'a Plan, part: &'a Part) -> &'a [Kind]
+fn part_takes<'a>(plan: &'a Plan, part: &'a Part) -> &'a [StaticType]
     ensures { result.now ≡ call.part_takes plan.now part.now }
 {
     match part {
@@ -278,7 +283,7 @@ pub fn noted_list(
 }
 
 /// The type that such a node is noted to have, of its own type: `[]` has that of its place.
-fn node_type(given: Option<Kind>, kind: Option<Kind>, e: &Expr) -> Ty
+fn node_type(given: Option<StaticType>, kind: Option<StaticType>, e: &Expr) -> Ty
     ensures { value_type result ≡ call.type_noted given kind (tree e.now) }
 {
     match &e.node {

@@ -17,7 +17,7 @@ use crate::build_forms::{add_local, beside};
 use crate::build_places::{Builder, Plan, Site};
 use crate::build_trees::build_tree;
 use sts_base::{NoMemory, Seq};
-use sts_scope::{Kind, written_kind};
+use sts_scope::{StaticType, written_kind};
 use sts_syntax::{Binding, Expr, Shape, Spot, TypedBinding, TypedExpr};
 use type_derive::is_alone;
 
@@ -28,7 +28,7 @@ pub fn build_value(
     plan: &Plan,
     site: &Site,
     builder: &mut Builder,
-    given: Option<Kind>,
+    given: Option<StaticType>,
     e: &Option<Expr>,
 ) -> Result<Option<TypedExpr>, NoMemory>
     requires { IsPlan plan.now }
@@ -48,16 +48,16 @@ pub fn build_value(
 pub struct Initial {
     pub first: Option<TypedExpr>,
     /// the type, if it has one
-    pub kind: Option<Kind>,
+    pub kind: Option<StaticType>,
 }
 
 /// The type of a declared name whose initialiser has this one: the one that is written, else the initialiser's.
 fn bound_kind(
     shape: &Option<Shape>,
-    written: Option<Kind>,
+    written: Option<StaticType>,
     first: &Expr,
-    kind: Option<Kind>,
-) -> Option<Kind>
+    kind: Option<StaticType>,
+) -> Option<StaticType>
     ensures { result ≡ steps.bound_kind (optional_annotation shape.now) written (tree first.now) kind }
 {
     match shape {

@@ -16,7 +16,7 @@ use crate::build_nodes::{Part as Operand, noted, noted_type};
 use crate::build_places::{Noted, Plan, Site};
 use crate::build_spots::{class_behind, field_number, part_behind, spot_of};
 use sts_base::NoMemory;
-use sts_scope::{Base, Kind, Part, flat};
+use sts_scope::{Base, Part, StaticType, flat};
 use sts_syntax::{Ty, TypedExpr, TypedNode};
 use type_derive::{name_found, name_kind, part_kind, part_of, this_kind};
 
@@ -78,7 +78,7 @@ pub fn name_leaf(plan: &Plan, site: &Site, x: u32) -> Noted
 }
 
 /// The type of a member that is read, of what has a type or none.
-fn read_kind(plan: &Plan, of: Option<Kind>, name: u32) -> Option<Kind>
+fn read_kind(plan: &Plan, of: Option<StaticType>, name: u32) -> Option<StaticType>
     ensures { result ≡ bind of (λ u. rule.part_kind plan.now.known.now (rule.part_of plan.now.tables.now.names plan.now.known.now u name)) }
 {
     match of {

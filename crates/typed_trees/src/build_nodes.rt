@@ -10,7 +10,7 @@ use crate::build_places::{Noted, Plan, Site};
 use crate::build_types::type_of_values;
 use std::alloc::Global;
 use sts_base::NoMemory;
-use sts_scope::{Base, Kind, flat};
+use sts_scope::{Base, StaticType, flat};
 use sts_syntax::{Expr, Ty, TypedExpr, TypedNode};
 use type_derive::{Role, Wanted, type_of};
 
@@ -19,7 +19,7 @@ use type_derive::{Role, Wanted, type_of};
 pub struct Part {
     pub tree: Box<TypedExpr>,
     /// its type, if it has one
-    pub kind: Option<Kind>,
+    pub kind: Option<StaticType>,
 }
 
 /// A value in a box of its own.
@@ -33,7 +33,7 @@ pub fn boxed<T: Drop>(alloc: Global, value: T) -> Result<Box<T>, NoMemory>
 }
 
 /// A node with the type that is noted, and its type.
-pub fn noted(ty: Ty, node: TypedNode, kind: Option<Kind>) -> Noted
+pub fn noted(ty: Ty, node: TypedNode, kind: Option<StaticType>) -> Noted
     ensures tree { typed_tree result.tree ≡ typed_node_tree ty node }
     ensures kind { result.kind ≡ kind }
 {
@@ -44,7 +44,7 @@ pub fn noted(ty: Ty, node: TypedNode, kind: Option<Kind>) -> Noted
 }
 
 /// A type, or `void` where there is none.
-pub fn or_nothing(of: Option<Kind>) -> Kind
+pub fn or_nothing(of: Option<StaticType>) -> StaticType
     ensures { result ≡ unwrap_or of nothing }
 {
     match of {
@@ -54,14 +54,14 @@ pub fn or_nothing(of: Option<Kind>) -> Kind
 }
 
 /// The type that is noted where this one was found, or none.
-pub fn noted_type(of: Option<Kind>) -> Ty
+pub fn noted_type(of: Option<StaticType>) -> Ty
     ensures { value.value_type result ≡ s.noted of }
 {
     type_of_values(or_nothing(of))
 }
 
 /// What the place of an expression does with it, to which a type may be given.
-fn role_of(given: Option<Kind>) -> Role
+fn role_of(given: Option<StaticType>) -> Role
     ensures { result ≡ s.role given }
 {
     match given {
@@ -75,9 +75,9 @@ fn role_of(given: Option<Kind>) -> Role
 pub fn kind_of(
     plan: &Plan,
     site: &Site,
-    given: Option<Kind>,
+    given: Option<StaticType>,
     e: &Expr,
-) -> Result<Option<Kind>, NoMemory>
+) -> Result<Option<StaticType>, NoMemory>
     ensures { IfOk result (λ u. u ≡ s.tree_kind plan.now (s.site site.now) given (tree e.now)) }
 {
     let mut wanted = Wanted::nothing(plan.alloc);

@@ -16,7 +16,7 @@ use crate::build_nodes::{Part, boxed, noted, noted_type, or_nothing};
 use crate::build_places::{Builder, Noted, Plan, Site};
 use crate::build_trees::build_tree;
 use sts_base::NoMemory;
-use sts_scope::Kind;
+use sts_scope::StaticType;
 use sts_syntax::{Expr, Ty, TypedNode};
 use type_derive::{both, bump_kind, chosen, indexed, operated, prefixed, set_kind};
 
@@ -43,7 +43,7 @@ pub fn build_part(
     plan: &Plan,
     site: &Site,
     builder: &mut Builder,
-    given: Option<Kind>,
+    given: Option<StaticType>,
     e: &Expr,
 ) -> Result<Part, NoMemory>
     requires { IsPlan plan.now }
@@ -77,7 +77,7 @@ pub fn build_last(
 }
 
 /// The type that is given to the place of the last operand: what is assigned is given its target's.
-fn last_given(operator: &Operator, before: Option<Kind>) -> Option<Kind>
+fn last_given(operator: &Operator, before: Option<StaticType>) -> Option<StaticType>
     ensures { result ≡ operators.last_given operator.now before }
 {
     match operator {

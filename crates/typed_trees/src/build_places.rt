@@ -1,9 +1,9 @@
 // What is known where the parts of a program are built, and what is built.
-use crate::gathered::Gathered;
+use crate::accumulator::Accumulator;
 use crate::spots::Spots;
 use std::alloc::Global;
 use sts_base::{Seq, Tables};
-use sts_scope::{ByNumber, Environment, Kind};
+use sts_scope::{ByNumber, Environment, StaticType};
 use sts_syntax::{Ty, TypedBody, TypedExpr};
 use type_derive::Scope;
 use typed_numbers::{Names, Numbers};
@@ -38,7 +38,7 @@ pub struct Builder {
     /// the types of the function's locals
     pub locals: Seq<Ty>,
     /// the functions
-    pub routines: Gathered<TypedBody>,
+    pub routines: Accumulator<TypedBody>,
     /// the number of the next local
     pub local: u32,
     /// the number of the next function
@@ -50,5 +50,5 @@ pub struct Builder {
 pub struct Noted {
     pub tree: TypedExpr,
     /// its type, if it has one
-    pub kind: Option<Kind>,
+    pub kind: Option<StaticType>,
 }

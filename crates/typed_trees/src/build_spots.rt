@@ -9,7 +9,7 @@ use crate::build_nodes::or_nothing;
 use crate::build_numbers::names_at;
 use crate::build_places::{Plan, Site};
 use sts_base::NoMemory;
-use sts_scope::{Found, Kind, Part, class_of};
+use sts_scope::{Found, Part, StaticType, class_of};
 use sts_syntax::Spot;
 use type_derive::part_of;
 use typed_numbers::{Members, class_names, place_among};
@@ -76,14 +76,14 @@ pub fn spot_of(plan: &Plan, site: &Site, found: Found) -> Spot
 }
 
 /// What stands behind the dot of what has a type, or none.
-pub fn part_behind(plan: &Plan, of: Option<Kind>, name: u32) -> Part
+pub fn part_behind(plan: &Plan, of: Option<StaticType>, name: u32) -> Part
     ensures { result ≡ s.part_behind plan.now of name }
 {
     part_of(plan.tables, plan.known, or_nothing(of), name)
 }
 
 /// The class of what has a type, or none.
-pub fn class_behind(of: Option<Kind>) -> u32
+pub fn class_behind(of: Option<StaticType>) -> u32
     ensures { result ≡ s.class_behind of }
 {
     match class_of(or_nothing(of)) {

@@ -14,7 +14,7 @@ use crate::build_operators::build_part;
 use crate::build_places::{Builder, Noted, Plan, Site};
 use crate::build_spots::part_behind;
 use sts_base::NoMemory;
-use sts_scope::Kind;
+use sts_scope::StaticType;
 use sts_syntax::{Expr, Node};
 use type_derive::{constant, name_fixed, name_found, part_settable};
 
@@ -47,7 +47,7 @@ pub fn build_member(
     plan: &Plan,
     site: &Site,
     builder: &mut Builder,
-    given: Option<Kind>,
+    given: Option<StaticType>,
     e: &Expr,
 ) -> Result<Member, NoMemory>
     requires plan { IsPlan plan.now }

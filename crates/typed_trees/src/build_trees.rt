@@ -15,7 +15,7 @@ use crate::build_places::{Builder, Noted, Plan, Site};
 use crate::build_routines::build_handler;
 use crate::build_targets::{build_member, build_target};
 use sts_base::{NoMemory, Seq};
-use sts_scope::Kind;
+use sts_scope::StaticType;
 use sts_syntax::{Expr, Node, TypedExpr};
 
 /// A typed expression, to whose place a type may be given.
@@ -24,7 +24,7 @@ pub fn build_tree(
     plan: &Plan,
     site: &Site,
     builder: &mut Builder,
-    given: Option<Kind>,
+    given: Option<StaticType>,
     e: &Expr,
 ) -> Result<Noted, NoMemory>
     requires { IsPlan plan.now }
@@ -87,7 +87,7 @@ pub fn build_given(
     plan: &Plan,
     site: &Site,
     builder: &mut Builder,
-    takes: &[Kind],
+    takes: &[StaticType],
     args: &[Expr],
 ) -> Result<Seq<TypedExpr>, NoMemory>
     requires { IsPlan plan.now }

@@ -3,7 +3,7 @@ ghost use Rattle.std.specs.Prelude.{◌≡◌};
 ghost use Rattle.sts_syntax.specs.Types as value;
 ghost use Rattle.sts_scope.specs.Kinds as kind;
 
-use sts_scope::{Base, Kind};
+use sts_scope::{Base, StaticType};
 use sts_syntax::{BaseType, Ty};
 
 /// The type of values of a base. `[]` has the type of its place, so that `Empty` is none.
@@ -21,7 +21,7 @@ fn base_type(base: Base) -> BaseType
 }
 
 /// The type of values that a type is.
-pub fn type_of_values(of: Kind) -> Ty
+pub fn type_of_values(of: StaticType) -> Ty
     ensures { value.value_type result ≡ kind.value_type of }
 {
     Ty {
@@ -31,7 +31,7 @@ pub fn type_of_values(of: Kind) -> Ty
 }
 
 /// The type of arrays of values that a type is.
-pub fn list_of_values(of: Kind) -> Ty
+pub fn list_of_values(of: StaticType) -> Ty
     ensures { value.value_type result ≡ value.ListOf (kind.value_type of) }
 {
     Ty {

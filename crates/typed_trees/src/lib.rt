@@ -1,6 +1,7 @@
 //! The typed trees of expressions and statements, in code: what is built of each node, and which locals and functions it leaves.
 #![tactic(auto)]
 
+mod accumulator;
 mod build_arguments;
 mod build_blocks;
 mod build_calls;
@@ -19,9 +20,9 @@ mod build_statements;
 mod build_targets;
 mod build_trees;
 mod build_types;
-mod gathered;
 mod spots;
 
+pub use accumulator::Accumulator;
 pub use build_forms::{beside, nothing_built};
 pub use build_functions::{Function, add, add_function, add_method, add_types, function_site};
 pub use build_locals::build_first;
@@ -32,5 +33,4 @@ pub use build_spots::{field_number, global_number};
 pub use build_statements::build_statement;
 pub use build_trees::build_given;
 pub use build_types::type_of_values;
-pub use gathered::Gathered;
 pub use spots::Spots;

@@ -9,7 +9,7 @@ use Rattle.board_world.specs.Simulation.{Ties, Simulation, Follows, Matches, Onw
 use Rattle.board_world.specs.Runs.{Arrival, Rises, Keeps}
 use Rattle.board_world.specs.Implements.{boards_from}
 use Rattle.world_rows.specs.Clerks.{Task, Ask, Tell, Keep, Recall, Become, Routine, routine_of, begun, Clerk, turn_of, clerks}
-use Rattle.world_rows.specs.Workers.{Op, Enter, Worker, fetch, at_place, done, does, workers, placed, task_ops, routine_ops, all_ops, address, linked}
+use Rattle.world_rows.specs.Workers.{Op, Enter, Worker, fetch, at_place, done, does, workers, with_places, task_ops, routine_ops, all_ops, address, linked}
 use Rattle.board_world.proofs.Laws.{lifts_with}
 
 -- these operations stand at this place
@@ -85,7 +85,7 @@ module _ (program : List Routine) (code : List Op) (at : ℕ → ℕ) (here : (f
 
     abbrev Alike_turns : Task → Type 0
     Alike_turns task =
-        Matches (clerks program) (workers code) tied used s t (turn_of program (task ∷ rest) (record { frame = frame; answer = answer; tasks = task ∷ rest }) s) (done (placed at task) (lower p answer) t)
+        Matches (clerks program) (workers code) tied used s t (turn_of program (task ∷ rest) (record { frame = frame; answer = answer; tasks = task ∷ rest }) s) (done (with_places at task) (lower p answer) t)
 
     request_alike : (r : Request) → Alike_turns (Ask r)
     request_alike (Pause n) = (refl, refl, on_with _)

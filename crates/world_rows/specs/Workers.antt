@@ -56,15 +56,15 @@ abbrev pub workers : List Op → Kind Worker ℤ
 workers code = record { begin = at_place; step = λ w shared. does (fetch code w.place) w shared; depth = λ w. w.frame }
 
 -- a task with places for functions
-abbrev pub placed : (ℕ → ℕ) → Task → Task
-placed at (Ask (Spawn f)) = Ask (Spawn (at f))
-placed at (Ask (Listen l)) = Ask (Listen (record l { handler = at l.handler }))
-placed at (Become f) = Become (suc (at f))
-placed at task = task
+abbrev pub with_places : (ℕ → ℕ) → Task → Task
+with_places at (Ask (Spawn f)) = Ask (Spawn (at f))
+with_places at (Ask (Listen l)) = Ask (Listen (record l { handler = at l.handler }))
+with_places at (Become f) = Become (suc (at f))
+with_places at task = task
 
 abbrev pub task_ops : (ℕ → ℕ) → List Task → List Op
 task_ops at [] = Leave ∷ []
-task_ops at (t ∷ ts) = Fetch ∷ Do (placed at t) ∷ task_ops at ts
+task_ops at (t ∷ ts) = Fetch ∷ Do (with_places at t) ∷ task_ops at ts
 
 abbrev pub routine_ops : (ℕ → ℕ) → Routine → List Op
 routine_ops at r = Enter r.frame ∷ task_ops at r.tasks

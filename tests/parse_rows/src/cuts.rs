@@ -4,7 +4,7 @@ use crate::lexed::{Lexed, read, write_bytes};
 use parse_unit::parse;
 use std::alloc::{AllocError, Global};
 use sts_base::{Code, Refused, number};
-use sts_lexer::Kind;
+use sts_lexer::TokenKind;
 use sts_syntax::Unit;
 
 /// What a cut text comes to.
@@ -62,7 +62,7 @@ pub fn write_cuts(
         let from = (token.span.from as usize).min(upto);
         line.push(' ')?;
         match token.kind {
-            Kind::Finish => line.push('.')?,
+            TokenKind::Finish => line.push('.')?,
             _ => write_bytes(line, &text[from..upto])?,
         }
         write_verdict(line, judged(alloc, &text[..upto]))?;

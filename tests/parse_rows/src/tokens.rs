@@ -3,7 +3,7 @@
 use crate::lexed::{Lexed, write_bytes, write_entry};
 use std::alloc::AllocError;
 use sts_base::{Seq, Tables};
-use sts_lexer::{Kind, Token};
+use sts_lexer::{Token, TokenKind};
 
 /// The reserved words as they are written, in the order of `Word`.
 static WORDS: [&str; 45] = [
@@ -103,16 +103,21 @@ fn write_kind(
     token: Token,
 ) -> Result<(), AllocError> {
     match token.kind {
-        Kind::Num(value) => write!(line, "#{value}"),
-        Kind::Text(entry) => write_value(line, &tables.texts, entry),
-        Kind::Name(entry) => write_entry(line, &tables.names, entry),
-        Kind::Word(found, entry) => write_word(line, WORDS[found as usize], &tables.names, entry),
-        Kind::Mark(found) => {
+        TokenKind::Num(value) => write!(line, "#{value}"),
+        TokenKind::Text(entry) => write_value(line, &tables.texts, entry),
+        TokenKind::Name(entry) => write_entry(line, &tables.names, entry),
+        TokenKind::Word(found, entry) => write_word(
+            line,
+            WORDS[found as usize],
+            &tables.names,
+            entry,
+        ),
+        TokenKind::Mark(found) => {
             let upto = (token.span.upto as usize).min(text.len());
             let from = (token.span.from as usize).min(upto);
             write_mark(line, MARKS[found as usize], &text[from..upto])
         }
-        Kind::Finish => line.push('.'),
+        TokenKind::Finish => line.push('.'),
     }
 }
 

@@ -2,7 +2,7 @@
 
 use std::alloc::AllocError;
 use sts_base::{Refused, Tables};
-use sts_scope::{Base, Environment, Kind};
+use sts_scope::{Base, Environment, StaticType};
 
 /// The bytes of a name.
 pub fn write_name(line: &mut String, tables: &Tables, x: u32) -> Result<(), AllocError> {
@@ -25,7 +25,7 @@ fn write_base(line: &mut String, base: Base) -> Result<(), AllocError> {
     }
 }
 
-fn write_kind(line: &mut String, kind: Kind) -> Result<(), AllocError> {
+fn write_kind(line: &mut String, kind: StaticType) -> Result<(), AllocError> {
     write_base(line, kind.base)?;
     for _ in 0..kind.depth {
         line.push_str("[]")?;

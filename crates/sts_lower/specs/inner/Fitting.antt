@@ -8,7 +8,7 @@ use Rattle.sts_syntax.specs.BoardTable.{placed}
 use Rattle.sts_syntax.specs.Measures.{hold, holds, target_hold, stacked, greatest, total, greatest_in, greatest_of, greatest_first, pending_words}
 use Rattle.sts_syntax.specs.Weights.{weight}
 use Rattle.sts_lower.specs.Sizes.{Target, ToName, ToField, ToItem, ToNothing, size, sizes, reach_size, items_size, declared_size, statement_size, statements_size}
-use Rattle.sts_lower.specs.inner.Works.{Layout, Work, Put, Value, Reach, Arguments, Elements, Does, DoesAll, Declares}
+use Rattle.sts_lower.specs.inner.Works.{Layout, Work, Put, Value, Reach, Arguments, Elements, Expand, ExpandAll, ExpandDeclarations}
 
 -- in a function with so many parameters
 module _ (params : ℕ) where
@@ -114,23 +114,23 @@ module _ (params : ℕ) where
 
 module _ (L : Layout) where
   -- The numbers that a piece of work needs fit: the places of its ops, and its temporaries.
-  abbrev pub Fits : Work → Type 0
-  Fits (Put op) = Unit {0}
-  Fits (Value a d at next) = (at + size a < 2 ^ 32) × (L.base + d + hold a < 2 ^ 32) × IsLowerable L.params a
-  Fits (Reach x d at) = (at + reach_size x < 2 ^ 32) × (L.base + d + target_hold x 0 0 < 2 ^ 32) × IsTarget L.params x
-  Fits (Arguments places args d at) =
+  abbrev pub WorkFits : Work → Type 0
+  WorkFits (Put op) = Unit {0}
+  WorkFits (Value a d at next) = (at + size a < 2 ^ 32) × (L.base + d + hold a < 2 ^ 32) × IsLowerable L.params a
+  WorkFits (Reach x d at) = (at + reach_size x < 2 ^ 32) × (L.base + d + target_hold x 0 0 < 2 ^ 32) × IsTarget L.params x
+  WorkFits (Arguments places args d at) =
       (at + total (placed (λ n. 1) places (sizes args)) < 2 ^ 32) × (L.base + stacked d (placed (λ n. 1) places (holds args)) < 2 ^ 32)
       × (L.base + d + length (placed (λ n. 1) places (holds args)) < 2 ^ 32) × AreLowerable L.params args
-  Fits (Elements items d at) = (at + items_size (sizes items) < 2 ^ 32) × (L.base + suc d + greatest (holds items) < 2 ^ 32) × AreLowerable L.params items
-  Fits (Does a at next out again) =
+  WorkFits (Elements items d at) = (at + items_size (sizes items) < 2 ^ 32) × (L.base + suc d + greatest (holds items) < 2 ^ 32) × AreLowerable L.params items
+  WorkFits (Expand a at next out again) =
       (at + statement_size L.maker a < 2 ^ 32) × (L.base + 1 + greatest_in hold a < 2 ^ 32) × IsStatement L.params a
-  Fits (DoesAll all at next out again) =
+  WorkFits (ExpandAll all at next out again) =
       (at + statements_size L.maker all < 2 ^ 32) × (L.base + 1 + greatest_of hold all < 2 ^ 32) × AreStatements L.params all
-  Fits (Declares each at) = (at + declared_size each < 2 ^ 32) × (L.base + 1 + greatest_first hold each < 2 ^ 32) × AreDeclared L.params each
+  WorkFits (ExpandDeclarations each at) = (at + declared_size each < 2 ^ 32) × (L.base + 1 + greatest_first hold each < 2 ^ 32) × AreDeclared L.params each
 
   abbrev pub AllFit : List Work → Type 0
   AllFit [] = Unit {0}
-  AllFit (w ∷ ws) = Fits w × AllFit ws
+  AllFit (w ∷ ws) = WorkFits w × AllFit ws
 
 -- a function whose numbers fit
 pub record IsLowerableRoutine (r : TypedRoutine) : Type 0 where

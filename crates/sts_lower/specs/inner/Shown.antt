@@ -6,7 +6,7 @@ use Rattle.sts_lower.specs.declared.work.Work as rust_work
 use Rattle.sts_lower.specs.declared.work.Work.TheVariants as w
 use Rattle.sts_lower.specs.declared.frame.Frame as rust_frame
 use Rattle.sts_lower.specs.Repeated.{before}
-use Rattle.sts_lower.specs.inner.Works.{Layout, Work, Put, Value, Reach, Arguments, Elements, Does, DoesAll, Declares}
+use Rattle.sts_lower.specs.inner.Works.{Layout, Work, Put, Value, Reach, Arguments, Elements, Expand, ExpandAll, ExpandDeclarations}
 use Rattle.sts_lower.specs.declared.targets.Target as rust
 use Rattle.sts_lower.specs.declared.targets.Target.TheVariants as r
 use Rattle.sts_lower.specs.Sizes.{Target, ToName, ToField, ToItem, ToNothing}
@@ -24,9 +24,9 @@ work_shown (w.Value a d at next) = Value (typed_tree a.now) d at next
 work_shown (w.Reach x d at) = Reach (typed_tree x.now) d at
 work_shown (w.Arguments places args d at) = Arguments (map service_place places.now) (typed_trees args.now) d at
 work_shown (w.Elements items d at) = Elements (typed_trees items.now) d at
-work_shown (w.Does a at next out again) = Does (typed_statement a.now) at next out again
-work_shown (w.DoesAll all at next out again) = DoesAll (typed_statements all.now) at next out again
-work_shown (w.Declares each at) = Declares (typed_declarations each.now) at
+work_shown (w.Expand a at next out again) = Expand (typed_statement a.now) at next out again
+work_shown (w.ExpandAll all at next out again) = ExpandAll (typed_statements all.now) at next out again
+work_shown (w.ExpandDeclarations each at) = ExpandDeclarations (typed_declarations each.now) at
 
 abbrev pub works : List rust_work.Work → List Work
 works [] = []

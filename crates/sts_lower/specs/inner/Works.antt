@@ -32,9 +32,9 @@ pub data Work : Type 0 where
   Reach : (x : TypedTree) (d at : ℕ) → Work
   Arguments : (places : List ServicePlace) (args : TypedTrees) (d at : ℕ) → Work
   Elements : (items : TypedTrees) (d at : ℕ) → Work
-  Does : (a : TypedStatement) (at next out again : ℕ) → Work
-  DoesAll : (all : TypedStatements) (at next out again : ℕ) → Work
-  Declares : (each : List TypedDeclaration) (at : ℕ) → Work
+  Expand : (a : TypedStatement) (at next out again : ℕ) → Work
+  ExpandAll : (all : TypedStatements) (at next out again : ℕ) → Work
+  ExpandDeclarations : (each : List TypedDeclaration) (at : ℕ) → Work
 
 abbrev pub puts : List Op → List Work
 puts [] = []
@@ -92,9 +92,9 @@ module _ (L : Layout) where
   ops_of (Arguments places args d at) =
       parts_code L.classes L.repeating L.params L.base (placed (number_part L.classes L.repeating L.params L.base) places (parts L.classes L.repeating L.params L.base args)) d at
   ops_of (Elements items d at) = items_code L.classes L.repeating L.params L.base (parts L.classes L.repeating L.params L.base items) d at
-  ops_of (Does a at next out again) = statement_code L.classes L.repeating L.params L.base L.maker a at next out again
-  ops_of (DoesAll all at next out again) = statements_code L.classes L.repeating L.params L.base L.maker all at next out again
-  ops_of (Declares each at) = declared_code L.classes L.repeating L.params L.base each at
+  ops_of (Expand a at next out again) = statement_code L.classes L.repeating L.params L.base L.maker a at next out again
+  ops_of (ExpandAll all at next out again) = statements_code L.classes L.repeating L.params L.base L.maker all at next out again
+  ops_of (ExpandDeclarations each at) = declared_code L.classes L.repeating L.params L.base each at
 
   abbrev pub ops_of_all : List Work → List Op
   ops_of_all [] = []
@@ -202,12 +202,12 @@ module _ (L : Layout) where
 
   abbrev pub opened_declarations : List TypedDeclaration → (at : ℕ) → List Work
   opened_declarations [] at = []
-  opened_declarations (d ∷ rest) at = opened_initial d.first at ++ (Put (set_op L.params (L.base + 0) d.name) ∷ (Declares rest (at + initial_size d.first + 1) ∷ []))
+  opened_declarations (d ∷ rest) at = opened_initial d.first at ++ (Put (set_op L.params (L.base + 0) d.name) ∷ (ExpandDeclarations rest (at + initial_size d.first + 1) ∷ []))
 
   -- of the parts of a `for`
   abbrev pub opened_first : OptionalTypedStatement → (at next out again : ℕ) → List Work
   opened_first e.omitted at next out again = []
-  opened_first (e.written a) at next out again = Does a at next out again ∷ []
+  opened_first (e.written a) at next out again = Expand a at next out again ∷ []
 
   abbrev pub opened_test : Option TypedTree → (at next : ℕ) → List Work
   opened_test None at next = []
@@ -223,41 +223,41 @@ module _ (L : Layout) where
 
   -- of the forms of statements
   abbrev pub if_only : TypedTree → TypedStatement → (at next out again : ℕ) → List Work
-  if_only test a at next out again = (let so = at + size test + 1 + 1 in tested test at so ++ (Put (Jump next) ∷ (Does a so next out again ∷ [])))
+  if_only test a at next out again = (let so = at + size test + 1 + 1 in tested test at so ++ (Put (Jump next) ∷ (Expand a so next out again ∷ [])))
 
   abbrev pub if_else : TypedTree → TypedStatement → TypedStatement → (at next out again : ℕ) → List Work
   if_else test a o at next out again =
       (let so = at + size test + 1 + statement_size L.maker o + 1 in
-      tested test at so ++ (Does o (at + size test + 1) next out again ∷ (Put (Jump next) ∷ (Does a so next out again ∷ []))))
+      tested test at so ++ (Expand o (at + size test + 1) next out again ∷ (Put (Jump next) ∷ (Expand a so next out again ∷ []))))
 
   abbrev pub while_turns : TypedTree → TypedStatement → (at next : ℕ) → List Work
   while_turns test a at next =
       (let body = at + size test + 1 + 1 in
       let turn = body + statement_size L.maker a in
-      tested test at body ++ (Put (Jump next) ∷ (Does a body turn next turn ∷ (Put (Jump at) ∷ []))))
+      tested test at body ++ (Put (Jump next) ∷ (Expand a body turn next turn ∷ (Put (Jump at) ∷ []))))
 
   abbrev pub do_turns : TypedStatement → TypedTree → (at next : ℕ) → List Work
   do_turns a test at next =
       (let turn = at + statement_size L.maker a in
-      Does a at turn next turn ∷ (tested test turn (turn + size test + 1 + 1) ++ (Put (Jump next) ∷ (Put (Jump at) ∷ []))))
+      Expand a at turn next turn ∷ (tested test turn (turn + size test + 1 + 1) ++ (Put (Jump next) ∷ (Put (Jump at) ∷ []))))
 
   abbrev pub for_turns : Option TypedTree → Option TypedTree → TypedStatement → (at next : ℕ) → List Work
   for_turns test step a at next =
       (let body = at + test_size test in
       let turn = body + statement_size L.maker a in
-      opened_test test at next ++ (Does a body turn next turn ∷ (opened_step step turn ++ (Put (Jump at) ∷ []))))
+      opened_test test at next ++ (Expand a body turn next turn ∷ (opened_step step turn ++ (Put (Jump at) ∷ []))))
 
   abbrev pub item_turns : ℕ → TypedTree → TypedStatement → (at next : ℕ) → List Work
   item_turns i list a at next =
       (let turn = at + size list + 1 + 1 + 1 in
       valued list 0 at ∷ (Put (set_op L.params (L.base + 0) (Local (suc i))) ∷ (Put (Const (L.base + 0) (pos 0))
       ∷ (Put (set_op L.params (L.base + 0) (Local (suc (suc i)))) ∷ (puts (takes_item i turn next)
-      ++ (Does a (turn + item_size) turn next turn ∷ (Put (Jump turn) ∷ [])))))))
+      ++ (Expand a (turn + item_size) turn next turn ∷ (Put (Jump turn) ∷ [])))))))
 
   -- of a statement
   abbrev pub opened_statement : TypedStatement → (at next out again : ℕ) → List Work
-  opened_statement (e.Block all) at next out again = DoesAll all at next out again ∷ []
-  opened_statement (e.Let fixed each) at next out again = Declares each at ∷ []
+  opened_statement (e.Block all) at next out again = ExpandAll all at next out again ∷ []
+  opened_statement (e.Let fixed each) at next out again = ExpandDeclarations each at ∷ []
   opened_statement (e.IfOnly test a) at next out again = if_only test a at next out again
   opened_statement (e.IfElse test a o) at next out again = if_else test a o at next out again
   opened_statement (e.While test a) at next out again = while_turns test a at next
@@ -277,8 +277,8 @@ module _ (L : Layout) where
   abbrev pub opened_statements : TypedStatements → (at next out again : ℕ) → List Work
   opened_statements e.done at next out again = []
   opened_statements (e.also a rest) at next out again =
-      Does a at (behind (statements_size L.maker rest) (at + statement_size L.maker a) next) out again
-      ∷ (DoesAll rest (at + statement_size L.maker a) next out again ∷ [])
+      Expand a at (behind (statements_size L.maker rest) (at + statement_size L.maker a) next) out again
+      ∷ (ExpandAll rest (at + statement_size L.maker a) next out again ∷ [])
 
   -- the pieces of a piece; an op has none
   abbrev pub opened : Work → List Work
@@ -287,9 +287,9 @@ module _ (L : Layout) where
   opened (Reach x d at) = opened_reach x d at
   opened (Arguments places args d at) = opened_arguments places args d at
   opened (Elements items d at) = opened_elements items d at
-  opened (Does a at next out again) = opened_statement a at next out again
-  opened (DoesAll all at next out again) = opened_statements all at next out again
-  opened (Declares each at) = opened_declarations each at
+  opened (Expand a at next out again) = opened_statement a at next out again
+  opened (ExpandAll all at next out again) = opened_statements all at next out again
+  opened (ExpandDeclarations each at) = opened_declarations each at
 
   -- the ops of a piece by itself, before those of its pieces
   abbrev pub own_ops : Work → List Op

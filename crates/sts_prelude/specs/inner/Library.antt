@@ -1,7 +1,7 @@
 -- The tree of the library's text, over the text's tokens, which are counted from 0.
 use Rattle.std.specs.Prelude.{ℕ, ℤ, pos, ◌+◌, false, Some, None, List, [], ◌∷◌, slice_get}
-use Rattle.sts_lexer.specs.declared.token.Kind.{Kind}
-use Rattle.sts_lexer.specs.declared.token.Kind.TheVariants as k
+use Rattle.sts_lexer.specs.declared.token.TokenKind.{TokenKind}
+use Rattle.sts_lexer.specs.declared.token.TokenKind.TheVariants as k
 use Rattle.sts_lexer.specs.declared.token.Token.{Token}
 use Rattle.sts_syntax.specs.Annotations as a
 use Rattle.sts_syntax.specs.Annotations.{Annotation}
@@ -9,10 +9,10 @@ use Rattle.sts_syntax.specs.Trees.{Parameter, Tree, Num, Text, Name, Binary, Cho
 use Rattle.sts_syntax.specs.Programs.{TopLevel, Function, Program}
 use Rattle.sts_grammar.specs.Source.{kind_of, place_of}
 
-abbrev pub entry_of : Kind → ℕ
-entry_of (k.Name entry) = entry
-entry_of (k.Word word entry) = entry
-entry_of (k.Text entry) = entry
+abbrev pub entry_of : TokenKind → ℕ
+entry_of (k.Name named_at) = named_at
+entry_of (k.Word word named_at) = named_at
+entry_of (k.Text named_at) = named_at
 entry_of other = 0
 
 -- a return of a value, as the whole of a function
@@ -20,29 +20,29 @@ abbrev pub returned : ℕ → Tree → Statements
 returned at value = also (Return at (present value)) done
 
 module _ (tokens : List Token) where
-  -- the place of the token at i, and the entry that it names
+  -- the place of the token at i, and the named_at that it names
   abbrev pub place : ℕ → ℕ
   place i = place_of (slice_get tokens i)
 
-  abbrev pub entry : ℕ → ℕ
-  entry i = entry_of (kind_of (slice_get tokens i))
+  abbrev pub named_at : ℕ → ℕ
+  named_at i = entry_of (kind_of (slice_get tokens i))
 
   -- the name and the number at i
   abbrev pub name : ℕ → Tree
-  name i = Name (place i) (entry i)
+  name i = Name (place i) (named_at i)
 
   abbrev pub number : ℕ → ℤ → Tree
   number i value = Num (place i) value
 
   abbrev pub text : ℕ → Tree
-  text i = Text (place i) (entry i)
+  text i = Text (place i) (named_at i)
 
   -- `f(..)` from i on, and `x.f(argument)` as a statement
   abbrev pub call : ℕ → Trees → Tree
   call i args = Call (place i) (name i) args
 
   abbrev pub member_call : ℕ → (argument : Tree) → Statement
-  member_call i argument = Plain (place i) (Call (place i) (Member (place i) (name i) (entry (i + 2))) (more argument none))
+  member_call i argument = Plain (place i) (Call (place i) (Member (place i) (name i) (named_at (i + 2))) (more argument none))
 
   -- `$show(x)` and `basic.pause(400)` from i on
   abbrev pub show : ℕ → Statement
@@ -56,7 +56,7 @@ module _ (tokens : List Token) where
   glyph i index = call i (more (name (i + 2)) (more index none))
 
   abbrev pub declare : ℕ → (first : Tree) → Statement
-  declare i first = Let (place i) false (next (Declare (place (i + 1)) (entry (i + 1)) None (present first)) ended)
+  declare i first = Let (place i) false (next (Declare (place (i + 1)) (named_at (i + 1)) None (present first)) ended)
 
   -- `i += 1` and `g = $glyph(x, i)` from i on
   abbrev pub count : ℕ → Statement
@@ -100,11 +100,11 @@ module _ (tokens : List Token) where
       returned (place i) (Choice (place (i + 1)) (Binary (place (i + 1)) op (name (i + 1)) (name (i + 3))) (name (i + 5)) (name (i + 7)))
 
   abbrev pub parameter : ℕ → Annotation → Parameter
-  parameter i type = record { at = place i; name = entry i; shape = Some type }
+  parameter i type = record { at = place i; name = named_at i; shape = Some type }
 
   -- `function NAME(..): gives { .. }` from i on
   abbrev pub function : ℕ → List Parameter → Annotation → Statements → TopLevel
-  function i params gives all = Function (entry (i + 1)) (Does (place (i + 1)) params (Some gives) all false)
+  function i params gives all = Function (named_at (i + 1)) (Does (place (i + 1)) params (Some gives) all false)
 
   -- a function of a number or of a text that gives nothing
   abbrev pub of_number : ℕ → Statements → TopLevel

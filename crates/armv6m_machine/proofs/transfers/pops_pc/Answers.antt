@@ -1,7 +1,7 @@
 use Rattle.std.proofs.Common.{◌∙◌, sym, arith, length}
 use Rattle.std.proofs.lemmas.Bool.Decides.{nat_tests}
 use Rattle.thumb_code.specs.RegisterFile.{listed}
-use Rattle.thumb_code.specs.Forms.{words_from}
+use Rattle.thumb_code.specs.Forms.{word_accesses}
 use Rattle.armv6m_machine.proofs.ManyWords.{pop_pc_not_thumb, pop_pc_done, more_free, loads_keep}
 use Rattle.armv6m_machine.proofs.transfers.pops_pc.Goals as goal
 
@@ -11,7 +11,7 @@ fill-requires g c = rw (← c.count-n.ensures.value) (more_free g.M.Memory.memor
 pub load-to-requires-clause-free : goal.load-to-requires-clause-free
 load-to-requires-clause-free g c =
     rw c.fill.ensures.memory
-    (loads_keep g.M.Memory.memory g.met.M.Memory.load_keeps (words_from c.args.registers.now.sp (length (listed c.args.list))) c.args.memory.now _ _
+    (loads_keep g.M.Memory.memory g.met.M.Memory.load_keeps (word_accesses c.args.registers.now.sp (length (listed c.args.list))) c.args.memory.now _ _
     ∙ (more_free g.M.Memory.memory c.args.memory.now _ _ c.count-n.result c.in_default.ensures).1)
 
 pub returns-then-to-eq0-clause-row : goal.returns-then-to-eq0-clause-row

@@ -1,10 +1,10 @@
 use Rattle.std.proofs.Common.{ap, ◌∙◌, List, ℕ, subst, ◌≤◌}
 use Rattle.message_bus.specs.Numbers.{numbers}
 use Rattle.message_bus.proofs.Laws.{numbers-bits}
-use Rattle.board_run.specs.Places.{Place}
+use Rattle.board_run.specs.Places.{PendingDispatch}
 use Rattle.board_run.proofs.place.place_for.Goals as goal
 
-place_with : goal.After-new → List ℕ → Place
+place_with : goal.After-new → List ℕ → PendingDispatch
 place_with c l = record { event = c.args.event; left = l }
 
 pub returns-clause-place : goal.returns-clause-place

@@ -3,7 +3,7 @@ use Rattle.std.proofs.lemmas.Bool.Decides.{nat_tests}
 use Rattle.thumb_code.specs.declared.register_file.Registers.{Registers}
 use Rattle.thumb_code.specs.Machine.{State as Machine}
 use Rattle.fiber_pool.specs.Kept.{Kept}
-use Rattle.fiber_runtime.specs.Words.{Fits}
+use Rattle.fiber_runtime.specs.Words.{ReachesBase}
 use Rattle.fiber_runtime.proofs.Copied.{holds_copied}
 use Rattle.fiber_runtime.proofs.copy.copy_in.Goals.{then-words-eq0, else-words-eq0}
 use Rattle.fiber_runtime.proofs.copy.copy_in.Goals as goal
@@ -27,5 +27,5 @@ returns c = λ k g.
     ]) in
     let m : from + n - from ≡ n = omega arith in
     holds_copied k c.args.machine.now c.set_base.new.self c.kept-base.result.0 c.kept-base.result.1 c.stack_mut-stack.result.now c.restore.new.into from n _
-    (subst (λ (o : Option Kept). IfSome o Fits) g c.requires.fits) (ap length (sym c.stack_mut-stack.ensures.value) ∙ c.stack_mut-stack.ensures.size) c.stack_mut-stack.ensures.value words registers base count m placed none
+    (subst (λ (o : Option Kept). IfSome o ReachesBase) g c.requires.fits) (ap length (sym c.stack_mut-stack.ensures.value) ∙ c.stack_mut-stack.ensures.size) c.stack_mut-stack.ensures.value words registers base count m placed none
     (c.set_base.ensures ∙ ap (λ (v : Machine). record v { memory = record v.memory { base = c.kept-base.result.1 } }) c.set_registers.ensures)

@@ -1,4 +1,4 @@
-use Rattle.sts_lexer.specs.declared.token.Kind.TheVariants.{Num}
+use Rattle.sts_lexer.specs.declared.token.TokenKind.TheVariants.{Num}
 use Rattle.std.specs.Prelude.{pos, false}
 use Rattle.parse_unit.proofs.OpenBrackets.{at_first, first_many, still_few, all_few}
 use Rattle.parse_unit.proofs.brackets.first_deep.Goals as goal

@@ -1,5 +1,5 @@
 use Rattle.std.proofs.Common.{subst, refl, [], rules, All, ◌<◌, ◌≤◌, length}
-use Rattle.hex_image.specs.Spells.{flash_bytes}
+use Rattle.hex_image.specs.Spells.{flash_size}
 use Rattle.run_tool.specs.Answers.{Concludes, of_devices, of_sink}
 use Rattle.run_tool.specs.Big.{big_line}
 use Rattle.run_tool.specs.Run.{RunsProgram}
@@ -19,7 +19,7 @@ returns-in-Ok g c = λ P texts implements.
 pub returns-in-Err : goal.returns-in-Err
 returns-in-Err g c = λ P texts implements.
     let m = c.args.options in
-    let fits : length c.args.image.items ≤ flash_bytes = search rules in
+    let fits : length c.args.image.items ≤ flash_size = search rules in
     let bytes : All (λ b. b < 256) c.args.image.items = search rules in
     let due = some-run P texts c.args.image.items (record { fits = fits; bytes = bytes }) implements default_script m.budget m.stats m.image in
     lead-concludes g.D.Device.account c.args.places.now.items c.args.places.now.items refl (of_sink g.K.Sink.taken g.K.Sink.faults c.args.out.now c.put_big_line.new.out) (big_line c.args.size) (RunsProgram P texts default_script m.budget m.stats m.image) due.0 due.1

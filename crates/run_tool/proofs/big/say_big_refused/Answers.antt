@@ -10,16 +10,16 @@ use Rattle.run_tool.proofs.big.say_big_refused.Goals as goal
 
 pub refuse_big-requires-clause-within : goal.refuse_big-requires-clause-within
 refuse_big-requires-clause-within g c =
-    (c.refusals_stand_in_their_texts.ensures c.args.text.now c.in-Program.code c.in-Program.at (subst (λ x. accepting.Refuses c.args.text.now x) c.in-Program.is c.requires)).0
+    (c.refusals_stand_in_their_texts.ensures c.args.text.now c.in-Program.code c.in-Program.at (subst (λ x. accepting.RefusesText c.args.text.now x) c.in-Program.is c.requires)).0
 
 pub refuse_big-requires-clause-fits : goal.refuse_big-requires-clause-fits
 refuse_big-requires-clause-fits g c =
-    (c.refusals_stand_in_their_texts.ensures c.args.text.now c.in-Program.code c.in-Program.at (subst (λ x. accepting.Refuses c.args.text.now x) c.in-Program.is c.requires)).1
+    (c.refusals_stand_in_their_texts.ensures c.args.text.now c.in-Program.code c.in-Program.at (subst (λ x. accepting.RefusesText c.args.text.now x) c.in-Program.is c.requires)).1
 
 pub returns-in-Program : goal.returns-in-Program
 returns-in-Program g c =
     let lead = big_line c.args.size in
-    let why = subst (λ x. accepting.Refuses c.args.text.now x) c.in-Program.is c.requires in
+    let why = subst (λ x. accepting.RefusesText c.args.text.now x) c.in-Program.is c.requires in
     let may = AnswersRefusal c.args.text.now c.in-Program.code c.in-Program.at in
     let more = OverProgram none_to_programs c.args.text.now in
     gives-more (Led lead may) (Led lead more) c.refuse_big.result (led-more lead may more (λ answer h. inr ((c.in-Program.code, c.in-Program.at), why, h))) c.refuse_big.ensures

@@ -1,5 +1,5 @@
 use Rattle.std.proofs.Common.{◌≡◌, ◌<◌, ◌≤◌, length, ap, ◌∙◌, rules, All}
-use Rattle.hex_image.specs.Spells.{flash_bytes}
+use Rattle.hex_image.specs.Spells.{flash_size}
 use Rattle.hex_image.specs.Writing.{hextext}
 use Rattle.run_tool.specs.declared.ending.Status.TheVariants.{Done}
 use Rattle.run_tool.specs.Answers.{says}
@@ -9,7 +9,7 @@ use Rattle.run_tool.proofs.build.write_image.Goals as goal
 
 pub returns-in-Ok : goal.returns-in-Ok
 returns-in-Ok g c = λ P texts implements.
-    let fits : length c.args.image.items ≤ flash_bytes = search rules in
+    let fits : length c.args.image.items ≤ flash_size = search rules in
     let bytes : All (λ b. b < 256) c.args.image.items = search rules in
     let text = c.deref-in-Ok.result.now in
     gives-more (λ answer. answer ≡ says Done text) (WritesImage P texts) c.say.result

@@ -1,7 +1,7 @@
 use Rattle.std.proofs.Common.{◌≡◌, ◌≤◌, length, arith, refl, inl, inr}
 use Rattle.std.specs.Option.{option_map}
 use Rattle.sts_words.specs.Views.{spoken}
-use Rattle.hex_image.specs.Spells.{flash_bytes}
+use Rattle.hex_image.specs.Spells.{flash_size}
 use Rattle.hex_image.specs.Codes.{number_of}
 use Rattle.run_tool.specs.declared.ending.Status.TheVariants.{ImageRefused}
 use Rattle.run_tool.specs.Answers.{says}
@@ -19,7 +19,7 @@ use Rattle.run_tool.proofs.run_hex.run_hex_text.Goals as goal
 
 pub run_named-requires-clause-size : goal.run_named-requires-clause-size
 run_named-requires-clause-size g c =
-    let fits : length c.in-Ok.image.items ≤ flash_bytes = image-fits c.args.text.now c.in-Ok.image.items c.in-Ok.ensures.image in
+    let fits : length c.in-Ok.image.items ≤ flash_size = image-fits c.args.text.now c.in-Ok.image.items c.in-Ok.ensures.image in
     omega (arith, fits, c.in-Ok.image.ok)
 
 pub returns-in-Ok-clause-answer : goal.returns-in-Ok-clause-answer

@@ -4,7 +4,7 @@ use Rattle.sts_syntax.specs.TypedTrees.{TypedTree}
 use Rattle.sts_syntax.specs.TypedViews.{typed_trees}
 use Rattle.sts_syntax.proofs.Laws.{call_is, super_call_is, make_is, items_is}
 use Rattle.sts_lower.specs.inner.Works.{Value, opened_value}
-use Rattle.sts_lower.specs.inner.Fitting.{Fits}
+use Rattle.sts_lower.specs.inner.Fitting.{WorkFits}
 use Rattle.sts_lower.specs.inner.Shown.{layout, works}
 use Rattle.std.specs.Prelude.{OnOk}
 use Rattle.sts_lower.proofs.Sums.{items_many}
@@ -14,7 +14,7 @@ use Rattle.sts_lower.proofs.expressions.open_value.Goals as goal
 pub open_call-requires-clause-temporaries : goal.open_call-requires-clause-temporaries
 open_call-requires-clause-temporaries c =
     let is = call_is c.args.e.now c.in-Call.callee c.in-Call.args c.in-Call.is in
-    let P : TypedTree → Type 0 = λ a. Fits (layout c.args.frame.now) (Value a c.args.d c.args.at c.args.next) in
+    let P : TypedTree → Type 0 = λ a. WorkFits (layout c.args.frame.now) (Value a c.args.d c.args.at c.args.next) in
     let fits = subst P is c.requires.fits in
     omega (arith, fits.1, call_holds c.args.frame.now.params (value_type c.args.e.now.ty) c.in-Call.callee (typed_trees c.in-Call.args) fits.2)
 
@@ -29,7 +29,7 @@ returns-in-Call c =
 pub open_super_call-requires-clause-temporaries : goal.open_super_call-requires-clause-temporaries
 open_super_call-requires-clause-temporaries c =
     let is = super_call_is c.args.e.now c.in-SuperCall.f c.in-SuperCall.args c.in-SuperCall.is in
-    let P : TypedTree → Type 0 = λ a. Fits (layout c.args.frame.now) (Value a c.args.d c.args.at c.args.next) in
+    let P : TypedTree → Type 0 = λ a. WorkFits (layout c.args.frame.now) (Value a c.args.d c.args.at c.args.next) in
     let fits = subst P is c.requires.fits in
     omega (arith, fits.1, super_call_holds c.args.frame.now.params (value_type c.args.e.now.ty) c.in-SuperCall.f (typed_trees c.in-SuperCall.args) fits.2)
 
@@ -44,7 +44,7 @@ returns-in-SuperCall c =
 pub open_make-requires : goal.open_make-requires
 open_make-requires c =
     let is = make_is c.args.e.now c.in-Make.class c.in-Make.args c.in-Make.is in
-    let P : TypedTree → Type 0 = λ a. Fits (layout c.args.frame.now) (Value a c.args.d c.args.at c.args.next) in
+    let P : TypedTree → Type 0 = λ a. WorkFits (layout c.args.frame.now) (Value a c.args.d c.args.at c.args.next) in
     let fits = subst P is c.requires.fits in
     omega (arith, fits.1, make_holds (value_type c.args.e.now.ty) c.in-Make.class (typed_trees c.in-Make.args))
 
@@ -59,7 +59,7 @@ returns-in-Make c =
 pub open_items-requires-clause-places : goal.open_items-requires-clause-places
 open_items-requires-clause-places c =
     let is = items_is c.args.e.now c.in-Items.items c.in-Items.is in
-    let P : TypedTree → Type 0 = λ a. Fits (layout c.args.frame.now) (Value a c.args.d c.args.at c.args.next) in
+    let P : TypedTree → Type 0 = λ a. WorkFits (layout c.args.frame.now) (Value a c.args.d c.args.at c.args.next) in
     let fits = subst P is c.requires.fits in
     omega (arith, fits.0, items_many (typed_trees c.in-Items.items))
 

@@ -1,6 +1,6 @@
 use Rattle.std.proofs.Common.{ℕ, List, [], subst}
 use Rattle.sts_syntax.specs.Programs.{program}
-use Rattle.sts_prelude.specs.Spelled.{IsLibrary}
+use Rattle.sts_prelude.specs.Spelled.{IsLibraryTree}
 use Rattle.sts_grammar.specs.Texts.{no_entries}
 use Rattle.sts_whole.specs.Accepting.{ReadsText}
 use Rattle.text_sizes.proofs.Laws.{most_tokens}
@@ -14,18 +14,18 @@ pub accept_tokens-requires-clause-library : goal.accept_tokens-requires-clause-l
 accept_tokens-requires-clause-library c =
     let p = program c.in-Ok.library in
     let after = c.library.new.tables in
-    let library_is : IsLibrary no_entries after p =
-    subst (λ (names : List (List ℕ)). IsLibrary (record { names = names; texts = [] }) after p) c.new.ensures
-    (subst (λ (texts : List (List ℕ)). IsLibrary (record { names = c.new.result; texts = texts }) after p) c.new-2.ensures c.in-Ok.ensures.library) in
+    let library_is : IsLibraryTree no_entries after p =
+    subst (λ (names : List (List ℕ)). IsLibraryTree (record { names = names; texts = [] }) after p) c.new.ensures
+    (subst (λ (texts : List (List ℕ)). IsLibraryTree (record { names = c.new.result; texts = texts }) after p) c.new-2.ensures c.in-Ok.ensures.library) in
     library_few after p library_is
 
 pub returns-in-Ok-accept_tokens-clause-accepted : goal.returns-in-Ok-accept_tokens-clause-accepted
 returns-in-Ok-accept_tokens-clause-accepted c =
     let p = program c.in-Ok.library in
     let after = c.library.new.tables in
-    let library_is : IsLibrary no_entries after p =
-    subst (λ (names : List (List ℕ)). IsLibrary (record { names = names; texts = [] }) after p) c.new.ensures
-    (subst (λ (texts : List (List ℕ)). IsLibrary (record { names = c.new.result; texts = texts }) after p) c.new-2.ensures c.in-Ok.ensures.library) in
+    let library_is : IsLibraryTree no_entries after p =
+    subst (λ (names : List (List ℕ)). IsLibraryTree (record { names = names; texts = [] }) after p) c.new.ensures
+    (subst (λ (texts : List (List ℕ)). IsLibraryTree (record { names = c.new.result; texts = texts }) after p) c.new-2.ensures c.in-Ok.ensures.library) in
     c.in-Ok-accept_tokens.ensures.accepted c.args.text.now
     (record {
       first = after;
@@ -42,9 +42,9 @@ pub returns-in-Err-accept_tokens-clause-refused : goal.returns-in-Err-accept_tok
 returns-in-Err-accept_tokens-clause-refused c =
     let p = program c.in-Ok.library in
     let after = c.library.new.tables in
-    let library_is : IsLibrary no_entries after p =
-    subst (λ (names : List (List ℕ)). IsLibrary (record { names = names; texts = [] }) after p) c.new.ensures
-    (subst (λ (texts : List (List ℕ)). IsLibrary (record { names = c.new.result; texts = texts }) after p) c.new-2.ensures c.in-Ok.ensures.library) in
+    let library_is : IsLibraryTree no_entries after p =
+    subst (λ (names : List (List ℕ)). IsLibraryTree (record { names = names; texts = [] }) after p) c.new.ensures
+    (subst (λ (texts : List (List ℕ)). IsLibraryTree (record { names = c.new.result; texts = texts }) after p) c.new-2.ensures c.in-Ok.ensures.library) in
     let reads : ReadsText c.args.text.now c.tokens.new.tables p c.in_ok-tokens.tokens =
     record {
       first = after;

@@ -3,7 +3,7 @@ use Rattle.std.specs.Prelude.{false, Some}
 use Rattle.sts_syntax.specs.declared.trees.Param.{Param}
 use Rattle.sts_syntax.specs.Types as value
 use Rattle.sts_syntax.specs.Views.{parameters, routine}
-use Rattle.sts_scope.specs.declared.kinds.Kind.{Kind}
+use Rattle.sts_scope.specs.declared.kinds.StaticType.{StaticType}
 use Rattle.sts_scope.specs.Kinds as kind
 use Rattle.sts_scope.specs.declared.known.This.TheVariants as this
 use Rattle.sts_syntax.specs.TypedTrees.{TypedRoutine}
@@ -27,7 +27,7 @@ build_constructor-requires-clause-fits c =
     let n = c.args.n in
     let inits = w.initials_of l c.args.parts.now in
     let vs = c.in_ok-types.ensures ∙ ap (λ (q : List Param). value.Object class ∷ kind.value_types (w.written_takes l q)) c.as_slice-params.ensures in
-    let st = c.in_ok-site.ensures ∙ (ap (λ (k : Kind). functions.site_of l (this.Object class) (Some k) false 1 (parameters c.as_slice-params.result.now)) c.flat.ensures
+    let st = c.in_ok-site.ensures ∙ (ap (λ (k : StaticType). functions.site_of l (this.Object class) (Some k) false 1 (parameters c.as_slice-params.result.now)) c.flat.ensures
     ∙ ap (λ (q : List Param). functions.site_of l (this.Object class) (Some kind.nothing) false 1 (parameters q)) c.as_slice-params.ensures) in
     let e = constructor_whole l class n inits c.args.body.now (value.value_types c.in_ok-types.types) (s.site c.in_ok-site.site) c.as_slice-all.result.now vs st c.as_slice-all.ensures in
     subst (λ (xs : List TypedRoutine). n + numbers_taken xs < 2 ^ 32) (sym e) (constructor_fits l class n inits (routine c.args.body.now) c.requires.functions)
@@ -39,7 +39,7 @@ returns c =
     let inits = w.initials_of l c.args.parts.now in
     let f = c.in_ok-function.function in
     let vs = c.in_ok-types.ensures ∙ ap (λ (q : List Param). value.Object class ∷ kind.value_types (w.written_takes l q)) c.as_slice-params.ensures in
-    let st = c.in_ok-site.ensures ∙ (ap (λ (k : Kind). functions.site_of l (this.Object class) (Some k) false 1 (parameters c.as_slice-params.result.now)) c.flat.ensures
+    let st = c.in_ok-site.ensures ∙ (ap (λ (k : StaticType). functions.site_of l (this.Object class) (Some k) false 1 (parameters c.as_slice-params.result.now)) c.flat.ensures
     ∙ ap (λ (q : List Param). functions.site_of l (this.Object class) (Some kind.nothing) false 1 (parameters q)) c.as_slice-params.ensures) in
     let us = value.value_types c.in_ok-types.types in
     let here = s.site c.in_ok-site.site in

@@ -1,6 +1,6 @@
 use Rattle.std.proofs.Common.{◌++◌, refl, ap, sym, ◌∙◌, append-nil, add-zero, arith}
 use Rattle.std.specs.Prelude.{Option, false}
-use Rattle.sts_scope.specs.declared.kinds.Kind.{Kind}
+use Rattle.sts_scope.specs.declared.kinds.StaticType.{StaticType}
 use Rattle.sts_syntax.specs.Types.{value_types}
 use Rattle.sts_syntax.specs.TypedViews.{typed_routines}
 use Rattle.sts_syntax.specs.Views.{routine}
@@ -29,7 +29,7 @@ returns c = λ x.
       stmts = sym (append-nil (w.typed_list old.stmts));
       locals = sym (append-nil (value_types old.builder.locals));
       routines = c.in_ok-add_function.ensures
-          ∙ ap (λ (k : Option Kind). typed_routines old.builder.routines ++ functions.function_made c.args.plan.now false old.builder.function k (routine c.args.body.now)) c.kind_at-gives.ensures;
+          ∙ ap (λ (k : Option StaticType). typed_routines old.builder.routines ++ functions.function_made c.args.plan.now false old.builder.function k (routine c.args.body.now)) c.kind_at-gives.ensures;
       local = sym (add-zero old.builder.local);
       function = omega (arith, c.routine_handlers-whole.ensures);
       class = sym (add-zero old.class);

@@ -6,7 +6,7 @@ use Rattle.sts_syntax.specs.TypedTrees.{TypedProgram}
 use Rattle.sts_syntax.specs.TypedViews.{typed_program}
 use Rattle.type_derive.specs.Accepted.{typed}
 use Rattle.type_derive.specs.Solved.{IsSolved}
-use Rattle.sts_whole.specs.Checking.{Refuses}
+use Rattle.sts_whole.specs.Checking.{RefusesTrees}
 use Rattle.sts_whole.proofs.Checked.{text_behind, heading_refused, found_refused, counts_refused, limits_refused, accepted}
 use Rattle.sts_whole.proofs.Numbered.{counts_hold}
 use Rattle.sts_whole.proofs.checking.check.Goals as goal
@@ -20,7 +20,7 @@ returns-in_err-declared-clause-refused c =
     let library = program c.args.library.now in
     let text = program c.args.text.now in
     let why = err_from_is_err_and c.from_residual.result c.from_residual.ensures.1 in
-    rw (why.1) (subst (λ (w : Refused). Refuses w tables library text) (sym (why.2))
+    rw (why.1) (subst (λ (w : Refused). RefusesTrees w tables library text) (sym (why.2))
     (heading_refused tables library text c.in_err-declared.field-0.0 c.in_err-declared.ensures.found))
 
 pub find_failure-requires : goal.find_failure-requires
@@ -40,7 +40,7 @@ returns-in_err-find_failure-clause-refused c =
     let why = err_from_is_err_and c.from_residual-in_err-find_failure.result c.from_residual-in_err-find_failure.ensures.1 in
     let s : IsSolved tables library text c.solve.new.declared =
     subst (λ r. OnOk r (IsSolved tables library text c.solve.new.declared)) c.in_ok-or_no_memory.ensures.ok c.solve.ensures in
-    rw (why.1) (subst (λ (w : Refused). Refuses w tables library text) (sym (why.2))
+    rw (why.1) (subst (λ (w : Refused). RefusesTrees w tables library text) (sym (why.2))
     (found_refused tables library text c.solve.new.declared s c.in_err-find_failure.field-0.0
     c.in_ok-declared.ensures.found c.in_err-find_failure.ensures))
 
@@ -52,7 +52,7 @@ returns-in_err-check_counts-clause-refused c =
     let why = err_from_is_err_and c.from_residual-in_err-check_counts.result c.from_residual-in_err-check_counts.ensures.1 in
     let s : IsSolved tables library text c.solve.new.declared =
     subst (λ r. OnOk r (IsSolved tables library text c.solve.new.declared)) c.in_ok-or_no_memory.ensures.ok c.solve.ensures in
-    rw (why.1) (subst (λ (w : Refused). Refuses w tables library text) (sym (why.2))
+    rw (why.1) (subst (λ (w : Refused). RefusesTrees w tables library text) (sym (why.2))
     (counts_refused tables library text c.solve.new.declared s c.in_ok-declared.ensures.found c.in_ok-find_failure.ensures
     c.in_err-check_counts.field-0.0 c.in_err-check_counts.ensures))
 
@@ -67,7 +67,7 @@ returns-in_err-check_limits-clause-refused c =
     let p : TypedProgram = typed tables library text c.solve.new.declared.known.kinds in
     let is : typed_program c.in_ok-typed.typed ≡ p =
     subst (λ r. IfOk r (λ t. typed_program t ≡ p)) c.in_ok-typed.ensures.ok c.typed_of.ensures in
-    rw (why.1) (subst (λ (w : Refused). Refuses w tables library text) (sym (why.2))
+    rw (why.1) (subst (λ (w : Refused). RefusesTrees w tables library text) (sym (why.2))
     (limits_refused tables library text c.solve.new.declared s c.in_ok-declared.ensures.found c.in_ok-find_failure.ensures
     (typed_program c.in_ok-typed.typed) is c.in_err-check_limits.field-0.0 c.in_err-check_limits.ensures))
 

@@ -8,7 +8,7 @@ use Rattle.text_headings.proofs.heading_checks.check_parameters.Given as goal
 
 abbrev pub invariant-loop-i : goal.invariant-loop-i
 invariant-loop-i l = record {
-  found : heading.parameters_fault (value_at l.classes.values.items) (parameters l.params) l.i (parameters (drop l.i l.params))
-      ≡ heading.parameters_fault (value_at l.classes.values.items) (parameters l.params) 0 (parameters l.params);
+  found : heading.parameters_failure (value_at l.classes.values.items) (parameters l.params) l.i (parameters (drop l.i l.params))
+      ≡ heading.parameters_failure (value_at l.classes.values.items) (parameters l.params) 0 (parameters l.params);
   seen : (y : ℕ) → contains nat_cmp l.seen y ≡ heading.takes_name (parameters (take l.i l.params)) y;
 }

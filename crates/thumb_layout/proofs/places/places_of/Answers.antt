@@ -1,6 +1,6 @@
 use Rattle.std.proofs.Common.{arith, ◌≡◌, ◌+◌, ◌∷◌, ◌++◌, [], List, drop, sym, subst}
 use Rattle.std.proofs.lemmas.Grind.{common_steps}
-use Rattle.thumb_layout.specs.declared.places.Place.{Place}
+use Rattle.thumb_layout.specs.declared.places.PieceOffsets.{PieceOffsets}
 use Rattle.thumb_layout.proofs.Passing.{PlaceLoop, place_step_at}
 use Rattle.thumb_layout.proofs.Lengths.{most_counted}
 use Rattle.thumb_layout.proofs.places.places_of.Goals as goal
@@ -22,7 +22,7 @@ loop-index-preserved c =
     let pushed : c.push.new.self.items ≡ places ++ place ∷ [] = grind (arith, common_steps) in
     let step = place_step_at c.args.pieces.now c.args.forms.now i _ places c.loop-index.pools.items c.loop-index.cursor.at c.loop-index.cursor.waits (omega arith) c.requires.proper.as_long c.loop-index.invariant.0 place c.pass.new.self.at c.pass.new.self.waits c.pass.new.pools.items
     c.in_ok-place.ensures.passed c.in_ok-place.ensures.pools in (
-      subst (λ (q : List Place). PlaceLoop c.args.pieces.now c.args.forms.now (drop (i + 1) c.args.pieces.now) (drop (i + 1) c.args.forms.now) q c.pass.new.pools.items c.pass.new.self.at c.pass.new.self.waits) (sym pushed) step,
+      subst (λ (q : List PieceOffsets). PlaceLoop c.args.pieces.now c.args.forms.now (drop (i + 1) c.args.pieces.now) (drop (i + 1) c.args.forms.now) q c.pass.new.pools.items c.pass.new.self.at c.pass.new.self.waits) (sym pushed) step,
       c.in_ok-place.ensures.latest,
     )
 

@@ -1,7 +1,7 @@
 use Rattle.std.proofs.Common.{◌<◌, ◌+◌, List, length, drop, get_or, arith, rules, sym, ap, ◌∙◌, subst}
 use Rattle.thumb_layout.specs.declared.pieces.Piece.TheVariants.{Label, Plain}
 use Rattle.thumb_layout.specs.declared.pieces.Piece.{Piece}
-use Rattle.thumb_layout.specs.declared.places.Place.{Place}
+use Rattle.thumb_layout.specs.declared.places.PieceOffsets.{PieceOffsets}
 use Rattle.thumb_layout.specs.declared.writer.Writer.{Writer}
 use Rattle.thumb_code.specs.declared.instructions.Instr.TheVariants.{LslImm}
 use Rattle.thumb_layout.specs.Rounds.{forms}
@@ -14,7 +14,7 @@ use Rattle.thumb_layout.proofs.writer.written.Goals.{then-not-goes_on+in_ok-lay_
 abbrev no_piece : Piece
 no_piece = Plain (LslImm 0 0 0)
 
-abbrev no_place : Place
+abbrev no_place : PieceOffsets
 no_place = record { at = 0; body = 0 }
 
 pub loop-index-init : goal.loop-index-init

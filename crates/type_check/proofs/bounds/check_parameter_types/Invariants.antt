@@ -6,4 +6,4 @@ use Rattle.type_check.proofs.bounds.check_parameter_types.Given as goal
 
 abbrev pub invariant-loop-i : goal.invariant-loop-i
 invariant-loop-i l =
-    node.parameter_types_fault (value_at l.classes.values.items) (parameters (drop l.i l.params)) ≡ node.parameter_types_fault (value_at l.classes.values.items) (parameters l.params)
+    node.parameter_types_failure (value_at l.classes.values.items) (parameters (drop l.i l.params)) ≡ node.parameter_types_failure (value_at l.classes.values.items) (parameters l.params)

@@ -1,6 +1,6 @@
 use Rattle.std.proofs.Common.{◌≡◌, sym, ◌∙◌, subst}
 use Rattle.std.specs.Prelude.{IfOk}
-use Rattle.sts_scope.specs.Faults.{Finds}
+use Rattle.sts_scope.specs.Failures.{Finds}
 use Rattle.sts_scope.specs.Rules.{name_kind}
 use Rattle.type_derive.specs.Naming.{naming}
 use Rattle.type_derive.specs.Nodes as node

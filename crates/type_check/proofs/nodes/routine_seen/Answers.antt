@@ -1,6 +1,6 @@
 use Rattle.std.proofs.Common.{sym, subst}
 use Rattle.sts_scope.specs.declared.known.Found.TheVariants as found
-use Rattle.sts_scope.specs.Faults.{Finds}
+use Rattle.sts_scope.specs.Failures.{Finds}
 use Rattle.type_derive.specs.Naming.{naming}
 use Rattle.type_derive.specs.Nodes as node
 use Rattle.type_check.proofs.nodes.routine_seen.Goals as goal

@@ -5,7 +5,7 @@ use Rattle.sts_scope.specs.Entries.{item_entries}
 use Rattle.type_derive.specs.Naming.{naming}
 use Rattle.type_derive.specs.Passes.{item_overrides, all_overrides}
 use Rattle.text_headings.specs.Standing.{classes_before}
-use Rattle.text_headings.proofs.Laws.{item_stands, room_left, rest_stands, faults_step, faults_kept}
+use Rattle.text_headings.proofs.Laws.{item_stands, room_left, rest_stands, failures_step, failures_kept}
 use Rattle.type_check.proofs.overrides.check_all_overrides.Goals as goal
 
 pub check_item_overrides-requires-clause-room : goal.check_item_overrides-requires-clause-room
@@ -28,7 +28,7 @@ returns-in_err-d c =
     let names = naming c.args.context.now in
     let all = c.args.context.now.known.now.entries in
     let lt : c.loop-i.i < length c.args.items.now = omega arith in
-    let s = faults_step names all c.loop-i.d c.args.items.now c.loop-i.i c.index-items-i.result lt c.index-items-i.is (all_overrides c.args.context.now.known.now names) (item_overrides c.args.context.now.known.now) (λ m n y ys. refl) in
+    let s = failures_step names all c.loop-i.d c.args.items.now c.loop-i.i c.index-items-i.result lt c.index-items-i.is (all_overrides c.args.context.now.known.now names) (item_overrides c.args.context.now.known.now) (λ m n y ys. refl) in
     grind (arith, common_steps, s)
 
 pub loop-i-preserved : goal.loop-i-preserved
@@ -45,6 +45,6 @@ loop-i-preserved c =
     let stands = c.loop-i.invariant.stands in
     record {
       stands = rest_stands names all d items i x lt is stands n c.in_ok-d.ensures.next;
-      found = faults_kept names all d items i x lt is stands n c.in_ok-d.ensures.next (all_overrides c.args.context.now.known.now names) (item_overrides c.args.context.now.known.now) (λ m n y ys. refl)
+      found = failures_kept names all d items i x lt is stands n c.in_ok-d.ensures.next (all_overrides c.args.context.now.known.now names) (item_overrides c.args.context.now.known.now) (λ m n y ys. refl)
           (all_overrides c.args.context.now.known.now names (classes_before all c.args.first) c.args.first (top_levels items)) c.in_ok-d.ensures.found c.loop-i.invariant.found;
     }

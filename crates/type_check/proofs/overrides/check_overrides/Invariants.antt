@@ -7,7 +7,7 @@ use Rattle.type_check.proofs.overrides.check_overrides.Given as goal
 
 abbrev pub invariant-loop-i : goal.invariant-loop-i
 invariant-loop-i l = record {
-  found : pass.overrides_fault l.context.known.now l.c l.d (class_members (drop l.i l.members)) ≡ pass.overrides_fault l.context.known.now l.c l.first (class_members l.members);
+  found : pass.overrides_failure l.context.known.now l.c l.d (class_members (drop l.i l.members)) ≡ pass.overrides_failure l.context.known.now l.c l.first (class_members l.members);
   count : l.d + length (entry.member_entries (naming l.context) l.c (class_members (drop l.i l.members)))
       ≡ l.first + length (entry.member_entries (naming l.context) l.c (class_members l.members));
 }

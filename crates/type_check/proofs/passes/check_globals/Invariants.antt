@@ -6,4 +6,4 @@ use Rattle.type_check.proofs.passes.check_globals.Given as goal
 
 abbrev pub invariant-loop-i : goal.invariant-loop-i
 invariant-loop-i l =
-    pass.globals_fault l.context.tables.now (naming l.context) l.context.known.now (declarations (drop l.i l.each)) ≡ pass.globals_fault l.context.tables.now (naming l.context) l.context.known.now (declarations l.each)
+    pass.globals_failure l.context.tables.now (naming l.context) l.context.known.now (declarations (drop l.i l.each)) ≡ pass.globals_failure l.context.tables.now (naming l.context) l.context.known.now (declarations l.each)

@@ -8,6 +8,6 @@ use Rattle.type_check.proofs.passes.check_nodes.Given as goal
 abbrev pub invariant-loop-i : goal.invariant-loop-i
 invariant-loop-i l = record {
   stands : IsTextAt (naming l.context) l.context.known.now.entries l.d (top_levels (drop l.i l.items));
-  found : pass.nodes_fault l.context.tables.now (naming l.context) l.context.known.now (classes_before l.context.known.now.entries l.d) l.d (top_levels (drop l.i l.items))
-      ≡ pass.nodes_fault l.context.tables.now (naming l.context) l.context.known.now (classes_before l.context.known.now.entries l.first) l.first (top_levels l.items);
+  found : pass.nodes_failure l.context.tables.now (naming l.context) l.context.known.now (classes_before l.context.known.now.entries l.d) l.d (top_levels (drop l.i l.items))
+      ≡ pass.nodes_failure l.context.tables.now (naming l.context) l.context.known.now (classes_before l.context.known.now.entries l.first) l.first (top_levels l.items);
 }

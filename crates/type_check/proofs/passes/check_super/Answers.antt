@@ -1,7 +1,7 @@
 use Rattle.std.proofs.Common.{◌≡◌, [], sym, ap, ◌∙◌, subst}
 use Rattle.sts_base.specs.declared.refused.Code.TheVariants.{Mismatch}
 use Rattle.sts_syntax.specs.Views.{trees}
-use Rattle.sts_scope.specs.Faults.{Finds, ◌then◌, unless}
+use Rattle.sts_scope.specs.Failures.{Finds, ◌then◌, unless}
 use Rattle.sts_scope.specs.Rules.{maker_takes_of}
 use Rattle.type_derive.specs.Scopes.{place}
 use Rattle.type_derive.specs.Naming.{naming}

@@ -1,5 +1,6 @@
 use Rattle.std.proofs.Common.{rules, ◌∷◌, [], ◌++◌, ◌∙◌, sym, ap, subst, take, length, refl, ◌≤◌}
-use Rattle.board_ports.specs.Counts.{one_more, some_more}
+use Rattle.board_ports.specs.Counts.{some_more}
+use Rattle.sts_base.specs.Faults.{one_more}
 use Rattle.board_ports.specs.Logs.{Logs, at_moment}
 use Rattle.board_ports.proofs.History.{logs_then}
 use Rattle.board_ports.proofs.Writes.{logs_nothing, one_byte, first_bytes, some_more_next, some_more_of}

@@ -3,7 +3,7 @@ use Rattle.fiber_runtime.specs.State.{State}
 use Rattle.board_run.proofs.Few.{may_dispatch}
 use Rattle.board_run.proofs.Services.{not_below}
 use Rattle.board_run.proofs.EndServices.{nest_serves, wake_serves, refuse_nest, places_few}
-use Rattle.board_run.specs.Places.{Place}
+use Rattle.board_run.specs.Places.{PendingDispatch}
 use Rattle.board_run.specs.View.{state_of}
 use Rattle.board_run.proofs.engine.Engine.raise_now.Goals as goal
 
@@ -25,7 +25,7 @@ push-requires c =
 pub returns-in-Ok-clause-served : goal.returns-in-Ok-clause-served
 returns-in-Ok-clause-served c =
     nest_serves c.args.self.now c.requires.inside c.asked_event-event.result c.asked_event-event.ensures c.nest.new.runtime c.wake_waiters.new.self c.place_for-place.new.bus c.push.new.self
-    c.if-begins.ensures.some (c.in-Ok.ensures.room.0 refl) c.in-Ok.ensures.ok c.wake_waiters.ensures c.place_for-place.ensures.bus (c.push.ensures ∙ ap (λ (p : Place). p ∷ c.args.self.now.places) c.place_for-place.ensures.place)
+    c.if-begins.ensures.some (c.in-Ok.ensures.room.0 refl) c.in-Ok.ensures.ok c.wake_waiters.ensures c.place_for-place.ensures.bus (c.push.ensures ∙ ap (λ (p : PendingDispatch). p ∷ c.args.self.now.places) c.place_for-place.ensures.place)
 
 pub dispatch-requires : goal.dispatch-requires
 dispatch-requires c = may_dispatch c.args.self.now.runtime.machine.memory.flash (state_of c.args.self.now) c.requires.shown.world c.requires.shown.shows

@@ -4,7 +4,7 @@ ghost use Rattle.sts_base.specs.declared.refused.Code.TheVariants as code;
 ghost use Rattle.sts_syntax.specs.BoardViews.{board_parameter};
 ghost use Rattle.sts_syntax.specs.Trees as t;
 ghost use Rattle.sts_syntax.specs.Views.{tree, trees, routine, parameters, optional_expression, optional_annotation, statement, statements, declaration, declarations, optional_written};
-ghost use Rattle.sts_scope.specs.Faults.{Finds, ◌then◌};
+ghost use Rattle.sts_scope.specs.Failures.{Finds, ◌then◌};
 ghost use Rattle.sts_scope.specs.Places as name;
 ghost use Rattle.sts_scope.specs.Rules as rule;
 ghost use Rattle.type_derive.specs.Scopes.{place};
@@ -28,7 +28,7 @@ use crate::nodes::{
 use crate::places::enter_loop;
 use crate::seen::{Seen, always, own, plain};
 use sts_base::{Code, Refused, Seq};
-use sts_scope::{Base, Kind, flat, is_dollar, or_no_memory, unless};
+use sts_scope::{Base, StaticType, flat, is_dollar, or_no_memory, unless};
 use sts_syntax::{Binding, BoardCall, BoardParameter, Body, Expr, Form, Node, Param, Shape, Stmt};
 use text_headings::check_written;
 use type_derive::{
@@ -40,7 +40,7 @@ use type_derive::{
 /// An expression: its first failure, else its type and what stands behind its dot.
 #[cycle(walk)]
 pub fn expression(context: &Context, scope: &Scope, role: Role, e: &Expr) -> Result<Seen, Refused>
-    ensures found { Finds result (c.fault context.now (place scope.now) role (tree e.now)) }
+    ensures found { Finds result (c.failure context.now (place scope.now) role (tree e.now)) }
     ensures seen { IfOk result (λ s. s ≡ c.seen_of context.now (place scope.now) role (tree e.now)) }
 {
     let at = e.at;
@@ -77,7 +77,7 @@ fn unary(
     a: &Expr,
     at: u32,
 ) -> Result<Seen, Refused>
-    ensures found { Finds result (c.fault context.now (place scope.now) role (t.Unary at op (tree a.now))) }
+    ensures found { Finds result (c.failure context.now (place scope.now) role (t.Unary at op (tree a.now))) }
     ensures seen { IfOk result (λ s. s ≡ c.seen_of context.now (place scope.now) role (t.Unary at op (tree a.now))) }
 {
     let s = expression(context, scope, Role::Free, a)?;
@@ -95,7 +95,7 @@ fn binary(
     b: &Expr,
     at: u32,
 ) -> Result<Seen, Refused>
-    ensures found { Finds result (c.fault context.now (place scope.now) role (t.Binary at op (tree a.now) (tree b.now))) }
+    ensures found { Finds result (c.failure context.now (place scope.now) role (t.Binary at op (tree a.now) (tree b.now))) }
     ensures seen { IfOk result (λ s. s ≡ c.seen_of context.now (place scope.now) role (t.Binary at op (tree a.now) (tree b.now))) }
 {
     let s = expression(context, scope, Role::Free, a)?;
@@ -117,7 +117,7 @@ fn joined(
     b: &Expr,
     at: u32,
 ) -> Result<Seen, Refused>
-    ensures found { Finds result (c.fault context.now (place scope.now) role (t.Both at (tree a.now) (tree b.now))) }
+    ensures found { Finds result (c.failure context.now (place scope.now) role (t.Both at (tree a.now) (tree b.now))) }
     ensures seen { IfOk result (λ s. s ≡ c.seen_of context.now (place scope.now) role (t.Both at (tree a.now) (tree b.now))) }
 {
     let s = expression(context, scope, Role::Free, a)?;
@@ -135,7 +135,7 @@ fn item(
     i: &Expr,
     at: u32,
 ) -> Result<Seen, Refused>
-    ensures found { Finds result (c.fault context.now (place scope.now) role (t.Item at (tree a.now) (tree i.now))) }
+    ensures found { Finds result (c.failure context.now (place scope.now) role (t.Item at (tree a.now) (tree i.now))) }
     ensures seen { IfOk result (λ s. s ≡ c.seen_of context.now (place scope.now) role (t.Item at (tree a.now) (tree i.now))) }
 {
     let s = expression(context, scope, Role::Free, a)?;
@@ -154,7 +154,7 @@ fn choice(
     b: &Expr,
     at: u32,
 ) -> Result<Seen, Refused>
-    ensures found { Finds result (c.fault context.now (place scope.now) role (t.Choice at (tree q.now) (tree a.now) (tree b.now))) }
+    ensures found { Finds result (c.failure context.now (place scope.now) role (t.Choice at (tree q.now) (tree a.now) (tree b.now))) }
     ensures seen { IfOk result (λ s. s ≡ c.seen_of context.now (place scope.now) role (t.Choice at (tree q.now) (tree a.now) (tree b.now))) }
 {
     let v = expression(context, scope, Role::Free, q)?;
@@ -178,7 +178,7 @@ fn setting(
     a: &Expr,
     at: u32,
 ) -> Result<Seen, Refused>
-    ensures found { Finds result (c.fault context.now (place scope.now) role (t.Set at op (tree x.now) (tree a.now))) }
+    ensures found { Finds result (c.failure context.now (place scope.now) role (t.Set at op (tree x.now) (tree a.now))) }
     ensures seen { IfOk result (λ s. s ≡ c.seen_of context.now (place scope.now) role (t.Set at op (tree x.now) (tree a.now))) }
 {
     let u = expression(context, scope, Role::Free, x)?;
@@ -202,7 +202,7 @@ fn bumping(
     after: bool,
     at: u32,
 ) -> Result<Seen, Refused>
-    ensures found { Finds result (c.fault context.now (place scope.now) role (t.Bump at (tree x.now) by after)) }
+    ensures found { Finds result (c.failure context.now (place scope.now) role (t.Bump at (tree x.now) by after)) }
     ensures seen { IfOk result (λ s. s ≡ c.seen_of context.now (place scope.now) role (t.Bump at (tree x.now) by after)) }
 {
     let u = expression(context, scope, Role::Free, x)?;
@@ -221,7 +221,7 @@ fn member(
     m: u32,
 ) -> Result<Seen, Refused>
     requires whole { tree e.now ≡ t.Member e.now.at (tree a.now) m }
-    ensures found { Finds result (c.fault context.now (place scope.now) role (t.Member e.now.at (tree a.now) m)) }
+    ensures found { Finds result (c.failure context.now (place scope.now) role (t.Member e.now.at (tree a.now) m)) }
     ensures seen { IfOk result (λ s. s ≡ c.seen_of context.now (place scope.now) role (t.Member e.now.at (tree a.now) m)) }
 {
     let at = e.at;
@@ -245,7 +245,7 @@ fn serving(
     body: &Body,
     at: u32,
 ) -> Result<Seen, Refused>
-    ensures found { Finds result (c.fault context.now (place scope.now) role (t.Handler at (routine body.now))) }
+    ensures found { Finds result (c.failure context.now (place scope.now) role (t.Handler at (routine body.now))) }
     ensures seen { IfOk result (λ s. s ≡ c.seen_of context.now (place scope.now) role (t.Handler at (routine body.now))) }
 {
     let serves = handler(context, scope, body)?;
@@ -279,7 +279,7 @@ fn taken(board: Option<BoardCall>) -> &'static [BoardParameter]
 }
 
 /// Adds the type of an argument.
-fn add(kinds: &mut Seq<Option<Kind>>, kind: Option<Kind>) -> Result<(), Refused>
+fn add(kinds: &mut Seq<Option<StaticType>>, kind: Option<StaticType>) -> Result<(), Refused>
     ensures ok { OnOk result (kinds.new ≡ kinds.old ++ kind ∷ []) }
     ensures err { IfErr result (λ e. e ≡ Refused.NoMemory) }
 {
@@ -294,9 +294,9 @@ pub fn kinds_of(
     board: Option<BoardCall>,
     from: usize,
     all: &[Expr],
-) -> Result<Seq<Option<Kind>>, Refused>
+) -> Result<Seq<Option<StaticType>>, Refused>
     requires within { from ≤ length all.now }
-    ensures found { Finds result (c.faults context.now (place scope.now) (drop from (c.taken board)) (trees (drop from all.now))) }
+    ensures found { Finds result (c.failures context.now (place scope.now) (drop from (c.taken board)) (trees (drop from all.now))) }
     ensures kinds { IfOk result (λ os. os ≡ c.kinds_of context.now (place scope.now) (drop from (c.taken board)) (trees (drop from all.now))) }
 {
     let takes = taken(board);
@@ -309,7 +309,7 @@ pub fn kinds_of(
 }
 
 /// The type of `[]`, where its place gives it one.
-fn empty_kind(role: Role) -> Option<Kind>
+fn empty_kind(role: Role) -> Option<StaticType>
     ensures { result ≡ if typing.is_given role then Some kind.empty else None }
 {
     if is_given(role) {
@@ -328,7 +328,7 @@ fn items(
     all: &[Expr],
     at: u32,
 ) -> Result<Seen, Refused>
-    ensures found { Finds result (c.fault context.now (place scope.now) role (t.Items at (trees all.now))) }
+    ensures found { Finds result (c.failure context.now (place scope.now) role (t.Items at (trees all.now))) }
     ensures seen { IfOk result (λ s. s ≡ c.seen_of context.now (place scope.now) role (t.Items at (trees all.now))) }
 {
     match all {
@@ -351,7 +351,7 @@ fn call(
     args: &[Expr],
     at: u32,
 ) -> Result<Seen, Refused>
-    ensures found { Finds result (c.fault context.now (place scope.now) role (t.Call at (tree f.now) (trees args.now))) }
+    ensures found { Finds result (c.failure context.now (place scope.now) role (t.Call at (tree f.now) (trees args.now))) }
     ensures seen { IfOk result (λ s. s ≡ c.seen_of context.now (place scope.now) role (t.Call at (tree f.now) (trees args.now))) }
 {
     match board_callee(context.tables, context.known, scope, f) {
@@ -378,7 +378,7 @@ fn super_call(
     args: &[Expr],
     at: u32,
 ) -> Result<Seen, Refused>
-    ensures found { Finds result (c.fault context.now (place scope.now) role (t.SuperCall at m (trees args.now))) }
+    ensures found { Finds result (c.failure context.now (place scope.now) role (t.SuperCall at m (trees args.now))) }
     ensures seen { IfOk result (λ s. s ≡ c.seen_of context.now (place scope.now) role (t.SuperCall at m (trees args.now))) }
 {
     let kinds = kinds_of(context, scope, None, 0, args)?;
@@ -401,7 +401,7 @@ fn make(
     args: &[Expr],
     at: u32,
 ) -> Result<Seen, Refused>
-    ensures found { Finds result (c.fault context.now (place scope.now) role (t.Make at x (trees args.now))) }
+    ensures found { Finds result (c.failure context.now (place scope.now) role (t.Make at x (trees args.now))) }
     ensures seen { IfOk result (λ s. s ≡ c.seen_of context.now (place scope.now) role (t.Make at x (trees args.now))) }
 {
     let kinds = kinds_of(context, scope, None, 0, args)?;
@@ -409,7 +409,7 @@ fn make(
 }
 
 /// Whether a function expression with these parameters and this result may be a handler.
-fn may_serve(params: &[Param], gives: Option<Kind>) -> bool
+fn may_serve(params: &[Param], gives: Option<StaticType>) -> bool
     ensures { result ≡ (node.takes_nothing (parameters params.now) && rule.is_nothing gives) }
 {
     match params {
@@ -428,7 +428,7 @@ fn serves_there(role: Role, serves: bool) -> bool
 /// A function expression: its first failure, else whether it serves.
 #[cycle(walk)]
 fn handler(context: &Context, scope: &Scope, body: &Body) -> Result<bool, Refused>
-    ensures found { Finds result (c.handler_fault context.now (place scope.now) (routine body.now)) }
+    ensures found { Finds result (c.handler_failure context.now (place scope.now) (routine body.now)) }
     ensures serves { IfOk result (λ b. b ≡ node.serves_itself context.now.tables.now (naming context.now) context.now.known.now (place scope.now) (routine body.now)) }
 {
     check_parameter_types(context.classes, body.params.as_slice())?;
@@ -448,7 +448,7 @@ fn handler(context: &Context, scope: &Scope, body: &Body) -> Result<bool, Refuse
 /// Statements of a block.
 #[cycle(walk)]
 pub fn statements(context: &Context, scope: &mut Scope, all: &[Stmt]) -> Result<(), Refused>
-    ensures found { Finds result (c.statements_fault context.now (place scope.old) (statements all.now)) }
+    ensures found { Finds result (c.statements_failure context.now (place scope.old) (statements all.now)) }
     ensures place { OnOk result (Extends (place scope.old) (place scope.new)) }
 {
     for i in 0..all.len() {
@@ -460,7 +460,7 @@ pub fn statements(context: &Context, scope: &mut Scope, all: &[Stmt]) -> Result<
 /// A statement that has a block of its own.
 #[cycle(walk)]
 fn nested(context: &Context, scope: &mut Scope, s: &Stmt) -> Result<(), Refused>
-    ensures found { Finds result (c.statement_fault context.now (name.inner (place scope.old)) (statement s.now)) }
+    ensures found { Finds result (c.statement_failure context.now (name.inner (place scope.old)) (statement s.now)) }
     ensures place { OnOk result (place scope.new ≡ place scope.old) }
 {
     let mark = enter(scope);
@@ -472,7 +472,7 @@ fn nested(context: &Context, scope: &mut Scope, s: &Stmt) -> Result<(), Refused>
 /// Statements that have a block of their own.
 #[cycle(walk)]
 fn block(context: &Context, scope: &mut Scope, all: &[Stmt]) -> Result<(), Refused>
-    ensures found { Finds result (c.statements_fault context.now (name.inner (place scope.old)) (statements all.now)) }
+    ensures found { Finds result (c.statements_failure context.now (name.inner (place scope.old)) (statements all.now)) }
     ensures place { OnOk result (place scope.new ≡ place scope.old) }
 {
     let mark = enter(scope);
@@ -484,13 +484,13 @@ fn block(context: &Context, scope: &mut Scope, all: &[Stmt]) -> Result<(), Refus
 /// A statement.
 #[cycle(walk)]
 pub fn statement(context: &Context, scope: &mut Scope, s: &Stmt) -> Result<(), Refused>
-    ensures found { Finds result (c.statement_fault context.now (place scope.old) (statement s.now)) }
+    ensures found { Finds result (c.statement_failure context.now (place scope.old) (statement s.now)) }
     ensures place { OnOk result (place scope.new ≡ c.after context.now (place scope.old) (statement s.now)) }
 {
     let at = s.at;
     match &s.form {
         Form::Block(all) => block(context, scope, all.as_slice()),
-        Form::Let { fixed, each } => declarations_fault(context, scope, *fixed, each.as_slice()),
+        Form::Let { fixed, each } => declarations_failure(context, scope, *fixed, each.as_slice()),
         Form::If(test, a, other) => match other {
             None => tested(context, scope, test, a, at),
             Some(b) => if_else(context, scope, test, a, b, at),
@@ -527,7 +527,7 @@ fn tested(
     a: &Stmt,
     at: u32,
 ) -> Result<(), Refused>
-    ensures found { Finds result (c.statement_fault context.now (place scope.old) (t.IfOnly at (tree test.now) (statement a.now))) }
+    ensures found { Finds result (c.statement_failure context.now (place scope.old) (t.IfOnly at (tree test.now) (statement a.now))) }
     ensures place { OnOk result (place scope.new ≡ place scope.old) }
 {
     let s = expression(context, scope, Role::Free, test)?;
@@ -545,7 +545,7 @@ fn if_else(
     b: &Stmt,
     at: u32,
 ) -> Result<(), Refused>
-    ensures found { Finds result (c.statement_fault context.now (place scope.old) (t.IfElse at (tree test.now) (statement a.now) (statement b.now))) }
+    ensures found { Finds result (c.statement_failure context.now (place scope.old) (t.IfElse at (tree test.now) (statement a.now) (statement b.now))) }
     ensures place { OnOk result (place scope.new ≡ place scope.old) }
 {
     let s = expression(context, scope, Role::Free, test)?;
@@ -563,7 +563,7 @@ fn do_while(
     test: &Expr,
     at: u32,
 ) -> Result<(), Refused>
-    ensures found { Finds result (c.statement_fault context.now (place scope.old) (t.DoWhile at (statement a.now) (tree test.now))) }
+    ensures found { Finds result (c.statement_failure context.now (place scope.old) (t.DoWhile at (statement a.now) (tree test.now))) }
     ensures place { OnOk result (place scope.new ≡ place scope.old) }
 {
     nested(context, scope, a)?;
@@ -582,7 +582,7 @@ fn for_loop(
     a: &Stmt,
     at: u32,
 ) -> Result<(), Refused>
-    ensures found { Finds result (c.statement_fault context.now (place scope.old) (t.For at (optional_boxed first.now) (optional_expression test.now) (optional_expression step.now) (statement a.now))) }
+    ensures found { Finds result (c.statement_failure context.now (place scope.old) (t.For at (optional_boxed first.now) (optional_expression test.now) (optional_expression step.now) (statement a.now))) }
     ensures place { OnOk result (place scope.new ≡ place scope.old) }
 {
     let mark = enter(scope);
@@ -598,7 +598,7 @@ fn for_loop(
 /// What stands first in a `for`, which may be left out.
 #[cycle(walk)]
 fn first_of(context: &Context, scope: &mut Scope, first: &Option<Box<Stmt>>) -> Result<(), Refused>
-    ensures found { Finds result (c.first_fault context.now (place scope.old) (optional_boxed first.now)) }
+    ensures found { Finds result (c.first_failure context.now (place scope.old) (optional_boxed first.now)) }
     ensures place { OnOk result (place scope.new ≡ c.after_first context.now (place scope.old) (optional_boxed first.now)) }
 {
     match first {
@@ -610,7 +610,7 @@ fn first_of(context: &Context, scope: &mut Scope, first: &Option<Box<Stmt>>) -> 
 /// A test or a step, which may be left out: its first failure, else whether it is left out or a truth value.
 #[cycle(walk)]
 fn optional(context: &Context, scope: &Scope, e: &Option<Expr>) -> Result<bool, Refused>
-    ensures found { Finds result (c.optional_fault context.now (place scope.now) (optional_expression e.now)) }
+    ensures found { Finds result (c.optional_failure context.now (place scope.now) (optional_expression e.now)) }
     ensures tests { IfOk result (λ b. b ≡ is_test context.now.tables.now context.now.known.now (place scope.now) (optional_expression e.now)) }
 {
     match e {
@@ -633,7 +633,7 @@ fn for_of(
     a: &Stmt,
     at: u32,
 ) -> Result<(), Refused>
-    ensures found { Finds result (c.statement_fault context.now (place scope.old) (t.ForOf at fixed x (tree list.now) (statement a.now))) }
+    ensures found { Finds result (c.statement_failure context.now (place scope.old) (t.ForOf at fixed x (tree list.now) (statement a.now))) }
     ensures place { OnOk result (place scope.new ≡ place scope.old) }
 {
     let s = expression(context, scope, Role::Free, list)?;
@@ -648,7 +648,7 @@ fn for_of(
 /// `return` with a value
 #[cycle(walk)]
 fn returned(context: &Context, scope: &Scope, e: &Expr, at: u32) -> Result<(), Refused>
-    ensures { Finds result (c.statement_fault context.now (place scope.now) (t.Return at (t.present (tree e.now)))) }
+    ensures { Finds result (c.statement_failure context.now (place scope.now) (t.Return at (t.present (tree e.now)))) }
 {
     let s = expression(context, scope, kind_role(scope.gives), e)?;
     unless(fits(context.known, s.kind, scope.gives), Code::Mismatch, at)
@@ -661,8 +661,8 @@ pub fn initial(
     scope: &Scope,
     shape: &Option<Shape>,
     first: &Option<Expr>,
-) -> Result<Option<Kind>, Refused>
-    ensures found { Finds result (c.initial_fault context.now (place scope.now) (optional_annotation shape.now) (optional_expression first.now)) }
+) -> Result<Option<StaticType>, Refused>
+    ensures found { Finds result (c.initial_failure context.now (place scope.now) (optional_annotation shape.now) (optional_expression first.now)) }
     ensures kind { IfOk result (λ kind. kind ≡ initial_kind context.now.tables.now (naming context.now) context.now.known.now (place scope.now) (optional_annotation shape.now) (optional_expression first.now)) }
 {
     match first {
@@ -679,13 +679,13 @@ pub fn initial(
 
 /// A declared name in a block.
 #[cycle(walk)]
-fn declaration_fault(
+fn declaration_failure(
     context: &Context,
     scope: &mut Scope,
     fixed: bool,
     b: &Binding,
 ) -> Result<(), Refused>
-    ensures found { Finds result (c.declaration_fault context.now (place scope.old) (declaration b.now)) }
+    ensures found { Finds result (c.declaration_failure context.now (place scope.old) (declaration b.now)) }
     ensures place { OnOk result (place scope.new ≡ c.declared context.now (place scope.old) fixed (declaration b.now)) }
 {
     check_written(context.classes, b.at, &b.shape)?;
@@ -697,17 +697,17 @@ fn declaration_fault(
 
 /// Declared names in a block.
 #[cycle(walk)]
-fn declarations_fault(
+fn declarations_failure(
     context: &Context,
     scope: &mut Scope,
     fixed: bool,
     each: &[Binding],
 ) -> Result<(), Refused>
-    ensures found { Finds result (c.declarations_fault context.now (place scope.old) fixed (declarations each.now)) }
+    ensures found { Finds result (c.declarations_failure context.now (place scope.old) fixed (declarations each.now)) }
     ensures place { OnOk result (place scope.new ≡ c.all_declared context.now (place scope.old) fixed (declarations each.now)) }
 {
     for i in 0..each.len() {
-        declaration_fault(context, scope, fixed, &each[i])?;
+        declaration_failure(context, scope, fixed, &each[i])?;
     }
     Ok(())
 }

@@ -1,12 +1,12 @@
 // Refusals by codes and places.
 ghost use Rattle.std.specs.Prelude.{◌≡◌, Ok, IfOk, IfErr};
-ghost use Rattle.sts_scope.specs.Faults as fault;
+ghost use Rattle.sts_scope.specs.Failures as failure;
 
 use sts_base::{Code, NoMemory, Refused};
 
 /// Refused with a code and a place, unless this holds.
 pub fn unless(holds: bool, code: Code, at: u32) -> Result<(), Refused>
-    ensures { fault.Finds result (fault.unless holds code at) }
+    ensures { failure.Finds result (failure.unless holds code at) }
 {
     if holds {
         Ok(())

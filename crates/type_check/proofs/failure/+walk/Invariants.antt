@@ -4,25 +4,25 @@ use Rattle.sts_syntax.specs.Trees as t
 use Rattle.sts_syntax.specs.Views.{tree, trees, statement, statements, declaration, declarations, routine, optional_expression}
 use Rattle.type_derive.specs.Scopes.{place}
 use Rattle.type_check.specs.Bounds.{optional_boxed}
-use Rattle.type_check.specs.Contexts.{faults, kinds_of, taken, statements_fault, declarations_fault, all_declared}
+use Rattle.type_check.specs.Contexts.{failures, kinds_of, taken, statements_failure, declarations_failure, all_declared}
 use Rattle.type_derive.specs.Moves.{Extends}
-use Rattle.type_check.proofs.fault.+walk.Given as goal
+use Rattle.type_check.proofs.failure.+walk.Given as goal
 
 abbrev pub invariant-kinds_of-loop-i : goal.invariant-kinds_of-loop-i
 invariant-kinds_of-loop-i l = record {
-  found : faults l.context (place l.scope) (drop l.i (taken l.fn.board)) (trees (drop l.i l.all)) ≡ faults l.context (place l.scope) (drop l.from (taken l.fn.board)) (trees (drop l.from l.all));
+  found : failures l.context (place l.scope) (drop l.i (taken l.fn.board)) (trees (drop l.i l.all)) ≡ failures l.context (place l.scope) (drop l.from (taken l.fn.board)) (trees (drop l.from l.all));
   kinds : l.kinds ++ kinds_of l.context (place l.scope) (drop l.i (taken l.fn.board)) (trees (drop l.i l.all)) ≡ kinds_of l.context (place l.scope) (drop l.from (taken l.fn.board)) (trees (drop l.from l.all));
 }
 
 abbrev pub invariant-statements-loop-i : goal.invariant-statements-loop-i
 invariant-statements-loop-i l = record {
-  found : statements_fault l.context (place l.scope) (statements (drop l.i l.all)) ≡ statements_fault l.context (place l.fn.scope) (statements l.all);
+  found : statements_failure l.context (place l.scope) (statements (drop l.i l.all)) ≡ statements_failure l.context (place l.fn.scope) (statements l.all);
   here : Extends (place l.fn.scope) (place l.scope);
 }
 
-abbrev pub invariant-declarations_fault-loop-i : goal.invariant-declarations_fault-loop-i
-invariant-declarations_fault-loop-i l = record {
-  found : declarations_fault l.context (place l.scope) l.fixed (declarations (drop l.i l.each)) ≡ declarations_fault l.context (place l.fn.scope) l.fixed (declarations l.each);
+abbrev pub invariant-declarations_failure-loop-i : goal.invariant-declarations_failure-loop-i
+invariant-declarations_failure-loop-i l = record {
+  found : declarations_failure l.context (place l.scope) l.fixed (declarations (drop l.i l.each)) ≡ declarations_failure l.context (place l.fn.scope) l.fixed (declarations l.each);
   here : all_declared l.context (place l.scope) l.fixed (declarations (drop l.i l.each)) ≡ all_declared l.context (place l.fn.scope) l.fixed (declarations l.each);
 }
 
@@ -113,8 +113,8 @@ decreases-returned l = 8 * nesting (tree l.e.now) + 8
 abbrev pub decreases-initial : goal.decreases-initial
 decreases-initial l = 8 * optional_nesting (optional_expression l.first.now) + 8
 
-abbrev pub decreases-declaration_fault : goal.decreases-declaration_fault
-decreases-declaration_fault l = 8 * declaration_nesting (declaration l.b.now) + 8
+abbrev pub decreases-declaration_failure : goal.decreases-declaration_failure
+decreases-declaration_failure l = 8 * declaration_nesting (declaration l.b.now) + 8
 
-abbrev pub decreases-declarations_fault : goal.decreases-declarations_fault
-decreases-declarations_fault l = 8 * deepest_declaration (declarations l.each.now) + 9
+abbrev pub decreases-declarations_failure : goal.decreases-declarations_failure
+decreases-declarations_failure l = 8 * deepest_declaration (declarations l.each.now) + 9

@@ -9,7 +9,7 @@ use Rattle.sts_syntax.specs.declared.trees.Form.TheVariants as f
 use Rattle.sts_syntax.specs.Nesting.{nesting, deepest_tree, statement_nesting, routine_nesting}
 use Rattle.sts_syntax.specs.Trees.{Member, Items, SuperCall, Block, Let, For, Does}
 use Rattle.sts_syntax.specs.Views.{tree, trees, node_tree, statement, statements, declarations, form_statement, optional_expression, optional_annotation, parameters}
-use Rattle.sts_scope.specs.Faults.{Finds, ◌then◌, unless, RefusedWith}
+use Rattle.sts_scope.specs.Failures.{Finds, ◌then◌, unless, RefusedWith}
 use Rattle.sts_scope.specs.Rules.{operate, element, choose, assign, counted, prefix, is_boolean}
 use Rattle.sts_scope.specs.Rules as rule
 use Rattle.type_derive.specs.declared.roles.Role.TheVariants.{Free, Given}
@@ -23,14 +23,14 @@ use Rattle.type_check.specs.Bounds.{optional_boxed}
 use Rattle.type_check.specs.Seen.{is_test}
 use Rattle.type_derive.specs.Naming.{naming}
 use Rattle.type_derive.specs.Nodes.{serves_itself, is_served}
-use Rattle.type_check.specs.Contexts.{fault, seen_of, taken, handler_fault, first_fault, optional_fault, statement_fault, after, after_first}
+use Rattle.type_check.specs.Contexts.{failure, seen_of, taken, handler_failure, first_failure, optional_failure, statement_failure, after, after_first}
 use Rattle.type_check.proofs.Forms.{unary_is, binary_is, item_is, choice_is, set_is, bump_is, member_is as member_form, items_is, call_is, super_call_is, make_is, handler_is, if_only_is, if_else_is, while_is, do_while_is, for_of_is}
 use Rattle.type_check.proofs.Found.{trees_first, args_step, args_kept, kinds_more, untyped, member_is, member_board, member_found, member_typed, member_constant, board_call_is, other_call_is, call_found, call_typed, make_found, make_typed, super_found, super_typed, items_found, items_typed}
 use Rattle.type_check.proofs.Nested.{tree_within, statement_within, declaration_within}
 use Rattle.type_check.proofs.Steps.{return_is, statements_kept, extends_after, for_is, for_step, for_of_step, returned_step, returned_found, first_extends}
 use Rattle.std.proofs.lemmas.Result.{IfOk-from_err}
 use Rattle.type_check.proofs.Handed.{handed, handed_first, past, nothing_in, owned, sees, on_ok, kind_seen, of_two, of_three, finds_as, sees_as, joined_finds, joined_sees, statement_finds_as, place_as}
-use Rattle.type_check.proofs.fault.+walk.Goals as goal
+use Rattle.type_check.proofs.failure.+walk.Goals as goal
 
 pub expression-returns-in-Num : goal.expression-returns-in-Num
 expression-returns-in-Num t c =
@@ -38,7 +38,7 @@ expression-returns-in-Num t c =
     let p = place c.args.scope.now in
     let r = c.args.role in
     let is = ap (node_tree c.args.e.now.at) c.in-Num.is in
-    record { found = ap (fault z p r) is; seen = c.always.ensures ∙ sym (ap (seen_of z p r) is) }
+    record { found = ap (failure z p r) is; seen = c.always.ensures ∙ sym (ap (seen_of z p r) is) }
 
 pub expression-returns-in-Text : goal.expression-returns-in-Text
 expression-returns-in-Text t c =
@@ -46,7 +46,7 @@ expression-returns-in-Text t c =
     let p = place c.args.scope.now in
     let r = c.args.role in
     let is = ap (node_tree c.args.e.now.at) c.in-Text.is in
-    record { found = ap (fault z p r) is; seen = c.always-in-Text.ensures ∙ sym (ap (seen_of z p r) is) }
+    record { found = ap (failure z p r) is; seen = c.always-in-Text.ensures ∙ sym (ap (seen_of z p r) is) }
 
 pub expression-returns-in-Truth : goal.expression-returns-in-Truth
 expression-returns-in-Truth t c =
@@ -54,7 +54,7 @@ expression-returns-in-Truth t c =
     let p = place c.args.scope.now in
     let r = c.args.role in
     let is = ap (node_tree c.args.e.now.at) c.in-Truth.is in
-    record { found = ap (fault z p r) is; seen = c.always-in-Truth.ensures ∙ sym (ap (seen_of z p r) is) }
+    record { found = ap (failure z p r) is; seen = c.always-in-Truth.ensures ∙ sym (ap (seen_of z p r) is) }
 
 pub expression-returns-in-Null : goal.expression-returns-in-Null
 expression-returns-in-Null t c =
@@ -62,7 +62,7 @@ expression-returns-in-Null t c =
     let p = place c.args.scope.now in
     let r = c.args.role in
     let is = ap (node_tree c.args.e.now.at) c.in-Null.is in
-    record { found = ap (fault z p r) is; seen = c.always-in-Null.ensures ∙ sym (ap (seen_of z p r) is) }
+    record { found = ap (failure z p r) is; seen = c.always-in-Null.ensures ∙ sym (ap (seen_of z p r) is) }
 
 pub expression-returns-in-This : goal.expression-returns-in-This
 expression-returns-in-This t c =
@@ -350,8 +350,8 @@ kinds_of-expression-requires t c = (omega (arith, tree_within c.args.all.now c.l
 pub statements-statement-requires : goal.statements-statement-requires
 statements-statement-requires t c = (omega (arith, statement_within c.args.all.now c.loop-i.i c.index-all-i.result (omega arith) c.index-all-i.is, c.decreases), tt)
 
-pub declarations_fault-declaration_fault-requires : goal.declarations_fault-declaration_fault-requires
-declarations_fault-declaration_fault-requires t c = (omega (arith, declaration_within c.args.each.now c.loop-i.i c.index-each-i.result (omega arith) c.index-each-i.is, c.decreases), tt)
+pub declarations_failure-declaration_failure-requires : goal.declarations_failure-declaration_failure-requires
+declarations_failure-declaration_failure-requires t c = (omega (arith, declaration_within c.args.each.now c.loop-i.i c.index-each-i.result (omega arith) c.index-each-i.is, c.decreases), tt)
 
 pub items-expression-requires : goal.items-expression-requires
 items-expression-requires t c = (omega (arith, ap deepest_tree (trees_first c.args.all.now c.first-item.result c.in-len1-up.len_at_least c.first-item.is), c.decreases), tt)
@@ -396,7 +396,7 @@ super_call-returns-clause-found t c =
     let t' = z.tables.now in
     let k = z.known.now in
     let p = place c.args.scope.now in
-    subst (λ o. Finds c.super_call_seen.result (fault z p c.args.role (SuperCall c.args.at o (trees c.args.args.now)))) (sym c.in-Some.is)
+    subst (λ o. Finds c.super_call_seen.result (failure z p c.args.role (SuperCall c.args.at o (trees c.args.args.now)))) (sym c.in-Some.is)
     (super_found z p c.args.role c.args.at c.in-Some.m (trees c.args.args.now) c.as_slice.result.now c.super_call_seen.result c.in_ok-kinds.ensures.found (c.as_slice.ensures ∙ c.in_ok-kinds.ensures.kinds) c.super_call_seen.ensures.found)
 
 pub super_call-returns-clause-seen : goal.super_call-returns-clause-seen
@@ -414,7 +414,7 @@ items-returns-in_ok-kinds-in-len1-up-clause-found t c =
     let t' = z.tables.now in
     let k = z.known.now in
     let p = place c.args.scope.now in
-    subst (λ x. Finds c.items_seen.result (fault z p c.args.role (Items c.args.at x))) (sym (trees_first c.args.all.now c.first-item.result c.in-len1-up.len_at_least c.first-item.is))
+    subst (λ x. Finds c.items_seen.result (failure z p c.args.role (Items c.args.at x))) (sym (trees_first c.args.all.now c.first-item.result c.in-len1-up.len_at_least c.first-item.is))
     (items_found z p c.args.role c.args.at (tree c.first-item.result) (trees (drop 1 c.args.all.now)) c.in_ok-s-in-len1-up.s.kind c.as_slice.result.now c.items_seen.result
     c.in_ok-s-in-len1-up.ensures.found c.in_ok-kinds-in-len1-up.ensures.found (ap (λ (q : Seen). q.kind) c.in_ok-s-in-len1-up.ensures.seen) (c.as_slice.ensures ∙ c.in_ok-kinds-in-len1-up.ensures.kinds) c.items_seen.ensures.found)
 
@@ -459,7 +459,7 @@ pub handler-returns-clause-found : goal.handler-returns-clause-found
 handler-returns-clause-found t c =
     let z = c.args.context.now in
     let p = place c.args.scope.now in
-    ap (handler_fault z p) (routine_parts c.args.body.now) ∙ grind (arith, common_steps)
+    ap (handler_failure z p) (routine_parts c.args.body.now) ∙ grind (arith, common_steps)
 
 pub handler-returns-clause-serves : goal.handler-returns-clause-serves
 handler-returns-clause-serves t c =
@@ -473,19 +473,19 @@ pub handler-returns-in_err-check_parameter_types-clause-found : goal.handler-ret
 handler-returns-in_err-check_parameter_types-clause-found t c =
     let z = c.args.context.now in
     let p = place c.args.scope.now in
-    subst (Finds c.from_residual.result) (sym (ap (handler_fault z p) (routine_parts c.args.body.now))) (grind (arith, common_steps))
+    subst (Finds c.from_residual.result) (sym (ap (handler_failure z p) (routine_parts c.args.body.now))) (grind (arith, common_steps))
 
 pub handler-returns-in_err-check_written-clause-found : goal.handler-returns-in_err-check_written-clause-found
 handler-returns-in_err-check_written-clause-found t c =
     let z = c.args.context.now in
     let p = place c.args.scope.now in
-    subst (Finds c.from_residual-in_err-check_written.result) (sym (ap (handler_fault z p) (routine_parts c.args.body.now))) (grind (arith, common_steps))
+    subst (Finds c.from_residual-in_err-check_written.result) (sym (ap (handler_failure z p) (routine_parts c.args.body.now))) (grind (arith, common_steps))
 
 pub handler-returns-in_err-statements-clause-found : goal.handler-returns-in_err-statements-clause-found
 handler-returns-in_err-statements-clause-found t c =
     let z = c.args.context.now in
     let p = place c.args.scope.now in
-    subst (Finds c.from_residual-in_err-statements.result) (sym (ap (handler_fault z p) (routine_parts c.args.body.now))) (grind (arith, common_steps))
+    subst (Finds c.from_residual-in_err-statements.result) (sym (ap (handler_failure z p) (routine_parts c.args.body.now))) (grind (arith, common_steps))
 
 pub handler-returns-in_err-check_parameter_types-clause-serves : goal.handler-returns-in_err-check_parameter_types-clause-serves
 handler-returns-in_err-check_parameter_types-clause-serves t c = IfOk-from_err c.from_residual.result _ c.from_residual.ensures.0
@@ -611,20 +611,20 @@ for_of-returns-in_err-unless-2-clause-place t c = IfOk-from_err c.from_residual-
 pub initial-returns-in_err-s-in-Some-clause-kind : goal.initial-returns-in_err-s-in-Some-clause-kind
 initial-returns-in_err-s-in-Some-clause-kind t c = IfOk-from_err c.from_residual.result _ c.from_residual.ensures.0
 
-pub declaration_fault-returns-in_err-check_written-clause-place : goal.declaration_fault-returns-in_err-check_written-clause-place
-declaration_fault-returns-in_err-check_written-clause-place t c = IfOk-from_err c.from_residual.result _ c.from_residual.ensures.0
+pub declaration_failure-returns-in_err-check_written-clause-place : goal.declaration_failure-returns-in_err-check_written-clause-place
+declaration_failure-returns-in_err-check_written-clause-place t c = IfOk-from_err c.from_residual.result _ c.from_residual.ensures.0
 
-pub declaration_fault-returns-in_err-first-clause-place : goal.declaration_fault-returns-in_err-first-clause-place
-declaration_fault-returns-in_err-first-clause-place t c = IfOk-from_err c.from_residual-in_err-first.result _ c.from_residual-in_err-first.ensures.0
+pub declaration_failure-returns-in_err-first-clause-place : goal.declaration_failure-returns-in_err-first-clause-place
+declaration_failure-returns-in_err-first-clause-place t c = IfOk-from_err c.from_residual-in_err-first.result _ c.from_residual-in_err-first.ensures.0
 
-pub declaration_fault-returns-in_err-check_local-clause-place : goal.declaration_fault-returns-in_err-check_local-clause-place
-declaration_fault-returns-in_err-check_local-clause-place t c = IfOk-from_err c.from_residual-in_err-check_local.result _ c.from_residual-in_err-check_local.ensures.0
+pub declaration_failure-returns-in_err-check_local-clause-place : goal.declaration_failure-returns-in_err-check_local-clause-place
+declaration_failure-returns-in_err-check_local-clause-place t c = IfOk-from_err c.from_residual-in_err-check_local.result _ c.from_residual-in_err-check_local.ensures.0
 
-pub declaration_fault-returns-in_err-kind-clause-place : goal.declaration_fault-returns-in_err-kind-clause-place
-declaration_fault-returns-in_err-kind-clause-place t c = IfOk-from_err c.from_residual-in_err-kind.result _ c.from_residual-in_err-kind.ensures.0
+pub declaration_failure-returns-in_err-kind-clause-place : goal.declaration_failure-returns-in_err-kind-clause-place
+declaration_failure-returns-in_err-kind-clause-place t c = IfOk-from_err c.from_residual-in_err-kind.result _ c.from_residual-in_err-kind.ensures.0
 
-pub declarations_fault-returns-in_err-declaration_fault-clause-place : goal.declarations_fault-returns-in_err-declaration_fault-clause-place
-declarations_fault-returns-in_err-declaration_fault-clause-place t c = IfOk-from_err c.from_residual.result _ c.from_residual.ensures.0
+pub declarations_failure-returns-in_err-declaration_failure-clause-place : goal.declarations_failure-returns-in_err-declaration_failure-clause-place
+declarations_failure-returns-in_err-declaration_failure-clause-place t c = IfOk-from_err c.from_residual.result _ c.from_residual.ensures.0
 
 pub block-returns-clause-found : goal.block-returns-clause-found
 block-returns-clause-found t c = grind (arith, common_steps)
@@ -641,20 +641,20 @@ call-returns-in_ok-kinds-in-Some-clause-found t c = grind (arith, common_steps)
 pub call-returns-in_ok-kinds-in-Some-clause-seen : goal.call-returns-in_ok-kinds-in-Some-clause-seen
 call-returns-in_ok-kinds-in-Some-clause-seen t c = grind (arith, common_steps)
 
-pub declarations_fault-loop-i-init : goal.declarations_fault-loop-i-init
-declarations_fault-loop-i-init t c = grind (arith, common_steps)
+pub declarations_failure-loop-i-init : goal.declarations_failure-loop-i-init
+declarations_failure-loop-i-init t c = grind (arith, common_steps)
 
-pub declarations_fault-loop-i-preserved : goal.declarations_fault-loop-i-preserved
-declarations_fault-loop-i-preserved t c = grind (arith, common_steps)
+pub declarations_failure-loop-i-preserved : goal.declarations_failure-loop-i-preserved
+declarations_failure-loop-i-preserved t c = grind (arith, common_steps)
 
-pub declarations_fault-returns-clause-found : goal.declarations_fault-returns-clause-found
-declarations_fault-returns-clause-found t c = grind (arith, common_steps)
+pub declarations_failure-returns-clause-found : goal.declarations_failure-returns-clause-found
+declarations_failure-returns-clause-found t c = grind (arith, common_steps)
 
-pub declarations_fault-returns-clause-place : goal.declarations_fault-returns-clause-place
-declarations_fault-returns-clause-place t c = grind (arith, common_steps)
+pub declarations_failure-returns-clause-place : goal.declarations_failure-returns-clause-place
+declarations_failure-returns-clause-place t c = grind (arith, common_steps)
 
-pub declarations_fault-returns-in_err-declaration_fault-clause-found : goal.declarations_fault-returns-in_err-declaration_fault-clause-found
-declarations_fault-returns-in_err-declaration_fault-clause-found t c = grind (arith, common_steps)
+pub declarations_failure-returns-in_err-declaration_failure-clause-found : goal.declarations_failure-returns-in_err-declaration_failure-clause-found
+declarations_failure-returns-in_err-declaration_failure-clause-found t c = grind (arith, common_steps)
 
 pub for_of-returns-clause-place : goal.for_of-returns-clause-place
 for_of-returns-clause-place t c = grind (arith, common_steps)
@@ -746,7 +746,7 @@ pub items-returns-in_err-s-in-len1-up : goal.items-returns-in_err-s-in-len1-up
 items-returns-in_err-s-in-len1-up t c =
     let tf = trees_first c.args.all.now c.first-item.result c.in-len1-up.len_at_least c.first-item.is in
     record {
-      found = subst (λ x. Finds c.from_residual.result (fault c.args.context.now (place c.args.scope.now) c.args.role (Items c.args.at x))) (sym tf) (handed_first c.from_residual.result c.in_err-s-in-len1-up.field-0.0 _ _ c.from_residual.ensures c.in_err-s-in-len1-up.ensures.found);
+      found = subst (λ x. Finds c.from_residual.result (failure c.args.context.now (place c.args.scope.now) c.args.role (Items c.args.at x))) (sym tf) (handed_first c.from_residual.result c.in_err-s-in-len1-up.field-0.0 _ _ c.from_residual.ensures c.in_err-s-in-len1-up.ensures.found);
       seen = IfOk-from_err c.from_residual.result _ c.from_residual.ensures.0;
     }
 
@@ -754,7 +754,7 @@ pub items-returns-in_err-kinds-in-len1-up : goal.items-returns-in_err-kinds-in-l
 items-returns-in_err-kinds-in-len1-up t c =
     let tf = trees_first c.args.all.now c.first-item.result c.in-len1-up.len_at_least c.first-item.is in
     record {
-      found = subst (λ x. Finds c.from_residual-in_err-kinds-in-len1-up.result (fault c.args.context.now (place c.args.scope.now) c.args.role (Items c.args.at x))) (sym tf) (past c.from_residual-in_err-kinds-in-len1-up.result _ _ c.in_ok-s-in-len1-up.ensures.found (handed_first c.from_residual-in_err-kinds-in-len1-up.result c.in_err-kinds-in-len1-up.field-0.0 _ _ c.from_residual-in_err-kinds-in-len1-up.ensures c.in_err-kinds-in-len1-up.ensures.found));
+      found = subst (λ x. Finds c.from_residual-in_err-kinds-in-len1-up.result (failure c.args.context.now (place c.args.scope.now) c.args.role (Items c.args.at x))) (sym tf) (past c.from_residual-in_err-kinds-in-len1-up.result _ _ c.in_ok-s-in-len1-up.ensures.found (handed_first c.from_residual-in_err-kinds-in-len1-up.result c.in_err-kinds-in-len1-up.field-0.0 _ _ c.from_residual-in_err-kinds-in-len1-up.ensures c.in_err-kinds-in-len1-up.ensures.found));
       seen = IfOk-from_err c.from_residual-in_err-kinds-in-len1-up.result _ c.from_residual-in_err-kinds-in-len1-up.ensures.0;
     }
 
@@ -806,10 +806,10 @@ statement-returns-in-Let t c =
     let z = c.args.context.now in
     let p = place c.args.scope.now in
     let is = ap (form_statement c.args.s.now.at) c.in-Let.is ∙ let_statement c.args.s.now.at c.in-Let.fixed c.in-Let.each ∙ ap (λ xs. Let c.args.s.now.at c.in-Let.fixed (declarations xs)) (sym c.as_slice-in-Let.ensures) in
-    record { found = statement_finds_as z p c.declarations_fault.result _ _ is c.declarations_fault.ensures.found; place = place_as z p c.declarations_fault.result _ _ (place c.declarations_fault.new.scope) is c.declarations_fault.ensures.place }
+    record { found = statement_finds_as z p c.declarations_failure.result _ _ is c.declarations_failure.ensures.found; place = place_as z p c.declarations_failure.result _ _ (place c.declarations_failure.new.scope) is c.declarations_failure.ensures.place }
 
-pub statement-declarations_fault-requires : goal.statement-declarations_fault-requires
-statement-declarations_fault-requires t c = (omega (arith, ap statement_nesting (ap (form_statement c.args.s.now.at) c.in-Let.is ∙ let_statement c.args.s.now.at c.in-Let.fixed c.in-Let.each ∙ ap (λ xs. Let c.args.s.now.at c.in-Let.fixed (declarations xs)) (sym c.as_slice-in-Let.ensures)), c.decreases), tt)
+pub statement-declarations_failure-requires : goal.statement-declarations_failure-requires
+statement-declarations_failure-requires t c = (omega (arith, ap statement_nesting (ap (form_statement c.args.s.now.at) c.in-Let.is ∙ let_statement c.args.s.now.at c.in-Let.fixed c.in-Let.each ∙ ap (λ xs. Let c.args.s.now.at c.in-Let.fixed (declarations xs)) (sym c.as_slice-in-Let.ensures)), c.decreases), tt)
 
 pub statement-returns-in-None : goal.statement-returns-in-None
 statement-returns-in-None t c =
@@ -867,21 +867,21 @@ statement-returns-in-Break t c =
     let z = c.args.context.now in
     let p = place c.args.scope.now in
     let is = ap (form_statement c.args.s.now.at) c.in-Break.is in
-    record { found = ap (statement_fault z p) is; place = sym (ap (after z p) is) }
+    record { found = ap (statement_failure z p) is; place = sym (ap (after z p) is) }
 
 pub statement-returns-in-Continue : goal.statement-returns-in-Continue
 statement-returns-in-Continue t c =
     let z = c.args.context.now in
     let p = place c.args.scope.now in
     let is = ap (form_statement c.args.s.now.at) c.in-Continue.is in
-    record { found = ap (statement_fault z p) is; place = sym (ap (after z p) is) }
+    record { found = ap (statement_failure z p) is; place = sym (ap (after z p) is) }
 
 pub statement-returns-in-Empty : goal.statement-returns-in-Empty
 statement-returns-in-Empty t c =
     let z = c.args.context.now in
     let p = place c.args.scope.now in
     let is = ap (form_statement c.args.s.now.at) c.in-Empty.is in
-    record { found = ap (statement_fault z p) is; place = sym (ap (after z p) is) }
+    record { found = ap (statement_failure z p) is; place = sym (ap (after z p) is) }
 
 pub statement-returns-in-Some-value : goal.statement-returns-in-Some-value
 statement-returns-in-Some-value t c =
@@ -912,7 +912,7 @@ statement-returns-in_ok-expression-in-Plain t c =
     let z = c.args.context.now in
     let p = place c.args.scope.now in
     let is = ap (form_statement c.args.s.now.at) c.in-Plain.is in
-    record { found = ap (statement_fault z p) is ∙ c.in_ok-expression-in-Plain.ensures.found; place = sym (ap (after z p) is) }
+    record { found = ap (statement_failure z p) is ∙ c.in_ok-expression-in-Plain.ensures.found; place = sym (ap (after z p) is) }
 
 pub tested-returns : goal.tested-returns
 tested-returns t c =
@@ -932,7 +932,7 @@ if_else-returns t c =
     let z = c.args.context.now in
     let p = place c.args.scope.now in
     let eq = c.is_boolean.ensures ∙ ap is_boolean (kind_seen z p Free c.in_ok-s.s c.args.test.now c.in_ok-s.ensures.seen) in
-    let f2 = ap (λ q. statement_fault z (inner q) (statement c.args.b.now)) (sym c.in_ok-nested.ensures.place) ∙ c.in_ok-nested-2.ensures.found in
+    let f2 = ap (λ q. statement_failure z (inner q) (statement c.args.b.now)) (sym c.in_ok-nested.ensures.place) ∙ c.in_ok-nested-2.ensures.found in
     record { found = past c.unless.result _ _ c.in_ok-s.ensures.found (past c.unless.result _ _ c.in_ok-nested.ensures.found (past c.unless.result _ _ f2 (subst (λ b. Finds c.unless.result (unless b Mismatch c.args.at)) eq c.unless.ensures))); place = on_ok c.unless.result (c.in_ok-nested-2.ensures.place ∙ c.in_ok-nested.ensures.place) }
 
 pub if_else-returns-in_err-s : goal.if_else-returns-in_err-s
@@ -944,7 +944,7 @@ if_else-returns-in_err-nested t c = record { found = past c.from_residual-in_err
 pub if_else-returns-in_err-nested-2 : goal.if_else-returns-in_err-nested-2
 if_else-returns-in_err-nested-2 t c =
     let z = c.args.context.now in
-    record { found = past c.from_residual-in_err-nested-2.result _ _ c.in_ok-s.ensures.found (past c.from_residual-in_err-nested-2.result _ _ c.in_ok-nested.ensures.found (handed_first c.from_residual-in_err-nested-2.result c.in_err-nested-2.field-0.0 _ _ c.from_residual-in_err-nested-2.ensures (subst (λ q. RefusedWith c.in_err-nested-2.field-0.0 (statement_fault z (inner q) (statement c.args.b.now))) c.in_ok-nested.ensures.place c.in_err-nested-2.ensures.found))); place = IfOk-from_err c.from_residual-in_err-nested-2.result _ c.from_residual-in_err-nested-2.ensures.0 }
+    record { found = past c.from_residual-in_err-nested-2.result _ _ c.in_ok-s.ensures.found (past c.from_residual-in_err-nested-2.result _ _ c.in_ok-nested.ensures.found (handed_first c.from_residual-in_err-nested-2.result c.in_err-nested-2.field-0.0 _ _ c.from_residual-in_err-nested-2.ensures (subst (λ q. RefusedWith c.in_err-nested-2.field-0.0 (statement_failure z (inner q) (statement c.args.b.now))) c.in_ok-nested.ensures.place c.in_err-nested-2.ensures.found))); place = IfOk-from_err c.from_residual-in_err-nested-2.result _ c.from_residual-in_err-nested-2.ensures.0 }
 
 pub do_while-returns : goal.do_while-returns
 do_while-returns t c =
@@ -952,7 +952,7 @@ do_while-returns t c =
     let p = place c.args.scope.now in
     let same = c.in_ok-nested.ensures.place in
     let eq = c.is_boolean.ensures ∙ ap is_boolean (kind_seen z (place c.nested.new.scope) Free c.in_ok-s.s c.args.test.now c.in_ok-s.ensures.seen ∙ ap (λ q. type_of z.tables.now z.known.now q Free (tree c.args.test.now)) same) in
-    record { found = past c.unless.result _ _ c.in_ok-nested.ensures.found (past c.unless.result _ _ (ap (λ q. fault z q Free (tree c.args.test.now)) (sym same) ∙ c.in_ok-s.ensures.found) (subst (λ b. Finds c.unless.result (unless b Mismatch c.args.at)) eq c.unless.ensures)); place = on_ok c.unless.result same }
+    record { found = past c.unless.result _ _ c.in_ok-nested.ensures.found (past c.unless.result _ _ (ap (λ q. failure z q Free (tree c.args.test.now)) (sym same) ∙ c.in_ok-s.ensures.found) (subst (λ b. Finds c.unless.result (unless b Mismatch c.args.at)) eq c.unless.ensures)); place = on_ok c.unless.result same }
 
 pub do_while-returns-in_err-nested : goal.do_while-returns-in_err-nested
 do_while-returns-in_err-nested t c = record { found = handed_first c.from_residual.result c.in_err-nested.field-0.0 _ _ c.from_residual.ensures c.in_err-nested.ensures.found; place = IfOk-from_err c.from_residual.result _ c.from_residual.ensures.0 }
@@ -960,7 +960,7 @@ do_while-returns-in_err-nested t c = record { found = handed_first c.from_residu
 pub do_while-returns-in_err-s : goal.do_while-returns-in_err-s
 do_while-returns-in_err-s t c =
     let z = c.args.context.now in
-    record { found = past c.from_residual-in_err-s.result _ _ c.in_ok-nested.ensures.found (handed_first c.from_residual-in_err-s.result c.in_err-s.field-0.0 _ _ c.from_residual-in_err-s.ensures (subst (λ q. RefusedWith c.in_err-s.field-0.0 (fault z q Free (tree c.args.test.now))) c.in_ok-nested.ensures.place c.in_err-s.ensures.found)); place = IfOk-from_err c.from_residual-in_err-s.result _ c.from_residual-in_err-s.ensures.0 }
+    record { found = past c.from_residual-in_err-s.result _ _ c.in_ok-nested.ensures.found (handed_first c.from_residual-in_err-s.result c.in_err-s.field-0.0 _ _ c.from_residual-in_err-s.ensures (subst (λ q. RefusedWith c.in_err-s.field-0.0 (failure z q Free (tree c.args.test.now))) c.in_ok-nested.ensures.place c.in_err-s.ensures.found)); place = IfOk-from_err c.from_residual-in_err-s.result _ c.from_residual-in_err-s.ensures.0 }
 
 pub for_loop-returns-in_err-first_of : goal.for_loop-returns-in_err-first_of
 for_loop-returns-in_err-first_of t c =
@@ -1009,7 +1009,7 @@ first_of-returns-in-Some t c =
     let z = c.args.context.now in
     let p = place c.args.scope.now in
     record {
-      found = subst (Finds c.statement.result) (ap (λ y. statement_fault z p (statement y)) c.deref.ensures ∙ sym (ap (λ o. first_fault z p (optional_boxed o)) c.in-Some.is)) c.statement.ensures.found;
+      found = subst (Finds c.statement.result) (ap (λ y. statement_failure z p (statement y)) c.deref.ensures ∙ sym (ap (λ o. first_failure z p (optional_boxed o)) c.in-Some.is)) c.statement.ensures.found;
       place = subst (λ q. OnOk c.statement.result (place c.statement.new.scope ≡ q)) (ap (λ y. after z p (statement y)) c.deref.ensures ∙ sym (ap (λ o. after_first z p (optional_boxed o)) c.in-Some.is)) c.statement.ensures.place;
     }
 
@@ -1017,20 +1017,20 @@ pub first_of-returns-in-None : goal.first_of-returns-in-None
 first_of-returns-in-None t c =
     let z = c.args.context.now in
     let p = place c.args.scope.now in
-    record { found = ap (λ o. first_fault z p (optional_boxed o)) c.in-None.is; place = sym (ap (λ o. after_first z p (optional_boxed o)) c.in-None.is) }
+    record { found = ap (λ o. first_failure z p (optional_boxed o)) c.in-None.is; place = sym (ap (λ o. after_first z p (optional_boxed o)) c.in-None.is) }
 
 pub optional-returns-in-None : goal.optional-returns-in-None
 optional-returns-in-None t c =
     let z = c.args.context.now in
     let p = place c.args.scope.now in
-    record { found = ap (λ o. optional_fault z p (optional_expression o)) c.in-None.is; tests = sym (ap (λ o. is_test z.tables.now z.known.now p (optional_expression o)) c.in-None.is) }
+    record { found = ap (λ o. optional_failure z p (optional_expression o)) c.in-None.is; tests = sym (ap (λ o. is_test z.tables.now z.known.now p (optional_expression o)) c.in-None.is) }
 
 pub optional-returns-in_ok-s-in-Some : goal.optional-returns-in_ok-s-in-Some
 optional-returns-in_ok-s-in-Some t c =
     let z = c.args.context.now in
     let p = place c.args.scope.now in
     record {
-      found = ap (λ o. optional_fault z p (optional_expression o)) c.in-Some.is ∙ c.in_ok-s-in-Some.ensures.found;
+      found = ap (λ o. optional_failure z p (optional_expression o)) c.in-Some.is ∙ c.in_ok-s-in-Some.ensures.found;
       tests = c.is_boolean.ensures ∙ ap is_boolean (kind_seen z p Free c.in_ok-s-in-Some.s c.in-Some.e c.in_ok-s-in-Some.ensures.seen) ∙ sym (ap (λ o. is_test z.tables.now z.known.now p (optional_expression o)) c.in-Some.is);
     }
 
@@ -1039,7 +1039,7 @@ optional-returns-in_err-s-in-Some t c =
     let z = c.args.context.now in
     let p = place c.args.scope.now in
     record {
-      found = subst (Finds c.from_residual.result) (sym (ap (λ o. optional_fault z p (optional_expression o)) c.in-Some.is)) (handed c.from_residual.result c.in_err-s-in-Some.field-0.0 _ c.from_residual.ensures c.in_err-s-in-Some.ensures.found);
+      found = subst (Finds c.from_residual.result) (sym (ap (λ o. optional_failure z p (optional_expression o)) c.in-Some.is)) (handed c.from_residual.result c.in_err-s-in-Some.field-0.0 _ c.from_residual.ensures c.in_err-s-in-Some.ensures.found);
       tests = IfOk-from_err c.from_residual.result _ c.from_residual.ensures.0;
     }
 

@@ -5,13 +5,13 @@ use std::alloc::Global;
 use std::marker::Model;
 use sts_base::{NoMemory, Seq};
 
-/// Items that were gathered. Contracts see the list of them.
+/// Items that are accumulated. Contracts see the list of them.
 #[derive(Drop)]
-pub struct Gathered<T> {
+pub struct Accumulator<T> {
     items: Vec<T>,
 }
 
-impl<T> Model for Gathered<T> {
+impl<T> Model for Accumulator<T> {
     ghost use Rattle.std.specs.Prelude.{List};
     ghost use Rattle.std.specs.Coded.{coded_list};
 
@@ -19,15 +19,15 @@ impl<T> Model for Gathered<T> {
 
     ghost coded = { coded_list T.code };
 
-    ghost view = { λ gathered. gathered.items.items };
+    ghost view = { λ accumulator. accumulator.items.items };
 }
 
-impl<T: Drop> Gathered<T> {
+impl<T: Drop> Accumulator<T> {
     /// No items.
-    pub fn new(alloc: Global) -> Gathered<T>
+    pub fn new(alloc: Global) -> Accumulator<T>
         ensures { result ≡ [] }
     {
-        Gathered {
+        Accumulator {
             items: Vec::new(alloc),
         }
     }
@@ -50,7 +50,7 @@ impl<T: Drop> Gathered<T> {
     }
 
     /// Puts others behind them.
-    pub fn append(&mut self, mut others: Gathered<T>) -> Result<(), NoMemory>
+    pub fn append(&mut self, mut others: Accumulator<T>) -> Result<(), NoMemory>
         ensures { OnOk result (self.new ≡ self.old ++ others) }
     {
         match self.items.append(&mut others.items) {
