@@ -3,13 +3,13 @@
 use Rattle.std.proofs.Common.{◌≡◌, ℕ, List, Some, sym, ap, ◌∙◌, subst}
 use Rattle.slab.specs.Slab.{Slab, get}
 use Rattle.thumb_code.specs.Machine.{State as Machine}
-use Rattle.fiber_pool.specs.Kept.{Kept}
+use Rattle.fiber_pool.specs.Kept.{Kept, or_unused}
 use Rattle.fiber_runtime.specs.declared.turning.Turning.{Turning}
 use Rattle.fiber_runtime.specs.declared.blocking.Why.{Why}
 use Rattle.bank_model.specs.Standing.{words_in}
 use Rattle.fiber_runtime.specs.Words.{ReachesBase, kept_of}
 use Rattle.fiber_runtime.specs.State.{State}
-use Rattle.fiber_runtime.specs.Moves.{Blocked, Put, Resumed}
+use Rattle.fiber_runtime.specs.Moves.{BlocksWith, Blocked, Put, Resumed}
 use Rattle.fiber_runtime.specs.Copying.{Parked, Taken, HasWords}
 use Rattle.fiber_runtime.proofs.Sound.{updates_twice}
 
@@ -17,7 +17,7 @@ pub parked_is_blocked : (key : ℕ) (t : Turning) (why : Why) (now : ℕ) (old n
     → HasWords key (kept_of old.machine t).words old.pool pool → Parked key t why now (record old { pool = pool }) new → Blocked key t why now old new
 parked_is_blocked key t why now old new pool k found w p =
     let u = w.updates k found in
-    let b = p _ u.changed in
+    let b : Blocked key t why now (record old { pool = pool }) new = subst (λ ws. BlocksWith ws key t why now (record old { pool = pool }) new) (ap (λ o. (or_unused o).words) u.changed) p in
     record {
       updates = updates_twice old.pool pool new.pool key _ _ u b.updates;
       live = b.live ∙ w.live;

@@ -1,7 +1,7 @@
 -- Words that somebody else copies, a fiber that blocks behind it, and one that is resumed behind it.
 use Rattle.std.specs.Prelude.{◌≡◌, ℕ, List, Some}
 use Rattle.slab.specs.Slab.{Slab, get, slab_len, Updates}
-use Rattle.fiber_pool.specs.Kept.{Kept}
+use Rattle.fiber_pool.specs.Kept.{Kept, kept_at}
 use Rattle.fiber_runtime.specs.declared.turning.Turning.{Turning}
 use Rattle.fiber_runtime.specs.declared.blocking.Why.{Why}
 use Rattle.fiber_runtime.specs.State.{State}
@@ -14,7 +14,7 @@ pub record HasWords (key : ℕ) (words : List ℕ) (old new : Slab Kept) : Type 
 
 -- The running fiber blocks, and the words in its record stay.
 abbrev pub Parked : (key : ℕ) (t : Turning) (why : Why) (now : ℕ) (old new : State) → Type 0
-Parked key t why now old new = (k : Kept) → get old.pool key ≡ Some k → BlocksWith k.words key t why now old new
+Parked key t why now old new = BlocksWith (kept_at old.pool key).words key t why now old new
 
 -- The first ready fiber's registers and base are put into the machine, and the stack region stays.
 pub record Taken (old new : State) : Type 0 where

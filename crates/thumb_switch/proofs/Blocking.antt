@@ -11,6 +11,7 @@ use Rattle.thumb_code.specs.Step.{Fetched, Found, Missed, Stepped, On, Served, F
 use Rattle.fiber_pool.specs.Kept.{Kept, kept_at, or_unused, sized, with_words}
 use Rattle.fiber_runtime.specs.declared.turning.Turning.{Turning}
 use Rattle.fiber_runtime.specs.declared.blocking.Why.{Why}
+use Rattle.fiber_runtime.specs.Moves.{BlocksWith}
 use Rattle.fiber_runtime.specs.State.{State, running_key}
 use Rattle.fiber_runtime.specs.Copying.{Parked}
 use Rattle.thumb_switch.specs.Space.{Space, space_memory, fetched_in, step_in, executed, behind_step, back_at, record_at, called, switched, most_instructions}
@@ -101,7 +102,7 @@ blocked_by d e s new t why now steps h held live is ran' k parked =
     let came : e.runtime.now ≡ two = k.runtime ∙ ap (λ x. put x d.key left) is in
     let p : Parked d.key t why now two new = subst (λ x. Parked d.key t why now x new) came parked in
     let found = words_set one.pool d.key left.words there in
-    let b = p _ found in
+    let b : BlocksWith left.words d.key t why now two new = subst (λ ws. BlocksWith ws d.key t why now two new) (ap (λ o. (or_unused o).words) found) p in
     let u = b.updates in
     let first : Updates s.pool one.pool d.key _ = Updates-with_value s.pool d.key (record (kept_at s.pool d.key) { words = ws }) live in
     let second : Updates one.pool two.pool d.key _ = Updates-with_value one.pool d.key (record (kept_at one.pool d.key) { words = left.words }) there in
