@@ -25,10 +25,10 @@ use Rattle.board_run.specs.declared.end.Stop.{Stop}
 use Rattle.board_run.specs.declared.engine.Engine.{Engine}
 use Rattle.board_run.specs.Represents.{BoardState, Represents, IsShown}
 use Rattle.board_run.specs.Run.{Reaches, ComesTo, Comes}
-use Rattle.board_run.specs.Ports.{Idles}
 use Rattle.board_run.specs.Served.{Steps}
 use Rattle.board_run.specs.Outside.{OverSink}
-use Rattle.board_run.specs.Advancing.{Executes, PortsMeet, Advances, Fails, IsWhole}
+use Rattle.board_run.specs.Advancing.{Executes, Advances, Fails, IsWhole}
+use Rattle.board_run.specs.Ports.{PortsMeet, Idles}
 use Rattle.board_run.specs.View.{state_of, end_of}
 use Rattle.board_run.proofs.Course.{comes_shown, shown_reaches}
 use Rattle.board_run.proofs.Further.{through_then, through_none, through_one}

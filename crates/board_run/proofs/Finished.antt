@@ -32,7 +32,8 @@ use Rattle.board_run.specs.declared.engine.Engine.{Engine}
 use Rattle.board_run.specs.Represents.{Represents}
 use Rattle.board_run.specs.Run.{Reaches}
 use Rattle.board_run.specs.Outside.{Outside, OverSink, around}
-use Rattle.board_run.specs.Advancing.{PortsMeet, Advances, Fails, IsSettled}
+use Rattle.board_run.specs.Advancing.{Advances, Fails, IsSettled}
+use Rattle.board_run.specs.Ports.{PortsMeet}
 use Rattle.board_run.specs.Ran.{world_after, IsMounted, IsExecuted, HasRun, IsCut, told, answer_of, Finishes, Ran}
 use Rattle.board_run.specs.View.{state_of, end_of}
 use Rattle.board_run.proofs.FiberGoesOn.{first_ready}

@@ -20,7 +20,8 @@ use Rattle.board_outside.specs.Ports.{port_moves}
 use Rattle.board_run.specs.declared.engine.Engine.{Engine}
 use Rattle.board_run.specs.Represents.{Represents}
 use Rattle.board_run.specs.Arriving.{unplugs_of, acted_on, Applied}
-use Rattle.board_run.specs.Advancing.{IsWhole, PortsMeet}
+use Rattle.board_run.specs.Advancing.{IsWhole}
+use Rattle.board_run.specs.Ports.{PortsMeet}
 use Rattle.board_run.specs.Parting.{MayArrive, Arrives}
 use Rattle.board_run.specs.View.{state_of, plain_of, end_of}
 use Rattle.board_run.proofs.FiberGoesOn.{IsPlain}

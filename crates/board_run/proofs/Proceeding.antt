@@ -18,7 +18,8 @@ use Rattle.board_run.specs.declared.engine.Engine.{Engine}
 use Rattle.board_run.specs.Represents.{IsShown}
 use Rattle.board_run.specs.Run.{Comes, ComesTo}
 use Rattle.board_run.specs.Served.{Steps}
-use Rattle.board_run.specs.Advancing.{PortsMeet, IsWhole}
+use Rattle.board_run.specs.Advancing.{IsWhole}
+use Rattle.board_run.specs.Ports.{PortsMeet}
 use Rattle.board_run.specs.declared.board.Board.{Board}
 use Rattle.board_run.specs.Outside.{OverSink}
 use Rattle.board_run.specs.Proceeding.{led_lines, first_sent, Proceeds, Stops, Stands, IsBusy, MakesTo}

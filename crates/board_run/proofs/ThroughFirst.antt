@@ -28,7 +28,8 @@ use Rattle.board_run.specs.Represents.{BoardState, Represents, IsShown, behind}
 use Rattle.board_run.specs.Run.{Comes}
 use Rattle.board_run.specs.Idling.{IsEmpty}
 use Rattle.board_run.specs.Outside.{OverSink}
-use Rattle.board_run.specs.Advancing.{PortsMeet, IsWhole}
+use Rattle.board_run.specs.Advancing.{IsWhole}
+use Rattle.board_run.specs.Ports.{PortsMeet}
 use Rattle.board_run.specs.Proceeding.{led_lines, first_sent, IsBusy, Makes, MakesTo, HasProceeded, Stops, IsStayed}
 use Rattle.board_run.specs.Going.{entries_left, IsDueAt, IsResting, Shows, LeadsTo, Sees}
 use Rattle.board_run.specs.Gone.{MayGo, HasGone, IsIdle, GoesOnOrIdle, IsPassed, IsCutShort}

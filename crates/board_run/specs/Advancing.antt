@@ -7,26 +7,19 @@ use Rattle.board_world.specs.Board.{over}
 use Rattle.thumb_code.specs.Map.{flash_end}
 use Rattle.tool_io.specs.Putting.{Took}
 use Rattle.board_ports.specs.Account.{Account}
-use Rattle.board_ports.specs.Plugged.{Plugged}
-use Rattle.board_ports.specs.History.{PortMove, FollowsMoves}
 use Rattle.event_script.specs.Sound.{IsSound}
 use Rattle.board_outside.specs.Moves.{Move, Seen, seen_of}
-use Rattle.board_outside.specs.Ports.{port_moves}
 use Rattle.board_outside.specs.Cuts.{TookInto}
 use Rattle.board_run.specs.declared.engine.Engine.{Engine}
 use Rattle.board_run.specs.Represents.{BoardState, IsShown}
 use Rattle.board_run.specs.Run.{ComesThrough}
+use Rattle.board_run.specs.Ports.{PortsMeet}
 use Rattle.board_run.specs.Outside.{OverSink}
 use Rattle.board_run.specs.View.{state_of}
 
 -- The board comes so many instructions further, which meet these moves, and the run wasn't over before any of them.
 abbrev pub Executes : List ℕ → ℕ → List Move → BoardState → BoardState → Type 0
 Executes image more moves old new = ComesThrough (λ w. over w.board ≡ false) None image more moves old new
-
--- The devices that were plugged in have met these moves more.
-abbrev pub PortsMeet : {B : Type 0} → (B → Account) → List Move → Plugged B → Plugged B → Type 0
-PortsMeet {B} account moves plugged plugged' =
-    (before : List PortMove) (start : List (Option B)) → FollowsMoves account before start plugged → FollowsMoves account (before ++ port_moves moves) start plugged'
 
 -- A board executed so many instructions; the sink took the lines of what they met, and the devices have met it.
 pub record Advances {B : Type 0} (account : B → Account) (count : ℕ) (old new : OverSink B) : Type 0 where

@@ -1,5 +1,5 @@
 -- The entries of a moment, as the board applies them.
-use Rattle.std.specs.Prelude.{◌≡◌, ℕ, List, [], ◌∷◌, ◌++◌, length, drop, Option}
+use Rattle.std.specs.Prelude.{◌≡◌, ℕ, List, [], ◌∷◌, ◌++◌, length, drop}
 use Rattle.board_world.specs.Board.{Board, arrive, arrive_all}
 use Rattle.board_drivers.specs.Buttons.{Since, HasButtons}
 use Rattle.message_bus.specs.BusState.{BusState}
@@ -8,10 +8,9 @@ use Rattle.event_script.specs.declared.script.Act.{Act}
 use Rattle.event_script.specs.declared.script.Act.TheVariants.{Down, Up, Raise, Unplug as Unplugging}
 use Rattle.board_ports.specs.Account.{Account}
 use Rattle.board_ports.specs.Plugged.{Plugged}
-use Rattle.board_ports.specs.History.{PortMove, FollowsMoves}
 use Rattle.board_run.specs.declared.engine.Engine.{Engine}
 use Rattle.board_outside.specs.Moves.{Move, Unplugged, seen_of, unplugged_of}
-use Rattle.board_outside.specs.Ports.{port_moves}
+use Rattle.board_run.specs.Ports.{PortsMeet}
 
 -- the moves of an act
 abbrev pub unplugs_of : Act → List Move
@@ -28,7 +27,7 @@ acted_on bus s moves b = record b { queue = bus.queue; a_since = s.a_since; b_si
 pub record Applied {B : Type 0} (account : B → Account) (act : Act) (now : ℕ) (since since' : Since) (bus bus' : BusState) (plugged plugged' : Plugged B) : Type 0 where
   pub board : (b : Board) → HasButtons now since bus b → arrive (world_act act) b ≡ acted_on bus' since' (unplugs_of act) b
   pub listeners : bus'.listeners ≡ bus.listeners
-  pub ports : (before : List PortMove) (start : List (Option B)) → FollowsMoves account before start plugged → FollowsMoves account (before ++ port_moves (unplugs_of act)) start plugged'
+  pub ports : PortsMeet account (unplugs_of act) plugged plugged'
 
 -- The entries of the present moment did so, and those that are left come later.
 pub record Arrived {B : Type 0} (account : B → Account) (old new : Engine) (plugged plugged' : Plugged B) : Type 0 where
@@ -37,4 +36,4 @@ pub record Arrived {B : Type 0} (account : B → Account) (old new : Engine) (pl
   pub board : (b : Board) → HasButtons old.clock old.buttons old.bus b
       → arrive_all old.clock (world_entries (drop old.next old.script.entries)) b ≡ record (acted_on new.bus new.buttons moves b) { script = world_entries (drop new.next old.script.entries) }
   pub listeners : new.bus.listeners ≡ old.bus.listeners
-  pub ports : (before : List PortMove) (start : List (Option B)) → FollowsMoves account before start plugged → FollowsMoves account (before ++ port_moves moves) start plugged'
+  pub ports : PortsMeet account moves plugged plugged'

@@ -20,7 +20,7 @@ use Rattle.board_outside.specs.Moves.{Move, HasMet, Meets, seen_of}
 use Rattle.board_run.specs.declared.engine.Engine.{Engine}
 use Rattle.board_run.specs.Represents.{BoardState, Represents}
 use Rattle.board_run.specs.Idling.{IsEmpty}
-use Rattle.board_run.specs.Advancing.{PortsMeet}
+use Rattle.board_run.specs.Ports.{PortsMeet}
 use Rattle.board_run.specs.Proceeding.{IsBusy}
 use Rattle.board_run.specs.View.{state_of}
 

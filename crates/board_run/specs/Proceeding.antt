@@ -15,7 +15,7 @@ use Rattle.board_run.specs.declared.board.Board.{Board}
 use Rattle.board_run.specs.Represents.{BoardState}
 use Rattle.board_run.specs.Run.{ComesThrough}
 use Rattle.board_run.specs.Idling.{IsEmpty}
-use Rattle.board_run.specs.Advancing.{PortsMeet}
+use Rattle.board_run.specs.Ports.{PortsMeet}
 use Rattle.board_run.specs.Outside.{OverSink}
 use Rattle.board_run.specs.View.{state_of}
 use Rattle.board_ports.specs.Account.{Account}

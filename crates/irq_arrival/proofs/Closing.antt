@@ -31,7 +31,8 @@ use Rattle.board_run.specs.declared.end.End.{End}
 use Rattle.board_run.specs.declared.engine.Engine.{Engine}
 use Rattle.board_run.specs.Represents.{Represents}
 use Rattle.board_run.specs.Run.{Reaches}
-use Rattle.board_run.specs.Advancing.{PortsMeet, Fails}
+use Rattle.board_run.specs.Advancing.{Fails}
+use Rattle.board_run.specs.Ports.{PortsMeet}
 use Rattle.board_run.specs.Outside.{Outside, OverSink, around}
 use Rattle.board_run.specs.Ran.{IsMounted, IsExecuted, HasRun, IsCut, told, answer_of, Finishes, Ran}
 use Rattle.board_run.specs.View.{state_of, end_of}

@@ -15,7 +15,8 @@ use Rattle.board_run.specs.declared.engine.Engine.{Engine}
 use Rattle.board_run.specs.declared.end.End.{End}
 use Rattle.board_run.specs.declared.end.Stop.{Stop}
 use Rattle.board_run.specs.Outside.{OverSink, around}
-use Rattle.board_run.specs.Advancing.{PortsMeet, IsWhole, IsSettled}
+use Rattle.board_run.specs.Advancing.{IsWhole, IsSettled}
+use Rattle.board_run.specs.Ports.{PortsMeet}
 use Rattle.board_run.specs.Parting.{Parted, Arrives}
 use Rattle.board_run.specs.Ran.{IsMounted, answer_of, Ran}
 use Rattle.board_run.specs.View.{state_of, end_of}
