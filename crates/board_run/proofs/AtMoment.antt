@@ -1,5 +1,5 @@
 -- A board behind the instructions of a moment: what it is known to have, and that nothing comes before the next moment.
-use Rattle.std.proofs.Common.{◌≡◌, ℕ, suc, ◌+◌, ◌<◌, ◌≤◌, ◌⊎◌, inl, inr, Bool, true, false, if◌then◌else◌, nat_lt, List, [], ◌∷◌, ◌++◌, Option, Some, None, IsSome, is_some, refl, sym, ap, ◌∙◌, subst, arith}
+use Rattle.std.proofs.Common.{tt, ◌≡◌, ℕ, suc, ◌+◌, ◌<◌, ◌≤◌, ◌⊎◌, inl, inr, Bool, true, false, if◌then◌else◌, nat_lt, List, [], ◌∷◌, ◌++◌, Option, Some, None, IsSome, is_some, refl, sym, ap, ◌∙◌, subst, arith}
 use Rattle.std.proofs.lemmas.Bool.Decides.{nat_tests}
 use Rattle.std.specs.Prelude.{IfSome}
 use Rattle.std.specs.Option.{option_map}
@@ -20,9 +20,10 @@ use Rattle.board_run.specs.declared.engine.Engine.{Engine}
 use Rattle.board_run.specs.Shown.{of_key}
 use Rattle.board_run.specs.Represents.{Represents}
 use Rattle.board_run.specs.Idling.{IsEmpty}
-use Rattle.board_run.specs.Proceeding.{MakesTo, IsStayed}
+use Rattle.board_run.specs.Proceeding.{IsStayed}
 use Rattle.board_run.specs.Going.{entries_left, next_moment}
 use Rattle.board_run.specs.View.{state_of, end_of}
+use Rattle.board_run.proofs.Further.{MakesTo}
 use Rattle.board_run.proofs.FiberGoesOn.{first_ready}
 use Rattle.board_run.proofs.Stepping.{some_turning}
 use Rattle.board_run.proofs.Raises.{nobody_ready}

@@ -5,6 +5,7 @@ use Rattle.std.specs.Prelude.{Result, Ok, Err, OnErr}
 use Rattle.std.specs.Option.{option_map}
 use Rattle.sts_base.specs.Prefix.{IsPrefix}
 use Rattle.board_world.specs.Limits.{end_limit}
+use Rattle.board_world.specs.Observations.{ByteList, Observation}
 use Rattle.board_world.specs.Transcript.{line, lines}
 use Rattle.board_world.specs.Board.{over}
 use Rattle.tool_io.specs.Putting.{Took, TookPart}
@@ -17,25 +18,36 @@ use Rattle.board_outside.specs.Moves.{Move, Seen, seen_of}
 use Rattle.board_outside.specs.Outputs.{moves_of, IsSeen}
 use Rattle.board_outside.specs.Ports.{port_moves}
 use Rattle.board_outside.specs.Cuts.{TookInto}
-use Rattle.board_outside.proofs.Laws.{seen_of-append, port_moves-append, lines-append}
+use Rattle.board_outside.proofs.Laws.{seen_of-append, port_moves-append}
 use Rattle.thumb_code.specs.Map.{flash_end}
 use Rattle.event_script.specs.Sound.{IsSound}
 use Rattle.board_run.specs.declared.end.Counts.{Counts}
 use Rattle.board_run.specs.declared.end.Stop.{Stop}
 use Rattle.board_run.specs.declared.engine.Engine.{Engine}
 use Rattle.board_run.specs.Represents.{BoardState, Represents, IsShown}
-use Rattle.board_run.specs.Run.{Reaches, ComesTo, Comes}
+use Rattle.board_run.specs.Run.{ComesTo, Comes, ComesThrough}
 use Rattle.board_run.specs.Served.{Steps}
 use Rattle.board_run.specs.Outside.{OverSink}
-use Rattle.board_run.specs.Advancing.{Executes, Advances, Fails, IsWhole}
+use Rattle.board_run.specs.Advancing.{led_lines, Way, of_run, ComesBy, Advances, Fails, IsWhole}
 use Rattle.board_run.specs.Ports.{PortsMeet, Idles}
 use Rattle.board_run.specs.View.{state_of, end_of}
-use Rattle.board_run.proofs.Course.{comes_shown, shown_reaches}
+use Rattle.board_run.proofs.Course.{comes_shown, shown_reaches, stutters}
 use Rattle.board_run.proofs.Further.{through_then, through_none, through_one}
 
 -- one instruction of the running fiber, where the run isn't over
-executes_one : (image : List ℕ) (moves : List Move) (a b : BoardState) → a.plain.end ≡ None → IsSome a.runtime.running → ComesTo None image 1 moves a b → Executes image 1 moves a b
-executes_one image moves a b going runs f start n used met r = (let x = through_one None image moves a b going runs f start n used met r in (x.0, x.1, λ rest j l h. (x.2 rest j l h).0))
+of_run_one : (image : List ℕ) (moves : List Move) (a b : BoardState) → a.plain.end ≡ None → IsSome a.runtime.running → ComesTo None image 1 moves a b → ComesBy of_run image 1 moves a b
+of_run_one image moves a b going runs f bound is start n used met r =
+    let x = through_one bound image moves a b going runs (subst (λ o. ComesTo o image 1 moves a b) (sym is) f) start n used met r in
+    (x.0, x.1, λ rest j l h. (x.2 rest j l h).0)
+
+-- lines with a lead, one behind the other, and without one
+pub led_lines-append : (lead : ByteList) (xs ys : List Observation) → led_lines lead (xs ++ ys) ≡ led_lines lead xs ++ led_lines lead ys
+led_lines-append lead [] ys = refl
+led_lines-append lead (o ∷ xs) ys = ap (λ l. (lead ++ line o) ++ l) (led_lines-append lead xs ys) ∙ sym (append_assoc (lead ++ line o) (led_lines lead xs) (led_lines lead ys))
+
+pub plain_lines : (os : List Observation) → led_lines [] os ≡ lines os
+plain_lines [] = refl
+plain_lines (o ∷ os) = ap (λ l. line o ++ l) (plain_lines os)
 
 pub on_err : {T E : Type 0} {P : Type 0} (r : Result T E) → P → OnErr r P
 on_err (Ok x) p = tt
@@ -50,79 +62,85 @@ module _ {B : Type 0} (account : B → Account) where
       subst (λ l. FollowsMoves account l start r) (append_assoc before (port_moves ms) (port_moves ns) ∙ ap (λ l. before ++ l) (sym (port_moves-append ms ns)))
       (g (before ++ port_moves ms) start (f before start h))
 
-  pub advances_then : (n m : ℕ) (a b c : OverSink B) → Advances account n a b → Advances account m b c → Advances account (m + n) a c
-  advances_then n m a b c f g = record {
-    moves = f.moves ++ g.moves;
-    executes = λ image. through_then (λ w. over w.board ≡ false) None image n m f.moves g.moves (state_of a.board.engine) (state_of b.board.engine) (state_of c.board.engine) (f.executes image) (g.executes image);
-    ports = ports_then f.moves g.moves a.board.plugs b.board.plugs c.board.plugs f.ports g.ports;
-    written = subst (λ l. Took a.taken c.taken l) (sym (lines-append (seen_of f.moves) (seen_of g.moves)) ∙ ap lines (sym (seen_of-append f.moves g.moves))) (took-then _ _ f.written g.written);
-  }
-
   pub into_then : {s t u : Option (List ℕ)} (x y next : List ℕ) → Took s t x → TookInto t u y next → TookInto s u (x ++ y) next
   into_then x y next p q = record {
     told = λ had e. (let r = q.told (had ++ x) (p.told had e) in (r.0, r.1, r.2 ∙ ap Some (append_assoc had x (y ++ r.0) ∙ ap (λ l. had ++ l) (sym (append_assoc x y r.0)))));
   }
 
-  pub fails_then : (n most all : ℕ) (a b c : OverSink B) → Advances account n a b → Fails account most b c → most + n ≤ all → Fails account all a c
-  fails_then n most all a b c f g l = record {
-    count = g.count + n;
-    within = (let w = g.within in omega (arith, w, l));
-    done = f.moves ++ g.done;
-    last = g.last;
-    at = g.at;
-    executes = λ image. subst (λ ms. Executes image (g.count + n) ms (state_of a.board.engine) g.at) (sym (append_assoc f.moves g.done (Seen g.last ∷ [])))
-        (through_then (λ w. over w.board ≡ false) None image n g.count f.moves (g.done ++ Seen g.last ∷ []) (state_of a.board.engine) (state_of b.board.engine) g.at (f.executes image) (g.executes image));
-    ports = ports_then f.moves g.done a.board.plugs b.board.plugs c.board.plugs f.ports g.ports;
-    written = subst (λ l. TookInto a.taken c.taken l (line g.last)) (sym (lines-append (seen_of f.moves) (seen_of g.done)) ∙ ap lines (sym (seen_of-append f.moves g.done)))
-        (into_then (lines (seen_of f.moves)) (lines (seen_of g.done)) (line g.last) f.written g.written);
-  }
+  -- in any way
+  module _ (way : Way) where
+    pub advances_then : (n m : ℕ) (a b c : OverSink B) → Advances account way n a b → Advances account way m b c → Advances account way (m + n) a c
+    advances_then n m a b c f g = record {
+      moves = f.moves ++ g.moves;
+      comes = λ image bound stops. through_then way.before bound image n m f.moves g.moves (state_of a.board.engine) (state_of b.board.engine) (state_of c.board.engine) (f.comes image bound stops) (g.comes image bound stops);
+      ports = ports_then f.moves g.moves a.board.plugs b.board.plugs c.board.plugs f.ports g.ports;
+      written = subst (λ l. Took a.taken c.taken l) (sym (led_lines-append way.lead (seen_of f.moves) (seen_of g.moves)) ∙ ap (led_lines way.lead) (sym (seen_of-append f.moves g.moves))) (took-then _ _ f.written g.written);
+    }
 
-  -- nothing was done yet
-  pub advances_none : (b : OverSink B) → Advances account 0 b b
-  advances_none b = record {
-    moves = [];
-    executes = λ image start n used met r.
-        (let count : n ≡ 0 + n = omega arith in
-        ([], subst (λ k. Reaches None image start k (used ++ []) (met ++ []) (state_of b.board.engine)) count (subst (λ us. Reaches None image start n us (met ++ []) (state_of b.board.engine)) (sym (append-nil used)) (subst (λ ms. Reaches None image start n used ms (state_of b.board.engine)) (sym (append-nil met)) r)), λ rest j l h. absurd (omega (arith, l, h))));
-    ports = λ before start f. subst (λ ms. FollowsMoves account ms start b.board.plugs) (sym (append-nil before)) f;
-    written = took-nothing b.taken;
-  }
+    pub fails_then : (n most all : ℕ) (a b c : OverSink B) → Advances account way n a b → Fails account way most b c → most + n ≤ all → Fails account way all a c
+    fails_then n most all a b c f g l = record {
+      count = g.count + n;
+      within = (let w = g.within in omega (arith, w, l));
+      done = f.moves ++ g.done;
+      last = g.last;
+      at = g.at;
+      comes = λ image bound stops. subst (λ ms. ComesThrough way.before bound image (g.count + n) ms (state_of a.board.engine) g.at) (sym (append_assoc f.moves g.done (Seen g.last ∷ [])))
+          (through_then way.before bound image n g.count f.moves (g.done ++ Seen g.last ∷ []) (state_of a.board.engine) (state_of b.board.engine) g.at (f.comes image bound stops) (g.comes image bound stops));
+      ports = ports_then f.moves g.done a.board.plugs b.board.plugs c.board.plugs f.ports g.ports;
+      written = subst (λ l. TookInto a.taken c.taken l (way.lead ++ line g.last)) (sym (led_lines-append way.lead (seen_of f.moves) (seen_of g.done)) ∙ ap (led_lines way.lead) (sym (seen_of-append f.moves g.done)))
+          (into_then (led_lines way.lead (seen_of f.moves)) (led_lines way.lead (seen_of g.done)) (way.lead ++ line g.last) f.written g.written);
+    }
+
+    -- nothing was done yet
+    pub advances_none : (b : OverSink B) → Advances account way 0 b b
+    advances_none b =
+        let here = state_of b.board.engine in
+        record {
+          moves = [];
+          comes = λ image bound stops. through_none way.before bound image [] here here (stutters image here here refl (λ w h. h) bound);
+          ports = λ before start f. subst (λ ms. FollowsMoves account ms start b.board.plugs) (sym (append-nil before)) f;
+          written = took-nothing b.taken;
+        }
+
+    -- an instruction whose line was cut
+    pub fails_one : (a c : OverSink B) (b : Engine) (flash : List ℕ) (now : ℕ) (output : Output) → ((image : List ℕ) (ms : List Move) → moves_of flash now output ≡ ms → ComesBy way image 1 ms (state_of a.board.engine) (state_of b))
+        → IsSeen flash now output → c.board.plugs ≡ a.board.plugs → TookPart a.taken c.taken (led_lines way.lead (seen_of (moves_of flash now output))) → Fails account way 1 a c
+    fails_one a c b flash now output comes seen same part =
+        let o = seen.0 in
+        record {
+          count = 1;
+          within = omega arith;
+          done = [];
+          last = o;
+          at = state_of b;
+          comes = λ image. comes image (Seen o ∷ []) seen.1;
+          ports = λ before start f. subst (λ ms. FollowsMoves account ms start c.board.plugs) (sym (append-nil before)) (subst (λ x. FollowsMoves account before start x) (sym same) f);
+          written = record {
+            told = λ had e.
+                (let l : TookPart a.taken c.taken ((way.lead ++ line o) ++ []) = subst (λ ms. TookPart a.taken c.taken (led_lines way.lead (seen_of ms))) seen.1 part in
+                let r = l.told had e in (r.0, subst (IsPrefix r.0) (append-nil (way.lead ++ line o)) r.1, r.2));
+          };
+        }
 
   -- idle moves show nothing
-  pub advances_idle : (a b : OverSink B) → b.taken ≡ a.taken → Idles account (state_of a.board.engine) (state_of b.board.engine) a.board.plugs b.board.plugs → Advances account 0 a b
+  pub advances_idle : (a b : OverSink B) → b.taken ≡ a.taken → Idles account (state_of a.board.engine) (state_of b.board.engine) a.board.plugs b.board.plugs → Advances account of_run 0 a b
   advances_idle a b same i = record {
     moves = i.moves;
-    executes = λ image. through_none (λ w. over w.board ≡ false) None image i.moves (state_of a.board.engine) (state_of b.board.engine) (i.comes image);
+    comes = λ image bound is. through_none (λ w. over w.board ≡ false) bound image i.moves (state_of a.board.engine) (state_of b.board.engine)
+        (subst (λ o. ComesTo o image 0 i.moves (state_of a.board.engine) (state_of b.board.engine)) (sym is) (i.comes image));
     ports = i.ports;
-    written = subst (λ t. Took a.taken t (lines (seen_of i.moves))) (sym same) (subst (λ l. Took a.taken a.taken l) (ap lines (sym i.silent)) (took-nothing a.taken));
+    written = subst (λ t. Took a.taken t (led_lines [] (seen_of i.moves))) (sym same) (subst (λ l. Took a.taken a.taken l) (ap (led_lines []) (sym i.silent)) (took-nothing a.taken));
   }
 
   -- an instruction with its line and its words
   pub advances_one : (a b : OverSink B) (moves : List Move) → a.board.engine.end ≡ None → IsSome a.board.engine.runtime.running → ((image : List ℕ) → Comes image 1 moves (state_of a.board.engine) (state_of b.board.engine))
-      → PortsMeet account moves a.board.plugs b.board.plugs → Took a.taken b.taken (lines (seen_of moves)) → Advances account 1 a b
+      → PortsMeet account moves a.board.plugs b.board.plugs → Took a.taken b.taken (lines (seen_of moves)) → Advances account of_run 1 a b
   advances_one a b moves going runs comes ports took = record {
     moves = moves;
-    executes = λ image. executes_one image moves (state_of a.board.engine) (state_of b.board.engine) (none_yet a.board.engine.end going) runs (comes image None);
+    comes = λ image. of_run_one image moves (state_of a.board.engine) (state_of b.board.engine) (none_yet a.board.engine.end going) runs (comes image None);
     ports = ports;
-    written = took;
+    written = subst (Took a.taken b.taken) (sym (plain_lines (seen_of moves))) took;
   }
-
-  -- an instruction whose line was cut
-  pub fails_one : (a c : OverSink B) (b : Engine) (flash : List ℕ) (now : ℕ) (output : Output) → a.board.engine.end ≡ None → IsSome a.board.engine.runtime.running
-      → ((image : List ℕ) → Comes image 1 (moves_of flash now output) (state_of a.board.engine) (state_of b)) → IsSeen flash now output → c.board.plugs ≡ a.board.plugs
-      → TookPart a.taken c.taken (lines (seen_of (moves_of flash now output))) → Fails account 1 a c
-  fails_one a c b flash now output going runs comes seen same part =
-      let o = seen.0 in
-      record {
-        count = 1;
-        within = omega arith;
-        done = [];
-        last = o;
-        at = state_of b;
-        executes = λ image. executes_one image (Seen o ∷ []) (state_of a.board.engine) (state_of b) (none_yet a.board.engine.end going) runs (subst (λ ms. ComesTo None image 1 ms (state_of a.board.engine) (state_of b)) seen.1 (comes image None));
-        ports = λ before start f. subst (λ ms. FollowsMoves account ms start c.board.plugs) (sym (append-nil before)) (subst (λ x. FollowsMoves account before start x) (sym same) f);
-        written = record { told = λ had e. (let l : TookPart a.taken c.taken (line o ++ []) = subst (λ ms. TookPart a.taken c.taken (lines (seen_of ms))) seen.1 part in let r = l.told had e in (r.0, subst (IsPrefix r.0) (append-nil (line o)) r.1, r.2)) };
-      }
 
 -- an instruction changes no flash
 pub flash_kept : (n : ℕ) (more : List Move) (b c : BoardState) → IsShown b → ((image : List ℕ) → ComesTo None image n more b c) → c.runtime.machine.memory.flash ≡ b.runtime.machine.memory.flash
@@ -190,17 +208,20 @@ module _ {B : Type 0} (account : B → Account) (old : OverSink B) (mid : Engine
   -- a whole step: an instruction, its line, its words, and the idle moves behind it
   pub step_goes : (told : Engine) (q : Plugged B) (new : OverSink B) → a.end ≡ None → IsSome a.runtime.running → told ≡ mid
       → PortsMeet account (moves_of mid.runtime.machine.memory.flash a.clock output) old.board.plugs q → Took old.taken new.taken (lines (seen_of (moves_of mid.runtime.machine.memory.flash a.clock output)))
-      → Idles account (state_of told) (state_of new.board.engine) q new.board.plugs → Advances account 1 old new
+      → Idles account (state_of told) (state_of new.board.engine) q new.board.plugs → Advances account of_run 1 old new
   step_goes told q new going runs same ports took idles =
       let there : OverSink B = record { board = record old.board { engine = mid; plugs = q }; taken = new.taken; faults = new.faults } in
       let one = advances_one account old there (moves_of a.runtime.machine.memory.flash a.clock output) going runs comes
       (subst (λ f. PortsMeet account (moves_of f a.clock output) old.board.plugs q) flash_same ports)
       (subst (λ f. Took old.taken new.taken (lines (seen_of (moves_of f a.clock output)))) flash_same took) in
       let rest = advances_idle account there new refl (subst (λ (x : Engine). Idles account (state_of x) (state_of new.board.engine) q new.board.plugs) same idles) in
-      advances_then account 1 0 old there new one rest
+      advances_then account of_run 1 0 old there new one rest
 
   pub step_fails : (new : OverSink B) → a.end ≡ None → IsSome a.runtime.running → IsSeen mid.runtime.machine.memory.flash a.clock output → new.board.plugs ≡ old.board.plugs
-      → TookPart old.taken new.taken (lines (seen_of (moves_of mid.runtime.machine.memory.flash a.clock output))) → Fails account 1 old new
+      → TookPart old.taken new.taken (lines (seen_of (moves_of mid.runtime.machine.memory.flash a.clock output))) → Fails account of_run 1 old new
   step_fails new going runs seen same part =
-      fails_one account old new mid a.runtime.machine.memory.flash a.clock output going runs comes
-      (subst (λ f. IsSeen f a.clock output) flash_same seen) same (subst (λ f. TookPart old.taken new.taken (lines (seen_of (moves_of f a.clock output)))) flash_same part)
+      let flash = a.runtime.machine.memory.flash in
+      fails_one account of_run old new mid flash a.clock output
+      (λ image ms is. of_run_one image ms (state_of a) (state_of mid) (none_yet a.end going) runs (subst (λ ns. ComesTo None image 1 ns (state_of a) (state_of mid)) is (comes image None)))
+      (subst (λ f. IsSeen f a.clock output) flash_same seen) same
+      (subst (TookPart old.taken new.taken) (sym (plain_lines (seen_of (moves_of flash a.clock output)))) (subst (λ f. TookPart old.taken new.taken (lines (seen_of (moves_of f a.clock output)))) flash_same part))

@@ -4,7 +4,7 @@ use Rattle.std.specs.Prelude.{Result, Ok, Err}
 use Rattle.std.specs.Option.{option_map}
 use Rattle.std.proofs.lemmas.List.{append-nil}
 use Rattle.board_world.specs.Observations.{End as RunEnd}
-use Rattle.board_world.specs.Transcript.{lines, closing_line}
+use Rattle.board_world.specs.Transcript.{line, lines, closing_line}
 use Rattle.board_world.specs.Board.{Board, over, transcript_of}
 use Rattle.board_world.specs.Kinds.{Kind}
 use Rattle.board_world.specs.Activities.{World}
@@ -25,6 +25,7 @@ use Rattle.event_script.specs.declared.script.Script.{Script}
 use Rattle.board_outside.specs.Moves.{Move, Seen, seen_of, HasMet}
 use Rattle.board_outside.specs.Ports.{port_moves, DevicesAfter}
 use Rattle.board_outside.proofs.Laws.{idles_meeting, goes_on_meeting}
+use Rattle.board_outside.specs.Cuts.{TookInto}
 use Rattle.board_run.specs.declared.end.Stop.{Stop}
 use Rattle.board_run.specs.declared.end.Stop.TheVariants.{Quiet as StopQuiet, Script as StopScript, Panic as StopPanic, Fault as StopFault}
 use Rattle.board_run.specs.declared.end.End.{End}
@@ -32,10 +33,11 @@ use Rattle.board_run.specs.declared.engine.Engine.{Engine}
 use Rattle.board_run.specs.Represents.{Represents}
 use Rattle.board_run.specs.Run.{Reaches}
 use Rattle.board_run.specs.Outside.{Outside, OverSink, around}
-use Rattle.board_run.specs.Advancing.{Advances, Fails, IsSettled}
+use Rattle.board_run.specs.Advancing.{of_run, Advances, Fails, IsSettled}
 use Rattle.board_run.specs.Ports.{PortsMeet}
 use Rattle.board_run.specs.Ran.{world_after, IsMounted, IsExecuted, HasRun, IsCut, told, answer_of, Finishes, Ran}
 use Rattle.board_run.specs.View.{state_of, end_of}
+use Rattle.board_run.proofs.Executing.{plain_lines}
 use Rattle.board_run.proofs.FiberGoesOn.{first_ready}
 use Rattle.board_run.proofs.Stepping.{some_turning}
 
@@ -108,7 +110,7 @@ module _ {B : Type 0} (account : B → Account) (image : List ℕ) (script : Scr
   ports_after moves p meet = places_after account (port_moves moves) places p (meet [] places f)
 
   -- the worlds that are shown, and that the run wasn't over before
-  module _ (b : OverSink B) (a : Advances account b.board.instructions first b) (settled : IsSettled b.board.engine) where
+  module _ (b : OverSink B) (a : Advances account of_run b.board.instructions first b) (settled : IsSettled b.board.engine) where
     abbrev e : Engine
     e = b.board.engine
 
@@ -116,7 +118,7 @@ module _ {B : Type 0} (account : B → Account) (image : List ℕ) (script : Scr
     n = b.board.instructions
 
     reached : (used : List ℕ) × Reaches None image begin (n + 0) used a.moves (state_of e) × ((rest : List ℕ) (j : ℕ) → 0 ≤ j → j < n + 0 → over (run (fibers image) j (idled (fibers image) (begin (used ++ rest)))).board ≡ false)
-    reached = a.executes image begin 0 [] [] begins
+    reached = a.comes image None refl begin 0 [] [] begins
 
     abbrev after : List ℕ → World Fiber Shared
     after rest = world_after image script (reached.0 ++ rest) n
@@ -149,6 +151,10 @@ module _ {B : Type 0} (account : B → Account) (image : List ℕ) (script : Scr
         is_over (Some x) q = refl
         is_over None q = absurd (let c : false ≡ true = q in cc)
 
+    -- the lines that were taken stand without a lead
+    lines_taken : Took first.taken b.taken (lines (seen_of a.moves))
+    lines_taken = subst (Took first.taken b.taken) (plain_lines (seen_of a.moves)) a.written
+
     text_is : (rest : List ℕ) → lines (seen_of a.moves) ++ closing_line e.clock (option_map end_of e.end) ≡ transcript_of (after rest).board
     text_is rest =
         ap (λ os. lines os ++ closing_line e.clock (option_map end_of e.end)) (sym (has_met rest).seen)
@@ -169,7 +175,7 @@ module _ {B : Type 0} (account : B → Account) (image : List ℕ) (script : Scr
         shows = shown;
         met = has_met;
         ended = end_is;
-        written = λ rest. subst (λ l. Took first.taken u l) (text_is rest) (took-then _ _ a.written took);
+        written = λ rest. subst (λ l. Took first.taken u l) (text_is rest) (took-then _ _ lines_taken took);
         devices = ports_after a.moves b.board.plugs a.ports;
       }
 
@@ -191,7 +197,7 @@ module _ {B : Type 0} (account : B → Account) (image : List ℕ) (script : Scr
                 let closing : closing_line e.clock (option_map end_of e.end) ≡ closing_line (after []).board.clock (after []).board.end =
                 ap (λ c. closing_line c (option_map end_of e.end)) (sym (clock_is [])) ∙ ap (closing_line (after []).board.clock) (sym (end_is [])) in
                 let c : TookPart b.taken u (closing_line (after []).board.clock (after []).board.end) = subst (λ l. TookPart b.taken u l) closing part in
-                let r = c.told (had ++ lines (seen_of a.moves)) (a.written.told had q) in
+                let r = c.told (had ++ lines (seen_of a.moves)) (lines_taken.told had q) in
                 (r.0, r.1, r.2 ∙ ap Some (append_assoc had (lines (seen_of a.moves)) r.0));
           };
           devices = ports_after a.moves b.board.plugs a.ports;
@@ -214,10 +220,10 @@ module _ {B : Type 0} (account : B → Account) (image : List ℕ) (script : Scr
           by_put (Err x) puts = (ran_cut puts.part, rose-before first.faults b.faults fs later puts.failed)
 
   -- the line of an observation was cut: the run goes on to meet more, whatever the sink does
-  pub fails_cut : (b : OverSink B) → Fails account budget first b → IsCut account (world_after image script) budget given (around b)
+  pub fails_cut : (b : OverSink B) → Fails account of_run budget first b → IsCut account (world_after image script) budget given (around b)
   fails_cut b g =
       let K = fibers image in
-      let x = g.executes image begin 0 [] [] begins in
+      let x = g.comes image None refl begin 0 [] [] begins in
       let free = x.0 ++ [] in
       let w = x.1.at [] in
       let met = g.done ++ Seen g.last ∷ [] in
@@ -238,7 +244,7 @@ module _ {B : Type 0} (account : B → Account) (image : List ℕ) (script : Scr
           left = Seen g.last ∷ (idle.0 ++ further.0);
           split = sym (ap (λ l. l ++ further.0) (append_assoc g.done (Seen g.last ∷ []) idle.0) ∙ append_assoc g.done (Seen g.last ∷ idle.0) further.0);
           due = tt;
-          written = g.written;
+          written = subst (λ l. TookInto first.taken b.taken l (line g.last)) (plain_lines (seen_of g.done)) g.written;
           devices = ports_after g.done b.board.plugs g.ports;
         };
       }

@@ -12,6 +12,13 @@ use Rattle.board_run.proofs.FiberGoesOn.{first_ready}
 use Rattle.board_run.proofs.Stepping.{some_turning}
 use Rattle.board_run.proofs.Course.{busy_to}
 
+-- so many instructions further, before each of which somebody was ready; and whatever moment the run stops before
+abbrev pub MakesTo : Option ℕ → List ℕ → ℕ → List Move → BoardState → BoardState → Type 0
+MakesTo bound image more moves old new = ComesThrough IsBusy bound image more moves old new
+
+abbrev pub Makes : List ℕ → ℕ → List Move → BoardState → BoardState → Type 0
+Makes image more moves old new = (bound : Option ℕ) → MakesTo bound image more moves old new
+
 pub before_or_not : (j k : ℕ) → (j < k) ⊎ (k ≤ j)
 before_or_not zero zero = inr (omega arith)
 before_or_not zero (suc k) = inl (omega arith)

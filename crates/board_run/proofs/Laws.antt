@@ -2,8 +2,8 @@
 
 -- where somebody runs, or the run is over, the world that is shown makes no idle move
 pub use Rattle.board_run.proofs.Finished.{settled_stays}
--- stretches of a run one behind the other, what nothing does, and a line that was cut behind whole ones
-pub use Rattle.board_run.proofs.Executing.{ports_then, advances_none, into_then}
+-- stretches of a run one behind the other, what nothing does, a line that was cut behind whole ones, and lines without a lead
+pub use Rattle.board_run.proofs.Executing.{ports_then, advances_none, into_then, plain_lines}
 -- who is ready in a world that a board shows, and when something comes to it next
 pub use Rattle.board_run.proofs.Raises.{nobody_ready}
 pub use Rattle.board_run.proofs.FiberGoesOn.{first_ready}

@@ -18,21 +18,17 @@ use Rattle.board_run.specs.declared.engine.Engine.{Engine}
 use Rattle.board_run.specs.Represents.{IsShown}
 use Rattle.board_run.specs.Run.{Comes, ComesTo}
 use Rattle.board_run.specs.Served.{Steps}
-use Rattle.board_run.specs.Advancing.{IsWhole}
+use Rattle.board_run.specs.Advancing.{IsWhole, led_lines, Fails}
 use Rattle.board_run.specs.Ports.{PortsMeet}
 use Rattle.board_run.specs.declared.board.Board.{Board}
 use Rattle.board_run.specs.Outside.{OverSink}
-use Rattle.board_run.specs.Proceeding.{led_lines, first_sent, Proceeds, Stops, Stands, IsBusy, MakesTo}
+use Rattle.board_run.specs.Proceeding.{first_sent, Proceeds, Stands, IsBusy, of_moment}
 use Rattle.board_run.specs.View.{state_of}
-use Rattle.board_run.proofs.Course.{comes_then, stutters}
-use Rattle.board_run.proofs.Further.{through_then, through_none, through_one}
-use Rattle.board_run.proofs.Executing.{none_yet, same_flash, ports_then, into_then, whole_after}
+use Rattle.board_run.proofs.Course.{comes_then}
+use Rattle.board_run.proofs.Further.{through_one}
+use Rattle.board_run.proofs.Executing.{none_yet, same_flash, advances_none, advances_then, fails_one, whole_after}
 
--- lines and numbers of what was seen, one behind the other
-pub led_lines-append : (lead : ByteList) (xs ys : List Observation) → led_lines lead (xs ++ ys) ≡ led_lines lead xs ++ led_lines lead ys
-led_lines-append lead [] ys = refl
-led_lines-append lead (o ∷ xs) ys = ap (λ l. (lead ++ line o) ++ l) (led_lines-append lead xs ys) ∙ sym (append_assoc (lead ++ line o) (led_lines lead xs) (led_lines lead ys))
-
+-- numbers of what was seen, one behind the other
 pub first_sent-append : (numbers : List ℤ) (xs ys : List Observation) → first_sent numbers (xs ++ ys) ≡ first_sent (first_sent numbers xs) ys
 first_sent-append numbers [] ys = refl
 first_sent-append numbers (Show at frame ∷ xs) ys = first_sent-append numbers xs ys
@@ -58,38 +54,16 @@ module _ {B : Type 0} where
 
 module _ {B : Type 0} (account : B → Account) (lead : ByteList) where
   pub proceeds_none : (b : OverSink B) → Proceeds account lead 0 b b
-  proceeds_none b =
-      let here = state_of b.board.engine in
-      record {
-        moves = [];
-        makes = λ image bound. through_none IsBusy bound image [] here here (stutters image here here refl (λ w h. h) bound);
-        ports = λ before start f. subst (λ ms. FollowsMoves account ms start b.board.plugs) (sym (append-nil before)) f;
-        sent = refl;
-        written = took-nothing b.taken;
-      }
+  proceeds_none b = record { advances = advances_none account (of_moment lead) b; sent = refl }
 
   pub proceeds_then : (n m : ℕ) (a b c : OverSink B) → Proceeds account lead n a b → Proceeds account lead m b c → Proceeds account lead (m + n) a c
-  proceeds_then n m a b c f g = record {
-    moves = f.moves ++ g.moves;
-    makes = λ image bound. through_then IsBusy bound image n m f.moves g.moves (state_of a.board.engine) (state_of b.board.engine) (state_of c.board.engine) (f.makes image bound) (g.makes image bound);
-    ports = ports_then account f.moves g.moves a.board.plugs b.board.plugs c.board.plugs f.ports g.ports;
-    sent = g.sent ∙ ap (λ ns. first_sent ns (seen_of g.moves)) f.sent ∙ sym (first_sent-append a.board.sent (seen_of f.moves) (seen_of g.moves)) ∙ ap (first_sent a.board.sent) (sym (seen_of-append f.moves g.moves));
-    written = subst (λ l. Took a.taken c.taken l) (sym (led_lines-append lead (seen_of f.moves) (seen_of g.moves)) ∙ ap (led_lines lead) (sym (seen_of-append f.moves g.moves))) (took-then _ _ f.written g.written);
-  }
-
-  pub stops_then : (n most all : ℕ) (a b c : OverSink B) → Proceeds account lead n a b → Stops account lead most b c → most + n ≤ all → Stops account lead all a c
-  stops_then n most all a b c f g l = record {
-    count = g.count + n;
-    within = (let w = g.within in omega (arith, w, l));
-    done = f.moves ++ g.done;
-    last = g.last;
-    at = g.at;
-    makes = λ image bound. subst (λ ms. MakesTo bound image (g.count + n) ms (state_of a.board.engine) g.at) (sym (append_assoc f.moves g.done (Seen g.last ∷ [])))
-        (through_then IsBusy bound image n g.count f.moves (g.done ++ Seen g.last ∷ []) (state_of a.board.engine) (state_of b.board.engine) g.at (f.makes image bound) (g.makes image bound));
-    ports = ports_then account f.moves g.done a.board.plugs b.board.plugs c.board.plugs f.ports g.ports;
-    written = subst (λ l. TookInto a.taken c.taken l (lead ++ line g.last)) (sym (led_lines-append lead (seen_of f.moves) (seen_of g.done)) ∙ ap (led_lines lead) (sym (seen_of-append f.moves g.done)))
-        (into_then account (led_lines lead (seen_of f.moves)) (led_lines lead (seen_of g.done)) (lead ++ line g.last) f.written g.written);
-  }
+  proceeds_then n m a b c f g =
+      let first = f.advances.moves in
+      let second = g.advances.moves in
+      record {
+        advances = advances_then account (of_moment lead) n m a b c f.advances g.advances;
+        sent = g.sent ∙ ap (λ ns. first_sent ns (seen_of second)) f.sent ∙ sym (first_sent-append a.board.sent (seen_of first) (seen_of second)) ∙ ap (first_sent a.board.sent) (sym (seen_of-append first second));
+      }
 
   module _ (old : OverSink B) (mid : Engine) (output : Output) (shown : IsShown (state_of old.board.engine))
       (comes : (image : List ℕ) → Comes image 1 (moves_of old.board.engine.runtime.machine.memory.flash old.board.engine.clock output) (state_of old.board.engine) (state_of mid)) where
@@ -109,35 +83,23 @@ module _ {B : Type 0} (account : B → Account) (lead : ByteList) where
         let moves = moves_of a.runtime.machine.memory.flash a.clock output in
         let count : 0 + 1 ≡ 1 = omega arith in
         record {
-          moves = moves;
-          makes = λ image bound. through_one bound image moves (state_of a) (state_of new.board.engine) (none_yet a.end going) runs (subst (λ k. ComesTo bound image k moves (state_of a) (state_of new.board.engine)) count
-              (subst (λ ms. ComesTo bound image (0 + 1) ms (state_of a) (state_of new.board.engine)) (append-nil moves)
-              (comes_then bound image 1 0 moves [] (state_of a) (state_of mid) (state_of new.board.engine) (comes image bound) (subst (λ (x : Engine). ComesTo bound image 0 [] (state_of x) (state_of new.board.engine)) same (stay image bound)))));
-          ports = subst (λ f. PortsMeet account (moves_of f a.clock output) old.board.plugs new.board.plugs) flash_same ports;
+          advances = record {
+            moves = moves;
+            comes = λ image bound stops. through_one bound image moves (state_of a) (state_of new.board.engine) (none_yet a.end going) runs (subst (λ k. ComesTo bound image k moves (state_of a) (state_of new.board.engine)) count
+                (subst (λ ms. ComesTo bound image (0 + 1) ms (state_of a) (state_of new.board.engine)) (append-nil moves)
+                (comes_then bound image 1 0 moves [] (state_of a) (state_of mid) (state_of new.board.engine) (comes image bound) (subst (λ (x : Engine). ComesTo bound image 0 [] (state_of x) (state_of new.board.engine)) same (stay image bound)))));
+            ports = subst (λ f. PortsMeet account (moves_of f a.clock output) old.board.plugs new.board.plugs) flash_same ports;
+            written = subst (λ f. Took old.taken new.taken (led_lines lead (seen_of (moves_of f a.clock output)))) flash_same took;
+          };
           sent = sent a.runtime.machine.memory.flash a.clock;
-          written = subst (λ f. Took old.taken new.taken (led_lines lead (seen_of (moves_of f a.clock output)))) flash_same took;
         }
 
     pub step_stops : (new : OverSink B) → a.end ≡ None → IsSome a.runtime.running → IsSeen mid.runtime.machine.memory.flash a.clock output → new.board.plugs ≡ old.board.plugs
-        → TookPart old.taken new.taken (led_lines lead (seen_of (moves_of mid.runtime.machine.memory.flash a.clock output))) → Stops account lead 1 old new
+        → TookPart old.taken new.taken (led_lines lead (seen_of (moves_of mid.runtime.machine.memory.flash a.clock output))) → Fails account (of_moment lead) 1 old new
     step_stops new going runs seen same part =
-        let seen' = subst (λ f. IsSeen f a.clock output) flash_same seen in
-        let part' = subst (λ f. TookPart old.taken new.taken (led_lines lead (seen_of (moves_of f a.clock output)))) flash_same part in
-        let o = seen'.0 in
-        record {
-          count = 1;
-          within = omega arith;
-          done = [];
-          last = o;
-          at = state_of mid;
-          makes = λ image bound. through_one bound image (Seen o ∷ []) (state_of a) (state_of mid) (none_yet a.end going) runs (subst (λ ms. ComesTo bound image 1 ms (state_of a) (state_of mid)) seen'.1 (comes image bound));
-          ports = λ before start f. subst (λ ms. FollowsMoves account ms start new.board.plugs) (sym (append-nil before)) (subst (λ x. FollowsMoves account before start x) (sym same) f);
-          written = record {
-            told = λ had e.
-                (let l : TookPart old.taken new.taken ((lead ++ line o) ++ []) = subst (λ ms. TookPart old.taken new.taken (led_lines lead (seen_of ms))) seen'.1 part' in
-                let r = l.told had e in (r.0, subst (IsPrefix r.0) (append-nil (lead ++ line o)) r.1, r.2));
-          };
-        }
+        fails_one account (of_moment lead) old new mid a.runtime.machine.memory.flash a.clock output
+        (λ image ms is bound stops. through_one bound image ms (state_of a) (state_of mid) (none_yet a.end going) runs (subst (λ ns. ComesTo bound image 1 ns (state_of a) (state_of mid)) is (comes image bound)))
+        (subst (λ f. IsSeen f a.clock output) flash_same seen) same (subst (λ f. TookPart old.taken new.taken (led_lines lead (seen_of (moves_of f a.clock output)))) flash_same part)
 
     pub step_stays_whole : (n : ℕ) (told new : Engine) → IsWhole a n → Steps a mid → told ≡ mid → ((image : List ℕ) → Comes image 0 [] (state_of told) (state_of new))
         → new ≡ record told { runtime = new.runtime; switch = new.switch; bus = new.bus; places = new.places } → IsWhole new (n + 1)

@@ -36,13 +36,13 @@ use Rattle.board_run.specs.Represents.{BoardState, Represents}
 use Rattle.board_run.specs.Run.{Reaches, Comes}
 use Rattle.board_run.specs.Idling.{IsEmpty}
 use Rattle.board_run.specs.Outside.{OverSink}
-use Rattle.board_run.specs.Advancing.{IsWhole}
-use Rattle.board_run.specs.Proceeding.{led_lines, first_sent, IsBusy, Makes, MakesTo, HasProceeded, Stops, IsStayed}
+use Rattle.board_run.specs.Advancing.{IsWhole, led_lines, Fails}
+use Rattle.board_run.specs.Proceeding.{first_sent, IsBusy, HasProceeded, IsStayed, of_moment}
 use Rattle.board_run.specs.Going.{entries_left, next_moment, IsDueAt, IsResting, CameTo, Shows, LeadsTo, Sees}
 use Rattle.board_run.specs.Gone.{HasGone, IsIdle, IsPassed, IsCutShort}
 use Rattle.board_run.specs.View.{state_of, end_of}
 use Rattle.board_run.proofs.Executing.{ports_then}
-use Rattle.board_run.proofs.Further.{through_then, through_none}
+use Rattle.board_run.proofs.Further.{Makes, MakesTo, through_then, through_none}
 use Rattle.board_run.proofs.Raises.{nobody_ready}
 use Rattle.board_run.proofs.AtMoment.{stayed_rests, none_up_to, Known, known_late, known_through}
 use Rattle.board_ports.specs.Account.{Account}
@@ -188,8 +188,8 @@ module _ {B : Type 0} (account : B → Account) (lead : ByteList) (t : ℕ) (old
         let h = whole.shown.shows in
         let image = old.board.engine.runtime.machine.memory.flash in
         let ended : is_by_clock w.board.end ≡ false = ap is_by_clock (ap (λ (p : WorldBoard). p.end) h.board ∙ ap (λ o. option_map end_of o) resting.goes) in
-        known_through image t w.board.until (jump t (with_kept t old.board.kept w)).board.script n q.proceeds.moves came new.board.engine (jump t (with_kept t old.board.kept w)) (c.shows image w h).0
-        (standing_jump t (with_kept t old.board.kept w) ended) (makes_on image n q.proceeds.moves (state_of new.board.engine) (q.proceeds.makes image) (Some 0)) stayed
+        known_through image t w.board.until (jump t (with_kept t old.board.kept w)).board.script n q.proceeds.advances.moves came new.board.engine (jump t (with_kept t old.board.kept w)) (c.shows image w h).0
+        (standing_jump t (with_kept t old.board.kept w) ended) (makes_on image n q.proceeds.advances.moves (state_of new.board.engine) (λ bound. q.proceeds.advances.comes image bound tt) (Some 0)) stayed
 
     late : IfSome (next_moment new.board.engine) (λ m. t < m)
     late =
@@ -200,15 +200,15 @@ module _ {B : Type 0} (account : B → Account) (lead : ByteList) (t : ℕ) (old
 
     pub through_gone : IsWhole new.board.engine new.board.instructions → there.engine.clock ≡ t → there.engine.script ≡ old.board.engine.script → there.instructions ≡ old.board.instructions → HasGone account lead old.board.sent t n old new []
     through_gone after clock script count =
-        let all = c.moves ++ q.proceeds.moves in
-        let seen : seen_of all ≡ seen_of q.proceeds.moves = seen_of-append c.moves q.proceeds.moves ∙ ap (λ l. l ++ seen_of q.proceeds.moves) c.silent in
+        let all = c.moves ++ q.proceeds.advances.moves in
+        let seen : seen_of all ≡ seen_of q.proceeds.advances.moves = seen_of-append c.moves q.proceeds.advances.moves ∙ ap (λ l. l ++ seen_of q.proceeds.advances.moves) c.silent in
         record {
           moves = all;
           goes = λ image at met shows. subst (λ l. LeadsTo image t n old.board.kept l (met ++ all) at (state_of new.board.engine)) (sym (q.stands.kept ∙ none))
-              (leads image t old.board.kept old.board.engine came c.moves resting due (c.shows image) at met shows n q.proceeds.moves new.board.engine (makes_on image n q.proceeds.moves (state_of new.board.engine) (q.proceeds.makes image) (Some (t + 1))) stayed late);
-          ports = ports_then account c.moves q.proceeds.moves old.board.plugs there.plugs new.board.plugs c.ports q.proceeds.ports;
-          sent = q.proceeds.sent ∙ ap (λ ns. first_sent ns (seen_of q.proceeds.moves)) sent ∙ ap (first_sent old.board.sent) (sym seen);
-          written = subst (λ l. Took old.taken new.taken l) (ap (led_lines lead) (sym seen) ∙ sym (append-nil (led_lines lead (seen_of all)))) q.proceeds.written;
+              (leads image t old.board.kept old.board.engine came c.moves resting due (c.shows image) at met shows n q.proceeds.advances.moves new.board.engine (makes_on image n q.proceeds.advances.moves (state_of new.board.engine) (λ bound. q.proceeds.advances.comes image bound tt) (Some (t + 1))) stayed late);
+          ports = ports_then account c.moves q.proceeds.advances.moves old.board.plugs there.plugs new.board.plugs c.ports q.proceeds.advances.ports;
+          sent = q.proceeds.sent ∙ ap (λ ns. first_sent ns (seen_of q.proceeds.advances.moves)) sent ∙ ap (first_sent old.board.sent) (sym seen);
+          written = subst (λ l. Took old.taken new.taken l) (ap (led_lines lead) (sym seen) ∙ sym (append-nil (led_lines lead (seen_of all)))) q.proceeds.advances.written;
           counted = q.counted ∙ ap (λ k. k + n) count;
           whole = after;
           clock = q.stands.clock ∙ clock;
@@ -218,7 +218,7 @@ module _ {B : Type 0} (account : B → Account) (lead : ByteList) (t : ℕ) (old
     pub through_passed : IsPassed t n most new.board
     through_passed = passed t n most new.board q.within q.done stayed known.sound late (q.stands.kept ∙ none)
 
-  pub through_cut : (most : ℕ) (new : OverSink B) → Stops account lead most (record old { board = there }) new → IsCutShort account lead t most old new
+  pub through_cut : (most : ℕ) (new : OverSink B) → Fails account (of_moment lead) most (record old { board = there }) new → IsCutShort account lead t most old new
   through_cut most new g =
       let seen : seen_of (c.moves ++ g.done) ≡ seen_of g.done = seen_of-append c.moves g.done ∙ ap (λ l. l ++ seen_of g.done) c.silent in
       record {
@@ -227,7 +227,7 @@ module _ {B : Type 0} (account : B → Account) (lead : ByteList) (t : ℕ) (old
         done = c.moves ++ g.done;
         last = g.last;
         sees = λ image at met shows. subst (λ os. Sees image t g.count old.board.kept os at) (seen_of-append g.done (Seen g.last ∷ []) ∙ ap (λ os. os ++ g.last ∷ []) (sym seen))
-            (sees image t old.board.kept old.board.engine came c.moves resting due (c.shows image) at met shows g.count (g.done ++ Seen g.last ∷ []) g.at (makes_on image g.count (g.done ++ Seen g.last ∷ []) g.at (g.makes image) (Some (t + 1))) c.silent);
+            (sees image t old.board.kept old.board.engine came c.moves resting due (c.shows image) at met shows g.count (g.done ++ Seen g.last ∷ []) g.at (makes_on image g.count (g.done ++ Seen g.last ∷ []) g.at (λ bound. g.comes image bound tt) (Some (t + 1))) c.silent);
         ports = ports_then account c.moves g.done old.board.plugs there.plugs new.board.plugs c.ports g.ports;
         written = subst (λ l. TookInto old.taken new.taken l (lead ++ line g.last)) (ap (led_lines lead) (sym seen)) g.written;
       }

@@ -28,20 +28,20 @@ use Rattle.board_run.specs.Represents.{BoardState, Represents, IsShown, behind}
 use Rattle.board_run.specs.Run.{Comes}
 use Rattle.board_run.specs.Idling.{IsEmpty}
 use Rattle.board_run.specs.Outside.{OverSink}
-use Rattle.board_run.specs.Advancing.{IsWhole}
+use Rattle.board_run.specs.Advancing.{IsWhole, led_lines, Fails}
 use Rattle.board_run.specs.Ports.{PortsMeet}
-use Rattle.board_run.specs.Proceeding.{led_lines, first_sent, IsBusy, Makes, MakesTo, HasProceeded, Stops, IsStayed}
+use Rattle.board_run.specs.Proceeding.{first_sent, IsBusy, HasProceeded, IsStayed, of_moment}
 use Rattle.board_run.specs.Going.{entries_left, IsDueAt, IsResting, Shows, LeadsTo, Sees}
 use Rattle.board_run.specs.Gone.{MayGo, HasGone, IsIdle, GoesOnOrIdle, IsPassed, IsCutShort}
 use Rattle.board_run.specs.Ran.{IsMounted}
 use Rattle.board_run.specs.View.{state_of, end_of}
-use Rattle.board_run.proofs.Executing.{ports_then, into_then}
+use Rattle.board_run.proofs.Executing.{ports_then, into_then, led_lines-append}
 use Rattle.board_run.proofs.FiberGoesOn.{first_ready}
 use Rattle.board_run.proofs.Stepping.{some_turning}
 use Rattle.board_run.proofs.Raises.{nobody_ready}
 use Rattle.board_run.proofs.Course.{busy_to, shown_reaches}
-use Rattle.board_run.proofs.Further.{through_then, through_none}
-use Rattle.board_run.proofs.Proceeding.{led_lines-append, first_sent-append}
+use Rattle.board_run.proofs.Further.{Makes, MakesTo, through_then, through_none}
+use Rattle.board_run.proofs.Proceeding.{first_sent-append}
 use Rattle.board_run.proofs.AtMoment.{Known, known_through}
 use Rattle.board_run.proofs.Through.{rising_left, first_any}
 use Rattle.board_run.proofs.FirstMoment.{leads_early, leads_idle, leads_on, first_sees, sees_on, shows_mid, worlds}
@@ -106,11 +106,11 @@ module _ {B : Type 0} (account : B → Account) (lead : ByteList) (old : OverSin
   at_first = sym (ap (λ (p : WorldBoard). p.clock) (mounted.begins []).board)
 
   module _ (most n : ℕ) (mid : OverSink B) (q : HasProceeded account lead n most (record old { board = there }) mid) (stayed : IsStayed mid.board.engine) (whole : IsWhole mid.board.engine mid.board.instructions) where
-    makes : (image : List ℕ) → MakesTo (Some 0) image n q.proceeds.moves (state_of old.board.engine) (state_of mid.board.engine)
-    makes image = makes_on image n q.proceeds.moves (state_of mid.board.engine) (q.proceeds.makes image) (Some 0)
+    makes : (image : List ℕ) → MakesTo (Some 0) image n q.proceeds.advances.moves (state_of old.board.engine) (state_of mid.board.engine)
+    makes image = makes_on image n q.proceeds.advances.moves (state_of mid.board.engine) (λ bound. q.proceeds.advances.comes image bound tt) (Some 0)
 
     known : Known 0 (world_entries script.entries) mid.board.engine
-    known = known_through image0 0 script.end (world_entries script.entries) n q.proceeds.moves old.board.engine mid.board.engine (bank_start image0 script.end (world_entries script.entries) []) (mounted.begins []) (mounted_stands image0 script [])
+    known = known_through image0 0 script.end (world_entries script.entries) n q.proceeds.advances.moves old.board.engine mid.board.engine (bank_start image0 script.end (world_entries script.entries) []) (mounted.begins []) (mounted_stands image0 script [])
         (makes image0) stayed
 
     same_kept : mid.board.kept ≡ old.board.kept
@@ -130,20 +130,20 @@ module _ {B : Type 0} (account : B → Account) (lead : ByteList) (old : OverSin
     -- nothing comes at once
     pub first_gone : GoesOnOrIdle 0 mid.board → HasGone account lead old.board.sent 0 n old mid []
     first_gone g = record {
-      moves = q.proceeds.moves;
-      goes = λ image at met shows. subst (λ l. LeadsTo image 0 n old.board.kept l (met ++ q.proceeds.moves) at (state_of mid.board.engine)) (sym same_kept) (by_case g image at met shows);
-      ports = subst (λ p. PortsMeet account q.proceeds.moves p mid.board.plugs) plugs q.proceeds.ports;
-      sent = q.proceeds.sent ∙ ap (λ ns. first_sent ns (seen_of q.proceeds.moves)) sent;
-      written = subst (λ l. Took old.taken mid.taken l) (sym (append-nil (led_lines lead (seen_of q.proceeds.moves)))) q.proceeds.written;
+      moves = q.proceeds.advances.moves;
+      goes = λ image at met shows. subst (λ l. LeadsTo image 0 n old.board.kept l (met ++ q.proceeds.advances.moves) at (state_of mid.board.engine)) (sym same_kept) (by_case g image at met shows);
+      ports = subst (λ p. PortsMeet account q.proceeds.advances.moves p mid.board.plugs) plugs q.proceeds.advances.ports;
+      sent = q.proceeds.sent ∙ ap (λ ns. first_sent ns (seen_of q.proceeds.advances.moves)) sent;
+      written = subst (λ l. Took old.taken mid.taken l) (sym (append-nil (led_lines lead (seen_of q.proceeds.advances.moves)))) q.proceeds.advances.written;
       counted = q.counted ∙ ap (λ k. k + n) count;
       whole = whole;
       clock = q.stands.clock ∙ clock ∙ at_first;
       script = q.stands.script ∙ same_script;
     }
       where
-        by_case : GoesOnOrIdle 0 mid.board → (image : List ℕ) (at : List ℕ → World Fiber Shared) (met : List Move) → Shows image (state_of old.board.engine) at met → LeadsTo image 0 n old.board.kept old.board.kept (met ++ q.proceeds.moves) at (state_of mid.board.engine)
-        by_case (inl x) image at met shows = leads_early image old.board.kept old.board.engine mid.board.engine n q.proceeds.moves (busy image) rising at met shows (makes image) stayed (settled_shown x image)
-        by_case (inr x) image at met shows = leads_idle image old.board.kept old.board.engine mid.board.engine n q.proceeds.moves (busy image) rising at met shows (makes image) stayed x.resting x.later (sym same_kept ∙ x.none)
+        by_case : GoesOnOrIdle 0 mid.board → (image : List ℕ) (at : List ℕ → World Fiber Shared) (met : List Move) → Shows image (state_of old.board.engine) at met → LeadsTo image 0 n old.board.kept old.board.kept (met ++ q.proceeds.advances.moves) at (state_of mid.board.engine)
+        by_case (inl x) image at met shows = leads_early image old.board.kept old.board.engine mid.board.engine n q.proceeds.advances.moves (busy image) rising at met shows (makes image) stayed (settled_shown x image)
+        by_case (inr x) image at met shows = leads_idle image old.board.kept old.board.engine mid.board.engine n q.proceeds.advances.moves (busy image) rising at met shows (makes image) stayed x.resting x.later (sym same_kept ∙ x.none)
 
     pub first_passed : GoesOnOrIdle 0 mid.board → IsPassed 0 n most mid.board
     first_passed g = record { within = q.within; sound = known.sound; rests = λ e. by_case e g }
@@ -161,17 +161,17 @@ module _ {B : Type 0} (account : B → Account) (lead : ByteList) (old : OverSin
     -- the moment's events come behind main
     pub then_gone : (k : ℕ) (new : OverSink B) → IsResting mid.board.engine → HasGone account lead mid.board.sent 0 k mid new [] → HasGone account lead old.board.sent 0 (k + n) old new []
     then_gone k new r g = record {
-      moves = q.proceeds.moves ++ g.moves;
+      moves = q.proceeds.advances.moves ++ g.moves;
       goes = λ image at met shows.
-          let m = shows_mid image old.board.kept old.board.engine mid.board.engine n q.proceeds.moves (busy image) rising at met shows (makes image) stayed in
-          let l = g.goes image (worlds image old.board.kept old.board.engine mid.board.engine n q.proceeds.moves (busy image) rising at met shows (makes image) stayed) (met ++ q.proceeds.moves) m in
-          let l' = subst (λ es. LeadsTo image 0 k es new.board.kept ((met ++ q.proceeds.moves) ++ g.moves) (worlds image old.board.kept old.board.engine mid.board.engine n q.proceeds.moves (busy image) rising at met shows (makes image) stayed) (state_of new.board.engine)) same_kept l in
-          subst (λ ms. LeadsTo image 0 (k + n) old.board.kept new.board.kept ms at (state_of new.board.engine)) (append_assoc met q.proceeds.moves g.moves)
-          (leads_on image old.board.kept old.board.engine mid.board.engine n q.proceeds.moves (busy image) rising at met shows (makes image) stayed r k new.board.kept ((met ++ q.proceeds.moves) ++ g.moves) (state_of new.board.engine) l');
-      ports = ports_then account q.proceeds.moves g.moves old.board.plugs mid.board.plugs new.board.plugs (subst (λ p. PortsMeet account q.proceeds.moves p mid.board.plugs) plugs q.proceeds.ports) g.ports;
-      sent = g.sent ∙ ap (λ ns. first_sent ns (seen_of g.moves)) (q.proceeds.sent ∙ ap (λ ns. first_sent ns (seen_of q.proceeds.moves)) sent)
-          ∙ sym (first_sent-append old.board.sent (seen_of q.proceeds.moves) (seen_of g.moves)) ∙ ap (first_sent old.board.sent) (sym (seen_of-append q.proceeds.moves g.moves));
-      written = subst (λ l. Took old.taken new.taken l) (by_lines (seen_of q.proceeds.moves) (seen_of g.moves) ∙ ap (λ os. led_lines lead os ++ []) (sym (seen_of-append q.proceeds.moves g.moves))) (took-then _ _ q.proceeds.written g.written);
+          let m = shows_mid image old.board.kept old.board.engine mid.board.engine n q.proceeds.advances.moves (busy image) rising at met shows (makes image) stayed in
+          let l = g.goes image (worlds image old.board.kept old.board.engine mid.board.engine n q.proceeds.advances.moves (busy image) rising at met shows (makes image) stayed) (met ++ q.proceeds.advances.moves) m in
+          let l' = subst (λ es. LeadsTo image 0 k es new.board.kept ((met ++ q.proceeds.advances.moves) ++ g.moves) (worlds image old.board.kept old.board.engine mid.board.engine n q.proceeds.advances.moves (busy image) rising at met shows (makes image) stayed) (state_of new.board.engine)) same_kept l in
+          subst (λ ms. LeadsTo image 0 (k + n) old.board.kept new.board.kept ms at (state_of new.board.engine)) (append_assoc met q.proceeds.advances.moves g.moves)
+          (leads_on image old.board.kept old.board.engine mid.board.engine n q.proceeds.advances.moves (busy image) rising at met shows (makes image) stayed r k new.board.kept ((met ++ q.proceeds.advances.moves) ++ g.moves) (state_of new.board.engine) l');
+      ports = ports_then account q.proceeds.advances.moves g.moves old.board.plugs mid.board.plugs new.board.plugs (subst (λ p. PortsMeet account q.proceeds.advances.moves p mid.board.plugs) plugs q.proceeds.advances.ports) g.ports;
+      sent = g.sent ∙ ap (λ ns. first_sent ns (seen_of g.moves)) (q.proceeds.sent ∙ ap (λ ns. first_sent ns (seen_of q.proceeds.advances.moves)) sent)
+          ∙ sym (first_sent-append old.board.sent (seen_of q.proceeds.advances.moves) (seen_of g.moves)) ∙ ap (first_sent old.board.sent) (sym (seen_of-append q.proceeds.advances.moves g.moves));
+      written = subst (λ l. Took old.taken new.taken l) (by_lines (seen_of q.proceeds.advances.moves) (seen_of g.moves) ∙ ap (λ os. led_lines lead os ++ []) (sym (seen_of-append q.proceeds.advances.moves g.moves))) (took-then _ _ q.proceeds.advances.written g.written);
       counted = (let a = q.counted in let b = g.counted in omega (arith, a, b, count));
       whole = g.whole;
       clock = g.clock;
@@ -196,28 +196,28 @@ module _ {B : Type 0} (account : B → Account) (lead : ByteList) (old : OverSin
     then_cut new r g = record {
       used = g.used + n;
       within = (let a = q.within in let b = g.within in omega (arith, a, b));
-      done = q.proceeds.moves ++ g.done;
+      done = q.proceeds.advances.moves ++ g.done;
       last = g.last;
       sees = λ image at met shows.
-          let m = shows_mid image old.board.kept old.board.engine mid.board.engine n q.proceeds.moves (busy image) rising at met shows (makes image) stayed in
-          let ws = worlds image old.board.kept old.board.engine mid.board.engine n q.proceeds.moves (busy image) rising at met shows (makes image) stayed in
-          let l = subst (λ es. Sees image 0 g.used es (seen_of g.done ++ g.last ∷ []) ws) same_kept (g.sees image ws (met ++ q.proceeds.moves) m) in
-          subst (λ os. Sees image 0 (g.used + n) old.board.kept os at) (sym (append_assoc (seen_of q.proceeds.moves) (seen_of g.done) (g.last ∷ [])) ∙ ap (λ os. os ++ g.last ∷ []) (sym (seen_of-append q.proceeds.moves g.done)))
-          (sees_on image old.board.kept old.board.engine mid.board.engine n q.proceeds.moves (busy image) rising at met shows (makes image) stayed r g.used (seen_of g.done ++ g.last ∷ []) l);
-      ports = ports_then account q.proceeds.moves g.done old.board.plugs mid.board.plugs new.board.plugs (subst (λ p. PortsMeet account q.proceeds.moves p mid.board.plugs) plugs q.proceeds.ports) g.ports;
-      written = subst (λ l. TookInto old.taken new.taken l (lead ++ line g.last)) (sym (led_lines-append lead (seen_of q.proceeds.moves) (seen_of g.done)) ∙ ap (led_lines lead) (sym (seen_of-append q.proceeds.moves g.done)))
-          (into_then account (led_lines lead (seen_of q.proceeds.moves)) (led_lines lead (seen_of g.done)) (lead ++ line g.last) q.proceeds.written g.written);
+          let m = shows_mid image old.board.kept old.board.engine mid.board.engine n q.proceeds.advances.moves (busy image) rising at met shows (makes image) stayed in
+          let ws = worlds image old.board.kept old.board.engine mid.board.engine n q.proceeds.advances.moves (busy image) rising at met shows (makes image) stayed in
+          let l = subst (λ es. Sees image 0 g.used es (seen_of g.done ++ g.last ∷ []) ws) same_kept (g.sees image ws (met ++ q.proceeds.advances.moves) m) in
+          subst (λ os. Sees image 0 (g.used + n) old.board.kept os at) (sym (append_assoc (seen_of q.proceeds.advances.moves) (seen_of g.done) (g.last ∷ [])) ∙ ap (λ os. os ++ g.last ∷ []) (sym (seen_of-append q.proceeds.advances.moves g.done)))
+          (sees_on image old.board.kept old.board.engine mid.board.engine n q.proceeds.advances.moves (busy image) rising at met shows (makes image) stayed r g.used (seen_of g.done ++ g.last ∷ []) l);
+      ports = ports_then account q.proceeds.advances.moves g.done old.board.plugs mid.board.plugs new.board.plugs (subst (λ p. PortsMeet account q.proceeds.advances.moves p mid.board.plugs) plugs q.proceeds.advances.ports) g.ports;
+      written = subst (λ l. TookInto old.taken new.taken l (lead ++ line g.last)) (sym (led_lines-append lead (seen_of q.proceeds.advances.moves) (seen_of g.done)) ∙ ap (led_lines lead) (sym (seen_of-append q.proceeds.advances.moves g.done)))
+          (into_then account (led_lines lead (seen_of q.proceeds.advances.moves)) (led_lines lead (seen_of g.done)) (lead ++ line g.last) q.proceeds.advances.written g.written);
     }
 
   -- the sink failed before main was left
-  pub first_cut : (most : ℕ) (new : OverSink B) → Stops account lead most (record old { board = there }) new → IsCutShort account lead 0 most old new
+  pub first_cut : (most : ℕ) (new : OverSink B) → Fails account (of_moment lead) most (record old { board = there }) new → IsCutShort account lead 0 most old new
   first_cut most new g = record {
     used = g.count;
     within = g.within;
     done = g.done;
     last = g.last;
     sees = λ image at met shows. subst (λ os. Sees image 0 g.count old.board.kept os at) (seen_of-append g.done (Seen g.last ∷ []))
-        (first_sees image old.board.kept old.board.engine old.board.engine g.count (g.done ++ Seen g.last ∷ []) (busy image) rising at met shows g.at (makes_on image g.count (g.done ++ Seen g.last ∷ []) g.at (g.makes image) (Some 0)));
+        (first_sees image old.board.kept old.board.engine old.board.engine g.count (g.done ++ Seen g.last ∷ []) (busy image) rising at met shows g.at (makes_on image g.count (g.done ++ Seen g.last ∷ []) g.at (λ bound. g.comes image bound tt) (Some 0)));
     ports = subst (λ p. PortsMeet account g.done p new.board.plugs) plugs g.ports;
     written = g.written;
   }

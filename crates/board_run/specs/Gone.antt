@@ -20,9 +20,9 @@ use Rattle.board_run.specs.declared.end.Stop.TheVariants.{Panic as StopPanic, Fa
 use Rattle.board_run.specs.declared.moments.Gone.{Gone}
 use Rattle.board_run.specs.declared.moments.Gone.TheVariants.{Idle, Ended}
 use Rattle.board_run.specs.Outside.{OverSink}
-use Rattle.board_run.specs.Advancing.{IsWhole}
+use Rattle.board_run.specs.Advancing.{IsWhole, led_lines}
 use Rattle.board_run.specs.Ports.{PortsMeet}
-use Rattle.board_run.specs.Proceeding.{led_lines, first_sent}
+use Rattle.board_run.specs.Proceeding.{first_sent}
 use Rattle.board_run.specs.Going.{next_moment, IsDueAt, IsResting, Shows, Goes, Sees}
 use Rattle.board_run.specs.Ran.{IsMounted}
 use Rattle.board_run.specs.View.{state_of, end_of}

@@ -10,7 +10,7 @@ use Rattle.board_run.specs.declared.end.End.{End}
 use Rattle.board_run.specs.declared.end.End.TheVariants.{SinkFault}
 use Rattle.board_run.specs.Represents.{BoardState, Represents}
 use Rattle.board_run.specs.Outside.{OverSink}
-use Rattle.board_run.specs.Advancing.{HasExecuted, Fails}
+use Rattle.board_run.specs.Advancing.{HasExecuted, Fails, of_run}
 use Rattle.board_run.specs.Ran.{Finishes}
 
 -- The run is over after so many instructions of the part, and its closing line was put.
@@ -27,7 +27,7 @@ pub record Closed {B : Type 0} (account : B → Account) (most : ℕ) (old new :
 -- failed in the line of an observation.
 abbrev pub Parted : {B : Type 0} → (B → Account) → ℕ → OverSink B → OverSink B → Option End → Type 0
 Parted account most old new None = HasExecuted account most most old new × (new.board.engine.end ≡ None)
-Parted account most old new (Some answer) = Closed account most old new answer ⊎ (Fails account most old new × (answer ≡ SinkFault) × Rose old.faults new.faults)
+Parted account most old new (Some answer) = Closed account most old new answer ⊎ (Fails account of_run most old new × (answer ≡ SinkFault) × Rose old.faults new.faults)
 
 -- an act that arrives is no unplug
 abbrev pub MayArrive : Act → Type 0

@@ -1,29 +1,19 @@
 -- A board that goes on while the clock stands, over a sink and devices.
-use Rattle.std.specs.Prelude.{◌≡◌, ℕ, ◌+◌, ◌<◌, ◌≤◌, ◌⊎◌, ℤ, List, [], ◌∷◌, ◌++◌, length, nat_lt, if◌then◌else◌, Option, None, IsSome, false}
+use Rattle.std.specs.Prelude.{◌≡◌, ℕ, ◌+◌, ◌<◌, ◌≤◌, ◌⊎◌, ℤ, List, [], ◌∷◌, ◌++◌, length, nat_lt, if◌then◌else◌, None, IsSome, false}
 use Rattle.board_world.specs.Observations.{ByteList, Observation, Show, Serial, Pin, Radio}
-use Rattle.board_world.specs.Transcript.{line}
 use Rattle.board_world.specs.Board.{over}
 use Rattle.board_world.specs.Activities.{World}
 use Rattle.bank_model.specs.Fibers.{Fiber, Shared}
-use Rattle.tool_io.specs.Putting.{Took}
 use Rattle.board_outside.specs.declared.output.Output.{Output}
 use Rattle.board_outside.specs.declared.output.Output.TheVariants.{Nothing, Frame, Number, Text, Pin as PinOutput, Radio as RadioOutput}
-use Rattle.board_outside.specs.Moves.{Move, Seen, seen_of}
-use Rattle.board_outside.specs.Cuts.{TookInto}
+use Rattle.board_outside.specs.Moves.{seen_of}
 use Rattle.board_run.specs.declared.engine.Engine.{Engine}
 use Rattle.board_run.specs.declared.board.Board.{Board}
-use Rattle.board_run.specs.Represents.{BoardState}
-use Rattle.board_run.specs.Run.{ComesThrough}
 use Rattle.board_run.specs.Idling.{IsEmpty}
-use Rattle.board_run.specs.Ports.{PortsMeet}
+use Rattle.board_run.specs.Advancing.{Way, Advances}
 use Rattle.board_run.specs.Outside.{OverSink}
 use Rattle.board_run.specs.View.{state_of}
 use Rattle.board_ports.specs.Account.{Account}
-
--- the lines of what was seen, with this lead before each
-abbrev pub led_lines : ByteList → List Observation → ByteList
-led_lines lead [] = []
-led_lines lead (o ∷ os) = (lead ++ line o) ++ led_lines lead os
 
 -- the numbers that were sent by radio behind these: as long as there are fewer than 32 they are kept
 abbrev pub first_sent : List ℤ → List Observation → List ℤ
@@ -46,33 +36,15 @@ lead_before lead (RadioOutput number) = lead
 abbrev pub IsBusy : World Fiber Shared → Type 0
 IsBusy w = (over w.board ≡ false) × (0 < length w.ready)
 
--- The board comes so many instructions further, which meet these moves, and before each of them somebody was ready.
-abbrev pub MakesTo : Option ℕ → List ℕ → ℕ → List Move → BoardState → BoardState → Type 0
-MakesTo bound image more moves old new = ComesThrough IsBusy bound image more moves old new
+-- Within a moment somebody is ready before each instruction, the run may stop before any moment, for no idle move of the clock is made, and
+-- each line has this lead.
+abbrev pub of_moment : ByteList → Way
+of_moment lead = record { before = IsBusy; stops = λ bound. Unit {0}; lead = lead }
 
--- The same whatever moment the run stops before, if any.
-abbrev pub Makes : List ℕ → ℕ → List Move → BoardState → BoardState → Type 0
-Makes image more moves old new = (bound : Option ℕ) → MakesTo bound image more moves old new
-
--- The board came so many instructions further while the clock stood; the sink took the lines of what they met, the devices have met it, and
--- the first numbers that were sent are kept.
+-- The board came so many instructions further while the clock stood, and the first numbers that were sent are kept.
 pub record Proceeds {B : Type 0} (account : B → Account) (lead : ByteList) (count : ℕ) (old new : OverSink B) : Type 0 where
-  pub moves : List Move
-  pub makes : (image : List ℕ) → Makes image count moves (state_of old.board.engine) (state_of new.board.engine)
-  pub ports : PortsMeet account moves old.board.plugs new.board.plugs
-  pub sent : new.board.sent ≡ first_sent old.board.sent (seen_of moves)
-  pub written : Took old.taken new.taken (led_lines lead (seen_of moves))
-
--- The sink failed in the line of what the last instruction showed, before any word of it was sent.
-pub record Stops {B : Type 0} (account : B → Account) (lead : ByteList) (most : ℕ) (old new : OverSink B) : Type 0 where
-  pub count : ℕ
-  pub within : count ≤ most
-  pub done : List Move
-  pub last : Observation
-  pub at : BoardState
-  pub makes : (image : List ℕ) → Makes image count (done ++ Seen last ∷ []) (state_of old.board.engine) at
-  pub ports : PortsMeet account done old.board.plugs new.board.plugs
-  pub written : TookInto old.taken new.taken (led_lines lead (seen_of done)) (lead ++ line last)
+  pub advances : Advances account (of_moment lead) count old new
+  pub sent : new.board.sent ≡ first_sent old.board.sent (seen_of advances.moves)
 
 -- Somebody runs, or nobody is left to go on and no event is queued; or the run is over.
 abbrev pub IsStayed : Engine → Type 0

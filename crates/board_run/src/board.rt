@@ -10,7 +10,7 @@ ghost use Rattle.event_script.specs.Sound.{IsSound};
 ghost use Rattle.board_outside.specs.Moves.{seen_of};
 ghost use Rattle.board_outside.specs.Ports.{port_moves};
 ghost use Rattle.board_outside.specs.Outputs.{moves_of, IsSeen};
-ghost use Rattle.board_run.specs.Advancing.{Advances, HasExecuted, Fails, IsWhole, IsSettled};
+ghost use Rattle.board_run.specs.Advancing.{Advances, HasExecuted, Fails, IsWhole, IsSettled, of_run};
 ghost use Rattle.board_run.specs.Ports.{PortsMeet};
 ghost use Rattle.board_run.specs.Outside.{outside_of, over_sink};
 ghost use Rattle.board_run.specs.Ran.{world_after, IsMounted, Finishes, Ran};
@@ -180,11 +180,11 @@ impl<D: Device> Board<D> {
         requires settled { IsSettled self.old.engine }
         requires going { self.old.engine.end ≡ None }
         requires early { self.old.instructions < 2 ^ 50 }
-        ensures goes { OnOk result (Advances D.account 1 (over_sink K.taken K.faults self.old out.old) (over_sink K.taken K.faults self.new out.new)) }
+        ensures goes { OnOk result (Advances D.account of_run 1 (over_sink K.taken K.faults self.old out.old) (over_sink K.taken K.faults self.new out.new)) }
         ensures whole { OnOk result (IsWhole self.new.engine self.new.instructions) }
         ensures settled { OnOk result (IsSettled self.new.engine) }
         ensures counted { self.new.instructions ≡ self.old.instructions + 1 }
-        ensures cut { OnErr result (Fails D.account 1 (over_sink K.taken K.faults self.old out.old) (over_sink K.taken K.faults self.new out.new)) }
+        ensures cut { OnErr result (Fails D.account of_run 1 (over_sink K.taken K.faults self.old out.old) (over_sink K.taken K.faults self.new out.new)) }
         ensures later { K.faults out.old ≤ K.faults out.new }
         ensures failed { OnErr result (Rose (K.faults out.old) (K.faults out.new)) }
     {
@@ -208,7 +208,7 @@ impl<D: Device> Board<D> {
         ensures goes { OnOk result ((count : ℕ) × HasExecuted D.account count most (over_sink K.taken K.faults self.old out.old) (over_sink K.taken K.faults self.new out.new)) }
         ensures settled { OnOk result (IsSettled self.new.engine) }
         ensures whole { OnOk result (IsWhole self.new.engine self.new.instructions) }
-        ensures cut { OnErr result (Fails D.account most (over_sink K.taken K.faults self.old out.old) (over_sink K.taken K.faults self.new out.new)) }
+        ensures cut { OnErr result (Fails D.account of_run most (over_sink K.taken K.faults self.old out.old) (over_sink K.taken K.faults self.new out.new)) }
         ensures few { self.new.instructions ≤ self.old.instructions + most }
         ensures later { K.faults out.old ≤ K.faults out.new }
         ensures failed { OnErr result (Rose (K.faults out.old) (K.faults out.new)) }

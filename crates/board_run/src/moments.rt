@@ -14,9 +14,9 @@ ghost use Rattle.board_run.specs.Represents.{IsShown};
 ghost use Rattle.board_run.specs.Run.{Comes};
 ghost use Rattle.board_run.specs.Idling.{IsEmpty};
 ghost use Rattle.board_run.specs.Outside.{over_sink};
-ghost use Rattle.board_run.specs.Advancing.{IsWhole};
+ghost use Rattle.board_run.specs.Advancing.{IsWhole, led_lines, Fails};
 ghost use Rattle.board_run.specs.Ports.{PortsMeet};
-ghost use Rattle.board_run.specs.Proceeding.{led_lines, lead_before, first_sent, Proceeds, HasProceeded, Stands, Stops, IsStayed};
+ghost use Rattle.board_run.specs.Proceeding.{lead_before, first_sent, Proceeds, HasProceeded, Stands, IsStayed, of_moment};
 ghost use Rattle.board_run.specs.Going.{next_moment, IsDueAt, IsResting};
 ghost use Rattle.board_run.specs.Gone.{MayGo, HasGone, GoesOnOrIdle, IsPassed, IsCutShort, Went};
 ghost use Rattle.board_run.specs.Ran.{answer_of};
@@ -182,7 +182,7 @@ impl<D: Device> Board<D> {
         ensures stayed { OnOk result (IsStayed self.new.engine) }
         ensures stands { OnOk result (Stands self.old self.new) }
         ensures counted { self.new.instructions ≡ self.old.instructions + 1 }
-        ensures cut { OnErr result (Stops D.account lead.now 1 (over_sink K.taken K.faults self.old out.old) (over_sink K.taken K.faults self.new out.new)) }
+        ensures cut { OnErr result (Fails D.account (of_moment lead.now) 1 (over_sink K.taken K.faults self.old out.old) (over_sink K.taken K.faults self.new out.new)) }
         ensures later { K.faults out.old ≤ K.faults out.new }
         ensures failed { OnErr result (Rose (K.faults out.old) (K.faults out.new)) }
     {
@@ -207,7 +207,7 @@ impl<D: Device> Board<D> {
         ensures goes { OnOk result ((count : ℕ) × HasProceeded D.account lead.now count most (over_sink K.taken K.faults self.old out.old) (over_sink K.taken K.faults self.new out.new)) }
         ensures whole { OnOk result (IsWhole self.new.engine self.new.instructions) }
         ensures stayed { OnOk result (IsStayed self.new.engine) }
-        ensures cut { OnErr result (Stops D.account lead.now most (over_sink K.taken K.faults self.old out.old) (over_sink K.taken K.faults self.new out.new)) }
+        ensures cut { OnErr result (Fails D.account (of_moment lead.now) most (over_sink K.taken K.faults self.old out.old) (over_sink K.taken K.faults self.new out.new)) }
         ensures later { K.faults out.old ≤ K.faults out.new }
         ensures failed { OnErr result (Rose (K.faults out.old) (K.faults out.new)) }
     {

@@ -30,7 +30,8 @@ use Rattle.board_outside.specs.Cuts.{TookInto}
 use Rattle.board_outside.proofs.Laws.{seen_of-append}
 use Rattle.board_run.specs.declared.board.Board.{Board}
 use Rattle.board_run.specs.declared.end.Stop.{Stop}
-use Rattle.board_run.specs.Proceeding.{IsBusy, led_lines}
+use Rattle.board_run.specs.Advancing.{led_lines}
+use Rattle.board_run.specs.Proceeding.{IsBusy}
 use Rattle.board_run.specs.Going.{next_moment, LeadsTo, Sees}
 use Rattle.board_run.specs.Gone.{HasGone, IsIdle, IsCutShort, IsCutLast, Went}
 use Rattle.board_run.specs.View.{state_of, end_of}

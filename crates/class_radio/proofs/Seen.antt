@@ -10,7 +10,8 @@ use Rattle.board_world.specs.Transcript.{line, count_text}
 use Rattle.class_world.specs.Hearing.{moment_of, before, sent_at}
 use Rattle.class_world.specs.Lines.{numbered_lines, seen_at}
 use Rattle.class_world.proofs.Laws.{before_split, seen_at_new}
-use Rattle.board_run.specs.Proceeding.{led_lines, first_sent}
+use Rattle.board_run.specs.Advancing.{led_lines}
+use Rattle.board_run.specs.Proceeding.{first_sent}
 
 before_short : (u : ℕ) (xs : List Observation) → length (before u xs) ≤ length xs
 before_short u [] = omega arith

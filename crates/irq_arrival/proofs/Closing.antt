@@ -31,12 +31,12 @@ use Rattle.board_run.specs.declared.end.End.{End}
 use Rattle.board_run.specs.declared.engine.Engine.{Engine}
 use Rattle.board_run.specs.Represents.{Represents}
 use Rattle.board_run.specs.Run.{Reaches}
-use Rattle.board_run.specs.Advancing.{Fails}
+use Rattle.board_run.specs.Advancing.{of_run, Fails}
 use Rattle.board_run.specs.Ports.{PortsMeet}
 use Rattle.board_run.specs.Outside.{Outside, OverSink, around}
 use Rattle.board_run.specs.Ran.{IsMounted, IsExecuted, HasRun, IsCut, told, answer_of, Finishes, Ran}
 use Rattle.board_run.specs.View.{state_of, end_of}
-use Rattle.board_run.proofs.Laws.{ports_then, into_then}
+use Rattle.board_run.proofs.Laws.{ports_then, into_then, plain_lines}
 use Rattle.irq_arrival.specs.Along.{world_with, NoneBefore, AllMay, Along}
 use Rattle.irq_arrival.specs.Underway.{Underway}
 use Rattle.irq_arrival.proofs.Joins.{shows, listed}
@@ -160,7 +160,7 @@ module _ {B : Type 0} (account : B → Account) (arrivals left : List Arrival) (
           by_put (Err x) puts = (ran_cut puts.part, rose-before first.faults b.faults fs later puts.failed)
 
   -- The line of an observation was cut: the run goes on to meet more, whatever the sink does.
-  module _ (most : ℕ) (new : OverSink B) (g : Fails account most b new) (inside : n + most ≤ budget) (none : NoneBefore (n + most) left) (may : AllMay left) where
+  module _ (most : ℕ) (new : OverSink B) (g : Fails account of_run most b new) (inside : n + most ≤ budget) (none : NoneBefore (n + most) left) (may : AllMay left) where
     before_last : (l : List Arrival) → NoneBefore (n + most) l → NoneBefore (n + g.count) l
     before_last [] b = tt
     before_last (a ∷ rest) b = (let w = g.within in omega (arith, w, b))
@@ -168,12 +168,12 @@ module _ {B : Type 0} (account : B → Account) (arrivals left : List Arrival) (
     from_here : Reaches None image along.at 0 [] h.moves (state_of e)
     from_here = record { at = along.at; shows = along.shows; free = along.free; met = along.met; settles = λ rest. refl }
 
-    reached : Reaches None image along.at (g.count + 0) ([] ++ (g.executes image along.at 0 [] h.moves from_here).0) (h.moves ++ (g.done ++ Seen g.last ∷ [])) g.at
-    reached = (g.executes image along.at 0 [] h.moves from_here).1
+    reached : Reaches None image along.at (g.count + 0) ([] ++ (g.comes image None refl along.at 0 [] h.moves from_here).0) (h.moves ++ (g.done ++ Seen g.last ∷ [])) g.at
+    reached = (g.comes image None refl along.at 0 [] h.moves from_here).1
 
     -- what stands behind the free words used so far, in the run that is spoken of
     abbrev words : List ℕ
-    words = (g.executes image along.at 0 [] h.moves from_here).0 ++ []
+    words = (g.comes image None refl along.at 0 [] h.moves from_here).0 ++ []
 
     pub fails_cut : IsCut account course budget given (around new)
     fails_cut =
@@ -204,7 +204,7 @@ module _ {B : Type 0} (account : B → Account) (arrivals left : List Arrival) (
             split = split h.moves g.done g.last idle.0 more.0;
             due = tt;
             written = subst (λ l. TookInto first.taken new.taken l (line g.last)) (sym (lines-append (seen_of h.moves) (seen_of g.done)) ∙ ap lines (sym (seen_of-append h.moves g.done)))
-                (into_then account (lines (seen_of h.moves)) (lines (seen_of g.done)) (line g.last) h.written g.written);
+                (into_then account (lines (seen_of h.moves)) (lines (seen_of g.done)) (line g.last) h.written (subst (λ l. TookInto b.taken new.taken l (line g.last)) (plain_lines (seen_of g.done)) g.written));
             devices = devices_after (h.moves ++ g.done) new.board.plugs (ports_then account h.moves g.done first.board.plugs b.board.plugs new.board.plugs h.ports g.ports);
           };
         }

@@ -13,11 +13,11 @@ use Rattle.board_outside.specs.Moves.{seen_of}
 use Rattle.board_outside.proofs.Laws.{seen_of-append, lines-append}
 use Rattle.board_run.specs.declared.engine.Engine.{Engine}
 use Rattle.board_run.specs.Outside.{OverSink}
-use Rattle.board_run.specs.Advancing.{Advances, IsSettled}
+use Rattle.board_run.specs.Advancing.{of_run, Advances, IsSettled}
 use Rattle.board_run.specs.Ports.{PortsMeet}
 use Rattle.board_run.specs.Parting.{MayArrive, Arrives}
 use Rattle.board_run.specs.View.{state_of, end_of}
-use Rattle.board_run.proofs.Laws.{settled_stays, ports_then}
+use Rattle.board_run.proofs.Laws.{settled_stays, ports_then, plain_lines}
 use Rattle.irq_arrival.specs.Along.{NoneBefore, IsStill, world_with}
 use Rattle.irq_arrival.specs.Underway.{Underway}
 use Rattle.irq_arrival.proofs.Joins.{begins, goes, arrives}
@@ -34,16 +34,16 @@ module _ {B : Type 0} (account : B → Account) (arrivals : List Arrival) (first
     written = took-nothing first.taken;
   }
 
-  pub underway_goes : (left : List Arrival) (n count : ℕ) (b c : OverSink B) → Underway account arrivals first b left n → Advances account count b c → IsSettled c.board.engine → NoneBefore (n + count) left
+  pub underway_goes : (left : List Arrival) (n count : ℕ) (b c : OverSink B) → Underway account arrivals first b left n → Advances account of_run count b c → IsSettled c.board.engine → NoneBefore (n + count) left
       → Underway account arrivals first c left (n + count)
   underway_goes left n count b c h a settled none = record {
     moves = h.moves ++ a.moves;
     along = λ image script m.
         (let x = h.along image script m in
-        let y = goes image (world_with image script.end (world_entries script.entries) arrivals) left n count x.0 h.moves a.moves (state_of b.board.engine) (state_of c.board.engine) x.1 (a.executes image) (still_where_settled image c.board.engine settled) none in
+        let y = goes image (world_with image script.end (world_entries script.entries) arrivals) left n count x.0 h.moves a.moves (state_of b.board.engine) (state_of c.board.engine) x.1 (a.comes image) (still_where_settled image c.board.engine settled) none in
         (x.0 ++ y.0, y.1));
     ports = ports_then account h.moves a.moves first.board.plugs b.board.plugs c.board.plugs h.ports a.ports;
-    written = subst (λ l. Took first.taken c.taken l) (sym (lines-append (seen_of h.moves) (seen_of a.moves)) ∙ ap lines (sym (seen_of-append h.moves a.moves))) (took-then _ _ h.written a.written);
+    written = subst (λ l. Took first.taken c.taken l) (sym (lines-append (seen_of h.moves) (seen_of a.moves)) ∙ ap lines (sym (seen_of-append h.moves a.moves))) (took-then _ _ h.written (subst (Took b.taken c.taken) (plain_lines (seen_of a.moves)) a.written));
   }
 
   -- an act arrives on the board, and the sink is left as it is

@@ -13,7 +13,7 @@ use Rattle.bank_model.specs.BoardMachine.{fibers, bank_start}
 use Rattle.board_outside.specs.Moves.{Move, HasMet}
 use Rattle.board_run.specs.Represents.{BoardState, Represents}
 use Rattle.board_run.specs.Run.{Reaches}
-use Rattle.board_run.specs.Advancing.{Executes}
+use Rattle.board_run.specs.Advancing.{of_run, ComesBy}
 use Rattle.irq_arrival.specs.Along.{world_with, NoneBefore, Along, IsStill}
 use Rattle.board_run.specs.Parting.{MayArrive, Arrives}
 use Rattle.irq_arrival.proofs.Courses.{with_moved, with_before, with_now, with_here, with_over, onward_list}
@@ -40,7 +40,7 @@ pub listed : (image : List ℕ) (course : List ℕ → ℕ → World Fiber Share
     → (h : Along image course left n used met b) → (rest : List ℕ) (m : ℕ) → n ≤ m → run_by_list (fibers image) n left m (h.at rest) ≡ course (used ++ rest) m
 listed image course left n used met b h rest m l = sym (onward_list (fibers image) left n m (h.at rest) h.rises l) ∙ h.onward rest m l
 
-module _ (image : List ℕ) (course : List ℕ → ℕ → World Fiber Shared) (left : List Arrival) (n count : ℕ) (used : List ℕ) (met moves : List Move) (b c : BoardState) (h : Along image course left n used met b) (x : Executes image count moves b c) (still : IsStill image c) (none : NoneBefore (n + count) left) where
+module _ (image : List ℕ) (course : List ℕ → ℕ → World Fiber Shared) (left : List Arrival) (n count : ℕ) (used : List ℕ) (met moves : List Move) (b c : BoardState) (h : Along image course left n used met b) (x : ComesBy of_run image count moves b c) (still : IsStill image c) (none : NoneBefore (n + count) left) where
   K : Kind Fiber Shared
   K = fibers image
 
@@ -49,10 +49,10 @@ module _ (image : List ℕ) (course : List ℕ → ℕ → World Fiber Shared) (
   from_here = record { at = h.at; shows = h.shows; free = h.free; met = h.met; settles = λ rest. refl }
 
   abbrev further : List ℕ
-  further = (x h.at 0 [] met from_here).0
+  further = (x None refl h.at 0 [] met from_here).0
 
   abbrev reached : Reaches None image h.at (count + 0) ([] ++ further) (met ++ moves) c
-  reached = (x h.at 0 [] met from_here).1
+  reached = (x None refl h.at 0 [] met from_here).1
 
   at_is : (rest : List ℕ) → reached.at rest ≡ run (fibers image) count (h.at (further ++ rest))
   at_is rest =
@@ -85,7 +85,7 @@ module _ (image : List ℕ) (course : List ℕ → ℕ → World Fiber Shared) (
           ap (λ ws. over (course ws j).board) (append_assoc used further rest)
           ∙ (ap (λ (w : World Fiber Shared). over w.board) (sym (listed image course left n used met b h (further ++ rest) j m) ∙ with_before (fibers image) left n count j (h.at (further ++ rest)) none m l)
           ∙ (ap (λ w. over (run (fibers image) (j - n) w).board) (sym (h.still (further ++ rest)))
-          ∙ (x h.at 0 [] met from_here).2 rest (j - n) (omega arith) (omega arith)))
+          ∙ (x None refl h.at 0 [] met from_here).2 rest (j - n) (omega arith) (omega arith)))
 
 -- an act that arrives shows nothing and unplugs nothing
 raised_met : (e : Event) (moves : List Move) (b : Board) → HasMet moves b → HasMet moves (raised e b)

@@ -7,7 +7,7 @@ ghost use Rattle.bank_model.specs.Fibers.{Fiber, Shared};
 ghost use Rattle.bank_model.specs.BoardMachine.{fibers, bank_start};
 ghost use Rattle.board_outside.specs.Moves.{Move, HasMet};
 ghost use Rattle.board_run.specs.Represents.{BoardState, Represents};
-ghost use Rattle.board_run.specs.Advancing.{Executes};
+ghost use Rattle.board_run.specs.Advancing.{of_run, ComesBy};
 ghost use Rattle.board_run.specs.Ran.{IsExecuted};
 ghost use Rattle.board_run.specs.Parting.{MayArrive, Arrives};
 ghost use Rattle.irq_arrival.specs.Along.{world_with, NoneBefore, Along, IsStill};
@@ -18,7 +18,7 @@ pub fn parts_are_one_run()
     ensures begins { (image : List ℕ) (until : ℕ) (script : List Entry) (arrivals : List Arrival) (b : BoardState) → Rises 0 arrivals
         → ((free : List ℕ) → Represents image b (bank_start image until script free)) → Along image (world_with image until script arrivals) arrivals 0 [] [] b }
     ensures goes { (image : List ℕ) (course : List ℕ → ℕ → World Fiber Shared) (left : List Arrival) (n count : ℕ) (used : List ℕ) (met moves : List Move) (b c : BoardState)
-        → Along image course left n used met b → Executes image count moves b c → IsStill image c → NoneBefore (n + count) left
+        → Along image course left n used met b → ComesBy of_run image count moves b c → IsStill image c → NoneBefore (n + count) left
         → (further : List ℕ) × Along image course left (n + count) (used ++ further) (met ++ moves) c }
     ensures arrives { (image : List ℕ) (course : List ℕ → ℕ → World Fiber Shared) (a : Arrival) (left : List Arrival) (n : ℕ) (used : List ℕ) (met : List Move) (b c : BoardState)
         → Along image course (a ∷ left) n used met b → a.count ≡ n → MayArrive a.act → b.plain.end ≡ None → Arrives a.act b c → IsStill image c → Along image course left n used met c }

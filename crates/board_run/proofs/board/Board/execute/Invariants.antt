@@ -1,10 +1,10 @@
 use Rattle.std.proofs.Common.{◌≡◌, ◌+◌, ◌≤◌}
 use Rattle.board_run.specs.Outside.{over_sink}
-use Rattle.board_run.specs.Advancing.{Advances, IsWhole, IsSettled}
+use Rattle.board_run.specs.Advancing.{of_run, Advances, IsWhole, IsSettled}
 use Rattle.board_run.proofs.board.Board.execute.Given as goal
 
 -- as many instructions as the counter says, and nothing is wrong yet
 abbrev pub invariant-loop : goal.invariant-loop
 invariant-loop g l =
-    Advances g.D.Device.account l.counter (over_sink g.K.Sink.taken g.K.Sink.faults l.fn.self l.fn.out) (over_sink g.K.Sink.taken g.K.Sink.faults l.self l.out)
+    Advances g.D.Device.account of_run l.counter (over_sink g.K.Sink.taken g.K.Sink.faults l.fn.self l.fn.out) (over_sink g.K.Sink.taken g.K.Sink.faults l.self l.out)
     × IsWhole l.self.engine l.self.instructions × IsSettled l.self.engine × (l.self.instructions ≡ l.fn.self.instructions + l.counter) × (g.K.Sink.faults l.fn.out ≤ g.K.Sink.faults l.out)

@@ -1,8 +1,8 @@
 use Rattle.std.proofs.Common.{◌≡◌, ◌+◌, subst, arith}
 use Rattle.board_run.specs.Outside.{over_sink}
-use Rattle.board_run.specs.Proceeding.{Proceeds}
-use Rattle.board_run.proofs.Executing.{on_err}
-use Rattle.board_run.proofs.Proceeding.{proceeds_none, proceeds_then, stops_then, stands_none, stands_then}
+use Rattle.board_run.specs.Proceeding.{of_moment, Proceeds}
+use Rattle.board_run.proofs.Executing.{on_err, fails_then}
+use Rattle.board_run.proofs.Proceeding.{proceeds_none, proceeds_then, stands_none, stands_then}
 use Rattle.board_run.proofs.board.Board.proceed.Goals as goal
 
 pub loop-init : goal.loop-init
@@ -26,5 +26,5 @@ loop-preserved g c =
 pub returns-in_err-advance_here-clause-cut : goal.returns-in_err-advance_here-clause-cut
 returns-in_err-advance_here-clause-cut g c =
     on_err c.from_residual.result
-    (stops_then g.D.Device.account c.args.lead.now c.loop.counter 1 c.args.most (over_sink g.K.Sink.taken g.K.Sink.faults c.args.self.now c.args.out.now) (over_sink g.K.Sink.taken g.K.Sink.faults c.loop.self c.loop.out)
-    (over_sink g.K.Sink.taken g.K.Sink.faults c.advance_here.new.self c.advance_here.new.out) c.loop.invariant.0 c.in_err-advance_here.ensures.cut (omega (arith, c.loop-test.true)))
+    (fails_then g.D.Device.account (of_moment c.args.lead.now) c.loop.counter 1 c.args.most (over_sink g.K.Sink.taken g.K.Sink.faults c.args.self.now c.args.out.now) (over_sink g.K.Sink.taken g.K.Sink.faults c.loop.self c.loop.out)
+    (over_sink g.K.Sink.taken g.K.Sink.faults c.advance_here.new.self c.advance_here.new.out) c.loop.invariant.0.advances c.in_err-advance_here.ensures.cut (omega (arith, c.loop-test.true)))
