@@ -2,7 +2,9 @@
 #![tactic(auto)]
 
 mod check;
+mod operators;
 mod ops;
 
 pub use check::well_formed;
+pub use operators::{DECREMENT, INCREMENT};
 pub use ops::{FlatClass, FlatCode, Function, Op};

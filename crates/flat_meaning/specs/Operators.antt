@@ -1,17 +1,18 @@
 -- What the ops of flat code make of values, beyond what the source's operators do.
 use Rattle.std.specs.Prelude.{◌≡◌, ℕ, zero, suc, pos, negsuc, ◌+ℤ◌, Bool, if◌then◌else◌, ◌==◌, List, [], ◌∷◌}
 use Rattle.board_services.specs.declared.numbers.TheConstants.{TIME, EVENT_VALUE, BUTTON, TEXT_GLYPH, NUMBER_GLYPH}
+use Rattle.flat_ir.specs.declared.operators.TheConstants.{INCREMENT, DECREMENT}
 use Rattle.sts_syntax.specs.Types.{ValueType}
 use Rattle.sts_syntax.specs.BoardTable.{BoardAction, Service, Library, Repeats}
 use Rattle.sts_syntax.specs.Nodes.{is_among}
 use Rattle.sts_meaning.specs.Continuation.{gives_value}
 use Rattle.sts_meaning.specs.Values.{Value, Whole, default, Outcome, Gives, Stuck, then_gives, whole, to_int32, negated}
 
--- The prefix operators of the source by their numbers, and 5 and 6, which give one more and one less than a number, through ToInt32.
+-- The prefix operators of the source, and those that give one more and one less than a number, through ToInt32.
 abbrev pub prefixed_by : ℕ → Value → Outcome Value
 prefixed_by op v =
-    if op == 5 then then_gives (whole v) (λ x. Gives (Whole (to_int32 (x +ℤ pos 1))))
-    else if op == 6 then then_gives (whole v) (λ x. Gives (Whole (to_int32 (x +ℤ negsuc 0))))
+    if op == INCREMENT then then_gives (whole v) (λ x. Gives (Whole (to_int32 (x +ℤ pos 1))))
+    else if op == DECREMENT then then_gives (whole v) (λ x. Gives (Whole (to_int32 (x +ℤ negsuc 0))))
     else negated op v
 
 -- the services that answer with a number; of all others the value is 0

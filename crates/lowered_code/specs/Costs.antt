@@ -1,5 +1,6 @@
 -- What the ops of a tree cost at most for its weight, by any measure of ops.
 use Rattle.std.specs.Prelude.{ℕ, suc, ◌+◌, ◌*◌, ◌≤◌, ℤ, List, [], ◌∷◌}
+use Rattle.board_services.specs.declared.numbers.TheConstants.{SPAWN, PUSH}
 use Rattle.flat_ir.specs.declared.ops.Op.{Op}
 use Rattle.flat_ir.specs.declared.ops.Op.TheVariants.{Const, Copy, Unary, Binary, GlobalGet, GlobalSet, FieldGet, FieldSet, ItemGet, ItemSet, Length, Pop, TextOf, MakeObject, MakeArray, Call, CallSlot, HandlerOf, Ask, Jump, Branch, Return}
 use Rattle.sts_lower.specs.Code.{span}
@@ -25,7 +26,7 @@ pub record Costs (c : Op → ℕ) (k room : ℕ) : Type 0 where
   pub pop : (to array : ℕ) → c (Pop to array) + room ≤ k
   pub branches : (when target next : ℕ) → c (Branch when target) + c (Jump next) + room ≤ k
   pub turns : (when target next back : ℕ) → c (Branch when target) + c (Jump next) + c (Jump back) ≤ k
-  pub append : (to array value : ℕ) → c (Ask to 19 (array ∷ (value ∷ []))) ≤ room
+  pub append : (to array value : ℕ) → c (Ask to PUSH (array ∷ (value ∷ []))) ≤ room
   pub array : (to n : ℕ) → c (MakeArray to n) + room ≤ 2 * k
   -- stores, with the copy that leaves the value
   pub set_global : (slot from : ℕ) → c (GlobalSet slot from) + room ≤ k
@@ -38,7 +39,7 @@ pub record Costs (c : Op → ℕ) (k room : ℕ) : Type 0 where
   pub call : (to f t n : ℕ) → c (Call to f (span t n [])) + room ≤ k + room * n
   pub slot : (to s t n : ℕ) → c (CallSlot to s (span t n [])) + room ≤ 2 * k + room * n
   pub ask : (to s t n : ℕ) → c (Ask to s (span t n [])) + room ≤ k + room * n
-  pub spawn : (to f to' t : ℕ) → c (HandlerOf to f) + c (Ask to' 4 (t ∷ [])) + room ≤ k
+  pub spawn : (to f to' t : ℕ) → c (HandlerOf to f) + c (Ask to' SPAWN (t ∷ [])) + room ≤ k
   pub super : (to f t n : ℕ) → c (Copy to 0) + c (Call to f (span t (suc n) [])) + room ≤ k + room * n
   pub make : (to class to' f this t n : ℕ) → c (MakeObject to class) + c (Call to' f (this ∷ span t n [])) + room ≤ 3 * k + room * n
   -- statements

@@ -1,5 +1,7 @@
 -- The ops of an expression.
 use Rattle.std.specs.Prelude.{ℕ, zero, suc, ◌+◌, ℤ, pos, negsuc, Bool, true, false, List, [], ◌∷◌, ◌++◌, length, Some, None}
+use Rattle.board_services.specs.declared.numbers.TheConstants.{SPAWN, PUSH}
+use Rattle.flat_ir.specs.declared.operators.TheConstants.{INCREMENT, DECREMENT}
 use Rattle.flat_ir.specs.declared.ops.Op.{Op}
 use Rattle.flat_ir.specs.declared.ops.Op.TheVariants.{Const, Copy, Unary, Binary, GlobalGet, GlobalSet, FieldGet, FieldSet, ItemGet, ItemSet, Length, Pop, TextOf, MakeObject, MakeArray, Call, CallSlot, HandlerOf, Ask, Jump, Branch}
 use Rattle.sts_syntax.specs.declared.typed.Spot.{Spot}
@@ -32,21 +34,14 @@ abbrev pub truth_number : Bool → ℤ
 truth_number true = pos 1
 truth_number false = pos 0
 
--- The prefix operators 5 and 6 give one more and one less than a number. `++` does the first and `--` the second; its old value is
--- made of the new one by the other.
-abbrev pub increment_operator : ℕ
-increment_operator = 5
-
-abbrev pub decrement_operator : ℕ
-decrement_operator = 6
-
+-- `++` gives one more, and `--` one less; its old value is made of the new one by the other.
 abbrev pub bump_op : ℤ → ℕ
-bump_op (pos n) = increment_operator
-bump_op (negsuc n) = decrement_operator
+bump_op (pos n) = INCREMENT
+bump_op (negsuc n) = DECREMENT
 
 abbrev pub unbump_op : ℤ → ℕ
-unbump_op (pos n) = decrement_operator
-unbump_op (negsuc n) = increment_operator
+unbump_op (pos n) = DECREMENT
+unbump_op (negsuc n) = INCREMENT
 
 -- the value of `++` or `--`: the old one where the mark stands behind its target, of the new one in a temporary
 abbrev pub bumped_op : ℤ → Bool → ℕ → ℕ → Op
@@ -116,12 +111,12 @@ module _ (classes : List ClassEntry) (repeating : ℕ → ℕ) (params base : �
   abbrev pub action_code : BoardAction → (handler d n : ℕ) → List Op
   action_code (Service number places) handler d n = Ask (base + d) number (span (base + d) n []) ∷ []
   action_code (Library function) handler d n = Const (base + d) (pos 0) ∷ []
-  action_code Repeats handler d n = HandlerOf (base + d) (repeating handler) ∷ (Ask (base + d) 4 ((base + d) ∷ []) ∷ [])
+  action_code Repeats handler d n = HandlerOf (base + d) (repeating handler) ∷ (Ask (base + d) SPAWN ((base + d) ∷ []) ∷ [])
 
   abbrev pub call_code : Callee → (handler d n : ℕ) → List Op
   call_code (c.Function f) handler d n = Call (base + d) f (span (base + d) n []) ∷ []
   call_code (c.Slot s) handler d n = CallSlot (base + d) s (span (base + d) n []) ∷ []
-  call_code c.Push handler d n = Ask (base + d) 19 (span (base + d) n []) ∷ []
+  call_code c.Push handler d n = Ask (base + d) PUSH (span (base + d) n []) ∷ []
   call_code c.Pop handler d n = Pop (base + d) (base + d) ∷ []
   call_code (c.Board call) handler d n = action_code (row_of call).action handler d n
 
@@ -170,7 +165,7 @@ module _ (classes : List ClassEntry) (repeating : ℕ → ℕ) (params base : �
   abbrev pub items_code : List Part → (d at : ℕ) → List Op
   items_code [] d at = []
   items_code (p ∷ ps) d at =
-      p.ops (suc d) at ++ (Ask (base + suc d) 19 ((base + d) ∷ ((base + suc d) ∷ [])) ∷ items_code ps d (at + p.size + 1))
+      p.ops (suc d) at ++ (Ask (base + suc d) PUSH ((base + d) ∷ ((base + suc d) ∷ [])) ∷ items_code ps d (at + p.size + 1))
 
   abbrev mutual
     -- An expression's ops at a place: with d operands pending its value becomes the next one, and what comes after it stands at next.

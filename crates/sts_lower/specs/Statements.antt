@@ -6,7 +6,8 @@ use Rattle.sts_syntax.specs.declared.typed.Spot.TheVariants.{Param, Local, Globa
 use Rattle.sts_syntax.specs.TypedTrees as e
 use Rattle.sts_syntax.specs.TypedTrees.{TypedTree, TypedStatement, TypedStatements, OptionalTypedStatement, TypedDeclaration, ClassEntry}
 use Rattle.sts_lower.specs.Sizes.{size, initial_size, test_size, item_size, statement_size, first_size, statements_size}
-use Rattle.sts_lower.specs.Code.{set_op, increment_operator, code}
+use Rattle.flat_ir.specs.declared.operators.TheConstants.{INCREMENT}
+use Rattle.sts_lower.specs.Code.{set_op, code}
 
 -- where to go on behind a part, if n ops follow it in its list
 abbrev pub behind : ℕ → ℕ → ℕ → ℕ
@@ -47,7 +48,7 @@ module _ (classes : List ClassEntry) (repeating : ℕ → ℕ) (params base : �
   abbrev pub item_code : (i at next : ℕ) → List Op
   item_code i at next =
       Length (base + 0) (params + suc i) ∷ (Binary (base + 0) 6 (params + suc (suc i)) (base + 0) ∷ (Branch (base + 0) (at + 1 + 1 + 1 + 1) ∷ (Jump next
-      ∷ (ItemGet (params + i) (params + suc i) (params + suc (suc i)) ∷ (Unary (params + suc (suc i)) increment_operator (params + suc (suc i)) ∷ [])))))
+      ∷ (ItemGet (params + i) (params + suc i) (params + suc (suc i)) ∷ (Unary (params + suc (suc i)) INCREMENT (params + suc (suc i)) ∷ [])))))
 
   -- in a constructor, or in another function
   module _ (maker : Bool) where

@@ -6,24 +6,19 @@ ghost use Rattle.sts_lower.specs.inner.Fitting.{TargetFits};
 ghost use Rattle.sts_lower.specs.inner.Shown.{works, layout, target_shown};
 
 use crate::frame::Frame;
-use crate::ops::{get_op, set_op};
+use crate::ops::{constant, copy, field_get, field_set, get_op, item_get, item_set, set_op, unary};
 use crate::targets::Target;
 use crate::values::put;
 use crate::work::Stack;
-use flat_ir::Op;
+use flat_ir::{DECREMENT, INCREMENT, Op};
 use sts_base::NoMemory;
 use sts_syntax::Spot;
-
-/// The prefix operators that give one more and one less than a number.
-pub(crate) const ONE_MORE: u8 = 5;
-
-const ONE_LESS: u8 = 6;
 
 /// The operator of `++` where it adds, and of `--`.
 fn bump_op(by: i32) -> u8
     ensures { result ≡ k.bump_op by }
 {
-    if by < 0 { ONE_LESS } else { ONE_MORE }
+    if by < 0 { DECREMENT } else { INCREMENT }
 }
 
 /// The op that gives the value of a `++` or `--`, of the new value in a temporary.
@@ -31,11 +26,7 @@ fn bumped_op(by: i32, late: bool, to: u32, from: u32) -> Op
     ensures { result ≡ k.bumped_op by late to from }
 {
     if late {
-        Op::Unary {
-            to,
-            op: if by < 0 { ONE_MORE } else { ONE_LESS },
-            from,
-        }
+        unary(to, if by < 0 { INCREMENT } else { DECREMENT }, from)
     } else {
         Op::Copy { to, from }
     }
@@ -62,20 +53,9 @@ pub(crate) fn read_op(frame: &Frame, target: Target, d: u32) -> Op
     let first = frame.base + d;
     match target {
         Target::Name(x) => get_op(frame.params, first, x),
-        Target::Field(field) => Op::FieldGet {
-            to: first + 1,
-            object: first,
-            field,
-        },
-        Target::Item => Op::ItemGet {
-            to: first + 2,
-            array: first,
-            index: first + 1,
-        },
-        Target::Nothing => Op::Const {
-            to: first,
-            value: 0,
-        },
+        Target::Field(field) => field_get(first + 1, first, field),
+        Target::Item => item_get(first + 2, first, first + 1),
+        Target::Nothing => constant(first, 0),
     }
 }
 
@@ -84,14 +64,7 @@ fn bump_temporary(stack: &mut Stack, by: i32, late: bool, t: u32, to: u32) -> Re
     ensures { OnOk result (works stack.new ≡ p.Put (Op.Unary t (k.bump_op by) t) ∷ (p.Put (k.bumped_op by late to t) ∷ works stack.old)) }
 {
     put(stack, bumped_op(by, late, to, t))?;
-    put(
-        stack,
-        Op::Unary {
-            to: t,
-            op: bump_op(by),
-            from: t,
-        },
-    )
+    put(stack, unary(t, bump_op(by), t))
 }
 
 /// A `++` or `--` of a global comes next.
@@ -111,14 +84,7 @@ fn bump_global<'a>(
         put(stack, bumped_op(by, late, first, first))?;
     }
     put(stack, Op::GlobalSet { slot, from: first })?;
-    put(
-        stack,
-        Op::Unary {
-            to: first,
-            op: bump_op(by),
-            from: first,
-        },
-    )?;
+    put(stack, unary(first, bump_op(by), first))?;
     put(stack, Op::GlobalGet { to: first, slot })
 }
 
@@ -141,52 +107,20 @@ pub(crate) fn bump<'a>(
         Target::Name(Spot::Local(i)) => bump_temporary(stack, by, late, frame.params + i, first),
         Target::Name(Spot::Global(slot)) => bump_global(stack, frame, by, late, slot, d),
         Target::Field(field) => {
-            put(stack, bumped_op(by, late, first, first + 1))?;
-            put(
-                stack,
-                Op::FieldSet {
-                    object: first,
-                    field,
-                    from: first + 1,
-                },
-            )?;
-            put(
-                stack,
-                Op::Unary {
-                    to: first + 1,
-                    op: bump_op(by),
-                    from: first + 1,
-                },
-            )?;
+            let value = first + 1;
+            put(stack, bumped_op(by, late, first, value))?;
+            put(stack, field_set(first, field, value))?;
+            put(stack, unary(value, bump_op(by), value))?;
             put(stack, read_op(frame, target, d))
         }
         Target::Item => {
-            put(stack, bumped_op(by, late, first, first + 2))?;
-            put(
-                stack,
-                Op::ItemSet {
-                    array: first,
-                    index: first + 1,
-                    from: first + 2,
-                },
-            )?;
-            put(
-                stack,
-                Op::Unary {
-                    to: first + 2,
-                    op: bump_op(by),
-                    from: first + 2,
-                },
-            )?;
+            let value = first + 2;
+            put(stack, bumped_op(by, late, first, value))?;
+            put(stack, item_set(first, first + 1, value))?;
+            put(stack, unary(value, bump_op(by), value))?;
             put(stack, read_op(frame, target, d))
         }
-        Target::Nothing => put(
-            stack,
-            Op::Const {
-                to: first,
-                value: 0,
-            },
-        ),
+        Target::Nothing => put(stack, constant(first, 0)),
     }
 }
 
@@ -205,38 +139,12 @@ pub(crate) fn store<'a>(
     match target {
         Target::Name(x) => put(stack, set_op(frame.params, first, x)),
         Target::Field(field) => {
-            put(
-                stack,
-                Op::Copy {
-                    to: first,
-                    from: first + 1,
-                },
-            )?;
-            put(
-                stack,
-                Op::FieldSet {
-                    object: first,
-                    field,
-                    from: first + 1,
-                },
-            )
+            put(stack, copy(first, first + 1))?;
+            put(stack, field_set(first, field, first + 1))
         }
         Target::Item => {
-            put(
-                stack,
-                Op::Copy {
-                    to: first,
-                    from: first + 2,
-                },
-            )?;
-            put(
-                stack,
-                Op::ItemSet {
-                    array: first,
-                    index: first + 1,
-                    from: first + 2,
-                },
-            )
+            put(stack, copy(first, first + 2))?;
+            put(stack, item_set(first, first + 1, first + 2))
         }
         Target::Nothing => Ok(()),
     }

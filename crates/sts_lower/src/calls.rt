@@ -12,10 +12,11 @@ ghost use Rattle.sts_lower.specs.inner.Shown.{works, layout};
 
 use crate::arguments::{own_numbers, places};
 use crate::frame::Frame;
-use crate::ops::{pair, span};
+use crate::ops::{ask, constant, copy, pair, span};
 use crate::sizes::size_of;
 use crate::values::{evaluate, put};
-use crate::work::{Stack, Work};
+use crate::work::{Site, Stack, Work};
+use board_services::{PUSH, SPAWN};
 use flat_ir::Op;
 use std::alloc::Global;
 use sts_base::{NoMemory, Seq};
@@ -90,7 +91,6 @@ pub(crate) fn maker_of(classes: &Seq<TypedClass>, class: u32) -> u32
 /// A call of the board comes next, behind its n arguments.
 fn act<'a>(
     stack: &mut Stack<'a>,
-    alloc: Global,
     frame: &Frame<'a>,
     action: BoardAction,
     handler: u32,
@@ -104,28 +104,16 @@ fn act<'a>(
     let to = frame.base + d;
     match action {
         BoardAction::Service(service, _) => {
-            let args = span(alloc, to, n)?;
+            let args = span(frame.alloc, to, n)?;
             put(stack, Op::Ask { to, service, args })
         }
-        BoardAction::Library(_) => put(stack, Op::Const { to, value: 0 }),
+        BoardAction::Library(_) => put(stack, constant(to, 0)),
         BoardAction::Repeats => {
-            let mut args = Seq::new(alloc);
+            let mut args = Seq::new(frame.alloc);
             args.push(to)?;
-            put(
-                stack,
-                Op::Ask {
-                    to,
-                    service: 4,
-                    args,
-                },
-            )?;
-            put(
-                stack,
-                Op::HandlerOf {
-                    to,
-                    function: repeating(frame, handler),
-                },
-            )
+            put(stack, ask(to, SPAWN, args))?;
+            let function = repeating(frame, handler);
+            put(stack, Op::HandlerOf { to, function })
         }
     }
 }
@@ -133,7 +121,6 @@ fn act<'a>(
 /// What is called comes next, behind its n arguments.
 fn invoke<'a>(
     stack: &mut Stack<'a>,
-    alloc: Global,
     frame: &Frame<'a>,
     callee: Callee,
     handler: u32,
@@ -147,26 +134,19 @@ fn invoke<'a>(
     let to = frame.base + d;
     match callee {
         Callee::Function(function) => {
-            let args = span(alloc, to, n)?;
+            let args = span(frame.alloc, to, n)?;
             put(stack, Op::Call { to, function, args })
         }
         Callee::Slot(slot) => {
-            let args = span(alloc, to, n)?;
+            let args = span(frame.alloc, to, n)?;
             put(stack, Op::CallSlot { to, slot, args })
         }
         Callee::Push => {
-            let args = span(alloc, to, n)?;
-            put(
-                stack,
-                Op::Ask {
-                    to,
-                    service: 19,
-                    args,
-                },
-            )
+            let args = span(frame.alloc, to, n)?;
+            put(stack, ask(to, PUSH, args))
         }
         Callee::Pop => put(stack, Op::Pop { to, array: to }),
-        Callee::Board(call) => act(stack, alloc, frame, call.action(), handler, d, n),
+        Callee::Board(call) => act(stack, frame, call.action(), handler, d, n),
     }
 }
 
@@ -174,32 +154,23 @@ fn invoke<'a>(
 #[tactic(auto, using(sts_syntax::proofs::Laws::how_many_are))]
 pub(crate) fn open_call<'a>(
     stack: &mut Stack<'a>,
-    alloc: Global,
     frame: &Frame<'a>,
     callee: Callee,
     args: &'a Seq<TypedExpr>,
-    d: u32,
-    at: u32,
+    site: Site,
 ) -> Result<(), NoMemory>
-    requires temporaries { frame.now.base + d + p.passed_by callee (how_many (typed_trees args.now)) < 2 ^ 32 }
+    requires temporaries { frame.now.base + site.d + p.passed_by callee (how_many (typed_trees args.now)) < 2 ^ 32 }
     requires functions { frame.now.functions + length frame.now.repeated.now < 2 ^ 32 }
-    ensures { OnOk result (works stack.new ≡ p.called (layout frame.now) callee (typed_trees args.now) d at ++ works stack.old) }
+    ensures { OnOk result (works stack.new ≡ p.called (layout frame.now) callee (typed_trees args.now) site.d site.at ++ works stack.old) }
 {
     let n = own_numbers(callee) + args.len() as u32;
-    invoke(
-        stack,
-        alloc,
-        frame,
-        callee,
-        handler_of(args.as_slice()),
-        d,
-        n,
-    )?;
+    let handler = handler_of(args.as_slice());
+    invoke(stack, frame, callee, handler, site.d, n)?;
     stack.push(Work::Arguments {
         places: places(callee),
         args: args.as_slice(),
-        d,
-        at,
+        d: site.d,
+        at: site.at,
     })
 }
 
@@ -207,19 +178,17 @@ pub(crate) fn open_call<'a>(
 #[tactic(auto, using(sts_syntax::proofs::Laws::how_many_are))]
 pub(crate) fn open_super_call<'a>(
     stack: &mut Stack<'a>,
-    alloc: Global,
     frame: &Frame<'a>,
     function: u32,
     args: &'a Seq<TypedExpr>,
-    d: u32,
-    at: u32,
+    site: Site,
 ) -> Result<(), NoMemory>
-    requires temporaries { frame.now.base + d + (how_many (typed_trees args.now) + 1) < 2 ^ 32 }
-    requires places { at + 1 < 2 ^ 32 }
-    ensures { OnOk result (works stack.new ≡ p.called_above (layout frame.now) function (typed_trees args.now) d at ++ works stack.old) }
+    requires temporaries { frame.now.base + site.d + (how_many (typed_trees args.now) + 1) < 2 ^ 32 }
+    requires places { site.at + 1 < 2 ^ 32 }
+    ensures { OnOk result (works stack.new ≡ p.called_above (layout frame.now) function (typed_trees args.now) site.d site.at ++ works stack.old) }
 {
-    let to = frame.base + d;
-    let numbers = span(alloc, to, args.len() as u32 + 1)?;
+    let to = frame.base + site.d;
+    let numbers = span(frame.alloc, to, args.len() as u32 + 1)?;
     put(
         stack,
         Op::Call {
@@ -231,10 +200,10 @@ pub(crate) fn open_super_call<'a>(
     stack.push(Work::Arguments {
         places: &[],
         args: args.as_slice(),
-        d: d + 1,
-        at: at + 1,
+        d: site.d + 1,
+        at: site.at + 1,
     })?;
-    put(stack, Op::Copy { to, from: 0 })
+    put(stack, copy(to, 0))
 }
 
 /// The arguments of a constructor: the object, and then what was written.
@@ -255,21 +224,19 @@ fn with_object(alloc: Global, object: u32, first: u32, n: u32) -> Result<Seq<u32
 #[tactic(auto, using(sts_syntax::proofs::Laws::how_many_are))]
 pub(crate) fn open_make<'a>(
     stack: &mut Stack<'a>,
-    alloc: Global,
     frame: &Frame<'a>,
     class: u32,
     args: &'a Seq<TypedExpr>,
-    d: u32,
-    at: u32,
+    site: Site,
 ) -> Result<(), NoMemory>
-    requires temporaries { frame.now.base + d + (how_many (typed_trees args.now) + 1) < 2 ^ 32 }
-    ensures { OnOk result (works stack.new ≡ p.made (layout frame.now) class (typed_trees args.now) d at ++ works stack.old) }
+    requires temporaries { frame.now.base + site.d + (how_many (typed_trees args.now) + 1) < 2 ^ 32 }
+    ensures { OnOk result (works stack.new ≡ p.made (layout frame.now) class (typed_trees args.now) site.d site.at ++ works stack.old) }
 {
-    let to = frame.base + d;
+    let to = frame.base + site.d;
     let n = args.len() as u32;
-    let object = frame.base + (n + d);
+    let object = frame.base + (n + site.d);
     let function = maker_of(frame.classes, class);
-    let numbers = with_object(alloc, object, to, n)?;
+    let numbers = with_object(frame.alloc, object, to, n)?;
     put(
         stack,
         Op::Call {
@@ -282,8 +249,8 @@ pub(crate) fn open_make<'a>(
     stack.push(Work::Arguments {
         places: &[],
         args: args.as_slice(),
-        d,
-        at,
+        d: site.d,
+        at: site.at,
     })
 }
 
@@ -293,22 +260,21 @@ pub(crate) fn open_items<'a>(
     stack: &mut Stack<'a>,
     frame: &Frame<'a>,
     items: &'a Seq<TypedExpr>,
-    d: u32,
-    at: u32,
+    site: Site,
 ) -> Result<(), NoMemory>
-    requires temporaries { frame.now.base + d < 2 ^ 32 }
-    requires places { at + 1 + how_many (typed_trees items.now) < 2 ^ 32 }
-    ensures { OnOk result (works stack.new ≡ p.listed (layout frame.now) (typed_trees items.now) d at ++ works stack.old) }
+    requires temporaries { frame.now.base + site.d < 2 ^ 32 }
+    requires places { site.at + 1 + how_many (typed_trees items.now) < 2 ^ 32 }
+    ensures { OnOk result (works stack.new ≡ p.listed (layout frame.now) (typed_trees items.now) site.d site.at ++ works stack.old) }
 {
     stack.push(Work::Elements {
         items: items.as_slice(),
-        d,
-        at: at + 1,
+        d: site.d,
+        at: site.at + 1,
     })?;
     put(
         stack,
         Op::MakeArray {
-            to: frame.base + d,
+            to: frame.base + site.d,
             room: items.len() as u32,
         },
     )
@@ -336,13 +302,7 @@ pub(crate) fn open_arguments<'a>(
                 d: d + 1,
                 at: at + 1,
             })?;
-            put(
-                stack,
-                Op::Const {
-                    to: frame.base + d,
-                    value: *n,
-                },
-            )
+            put(stack, constant(frame.base + d, *n))
         }
         ([ServicePlace::Written, behind @ ..], []) => stack.push(Work::Arguments {
             places: behind,
@@ -381,7 +341,6 @@ fn argument<'a>(
 /// The next item of an array, and those behind it.
 pub(crate) fn open_elements<'a>(
     stack: &mut Stack<'a>,
-    alloc: Global,
     frame: &Frame<'a>,
     items: &'a [TypedExpr],
     d: u32,
@@ -399,15 +358,8 @@ pub(crate) fn open_elements<'a>(
                 d,
                 at: at + size_of(a) + 1,
             })?;
-            let args = pair(alloc, array, array + 1)?;
-            put(
-                stack,
-                Op::Ask {
-                    to: array + 1,
-                    service: 19,
-                    args,
-                },
-            )?;
+            let args = pair(frame.alloc, array, array + 1)?;
+            put(stack, ask(array + 1, PUSH, args))?;
             evaluate(stack, a, d + 1, at)
         }
     }

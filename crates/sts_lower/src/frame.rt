@@ -1,11 +1,14 @@
 // A function that is lowered.
 
+use std::alloc::Global;
 use sts_base::Seq;
 use sts_syntax::TypedClass;
 
 /// What is known of a program and of the function that is lowered.
 #[derive(Clone, Copy)]
 pub(crate) struct Frame<'a> {
+    /// where the memory of lists comes from
+    pub(crate) alloc: Global,
     /// the program's classes
     pub(crate) classes: &'a Seq<TypedClass>,
     /// the functions whose calls `forever` repeats, in the order of the calls

@@ -11,6 +11,7 @@ ghost use Rattle.sts_lower.specs.inner.Fitting.{IsLowerableRoutine, HasFewFields
 use crate::frame::Frame;
 use crate::repeats::note_functions;
 use crate::routines::ops_of;
+use board_services::PAUSE;
 use flat_ir::{FlatClass, FlatCode, Function, Op};
 use std::alloc::Global;
 use sts_base::{NoMemory, Seq};
@@ -47,6 +48,7 @@ fn lower_routine(
     let operands = pending_words(body) as u32;
     let outgoing = outgoing_words(body) as u32;
     let frame = Frame {
+        alloc,
         classes,
         repeated,
         functions,
@@ -54,7 +56,7 @@ fn lower_routine(
         base: params + locals,
         maker,
     };
-    let ops = ops_of(alloc, &frame, body.stmts.as_slice())?;
+    let ops = ops_of(&frame, body.stmts.as_slice())?;
     Ok(Function {
         params,
         locals,
@@ -101,7 +103,7 @@ fn repeating_function(alloc: Global, f: u32) -> Result<Function, NoMemory>
     ops.push(Op::Const { to: 0, value: 20 })?;
     ops.push(Op::Ask {
         to: 0,
-        service: 2,
+        service: PAUSE,
         args: time,
     })?;
     ops.push(Op::Jump { target: 0 })?;

@@ -8,6 +8,99 @@ use std::alloc::Global;
 use sts_base::{NoMemory, Seq};
 use sts_syntax::Spot;
 
+/// A number goes into a temporary.
+pub(crate) fn constant(to: u32, value: i32) -> Op
+    ensures { result ≡ Op.Const to value }
+{
+    Op::Const { to, value }
+}
+
+/// The number of a truth value.
+pub(crate) fn truth_number(value: bool) -> i32
+    ensures { result ≡ k.truth_number value }
+{
+    if value { 1 } else { 0 }
+}
+
+/// A temporary is copied.
+pub(crate) fn copy(to: u32, from: u32) -> Op
+    ensures { result ≡ Op.Copy to from }
+{
+    Op::Copy { to, from }
+}
+
+/// A prefix operator.
+pub(crate) fn unary(to: u32, op: u8, from: u32) -> Op
+    ensures { result ≡ Op.Unary to op from }
+{
+    Op::Unary { to, op, from }
+}
+
+/// An operator with two operands.
+pub(crate) fn binary(to: u32, op: u8, left: u32, right: u32) -> Op
+    ensures { result ≡ Op.Binary to op left right }
+{
+    Op::Binary {
+        to,
+        op,
+        left,
+        right,
+    }
+}
+
+/// The value of a field.
+pub(crate) fn field_get(to: u32, object: u32, field: u32) -> Op
+    ensures { result ≡ Op.FieldGet to object field }
+{
+    Op::FieldGet { to, object, field }
+}
+
+/// A field's new value.
+pub(crate) fn field_set(object: u32, field: u32, from: u32) -> Op
+    ensures { result ≡ Op.FieldSet object field from }
+{
+    Op::FieldSet {
+        object,
+        field,
+        from,
+    }
+}
+
+/// The value of an array's item.
+pub(crate) fn item_get(to: u32, array: u32, index: u32) -> Op
+    ensures { result ≡ Op.ItemGet to array index }
+{
+    Op::ItemGet { to, array, index }
+}
+
+/// A new value of an array's item.
+pub(crate) fn item_set(array: u32, index: u32, from: u32) -> Op
+    ensures { result ≡ Op.ItemSet array index from }
+{
+    Op::ItemSet { array, index, from }
+}
+
+/// A service is asked for.
+pub(crate) fn ask(to: u32, service: u8, args: Seq<u32>) -> Op
+    ensures { result ≡ Op.Ask to service args }
+{
+    Op::Ask { to, service, args }
+}
+
+/// Where a temporary isn't 0 it goes on at an op.
+pub(crate) fn branch(when: u32, target: u32) -> Op
+    ensures { result ≡ Op.Branch when target }
+{
+    Op::Branch { when, target }
+}
+
+/// It goes on at an op.
+pub(crate) fn jump(target: u32) -> Op
+    ensures { result ≡ Op.Jump target }
+{
+    Op::Jump { target }
+}
+
 /// The n numbers from `first` on.
 #[tactic(auto, using(crate::proofs::Spans::span_more))]
 pub(crate) fn span(alloc: Global, first: u32, n: u32) -> Result<Seq<u32>, NoMemory>

@@ -12,9 +12,8 @@ use crate::expressions::{open_reach, open_value};
 use crate::frame::Frame;
 use crate::statement_sizes::statements_size;
 use crate::statements::{open_bare, open_declarations, open_statement, open_statements};
-use crate::work::{Stack, Work};
+use crate::work::{Course, Stack, Work};
 use flat_ir::Op;
-use std::alloc::Global;
 use sts_base::{NoMemory, Seq};
 use sts_syntax::TypedStmt;
 
@@ -22,7 +21,6 @@ use sts_syntax::TypedStmt;
 fn do_work<'a>(
     stack: &mut Stack<'a>,
     ops: &mut Seq<Op>,
-    alloc: Global,
     frame: &Frame<'a>,
     work: Work<'a>,
 ) -> Result<(), NoMemory>
@@ -33,7 +31,7 @@ fn do_work<'a>(
 {
     match work {
         Work::Put(op) => ops.push(op),
-        Work::Value { e, d, at, next } => open_value(stack, alloc, frame, e, d, at, next),
+        Work::Value(e, site) => open_value(stack, frame, e, site),
         Work::Reach { target, d, at } => open_reach(stack, frame, target, d, at),
         Work::Arguments {
             places,
@@ -41,31 +39,15 @@ fn do_work<'a>(
             d,
             at,
         } => open_arguments(stack, frame, places, args, d, at),
-        Work::Elements { items, d, at } => open_elements(stack, alloc, frame, items, d, at),
-        Work::Expand {
-            a,
-            at,
-            next,
-            out,
-            again,
-        } => { open_statement(stack, frame, a, at, next, out, again) }
-        Work::ExpandAll {
-            all,
-            at,
-            next,
-            out,
-            again,
-        } => { open_statements(stack, frame, all, at, next, out, again) }
+        Work::Elements { items, d, at } => open_elements(stack, frame, items, d, at),
+        Work::Expand(a, course) => open_statement(stack, frame, a, course),
+        Work::ExpandAll(all, course) => open_statements(stack, frame, all, course),
         Work::ExpandDeclarations { each, at } => open_declarations(stack, frame, each, at),
     }
 }
 
 /// The ops of a function's statements, and those of running off its end.
-pub(crate) fn ops_of<'a>(
-    alloc: Global,
-    frame: &Frame<'a>,
-    all: &'a [TypedStmt],
-) -> Result<Seq<Op>, NoMemory>
+pub(crate) fn ops_of<'a>(frame: &Frame<'a>, all: &'a [TypedStmt]) -> Result<Seq<Op>, NoMemory>
     requires fits { let end = z.statements_size frame.now.maker (typed_statements all.now) in WorkFits (layout frame.now) (p.ExpandAll (typed_statements all.now) 0 end end end) }
     requires functions { frame.now.functions + length frame.now.repeated.now < 2 ^ 32 }
     ensures { let end = z.statements_size frame.now.maker (typed_statements all.now) in
@@ -74,18 +56,18 @@ pub(crate) fn ops_of<'a>(
         ++ t.bare_code frame.now.maker frame.now.base) }
 {
     let end = statements_size(all, frame.maker);
-    let mut stack = Stack::new(alloc);
+    let mut stack = Stack::new(frame.alloc);
     open_bare(&mut stack, frame)?;
-    stack.push(Work::ExpandAll {
-        all,
+    let course = Course {
         at: 0,
         next: end,
         out: end,
         again: end,
-    })?;
-    let mut ops = Seq::new(alloc);
+    };
+    stack.push(Work::ExpandAll(all, course))?;
+    let mut ops = Seq::new(frame.alloc);
     while let Some(work) = stack.pop() {
-        do_work(&mut stack, &mut ops, alloc, frame, work)?;
+        do_work(&mut stack, &mut ops, frame, work)?;
     }
     Ok(ops)
 }

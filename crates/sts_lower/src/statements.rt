@@ -7,16 +7,15 @@ ghost use Rattle.sts_lower.specs.inner.Works as p;
 ghost use Rattle.sts_lower.specs.inner.Fitting.{WorkFits};
 ghost use Rattle.sts_lower.specs.inner.Shown.{works, layout};
 
-use crate::assign::ONE_MORE;
 use crate::frame::Frame;
-use crate::ops::set_op;
+use crate::ops::{binary, branch, constant, copy, item_get, jump, set_op, unary};
 use crate::sizes::size_of;
 use crate::statement_sizes::{
     ITEM_SIZE, initial_size, statement_size, statements_size, step_size, test_size,
 };
-use crate::values::{evaluate, put};
-use crate::work::{Stack, Work};
-use flat_ir::Op;
+use crate::values::{evaluate, push_value, put};
+use crate::work::{Course, Site, Stack, Work};
+use flat_ir::{INCREMENT, Op};
 use sts_base::{NoMemory, Seq};
 use sts_syntax::operators::LESS;
 use sts_syntax::{Spot, TypedBinding, TypedExpr, TypedStmt};
@@ -27,21 +26,9 @@ pub(crate) fn open_bare(stack: &mut Stack, frame: &Frame) -> Result<(), NoMemory
 {
     put(stack, Op::Return { from: frame.base })?;
     if frame.maker {
-        put(
-            stack,
-            Op::Copy {
-                to: frame.base,
-                from: 0,
-            },
-        )
+        put(stack, copy(frame.base, 0))
     } else {
-        put(
-            stack,
-            Op::Const {
-                to: frame.base,
-                value: 0,
-            },
-        )
+        put(stack, constant(frame.base, 0))
     }
 }
 
@@ -67,13 +54,7 @@ fn open_initial<'a>(
     ensures { OnOk result (works stack.new ≡ p.opened_initial (layout frame.now) (optional_typed_tree first.now) at ++ works stack.old) }
 {
     match first {
-        None => put(
-            stack,
-            Op::Const {
-                to: frame.base,
-                value: 0,
-            },
-        ),
+        None => put(stack, constant(frame.base, 0)),
         Some(a) => evaluate(stack, a, 0, at),
     }
 }
@@ -113,13 +94,7 @@ fn open_test<'a>(
     requires { at + z.size (typed_tree test.now) < 2 ^ 32 }
     ensures { OnOk result (works stack.new ≡ p.tested (layout frame.now) (typed_tree test.now) at so ++ works stack.old) }
 {
-    put(
-        stack,
-        Op::Branch {
-            when: frame.base,
-            target: so,
-        },
-    )?;
+    put(stack, branch(frame.base, so))?;
     evaluate(stack, test, 0, at)
 }
 
@@ -127,40 +102,41 @@ fn open_test<'a>(
 fn push_statement<'a>(
     stack: &mut Stack<'a>,
     a: &'a TypedStmt,
-    at: u32,
-    next: u32,
-    out: u32,
-    again: u32,
+    course: Course,
 ) -> Result<(), NoMemory>
-    ensures { OnOk result (works stack.new ≡ p.Expand (typed_statement a.now) at next out again ∷ works stack.old) }
+    ensures { OnOk result (works stack.new ≡ p.Expand (typed_statement a.now) course.at course.next course.out course.again ∷ works stack.old) }
 {
-    stack.push(Work::Expand {
-        a,
-        at,
-        next,
-        out,
-        again,
-    })
+    stack.push(Work::Expand(a, course))
 }
 
-/// A block comes next.
-fn open_block<'a>(
+/// Some statements come next.
+fn push_statements<'a>(
     stack: &mut Stack<'a>,
-    all: &'a Seq<TypedStmt>,
-    at: u32,
-    next: u32,
-    out: u32,
-    again: u32,
+    all: &'a [TypedStmt],
+    course: Course,
 ) -> Result<(), NoMemory>
-    ensures { OnOk result (works stack.new ≡ p.ExpandAll (typed_statements all.now) at next out again ∷ works stack.old) }
+    ensures { OnOk result (works stack.new ≡ p.ExpandAll (typed_statements all.now) course.at course.next course.out course.again ∷ works stack.old) }
 {
-    stack.push(Work::ExpandAll {
-        all: all.as_slice(),
+    stack.push(Work::ExpandAll(all, course))
+}
+
+/// The body of a loop comes next: behind it and at `continue` it goes on at a place, and at `break` at another one.
+fn push_body<'a>(
+    stack: &mut Stack<'a>,
+    a: &'a TypedStmt,
+    at: u32,
+    turn: u32,
+    out: u32,
+) -> Result<(), NoMemory>
+    ensures { OnOk result (works stack.new ≡ p.Expand (typed_statement a.now) at turn out turn ∷ works stack.old) }
+{
+    let course = Course {
         at,
-        next,
+        next: turn,
         out,
-        again,
-    })
+        again: turn,
+    };
+    push_statement(stack, a, course)
 }
 
 /// `if (test) a` comes next.
@@ -169,18 +145,15 @@ fn open_if<'a>(
     frame: &Frame<'a>,
     test: &'a TypedExpr,
     a: &'a TypedStmt,
-    at: u32,
-    next: u32,
-    out: u32,
-    again: u32,
+    course: Course,
 ) -> Result<(), NoMemory>
-    requires { at + z.size (typed_tree test.now) + 2 < 2 ^ 32 }
-    ensures { OnOk result (works stack.new ≡ p.if_only (layout frame.now) (typed_tree test.now) (typed_statement a.now) at next out again ++ works stack.old) }
+    requires { course.at + z.size (typed_tree test.now) + 2 < 2 ^ 32 }
+    ensures { OnOk result (works stack.new ≡ p.if_only (layout frame.now) (typed_tree test.now) (typed_statement a.now) course.at course.next course.out course.again ++ works stack.old) }
 {
-    let so = at + size_of(test) + 1 + 1;
-    push_statement(stack, a, so, next, out, again)?;
-    put(stack, Op::Jump { target: next })?;
-    open_test(stack, frame, test, at, so)
+    let so = course.at + size_of(test) + 1 + 1;
+    push_statement(stack, a, course.beginning(so))?;
+    put(stack, jump(course.next))?;
+    open_test(stack, frame, test, course.at, so)
 }
 
 /// `if (test) a else o` comes next. The ops of `a` stand behind those of `o`.
@@ -190,20 +163,17 @@ fn open_if_else<'a>(
     test: &'a TypedExpr,
     a: &'a TypedStmt,
     o: &'a TypedStmt,
-    at: u32,
-    next: u32,
-    out: u32,
-    again: u32,
+    course: Course,
 ) -> Result<(), NoMemory>
-    requires { at + z.size (typed_tree test.now) + 1 + z.statement_size frame.now.maker (typed_statement o.now) + 1 < 2 ^ 32 }
-    ensures { OnOk result (works stack.new ≡ p.if_else (layout frame.now) (typed_tree test.now) (typed_statement a.now) (typed_statement o.now) at next out again ++ works stack.old) }
+    requires { course.at + z.size (typed_tree test.now) + 1 + z.statement_size frame.now.maker (typed_statement o.now) + 1 < 2 ^ 32 }
+    ensures { OnOk result (works stack.new ≡ p.if_else (layout frame.now) (typed_tree test.now) (typed_statement a.now) (typed_statement o.now) course.at course.next course.out course.again ++ works stack.old) }
 {
-    let otherwise = at + size_of(test) + 1;
+    let otherwise = course.at + size_of(test) + 1;
     let so = otherwise + statement_size(o, frame.maker) + 1;
-    push_statement(stack, a, so, next, out, again)?;
-    put(stack, Op::Jump { target: next })?;
-    push_statement(stack, o, otherwise, next, out, again)?;
-    open_test(stack, frame, test, at, so)
+    push_statement(stack, a, course.beginning(so))?;
+    put(stack, jump(course.next))?;
+    push_statement(stack, o, course.beginning(otherwise))?;
+    open_test(stack, frame, test, course.at, so)
 }
 
 /// `while (test) a` comes next.
@@ -220,9 +190,9 @@ fn open_while<'a>(
 {
     let body = at + size_of(test) + 1 + 1;
     let turn = body + statement_size(a, frame.maker);
-    put(stack, Op::Jump { target: at })?;
-    push_statement(stack, a, body, turn, next, turn)?;
-    put(stack, Op::Jump { target: next })?;
+    put(stack, jump(at))?;
+    push_body(stack, a, body, turn, next)?;
+    put(stack, jump(next))?;
     open_test(stack, frame, test, at, body)
 }
 
@@ -239,10 +209,10 @@ fn open_do_while<'a>(
     ensures { OnOk result (works stack.new ≡ p.do_turns (layout frame.now) (typed_statement a.now) (typed_tree test.now) at next ++ works stack.old) }
 {
     let turn = at + statement_size(a, frame.maker);
-    put(stack, Op::Jump { target: at })?;
-    put(stack, Op::Jump { target: next })?;
+    put(stack, jump(at))?;
+    put(stack, jump(next))?;
     open_test(stack, frame, test, turn, turn + size_of(test) + 1 + 1)?;
-    push_statement(stack, a, at, turn, next, turn)
+    push_body(stack, a, at, turn, next)
 }
 
 /// The test of a `for` comes next, where there is one.
@@ -259,7 +229,7 @@ fn open_may_test<'a>(
     match test {
         None => Ok(()),
         Some(test) => {
-            put(stack, Op::Jump { target: next })?;
+            put(stack, jump(next))?;
             open_test(stack, frame, test, at, at + size_of(test) + 1 + 1)
         }
     }
@@ -288,18 +258,17 @@ fn open_turns<'a>(
     test: &'a Option<TypedExpr>,
     step: &'a Option<TypedExpr>,
     a: &'a TypedStmt,
-    at: u32,
-    next: u32,
+    course: Course,
 ) -> Result<(), NoMemory>
-    requires { at + z.test_size (optional_typed_tree test.now) + z.statement_size frame.now.maker (typed_statement a.now) + z.step_size (optional_typed_tree step.now) < 2 ^ 32 }
-    ensures { OnOk result (works stack.new ≡ p.for_turns (layout frame.now) (optional_typed_tree test.now) (optional_typed_tree step.now) (typed_statement a.now) at next ++ works stack.old) }
+    requires { course.at + z.test_size (optional_typed_tree test.now) + z.statement_size frame.now.maker (typed_statement a.now) + z.step_size (optional_typed_tree step.now) < 2 ^ 32 }
+    ensures { OnOk result (works stack.new ≡ p.for_turns (layout frame.now) (optional_typed_tree test.now) (optional_typed_tree step.now) (typed_statement a.now) course.at course.next ++ works stack.old) }
 {
-    let body = at + test_size(test);
+    let body = course.at + test_size(test);
     let step_at = body + statement_size(a, frame.maker);
-    put(stack, Op::Jump { target: at })?;
+    put(stack, jump(course.at))?;
     open_step(stack, frame, step, step_at)?;
-    push_statement(stack, a, body, step_at, next, step_at)?;
-    open_may_test(stack, frame, test, at, next)
+    push_body(stack, a, body, step_at, course.next)?;
+    open_may_test(stack, frame, test, course.at, course.next)
 }
 
 /// What comes before each turn of a loop over items: whether there is a next one, its item, and the move of the index. The item is
@@ -312,46 +281,13 @@ fn open_item(stack: &mut Stack, frame: &Frame, i: u32, at: u32, next: u32) -> Re
     let item = frame.params + i;
     let array = item + 1;
     let index = item + 2;
-    put(
-        stack,
-        Op::Unary {
-            to: index,
-            op: ONE_MORE,
-            from: index,
-        },
-    )?;
-    put(
-        stack,
-        Op::ItemGet {
-            to: item,
-            array,
-            index,
-        },
-    )?;
-    put(stack, Op::Jump { target: next })?;
-    put(
-        stack,
-        Op::Branch {
-            when: frame.base,
-            target: at + 1 + 1 + 1 + 1,
-        },
-    )?;
-    put(
-        stack,
-        Op::Binary {
-            to: frame.base,
-            op: LESS,
-            left: index,
-            right: frame.base,
-        },
-    )?;
-    put(
-        stack,
-        Op::Length {
-            to: frame.base,
-            array,
-        },
-    )
+    let length = frame.base;
+    put(stack, unary(index, INCREMENT, index))?;
+    put(stack, item_get(item, array, index))?;
+    put(stack, jump(next))?;
+    put(stack, branch(length, at + 1 + 1 + 1 + 1))?;
+    put(stack, binary(length, LESS, index, length))?;
+    put(stack, Op::Length { to: length, array })
 }
 
 /// `for (let x of list) a` comes next, whose item is the local `i`.
@@ -361,40 +297,21 @@ fn open_for_of<'a>(
     i: u32,
     list: &'a TypedExpr,
     a: &'a TypedStmt,
-    at: u32,
-    next: u32,
+    course: Course,
 ) -> Result<(), NoMemory>
     requires locals { frame.now.params + suc (suc i) < 2 ^ 32 }
-    requires places { at + z.size (typed_tree list.now) + 3 + z.item_size < 2 ^ 32 }
-    ensures { OnOk result (works stack.new ≡ p.item_turns (layout frame.now) i (typed_tree list.now) (typed_statement a.now) at next ++ works stack.old) }
+    requires places { course.at + z.size (typed_tree list.now) + 3 + z.item_size < 2 ^ 32 }
+    ensures { OnOk result (works stack.new ≡ p.item_turns (layout frame.now) i (typed_tree list.now) (typed_statement a.now) course.at course.next ++ works stack.old) }
 {
     let item = frame.params + i;
-    let turn = at + size_of(list) + 1 + 1 + 1;
-    put(stack, Op::Jump { target: turn })?;
-    push_statement(stack, a, turn + ITEM_SIZE, turn, next, turn)?;
-    open_item(stack, frame, i, turn, next)?;
-    put(
-        stack,
-        Op::Copy {
-            to: item + 2,
-            from: frame.base,
-        },
-    )?;
-    put(
-        stack,
-        Op::Const {
-            to: frame.base,
-            value: 0,
-        },
-    )?;
-    put(
-        stack,
-        Op::Copy {
-            to: item + 1,
-            from: frame.base,
-        },
-    )?;
-    evaluate(stack, list, 0, at)
+    let turn = course.at + size_of(list) + 1 + 1 + 1;
+    put(stack, jump(turn))?;
+    push_body(stack, a, turn + ITEM_SIZE, turn, course.next)?;
+    open_item(stack, frame, i, turn, course.next)?;
+    put(stack, copy(item + 2, frame.base))?;
+    put(stack, constant(frame.base, 0))?;
+    put(stack, copy(item + 1, frame.base))?;
+    evaluate(stack, list, 0, course.at)
 }
 
 /// The pieces of a statement come next.
@@ -402,31 +319,28 @@ pub(crate) fn open_statement<'a>(
     stack: &mut Stack<'a>,
     frame: &Frame<'a>,
     s: &'a TypedStmt,
-    at: u32,
-    next: u32,
-    out: u32,
-    again: u32,
+    course: Course,
 ) -> Result<(), NoMemory>
-    requires { WorkFits (layout frame.now) (p.Expand (typed_statement s.now) at next out again) }
-    ensures { OnOk result (works stack.new ≡ p.opened_statement (layout frame.now) (typed_statement s.now) at next out again ++ works stack.old) }
+    requires { WorkFits (layout frame.now) (p.Expand (typed_statement s.now) course.at course.next course.out course.again) }
+    ensures { OnOk result (works stack.new ≡ p.opened_statement (layout frame.now) (typed_statement s.now) course.at course.next course.out course.again ++ works stack.old) }
 {
+    let at = course.at;
+    let next = course.next;
     match s {
-        TypedStmt::Block(all) => open_block(stack, all, at, next, out, again),
+        TypedStmt::Block(all) => push_statements(stack, all.as_slice(), course),
         TypedStmt::Let { each, .. } => stack.push(Work::ExpandDeclarations {
             each: each.as_slice(),
             at,
         }),
-        TypedStmt::If(test, a, None) => open_if(stack, frame, test, a, at, next, out, again),
-        TypedStmt::If(test, a, Some(o)) => {
-            open_if_else(stack, frame, test, a, o, at, next, out, again)
-        }
+        TypedStmt::If(test, a, None) => open_if(stack, frame, test, a, course),
+        TypedStmt::If(test, a, Some(o)) => open_if_else(stack, frame, test, a, o, course),
         TypedStmt::While(test, a) => open_while(stack, frame, test, a, at, next),
         TypedStmt::DoWhile(a, test) => open_do_while(stack, frame, a, test, at, next),
-        TypedStmt::For(None, test, step, a) => open_turns(stack, frame, test, step, a, at, next),
+        TypedStmt::For(None, test, step, a) => open_turns(stack, frame, test, step, a, course),
         TypedStmt::For(Some(first), test, step, a) => {
             let turns = at + statement_size(first, frame.maker);
-            open_turns(stack, frame, test, step, a, turns, next)?;
-            push_statement(stack, first, at, turns, out, again)
+            open_turns(stack, frame, test, step, a, course.beginning(turns))?;
+            push_statement(stack, first, course.ending(turns))
         }
         TypedStmt::ForOf {
             name,
@@ -434,22 +348,17 @@ pub(crate) fn open_statement<'a>(
             body,
             ..
         } => match name {
-            Spot::Local(i) => open_for_of(stack, frame, *i, list, body, at, next),
-            Spot::Param(_) | Spot::Global(_) => put(stack, Op::Jump { target: next }),
+            Spot::Local(i) => open_for_of(stack, frame, *i, list, body, course),
+            Spot::Param(_) | Spot::Global(_) => put(stack, jump(next)),
         },
         TypedStmt::Return(None) => open_bare(stack, frame),
         TypedStmt::Return(Some(a)) => {
             open_returned(stack, frame)?;
             evaluate(stack, a, 0, at)
         }
-        TypedStmt::Break => put(stack, Op::Jump { target: out }),
-        TypedStmt::Continue => put(stack, Op::Jump { target: again }),
-        TypedStmt::Plain(a) => stack.push(Work::Value {
-            e: a,
-            d: 0,
-            at,
-            next,
-        }),
+        TypedStmt::Break => put(stack, jump(course.out)),
+        TypedStmt::Continue => put(stack, jump(course.again)),
+        TypedStmt::Plain(a) => push_value(stack, a, Site { d: 0, at, next }),
         TypedStmt::Empty => Ok(()),
     }
 }
@@ -459,31 +368,22 @@ pub(crate) fn open_statements<'a>(
     stack: &mut Stack<'a>,
     frame: &Frame<'a>,
     all: &'a [TypedStmt],
-    at: u32,
-    next: u32,
-    out: u32,
-    again: u32,
+    course: Course,
 ) -> Result<(), NoMemory>
-    requires { WorkFits (layout frame.now) (p.ExpandAll (typed_statements all.now) at next out again) }
-    ensures { OnOk result (works stack.new ≡ p.opened_statements (layout frame.now) (typed_statements all.now) at next out again ++ works stack.old) }
+    requires { WorkFits (layout frame.now) (p.ExpandAll (typed_statements all.now) course.at course.next course.out course.again) }
+    ensures { OnOk result (works stack.new ≡ p.opened_statements (layout frame.now) (typed_statements all.now) course.at course.next course.out course.again ++ works stack.old) }
 {
     match all {
         [] => Ok(()),
         [a, rest @ ..] => {
-            let behind = at + statement_size(a, frame.maker);
-            stack.push(Work::ExpandAll {
-                all: rest,
-                at: behind,
-                next,
-                out,
-                again,
-            })?;
+            let behind = course.at + statement_size(a, frame.maker);
+            push_statements(stack, rest, course.beginning(behind))?;
             let go = if statements_size(rest, frame.maker) == 0 {
-                next
+                course.next
             } else {
                 behind
             };
-            push_statement(stack, a, at, go, out, again)
+            push_statement(stack, a, course.ending(go))
         }
     }
 }

@@ -6,7 +6,7 @@ ghost use Rattle.sts_lower.specs.inner.Works as p;
 ghost use Rattle.sts_lower.specs.inner.Shown.{works};
 
 use crate::sizes::size_of;
-use crate::work::{Stack, Work};
+use crate::work::{Site, Stack, Work};
 use flat_ir::Op;
 use sts_base::NoMemory;
 use sts_syntax::TypedExpr;
@@ -16,6 +16,32 @@ pub(crate) fn put(stack: &mut Stack, op: Op) -> Result<(), NoMemory>
     ensures { OnOk result (works stack.new ≡ p.Put op ∷ works stack.old) }
 {
     stack.push(Work::Put(op))
+}
+
+/// An expression comes next.
+pub(crate) fn push_value<'a>(
+    stack: &mut Stack<'a>,
+    e: &'a TypedExpr,
+    site: Site,
+) -> Result<(), NoMemory>
+    ensures { OnOk result (works stack.new ≡ p.Value (typed_tree e.now) site.d site.at site.next ∷ works stack.old) }
+{
+    stack.push(Work::Value(e, site))
+}
+
+/// What is evaluated of a target comes next.
+pub(crate) fn push_reach<'a>(
+    stack: &mut Stack<'a>,
+    target: &'a TypedExpr,
+    site: Site,
+) -> Result<(), NoMemory>
+    ensures { OnOk result (works stack.new ≡ p.Reach (typed_tree target.now) site.d site.at ∷ works stack.old) }
+{
+    stack.push(Work::Reach {
+        target,
+        d: site.d,
+        at: site.at,
+    })
 }
 
 /// An expression comes next, and behind it the op that stands on top.
@@ -28,12 +54,8 @@ pub(crate) fn evaluate<'a>(
     requires { at + z.size (typed_tree a.now) < 2 ^ 32 }
     ensures { OnOk result (works stack.new ≡ p.Value (typed_tree a.now) d at (at + z.size (typed_tree a.now)) ∷ works stack.old) }
 {
-    stack.push(Work::Value {
-        e: a,
-        d,
-        at,
-        next: at + size_of(a),
-    })
+    let next = at + size_of(a);
+    push_value(stack, a, Site { d, at, next })
 }
 
 /// Two expressions come next, and behind them the op that stands on top.

@@ -7,18 +7,62 @@ use std::marker::Model;
 use sts_base::NoMemory;
 use sts_syntax::{ServicePlace, TypedBinding, TypedExpr, TypedStmt};
 
-/// A piece of work. `at` is the place of its first op, and `next` where it goes on; `d` is how many operands are pending.
+/// Where the ops of an expression stand.
+#[derive(Clone, Copy)]
+pub(crate) struct Site {
+    /// how many operands are pending before its value
+    pub(crate) d: u32,
+    /// the place of the first
+    pub(crate) at: u32,
+    /// where it goes on behind them
+    pub(crate) next: u32,
+}
+
+impl Site {
+    /// The same with another first place.
+    pub(crate) fn beginning(self, at: u32) -> Site
+        ensures { result ≡ record self { at = at } }
+    {
+        Site { at, ..self }
+    }
+}
+
+/// Where the ops of a statement stand.
+#[derive(Clone, Copy)]
+pub(crate) struct Course {
+    /// the place of the first
+    pub(crate) at: u32,
+    /// where it goes on behind them
+    pub(crate) next: u32,
+    /// where it goes on behind `break`
+    pub(crate) out: u32,
+    /// where it goes on behind `continue`
+    pub(crate) again: u32,
+}
+
+impl Course {
+    /// The same with another first place.
+    pub(crate) fn beginning(self, at: u32) -> Course
+        ensures { result ≡ record self { at = at } }
+    {
+        Course { at, ..self }
+    }
+
+    /// The same where it goes on at another place.
+    pub(crate) fn ending(self, next: u32) -> Course
+        ensures { result ≡ record self { next = next } }
+    {
+        Course { next, ..self }
+    }
+}
+
+/// A piece of work. `at` is the place of its first op, and `d` is how many operands are pending.
 #[derive(Drop)]
 pub(crate) enum Work<'a> {
     /// an op
     Put(Op),
     /// an expression, whose value becomes the next operand
-    Value {
-        e: &'a TypedExpr,
-        d: u32,
-        at: u32,
-        next: u32,
-    },
+    Value(&'a TypedExpr, Site),
     /// what is evaluated of a target before anything is read from it or stored in it
     Reach {
         target: &'a TypedExpr,
@@ -38,22 +82,10 @@ pub(crate) enum Work<'a> {
         d: u32,
         at: u32,
     },
-    /// a statement; `break` goes to `out` and `continue` to `again`
-    Expand {
-        a: &'a TypedStmt,
-        at: u32,
-        next: u32,
-        out: u32,
-        again: u32,
-    },
+    /// a statement
+    Expand(&'a TypedStmt, Course),
     /// some statements
-    ExpandAll {
-        all: &'a [TypedStmt],
-        at: u32,
-        next: u32,
-        out: u32,
-        again: u32,
-    },
+    ExpandAll(&'a [TypedStmt], Course),
     /// declared names
     ExpandDeclarations {
         each: &'a [TypedBinding],
@@ -74,11 +106,13 @@ impl<'a> Model for Stack<'a> {
     ghost use Rattle.sts_syntax.specs.contracts.typed.TypedExpr as expr;
     ghost use Rattle.sts_syntax.specs.contracts.typed.TypedNode as node;
     ghost use Rattle.sts_syntax.specs.contracts.typed.TypedStmt as stmt;
+    ghost use Rattle.sts_lower.specs.contracts.work.Course as course;
+    ghost use Rattle.sts_lower.specs.contracts.work.Site as site;
     ghost use Rattle.std.specs.Coded.{codes};
 
     ghost Value = { List Piece };
 
-    ghost coded = { Prim.hlevel (codes, ty.the_row.coded, expr.the_row.coded, node.the_row.coded, stmt.the_row.coded) };
+    ghost coded = { Prim.hlevel (codes, ty.the_row.coded, expr.the_row.coded, node.the_row.coded, stmt.the_row.coded, site.the_row.coded, course.the_row.coded) };
 
     ghost view = { λ stack. reverse stack.items.items };
 }

@@ -20,12 +20,12 @@ target_shown r.Nothing = ToNothing
 -- a piece of work, and a stack of them
 abbrev pub work_shown : rust_work.Work → Work
 work_shown (w.Put op) = Put op
-work_shown (w.Value a d at next) = Value (typed_tree a.now) d at next
+work_shown (w.Value a site) = Value (typed_tree a.now) site.d site.at site.next
 work_shown (w.Reach x d at) = Reach (typed_tree x.now) d at
 work_shown (w.Arguments places args d at) = Arguments (map service_place places.now) (typed_trees args.now) d at
 work_shown (w.Elements items d at) = Elements (typed_trees items.now) d at
-work_shown (w.Expand a at next out again) = Expand (typed_statement a.now) at next out again
-work_shown (w.ExpandAll all at next out again) = ExpandAll (typed_statements all.now) at next out again
+work_shown (w.Expand a course) = Expand (typed_statement a.now) course.at course.next course.out course.again
+work_shown (w.ExpandAll all course) = ExpandAll (typed_statements all.now) course.at course.next course.out course.again
 work_shown (w.ExpandDeclarations each at) = ExpandDeclarations (typed_declarations each.now) at
 
 abbrev pub works : List rust_work.Work → List Work

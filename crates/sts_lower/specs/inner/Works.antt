@@ -1,5 +1,6 @@
 -- What is left to lower in a function, piece by piece: the ops that a piece stands for, and the pieces that it is opened into.
 use Rattle.std.specs.Prelude.{ℤ, ℕ, suc, ◌+◌, pos, Bool, List, [], ◌∷◌, ◌++◌, length, Option, Some, None}
+use Rattle.board_services.specs.declared.numbers.TheConstants.{PUSH}
 use Rattle.flat_ir.specs.declared.ops.Op.{Op}
 use Rattle.flat_ir.specs.declared.ops.Op.TheVariants.{Const, Copy, Unary, Binary, FieldGet, ItemGet, Length, TextOf, MakeObject, MakeArray, Call, HandlerOf, Ask, Jump, Branch}
 use Rattle.sts_syntax.specs.declared.typed.Spot.TheVariants.{Param, Local, Global}
@@ -193,7 +194,7 @@ module _ (L : Layout) where
   abbrev pub opened_elements : TypedTrees → (d at : ℕ) → List Work
   opened_elements e.none d at = []
   opened_elements (e.more a rest) d at =
-      Value a (suc d) at (at + size a) ∷ (Put (Ask (L.base + suc d) 19 ((L.base + d) ∷ ((L.base + suc d) ∷ []))) ∷ (Elements rest d (at + size a + 1) ∷ []))
+      Value a (suc d) at (at + size a) ∷ (Put (Ask (L.base + suc d) PUSH ((L.base + d) ∷ ((L.base + suc d) ∷ []))) ∷ (Elements rest d (at + size a + 1) ∷ []))
 
   -- of declared names
   abbrev pub opened_initial : Option TypedTree → (at : ℕ) → List Work

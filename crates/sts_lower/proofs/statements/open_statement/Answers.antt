@@ -9,6 +9,6 @@ use Rattle.sts_lower.proofs.statements.open_statement.Goals as goal
 pub returns-in-Block : goal.returns-in-Block
 returns-in-Block c =
     let P : TypedStatement → Type 0 =
-    λ a. OnOk c.open_block.result (works c.open_block.new.stack ≡ opened_statement (layout c.args.frame.now) a c.args.at c.args.next c.args.out c.args.again ++ works c.args.stack.now)
+    λ a. OnOk c.push_statements.result (works c.push_statements.new.stack ≡ opened_statement (layout c.args.frame.now) a c.args.course.at c.args.course.next c.args.course.out c.args.course.again ++ works c.args.stack.now)
     in
-    subst P (sym (block_is c.args.s.now c.in-Block.all c.in-Block.is)) c.open_block.ensures
+    subst P (sym (block_is c.args.s.now c.in-Block.all c.in-Block.is)) c.push_statements.ensures
