@@ -69,7 +69,7 @@ module _ {B : Type 0} (account : B → Account) where
 
   -- in any way
   module _ (way : Way) where
-    pub advances_then : (n m : ℕ) (a b c : OverSink B) → Advances account way n a b → Advances account way m b c → Advances account way (m + n) a c
+    abbrev pub advances_then : (n m : ℕ) (a b c : OverSink B) → Advances account way n a b → Advances account way m b c → Advances account way (m + n) a c
     advances_then n m a b c f g = record {
       moves = f.moves ++ g.moves;
       comes = λ image bound stops. through_then way.before bound image n m f.moves g.moves (state_of a.board.engine) (state_of b.board.engine) (state_of c.board.engine) (f.comes image bound stops) (g.comes image bound stops);
@@ -92,7 +92,7 @@ module _ {B : Type 0} (account : B → Account) where
     }
 
     -- nothing was done yet
-    pub advances_none : (b : OverSink B) → Advances account way 0 b b
+    abbrev pub advances_none : (b : OverSink B) → Advances account way 0 b b
     advances_none b =
         let here = state_of b.board.engine in
         record {
