@@ -12,7 +12,7 @@ use Rattle.hex_image.specs.declared.refused.HexCode.TheVariants.{BadLine, BadSum
 use Rattle.hex_image.specs.declared.flash.Base.{Base}
 use Rattle.hex_image.specs.Records.{Record, Bytes, End, Segment, Linear, Start, colon, number, sized, meaning, record_in, record_in_some, record_of}
 use Rattle.hex_image.specs.Image.{cells_of}
-use Rattle.hex_image.proofs.GivenLemmas.{AreOnce, AreOnce-placed}
+use Rattle.hex_image.proofs.GivenLemmas.{AreOnce, AreOnce-cells_from}
 
 -- the data bytes of a record
 abbrev pub payload_of : Record → List ℕ
@@ -80,7 +80,7 @@ payload_len-record_of (first ∷ digits) = go (first == colon)
 pub AreOnce-record : (line : List ℕ) (r : Record) (base : Base) → record_of line ≡ Ok r → AreOnce (cells_of base r)
 AreOnce-record line (Bytes offset bytes) base h =
     let short : length bytes ≤ 255 = subst (λ (x : Result Record HexCode). payload_len x ≤ 255) h (payload_len-record_of line) in
-    AreOnce-placed base bytes offset (omega arith)
+    AreOnce-cells_from base bytes offset (omega arith)
 AreOnce-record line End base h = tt
 AreOnce-record line (Segment n) base h = tt
 AreOnce-record line (Linear n) base h = tt
