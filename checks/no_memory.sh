@@ -10,7 +10,7 @@ import sys
 
 # Calls that take memory, and answers that say so.
 TAKES = re.compile(
-    r"\.(push|insert|append|extend_from_slice|push_str|try_reserve|reserve)\(|\b(with_capacity|from_slice|from_str|from_array)\(|\bBox::new\(|\bvec!\[|\b\w+\((&|&mut )?(\w+, )*alloc\b|\.is_memory\(\)|OutOfMemory|NoMemory|NotMounted"
+    r"\.(push|insert|append|extend_from_slice|push_str|try_reserve|reserve|clone)\(|\b(with_capacity|from_slice|from_str|from_array)\(|\bBox::new\(|\bvec!\[|\b\w+\((&|&mut )?(\w+, )*alloc\b|\.is_memory\(\)|OutOfMemory|NoMemory|NotMounted"
 )
 MADE = re.compile(r"\bNoMemory\b")
 NOT_MADE = re.compile(r"^\s*(ghost use|ghost |use|pub use|ensures|requires|pub (enum|struct|fn)|fn) |NoMemory>|^\s*NoMemory,|-> |NoMemory\)? =>|NoMemory\)? \|")

@@ -3,4 +3,4 @@
 
 mod maps;
 
-pub use maps::{Node, PersistentMaps};
+pub use maps::PersistentMap;

@@ -4,9 +4,8 @@ use Rattle.std.specs.Prelude.{slice_get, is_some}
 use Rattle.std.specs.Ordering.{nat_cmp, is_eq}
 use Rattle.std.proofs.lemmas.Option.{same_Some}
 use Rattle.std.proofs.lemmas.Bool.Decides.{nat_tests}
-use Rattle.persistent_maps.specs.declared.maps.Node.{Node}
-use Rattle.persistent_maps.specs.Nodes.{IsWithin, Stays, found}
-use Rattle.persistent_maps.proofs.Laws.{stays_all, stays_both}
+use Rattle.persistent_maps.specs.declared.maps.PersistentMap.{PersistentMap}
+use Rattle.persistent_maps.specs.Maps.{value_in}
 use Rattle.sts_scope.specs.declared.kinds.StaticType.{StaticType}
 use Rattle.sts_scope.specs.declared.entries.Entry.{Entry}
 use Rattle.sts_scope.specs.declared.entries.ClassHead.{ClassHead}
@@ -18,11 +17,11 @@ use Rattle.sts_scope.specs.Values.{or_else}
 use Rattle.sts_scope.specs.Lookup.{base_of, entry_number, member_from, member_number}
 use Rattle.sts_scope.specs.Bases.{is_endless, above as class_above}
 use Rattle.sts_scope.specs.Rules.{reaches, maker_from, maker_takes_of}
-use Rattle.sts_scope.specs.Lines.{noted, IsPut, of, takes_of, IsLine, AreLines, at, above, nearest_maker}
+use Rattle.sts_scope.specs.Lines.{noted, IsPut, of, takes_of, IsLine, AreLines, at, no_line, nearest_maker}
 
 -- members that are put into a map
-pub put_none : (all : List (ℕ × ℕ)) (old : List Node) (base : Option ℕ) → IsWithin old base → IsPut all all old old base base
-put_none all old base w = record { done = []; parts = sym (append-nil all); stays = stays_all old; within = w; same = λ x. refl }
+pub put_none : (all : List (ℕ × ℕ)) (base made : PersistentMap) → ((x : ℕ) → value_in made x ≡ value_in base x) → IsPut all all base made
+put_none all base made h = record { done = []; parts = sym (append-nil all); same = h }
 
 one_put : (b : Bool) (d : ℕ) (o p : Option ℕ) → cond b (Some d) (or_else o p) ≡ or_else (cond b (Some d) o) p
 one_put true d o p = refl
@@ -31,57 +30,30 @@ one_put false d o p = refl
 turned : (x y : ℕ) → (x == y) ≡ is_eq (nat_cmp y x)
 turned x y = grind (arith, nat_tests)
 
-some_within : (new : List Node) (made : ℕ) → made < length new → IsWithin new (Some made)
-some_within new made w = λ i e. let j : made ≡ i = same_Some made i e in omega (arith, j, w)
-
-pub put_one : (all rest left : List (ℕ × ℕ)) (old mid new : List Node) (base made : Option ℕ) (x d at : ℕ) → IsPut all rest old mid base made → rest ≡ left ++ (x, d) ∷ [] →
-    Stays mid new → at < length new → ((y : ℕ) → found new (Some at) y ≡ cond (x == y) (Some d) (found mid made y)) → IsPut all left old new base (Some at)
-put_one all rest left old mid new base made x d at p is s w h = record {
+pub put_one : (all rest left : List (ℕ × ℕ)) (base made new : PersistentMap) (x d : ℕ) → IsPut all rest base made → rest ≡ left ++ (x, d) ∷ [] →
+    ((y : ℕ) → value_in new y ≡ cond (x == y) (Some d) (value_in made y)) → IsPut all left base new
+put_one all rest left base made new x d p is h = record {
   done = (x, d) ∷ p.done;
   parts = p.parts ∙ ap (λ r. r ++ p.done) is ∙ append_assoc left ((x, d) ∷ []) p.done;
-  stays = stays_both old mid new p.stays s;
-  within = some_within new at w;
-  same = λ y. h y ∙ ap (λ o. cond (x == y) (Some d) o) (p.same y) ∙ one_put (x == y) d (noted p.done y) (found old base y)
-      ∙ ap (λ b. or_else (cond b (Some d) (noted p.done y)) (found old base y)) (turned x y);
+  same = λ y. h y ∙ ap (λ o. cond (x == y) (Some d) o) (p.same y) ∙ one_put (x == y) d (noted p.done y) (value_in base y)
+      ∙ ap (λ b. or_else (cond b (Some d) (noted p.done y)) (value_in base y)) (turned x y);
 }
 
-pub none_found : (nodes : List Node) (x : ℕ) → found nodes None x ≡ None
-none_found nodes zero = refl
-none_found nodes (suc k) = refl
-
-none_within : (nodes : List Node) → IsWithin nodes None
-none_within nodes = λ i e. absurd (cc)
-
-empty_line : (entries : List Entry) (classes : List ClassHead) (nodes : List Node) → IsLine entries classes nodes None (record { len = 0; classes = None; members = None; maker = None })
-empty_line entries classes nodes = record {
-  classes_within = none_within nodes;
-  members_within = none_within nodes;
+-- the line above a class
+empty_line : (entries : List Entry) (classes : List ClassHead) → IsLine entries classes None no_line
+empty_line entries classes = record {
   ends = λ n h. refl;
-  reached = λ n m h. sym (ap is_some (none_found nodes m));
-  member = λ n x h. sym (none_found nodes x);
+  reached = λ n m h. refl;
+  member = λ n x h. refl;
   maker = λ n h. refl;
 }
 
-pub above_is : (entries : List Entry) (classes : List ClassHead) (nodes : List Node) (lines : List (Option Line)) (base : Option ℕ) (line : Line) →
-    AreLines entries classes nodes lines → above lines base ≡ Some line → IsLine entries classes nodes base line
-above_is entries classes nodes lines None line a is = subst (IsLine entries classes nodes None) (same_Some (record { len = 0; classes = None; members = None; maker = None }) line is) (empty_line entries classes nodes)
-above_is entries classes nodes lines (Some b) line a is = a b line is
+pub none_is : (entries : List Entry) (classes : List ClassHead) (base : Option ℕ) → base ≡ None → IsLine entries classes base no_line
+none_is entries classes base is = subst (λ b. IsLine entries classes b no_line) (sym is) (empty_line entries classes)
 
-within_stays : (old new : List Node) (map : Option ℕ) → Stays old new → IsWithin old map → IsWithin new map
-within_stays old new map s w = λ i e. let h : i < length old = w i e in omega (arith, h, s.len)
-
-pub line_stays : (entries : List Entry) (classes : List ClassHead) (old new : List Node) (c : Option ℕ) (line : Line) → Stays old new → IsLine entries classes old c line → IsLine entries classes new c line
-line_stays entries classes old new c line s l = record {
-  classes_within = within_stays old new line.classes s l.classes_within;
-  members_within = within_stays old new line.members s l.members_within;
-  ends = l.ends;
-  reached = λ n m h. l.reached n m h ∙ ap is_some (sym (s.same line.classes m l.classes_within));
-  member = λ n x h. l.member n x h ∙ sym (s.same line.members x l.members_within);
-  maker = l.maker;
-}
-
-pub lines_stay : (entries : List Entry) (classes : List ClassHead) (old new : List Node) (lines : List (Option Line)) → Stays old new → AreLines entries classes old lines → AreLines entries classes new lines
-lines_stay entries classes old new lines s a = λ c line is. line_stays entries classes old new (Some c) line s (a c line is)
+pub above_is : (entries : List Entry) (classes : List ClassHead) (lines : List (Option Line)) (base : Option ℕ) (b : ℕ) (line : Line) →
+    AreLines entries classes lines → base ≡ Some b → at lines b ≡ Some line → IsLine entries classes base line
+above_is entries classes lines base b line a is h = subst (λ o. IsLine entries classes o line) (sym is) (a b line h)
 
 -- what is asked of a class's base
 asked : {A : Type 0} (none : A) (f : ℕ → A) (o : Option ℕ) → ◌≡◌ {A = A} (elim o [ None ↦ none | Some b ↦ f b ]) (of none f o)
@@ -128,27 +100,24 @@ fewer : (len n : ℕ) → len + 1 ≤ n → len ≤ n - 1
 fewer len n h = omega arith
 
 -- the line of a class over that of its base
-pub line_longer : (entries : List Entry) (classes : List ClassHead) (old mid new : List Node) (c all : ℕ) (class : ClassHead) (up line : Line) →
-    slice_get classes c ≡ Some class → IsLine entries classes old (base_of classes c) up → Stays old mid → Stays mid new → line.len ≡ up.len + 1 →
-    line.classes ≡ Some all → all < length mid → ((y : ℕ) → found mid (Some all) y ≡ cond (c == y) (Some 0) (found old up.classes y)) →
-    IsWithin new line.members → ((x : ℕ) → found new line.members x ≡ or_else (entry_number entries (o.Class c) x) (found mid up.members x)) →
-    line.maker ≡ nearest_maker class c up.maker → IsLine entries classes new (Some c) line
-line_longer entries classes old mid new c all class up line is l s r len here within made members put maker =
-    let inside : IsWithin mid line.classes = subst (IsWithin mid) (sym here) (some_within mid all within) in
+pub line_longer : (entries : List Entry) (classes : List ClassHead) (c : ℕ) (class : ClassHead) (up line : Line) →
+    slice_get classes c ≡ Some class → IsLine entries classes (base_of classes c) up → line.len ≡ up.len + 1 →
+    ((y : ℕ) → value_in line.classes y ≡ cond (c == y) (Some 0) (value_in up.classes y)) →
+    ((x : ℕ) → value_in line.members x ≡ or_else (entry_number entries (o.Class c) x) (value_in up.members x)) →
+    line.maker ≡ nearest_maker class c up.maker → IsLine entries classes (Some c) line
+line_longer entries classes c class up line is l len made put maker =
     record {
-      classes_within = within_stays mid new line.classes r inside;
-      members_within = members;
       ends = λ n h.
           let m : up.len + 1 ≤ n = omega (arith, len, h) in
           ap (λ k. class_above classes k c) (further up.len n m) ∙ asked None (class_above classes (n - 1)) (base_of classes c) ∙ l.ends (n - 1) (fewer up.len n m);
       reached = λ n y h.
           let m : up.len + 1 ≤ n = omega (arith, len, h) in
           ap (λ k. reaches classes k c y) (further up.len n m) ∙ own_reach (n - 1) classes c y ∙ ap (λ t. c == y || t) (l.reached (n - 1) y (fewer up.len n m))
-          ∙ sym (seen_here (c == y) (found old up.classes y)) ∙ ap is_some (sym (made y)) ∙ ap (λ map. is_some (found mid map y)) (sym here) ∙ ap is_some (sym (r.same line.classes y inside));
+          ∙ sym (seen_here (c == y) (value_in up.classes y)) ∙ ap is_some (sym (made y));
       member = λ n x h.
           let m : up.len + 1 ≤ n = omega (arith, len, h) in
           ap (λ k. member_from entries classes k c x) (further up.len n m) ∙ own_member (n - 1) entries classes c x
-          ∙ ap (or_else (entry_number entries (o.Class c) x)) (l.member (n - 1) x (fewer up.len n m) ∙ sym (s.same up.members x l.members_within)) ∙ sym (put x);
+          ∙ ap (or_else (entry_number entries (o.Class c) x)) (l.member (n - 1) x (fewer up.len n m)) ∙ sym (put x);
       maker = λ n h.
           let m : up.len + 1 ≤ n = omega (arith, len, h) in
           ap (λ k. maker_from classes k c) (further up.len n m) ∙ own_maker (n - 1) classes c class class.takes up.maker is refl (l.maker (n - 1) (fewer up.len n m)) ∙ ap (takes_of classes) (sym maker);
@@ -179,39 +148,39 @@ none_end (x ∷ xs) (suc c) h = none_end xs c (λ d. h (suc d))
 pub none_more : (xs : List (Option Line)) → ((d : ℕ) → at xs d ≡ None) → (c : ℕ) → at (xs ++ None ∷ []) c ≡ None
 none_more xs h c = none_end xs c h
 
-pub none_known : (entries : List Entry) (classes : List ClassHead) (nodes : List Node) (lines : List (Option Line)) → ((c : ℕ) → at lines c ≡ None) → AreLines entries classes nodes lines
-none_known entries classes nodes lines h = λ c line is. absurd (let e : ◌≡◌ {A = Option Line} None (Some line) = sym (h c) ∙ is in cc)
+pub none_known : (entries : List Entry) (classes : List ClassHead) (lines : List (Option Line)) → ((c : ℕ) → at lines c ≡ None) → AreLines entries classes lines
+none_known entries classes lines h = λ c line is. absurd (let e : ◌≡◌ {A = Option Line} None (Some line) = sym (h c) ∙ is in cc)
 
-one_set : (entries : List Entry) (classes : List ClassHead) (nodes : List Node) (lines : List (Option Line)) (c d : ℕ) (line other : Line) (b : Bool) → (d == c) ≡ b → c < length lines →
-    AreLines entries classes nodes lines → IsLine entries classes nodes (Some c) line → at (set lines c (Some line)) d ≡ Some other → IsLine entries classes nodes (Some d) other
-one_set entries classes nodes lines c d line other true e h a l is =
+one_set : (entries : List Entry) (classes : List ClassHead) (lines : List (Option Line)) (c d : ℕ) (line other : Line) (b : Bool) → (d == c) ≡ b → c < length lines →
+    AreLines entries classes lines → IsLine entries classes (Some c) line → at (set lines c (Some line)) d ≡ Some other → IsLine entries classes (Some d) other
+one_set entries classes lines c d line other true e h a l is =
     let same : d ≡ c = grind (arith, nat_tests) in
     let put : line ≡ other = same_Some line other (sym (ap read (set_same lines c (Some line) h)) ∙ ap (at (set lines c (Some line))) (sym same) ∙ is) in
-    subst (λ k. IsLine entries classes nodes (Some k) other) (sym same) (subst (IsLine entries classes nodes (Some c)) put l)
-one_set entries classes nodes lines c d line other false e h a l is =
+    subst (λ k. IsLine entries classes (Some k) other) (sym same) (subst (IsLine entries classes (Some c)) put l)
+one_set entries classes lines c d line other false e h a l is =
     a d other (sym (ap read (set_other lines c d (Some line) e)) ∙ is)
 
-pub lines_set : (entries : List Entry) (classes : List ClassHead) (nodes : List Node) (lines : List (Option Line)) (c : ℕ) (line : Line) → c < length lines →
-    AreLines entries classes nodes lines → IsLine entries classes nodes (Some c) line → AreLines entries classes nodes (set lines c (Some line))
-lines_set entries classes nodes lines c line h a l = λ d other is. one_set entries classes nodes lines c d line other (d == c) refl h a l is
+pub lines_set : (entries : List Entry) (classes : List ClassHead) (lines : List (Option Line)) (c : ℕ) (line : Line) → c < length lines →
+    AreLines entries classes lines → IsLine entries classes (Some c) line → AreLines entries classes (set lines c (Some line))
+lines_set entries classes lines c line h a l = λ d other is. one_set entries classes lines c d line other (d == c) refl h a l is
 
 -- what is asked of a class whose line is known
-pub member_is : (entries : List Entry) (classes : List ClassHead) (nodes : List Node) (lines : List (Option Line)) (c x : ℕ) (line : Line) →
-    AreLines entries classes nodes lines → at lines c ≡ Some line → line.len ≤ length classes → found nodes line.members x ≡ member_number entries classes c x
-member_is entries classes nodes lines c x line a is h = sym ((a c line is).member (length classes) x h)
+pub member_is : (entries : List Entry) (classes : List ClassHead) (lines : List (Option Line)) (c x : ℕ) (line : Line) →
+    AreLines entries classes lines → at lines c ≡ Some line → line.len ≤ length classes → value_in line.members x ≡ member_number entries classes c x
+member_is entries classes lines c x line a is h = sym ((a c line is).member (length classes) x h)
 
-pub reached_is : (entries : List Entry) (classes : List ClassHead) (nodes : List Node) (lines : List (Option Line)) (m n : ℕ) (line : Line) →
-    AreLines entries classes nodes lines → at lines m ≡ Some line → line.len ≤ length classes → is_some (found nodes line.classes n) ≡ reaches classes (length classes) m n
-reached_is entries classes nodes lines m n line a is h = sym ((a m line is).reached (length classes) n h)
+pub reached_is : (entries : List Entry) (classes : List ClassHead) (lines : List (Option Line)) (m n : ℕ) (line : Line) →
+    AreLines entries classes lines → at lines m ≡ Some line → line.len ≤ length classes → is_some (value_in line.classes n) ≡ reaches classes (length classes) m n
+reached_is entries classes lines m n line a is h = sym ((a m line is).reached (length classes) n h)
 
-pub ends_is : (entries : List Entry) (classes : List ClassHead) (nodes : List Node) (lines : List (Option Line)) (c : ℕ) (line : Line) →
-    AreLines entries classes nodes lines → at lines c ≡ Some line → line.len ≤ length classes → false ≡ is_endless classes c
-ends_is entries classes nodes lines c line a is h = sym (ap is_some ((a c line is).ends (length classes) h))
+pub ends_is : (entries : List Entry) (classes : List ClassHead) (lines : List (Option Line)) (c : ℕ) (line : Line) →
+    AreLines entries classes lines → at lines c ≡ Some line → line.len ≤ length classes → false ≡ is_endless classes c
+ends_is entries classes lines c line a is h = sym (ap is_some ((a c line is).ends (length classes) h))
 
-pub maker_is : (entries : List Entry) (classes : List ClassHead) (nodes : List Node) (lines : List (Option Line)) (c : ℕ) (line : Line) →
-    AreLines entries classes nodes lines → at lines c ≡ Some line → line.len ≤ length classes → takes_of classes line.maker ≡ maker_takes_of classes c
-maker_is entries classes nodes lines c line a is h = sym ((a c line is).maker (length classes) h)
+pub maker_is : (entries : List Entry) (classes : List ClassHead) (lines : List (Option Line)) (c : ℕ) (line : Line) →
+    AreLines entries classes lines → at lines c ≡ Some line → line.len ≤ length classes → takes_of classes line.maker ≡ maker_takes_of classes c
+maker_is entries classes lines c line a is h = sym ((a c line is).maker (length classes) h)
 
-pub own_put : (numbers : Numbers) (entries : List Entry) (old new : List Node) (c : ℕ) (base made : Option ℕ) → IsIndexed numbers entries →
-    ((x : ℕ) → found new made x ≡ or_else (member_at numbers.classes.items c x) (found old base x)) → (x : ℕ) → found new made x ≡ or_else (entry_number entries (o.Class c) x) (found old base x)
-own_put numbers entries old new c base made i h x = h x ∙ ap (λ n. or_else n (found old base x)) (i (o.Class c) x)
+pub own_put : (numbers : Numbers) (entries : List Entry) (c : ℕ) (base made : PersistentMap) → IsIndexed numbers entries →
+    ((x : ℕ) → value_in made x ≡ or_else (member_at numbers.classes.items c x) (value_in base x)) → (x : ℕ) → value_in made x ≡ or_else (entry_number entries (o.Class c) x) (value_in base x)
+own_put numbers entries c base made i h x = h x ∙ ap (λ n. or_else n (value_in base x)) (i (o.Class c) x)

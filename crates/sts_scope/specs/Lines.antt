@@ -2,8 +2,8 @@
 use Rattle.std.specs.Prelude.{◌≡◌, ℕ, ◌≤◌, ◌++◌, Bool, true, false, Option, Some, None, List, [], ◌∷◌, slice_get, get_or, set, is_some}
 use Rattle.std.specs.Map.{lookup}
 use Rattle.std.specs.Ordering.{nat_cmp, is_eq}
-use Rattle.persistent_maps.specs.declared.maps.Node.{Node}
-use Rattle.persistent_maps.specs.Nodes.{IsWithin, Stays, found}
+use Rattle.persistent_maps.specs.declared.maps.PersistentMap.{PersistentMap, Empty}
+use Rattle.persistent_maps.specs.Maps.{value_in}
 use Rattle.sts_scope.specs.declared.kinds.StaticType.{StaticType}
 use Rattle.sts_scope.specs.declared.entries.Entry.{Entry}
 use Rattle.sts_scope.specs.declared.entries.ClassHead.{ClassHead}
@@ -18,12 +18,10 @@ abbrev pub noted : List (ℕ × ℕ) → ℕ → Option ℕ
 noted all x = lookup (λ y. is_eq (nat_cmp x y)) all
 
 -- all but the rest of a list of names with their numbers were put into a map, the last one first
-pub record IsPut (all rest : List (ℕ × ℕ)) (old new : List Node) (base made : Option ℕ) : Type 0 where
+pub record IsPut (all rest : List (ℕ × ℕ)) (base made : PersistentMap) : Type 0 where
   pub done : List (ℕ × ℕ)
   pub parts : all ≡ rest ++ done
-  pub stays : Stays old new
-  pub within : IsWithin new made
-  pub same : (x : ℕ) → found new made x ≡ or_else (noted done x) (found old base x)
+  pub same : (x : ℕ) → value_in made x ≡ or_else (noted done x) (value_in base x)
 
 -- what is asked of a class that may be none
 abbrev pub of : {A : Type 0} → A → (ℕ → A) → Option ℕ → A
@@ -35,20 +33,18 @@ abbrev pub takes_of : List ClassHead → Option ℕ → List StaticType
 takes_of classes maker = of [] (λ m. elim (slice_get classes m) [ None ↦ [] | Some class ↦ elim class.takes [ None ↦ [] | Some takes ↦ takes ] ]) maker
 
 -- A line of so many classes, from a class on or of none: up to as many bases above it, or more, its maps have what the rules give.
-pub record IsLine (entries : List Entry) (classes : List ClassHead) (nodes : List Node) (c : Option ℕ) (line : Line) : Type 0 where
-  pub classes_within : IsWithin nodes line.classes
-  pub members_within : IsWithin nodes line.members
+pub record IsLine (entries : List Entry) (classes : List ClassHead) (c : Option ℕ) (line : Line) : Type 0 where
   pub ends : (n : ℕ) → line.len ≤ n → of None (class_above classes n) c ≡ None
-  pub reached : (n m : ℕ) → line.len ≤ n → of false (λ b. reaches classes n b m) c ≡ is_some (found nodes line.classes m)
-  pub member : (n x : ℕ) → line.len ≤ n → of None (λ b. member_from entries classes n b x) c ≡ found nodes line.members x
+  pub reached : (n m : ℕ) → line.len ≤ n → of false (λ b. reaches classes n b m) c ≡ is_some (value_in line.classes m)
+  pub member : (n x : ℕ) → line.len ≤ n → of None (λ b. member_from entries classes n b x) c ≡ value_in line.members x
   pub maker : (n : ℕ) → line.len ≤ n → of [] (maker_from classes n) c ≡ takes_of classes line.maker
 
 -- the line of a class, where it is known
 abbrev pub at : List (Option Line) → ℕ → Option Line
 at lines c = elim (slice_get lines c) [ None ↦ None | Some line ↦ line ]
 
-abbrev pub AreLines : List Entry → List ClassHead → List Node → List (Option Line) → Type 0
-AreLines entries classes nodes lines = (c : ℕ) (line : Line) → at lines c ≡ Some line → IsLine entries classes nodes (Some c) line
+abbrev pub AreLines : List Entry → List ClassHead → List (Option Line) → Type 0
+AreLines entries classes lines = (c : ℕ) (line : Line) → at lines c ≡ Some line → IsLine entries classes (Some c) line
 
 -- From a class on, if there is one: classes that weren't seen and are now, each the base of the one before it, up to one that was seen or has no base.
 abbrev pub GoesUp : List ClassHead → List Bool → List Bool → Option ℕ → List ℕ → Type 0
@@ -57,9 +53,9 @@ GoesUp classes old new None (d ∷ rest) = ⊥
 GoesUp classes old new (Some c) [] = (get_or old c true ≡ true) × (new ≡ old)
 GoesUp classes old new (Some c) (d ∷ rest) = (d ≡ c) × (get_or old c true ≡ false) × GoesUp classes (set old c true) new (base_of classes c) rest
 
--- that of a base, where it is known
-abbrev pub above : List (Option Line) → Option ℕ → Option Line
-above lines base = elim base [ None ↦ Some (record { len = 0; classes = None; members = None; maker = None }) | Some b ↦ at lines b ]
+-- that of no class
+abbrev pub no_line : Line
+no_line = record { len = 0; classes = Empty; members = Empty; maker = None }
 
 -- the nearest class with a written constructor, where the base's is known
 abbrev pub nearest_maker : ClassHead → ℕ → Option ℕ → Option ℕ

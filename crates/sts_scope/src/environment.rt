@@ -7,7 +7,6 @@ ghost use Rattle.sts_scope.specs.Rules as rule;
 use crate::lines::{Line, has_no_end, is_below, lines_of, member_of, takes_of};
 use crate::lookup::{base_of, is_field, sort_of};
 use crate::{ClassHead, Known, StaticType, SymbolTable, Table};
-use persistent_maps::PersistentMaps;
 use std::alloc::Global;
 use std::marker::Model;
 use sts_base::{NoMemory, Seq};
@@ -19,7 +18,6 @@ pub struct Environment {
     classes: Seq<ClassHead>,
     kinds: Table<Option<StaticType>>,
     library: usize,
-    maps: PersistentMaps,
     lines: Table<Option<Line>>,
 }
 
@@ -32,7 +30,7 @@ impl Model for Environment {
 
     ghost view = { λ e. record { entries = e.entries; classes = e.classes; kinds = e.kinds; library = e.library } };
 
-    ghost invariant = { λ e. AreLines e.entries e.classes e.maps e.lines × (length e.classes < 2 ^ 32) };
+    ghost invariant = { λ e. AreLines e.entries e.classes e.lines × (length e.classes < 2 ^ 32) };
 }
 
 impl Environment {
@@ -41,14 +39,12 @@ impl Environment {
         requires few { length known.classes < 2 ^ 32 }
         ensures { IfOk result (λ e. e ≡ known) }
     {
-        let mut maps = PersistentMaps::new(alloc);
-        let lines = lines_of(alloc, &mut maps, &known.entries, known.classes.as_slice())?;
+        let lines = lines_of(alloc, &known.entries, known.classes.as_slice())?;
         Ok(Environment {
             entries: known.entries,
             classes: known.classes,
             kinds: known.kinds,
             library: known.library,
-            maps,
             lines,
         })
     }
@@ -101,14 +97,7 @@ impl Environment {
     pub fn member(&self, c: u32, x: u32) -> Option<usize>
         ensures { result ≡ look.member_number self.now.entries self.now.classes c x }
     {
-        member_of(
-            &self.maps,
-            &self.lines,
-            &self.entries,
-            self.classes.as_slice(),
-            c,
-            x,
-        )
+        member_of(&self.lines, &self.entries, self.classes.as_slice(), c, x)
     }
 
     /// The member of a name that a class has from its bases.
@@ -135,39 +124,20 @@ impl Environment {
     pub fn is_endless(&self, c: usize) -> bool
         ensures { result ≡ base.is_endless self.now.classes c }
     {
-        has_no_end(
-            &self.maps,
-            &self.lines,
-            &self.entries,
-            self.classes.as_slice(),
-            c,
-        )
+        has_no_end(&self.lines, &self.entries, self.classes.as_slice(), c)
     }
 
     /// Whether a class is another, or one of its bases is.
     pub fn reaches(&self, m: u32, n: u32) -> bool
         ensures { result ≡ rule.reaches self.now.classes (length self.now.classes) m n }
     {
-        is_below(
-            &self.maps,
-            &self.lines,
-            &self.entries,
-            self.classes.as_slice(),
-            m,
-            n,
-        )
+        is_below(&self.lines, &self.entries, self.classes.as_slice(), m, n)
     }
 
     /// What the nearest written constructor of a class takes.
     pub fn maker_takes(&self, c: u32) -> &[StaticType]
         ensures { result.now ≡ rule.maker_takes_of self.now.classes c }
     {
-        takes_of(
-            &self.maps,
-            &self.lines,
-            &self.entries,
-            self.classes.as_slice(),
-            c,
-        )
+        takes_of(&self.lines, &self.entries, self.classes.as_slice(), c)
     }
 }

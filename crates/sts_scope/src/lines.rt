@@ -1,9 +1,10 @@
 // The lines of classes: of each class itself, its base, the base's base, and so on.
 ghost use Rattle.std.specs.Prelude.{◌≡◌, ℕ, ◌+◌, ◌<◌, ◌≤◌, ◌^◌, ◌++◌, ◌∷◌, [], List, not, true, false, Some, None, length, get_or, set, if◌then◌else◌, IfOk, IfSome, OnOk};
 ghost use Rattle.std.specs.List.{All};
+ghost use Rattle.std.specs.Option.{option_copied};
 ghost use Rattle.std.specs.BTreeMap.{get};
 ghost use Rattle.std.specs.Ordering.{nat_cmp};
-ghost use Rattle.persistent_maps.specs.Nodes.{IsWithin, Stays, found};
+ghost use Rattle.persistent_maps.specs.Maps.{value_in};
 ghost use Rattle.sts_scope.specs.Values.{or_else};
 ghost use Rattle.sts_scope.specs.Lookup as look;
 ghost use Rattle.sts_scope.specs.Bases.{is_endless};
@@ -13,64 +14,58 @@ ghost use Rattle.sts_scope.specs.Lines.{IsLine, AreLines};
 
 use crate::lookup::{base_of, is_endless, maker_takes, reaches};
 use crate::{ClassHead, StaticType, SymbolTable, Table};
-use persistent_maps::PersistentMaps;
+use persistent_maps::PersistentMap;
 use std::alloc::Global;
 use std::collections::BTreeMap;
 use sts_base::NoMemory;
 
 /// What is known of the line of a class, by maps.
-#[derive(Clone, Copy)]
+#[derive(Drop)]
 pub struct Line {
     /// how many classes stand on it
     pub len: usize,
-    /// the map of the numbers of these classes
-    pub classes: Option<usize>,
-    /// the map of the members' declarations, by their names: of each name that of the nearest class
-    pub members: Option<usize>,
+    /// has the numbers of these classes
+    pub classes: PersistentMap,
+    /// the members' declarations, by their names: of each name that of the nearest class
+    pub members: PersistentMap,
     /// the nearest class that has a written constructor
     pub maker: Option<u32>,
 }
 
 /// Puts the members of a class over those of its base.
 pub fn put_members(
-    maps: &mut PersistentMaps,
+    alloc: Global,
     own: &BTreeMap<u32, usize>,
-    base: Option<usize>,
-) -> Result<Option<usize>, NoMemory>
-    requires { IsWithin maps.old base }
-    ensures stays { Stays maps.old maps.new }
-    ensures within { IfOk result (λ made. IsWithin maps.new made) }
-    ensures made { IfOk result (λ made. (x : ℕ) → found maps.new made x ≡ or_else (get nat_cmp own.now x) (found maps.old base x)) }
+    base: &PersistentMap,
+) -> Result<PersistentMap, NoMemory>
+    ensures { IfOk result (λ made. (x : ℕ) → value_in made x ≡ or_else (get nat_cmp own.now x) (value_in base.now x)) }
 {
-    let mut made = base;
+    let mut made = base.share()?;
     for (x, d) in own.iter().rev() {
-        made = Some(maps.make(made, *x, *d)?);
+        made = made.with(alloc, *x, *d)?;
     }
     Ok(made)
 }
 
 /// The line of a class, where it is known.
-fn line_at(all: &Table<Option<Line>>, c: usize) -> Option<Line>
-    ensures { result ≡ lines.at all.now c }
+fn line_at(all: &Table<Option<Line>>, c: usize) -> Option<&Line>
+    ensures { option_copied result ≡ lines.at all.now c }
 {
     match all.get(c) {
         None => None,
-        Some(line) => *line,
+        Some(line) => line.as_ref(),
     }
 }
 
-/// The line of a class's base, where it is known; that of no base is empty.
-fn line_above(all: &Table<Option<Line>>, base: Option<u32>) -> Option<Line>
-    ensures { result ≡ lines.above all.now base }
+/// The line above a class that has no base.
+fn no_line() -> Line
+    ensures { result ≡ lines.no_line }
 {
-    match base {
-        None => Some(Line {
-            len: 0,
-            classes: None,
-            members: None,
-            maker: None,
-        }),
-        Some(b) => line_at(all, b as usize),
+    Line {
+        len: 0,
+        classes: PersistentMap::Empty,
+        members: PersistentMap::Empty,
+        maker: None,
     }
 }
 
@@ -85,56 +80,71 @@ fn nearest_maker(class: &ClassHead, c: u32, above: Option<u32>) -> Option<u32>
 }
 
 /// The line of the class c, where that of its base is known and leaves a class out.
-#[tactic(auto, using(crate::proofs::Longer::line_longer, crate::proofs::Longer::lines_stay))]
 fn longer(
-    maps: &mut PersistentMaps,
+    alloc: Global,
     entries: &SymbolTable,
     classes: &[ClassHead],
     c: u32,
-    above: Line,
+    above: &Line,
 ) -> Result<Line, NoMemory>
     requires there { c < length classes.now }
-    requires short { above.len < length classes.now }
-    requires above { IsLine entries.now classes.now maps.old (look.base_of classes.now c) above }
-    ensures stays { Stays maps.old maps.new }
-    ensures line { IfOk result (λ line. IsLine entries.now classes.now maps.new (Some c) line) }
+    requires short { above.now.len < length classes.now }
+    requires above { IsLine entries.now classes.now (look.base_of classes.now c) above.now }
+    ensures { IfOk result (λ line. IsLine entries.now classes.now (Some c) line) }
 {
-    let len = above.len + 1;
-    let all = maps.make(above.classes, c, 0)?;
-    let members = entries.put_members(maps, c, above.members)?;
-    let maker = nearest_maker(&classes[c as usize], c, above.maker);
+    let all = above.classes.with(alloc, c, 0)?;
+    let members = entries.put_members(c, &above.members)?;
     Ok(Line {
-        len,
-        classes: Some(all),
+        len: above.len + 1,
+        classes: all,
         members,
-        maker,
+        maker: nearest_maker(&classes[c as usize], c, above.maker),
     })
 }
 
-/// Notes the line of the class c, if that of its base is known. One of more classes than there are is none.
-#[tactic(auto, using(crate::proofs::Longer::above_is, crate::proofs::Longer::lines_set, crate::proofs::Longer::lines_stay))]
+/// The line of the class c, if that of its base is known. One of more classes than there are is none.
+#[tactic(auto, using(crate::proofs::Longer::none_is, crate::proofs::Longer::above_is))]
+fn line_of(
+    alloc: Global,
+    all: &Table<Option<Line>>,
+    entries: &SymbolTable,
+    classes: &[ClassHead],
+    c: u32,
+) -> Result<Option<Line>, NoMemory>
+    requires there { c < length classes.now }
+    requires known { AreLines entries.now classes.now all.now }
+    ensures { IfOk result (λ line. IfSome line (λ l. IsLine entries.now classes.now (Some c) l)) }
+{
+    match base_of(classes, c as usize) {
+        None => Ok(Some(longer(alloc, entries, classes, c, &no_line())?)),
+        Some(b) => match line_at(all, b as usize) {
+            Some(above) if above.len < classes.len() => {
+                Ok(Some(longer(alloc, entries, classes, c, above)?))
+            }
+            _ => Ok(None),
+        },
+    }
+}
+
+/// Notes the line of the class c, if that of its base is known.
+#[tactic(auto, using(crate::proofs::Longer::lines_set))]
 fn note_line(
-    maps: &mut PersistentMaps,
+    alloc: Global,
     all: &mut Table<Option<Line>>,
     entries: &SymbolTable,
     classes: &[ClassHead],
     c: u32,
 ) -> Result<(), NoMemory>
-    requires { AreLines entries.now classes.now maps.old all.old }
-    ensures { AreLines entries.now classes.now maps.new all.new }
+    requires { AreLines entries.now classes.now all.old }
+    ensures { AreLines entries.now classes.now all.new }
 {
     let at = c as usize;
-    if at >= classes.len() || at >= all.len() {
-        return Ok(());
-    }
-    match line_above(all, base_of(classes, at)) {
-        Some(above) if above.len < classes.len() => {
-            let line = longer(maps, entries, classes, c, above)?;
+    if at < classes.len() && at < all.len() {
+        if let Some(line) = line_of(alloc, all, entries, classes, c)? {
             all.set(at, Some(line));
-            Ok(())
         }
-        _ => Ok(()),
     }
+    Ok(())
 }
 
 /// So many lines, none of which is known.
@@ -210,17 +220,17 @@ fn none_seen(alloc: Global, count: usize) -> Result<Vec<bool>, NoMemory>
 
 /// Notes the lines of some classes, the last one first.
 fn note_all(
-    maps: &mut PersistentMaps,
+    alloc: Global,
     all: &mut Table<Option<Line>>,
     entries: &SymbolTable,
     classes: &[ClassHead],
     order: &mut Vec<u32>,
 ) -> Result<(), NoMemory>
-    requires { AreLines entries.now classes.now maps.old all.old }
-    ensures { AreLines entries.now classes.now maps.new all.new }
+    requires { AreLines entries.now classes.now all.old }
+    ensures { AreLines entries.now classes.now all.new }
 {
     while let Some(c) = order.pop() {
-        note_line(maps, all, entries, classes, c)?;
+        note_line(alloc, all, entries, classes, c)?;
     }
     Ok(())
 }
@@ -231,26 +241,25 @@ fn note_all(
 #[tactic(auto, using(crate::proofs::Longer::none_known))]
 pub fn lines_of(
     alloc: Global,
-    maps: &mut PersistentMaps,
     entries: &SymbolTable,
     classes: &[ClassHead],
 ) -> Result<Table<Option<Line>>, NoMemory>
     requires few { length classes.now < 2 ^ 32 }
-    ensures { IfOk result (λ all. AreLines entries.now classes.now maps.new all) }
+    ensures { IfOk result (λ all. AreLines entries.now classes.now all) }
 {
     let mut all = no_lines(alloc, classes.len())?;
     let mut seen = none_seen(alloc, classes.len())?;
     let mut order = Vec::new(alloc);
     for c in 0..classes.len() {
         see(seen.as_mut_slice(), &mut order, classes, c as u32)?;
-        note_all(maps, &mut all, entries, classes, &mut order)?;
+        note_all(alloc, &mut all, entries, classes, &mut order)?;
     }
     Ok(all)
 }
 
 /// The line of a class, where it is known and has at most so many classes.
-fn short_line(all: &Table<Option<Line>>, count: usize, c: usize) -> Option<Line>
-    ensures { IfSome result (λ line. (lines.at all.now c ≡ Some line) × (line.len ≤ count)) }
+fn short_line(all: &Table<Option<Line>>, count: usize, c: usize) -> Option<&Line>
+    ensures { IfSome result (λ line. (lines.at all.now c ≡ Some line.now) × (line.now.len ≤ count)) }
 {
     match line_at(all, c) {
         Some(line) if line.len <= count => Some(line),
@@ -261,51 +270,46 @@ fn short_line(all: &Table<Option<Line>>, count: usize, c: usize) -> Option<Line>
 /// The member of a name of a class: its own one, else that of the nearest base that has one.
 #[tactic(auto, using(crate::proofs::Longer::member_is))]
 pub fn member_of(
-    maps: &PersistentMaps,
     all: &Table<Option<Line>>,
     entries: &SymbolTable,
     classes: &[ClassHead],
     c: u32,
     x: u32,
 ) -> Option<usize>
-    requires { AreLines entries.now classes.now maps.now all.now }
+    requires { AreLines entries.now classes.now all.now }
     ensures { result ≡ look.member_number entries.now classes.now c x }
 {
     match short_line(all, classes.len(), c as usize) {
-        Some(line) => maps.get(line.members, x),
+        Some(line) => line.members.get(x),
         None => entries.member(classes, c, x),
     }
 }
 
 /// Whether a class is another, or one of its bases is.
-#[tactic(auto, using(crate::proofs::Longer::reached_is))]
 pub fn is_below(
-    maps: &PersistentMaps,
     all: &Table<Option<Line>>,
     entries: &SymbolTable,
     classes: &[ClassHead],
     m: u32,
     n: u32,
 ) -> bool
-    requires { AreLines entries.now classes.now maps.now all.now }
+    requires { AreLines entries.now classes.now all.now }
     ensures { result ≡ rule.reaches classes.now (length classes.now) m n }
 {
     match short_line(all, classes.len(), m as usize) {
-        Some(line) => maps.get(line.classes, n).is_some(),
+        Some(line) => line.classes.get(n).is_some(),
         None => reaches(classes, m, n),
     }
 }
 
 /// Whether the chain of a class's bases has no end.
-#[tactic(auto, using(crate::proofs::Longer::ends_is))]
 pub fn has_no_end(
-    maps: &PersistentMaps,
     all: &Table<Option<Line>>,
     entries: &SymbolTable,
     classes: &[ClassHead],
     c: usize,
 ) -> bool
-    requires { AreLines entries.now classes.now maps.now all.now }
+    requires { AreLines entries.now classes.now all.now }
     ensures { result ≡ is_endless classes.now c }
 {
     match short_line(all, classes.len(), c) {
@@ -331,15 +335,13 @@ fn written_takes(classes: &[ClassHead], maker: Option<u32>) -> &[StaticType]
 }
 
 /// What the nearest written constructor of a class takes.
-#[tactic(auto, using(crate::proofs::Longer::maker_is))]
 pub fn takes_of<'a>(
-    maps: &PersistentMaps,
     all: &Table<Option<Line>>,
     entries: &SymbolTable,
     classes: &'a [ClassHead],
     c: u32,
 ) -> &'a [StaticType]
-    requires { AreLines entries.now classes.now maps.now all.now }
+    requires { AreLines entries.now classes.now all.now }
     ensures { result.now ≡ rule.maker_takes_of classes.now c }
 {
     match short_line(all, classes.len(), c as usize) {

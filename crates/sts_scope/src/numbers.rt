@@ -4,13 +4,13 @@ ghost use Rattle.std.specs.BTreeMap.{get};
 ghost use Rattle.std.specs.Ordering.{nat_cmp};
 ghost use Rattle.sts_scope.specs.declared.entries.Owner.{Owner as Belonging};
 ghost use Rattle.sts_scope.specs.Lookup.{same_owner};
-ghost use Rattle.persistent_maps.specs.Nodes.{IsWithin, Stays, found};
+ghost use Rattle.persistent_maps.specs.Maps.{value_in};
 ghost use Rattle.sts_scope.specs.Values.{or_else};
 ghost use Rattle.sts_scope.specs.Symbols.{Notes, number_at, member_at};
 
 use crate::Owner;
 use crate::lines::put_members;
-use persistent_maps::PersistentMaps;
+use persistent_maps::PersistentMap;
 use std::alloc::Global;
 use std::collections::BTreeMap;
 use sts_base::NoMemory;
@@ -123,20 +123,12 @@ impl Numbers {
     }
 
     /// Puts the numbers of the names of the class c over those of another map.
-    pub fn put_members(
-        &self,
-        maps: &mut PersistentMaps,
-        c: u32,
-        base: Option<usize>,
-    ) -> Result<Option<usize>, NoMemory>
-        requires { IsWithin maps.old base }
-        ensures stays { Stays maps.old maps.new }
-        ensures within { IfOk result (λ made. IsWithin maps.new made) }
-        ensures made { IfOk result (λ made. (x : ℕ) → found maps.new made x ≡ or_else (member_at self.now.classes.items c x) (found maps.old base x)) }
+    pub fn put_members(&self, c: u32, base: &PersistentMap) -> Result<PersistentMap, NoMemory>
+        ensures { IfOk result (λ made. (x : ℕ) → value_in made x ≡ or_else (member_at self.now.classes.items c x) (value_in base.now x)) }
     {
         match self.classes.get(c as usize) {
-            None => Ok(base),
-            Some(own) => put_members(maps, own, base),
+            None => base.share(),
+            Some(own) => put_members(self.alloc, own, base),
         }
     }
 }

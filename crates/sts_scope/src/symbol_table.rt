@@ -1,7 +1,7 @@
 // Declarations, which are found by their owners and names.
 ghost use Rattle.std.specs.Prelude.{◌≡◌, ℕ, IfOk, [], ◌∷◌, ◌++◌, ◌<◌, length, slice_get, OnOk, OnErr, OnSome};
 ghost use Rattle.std.specs.Option.{option_copied};
-ghost use Rattle.persistent_maps.specs.Nodes.{IsWithin, Stays, found};
+ghost use Rattle.persistent_maps.specs.Maps.{value_in};
 ghost use Rattle.sts_scope.specs.declared.entries.Owner.TheVariants as o;
 ghost use Rattle.sts_scope.specs.Values.{or_else};
 ghost use Rattle.sts_scope.specs.Lookup as look;
@@ -9,7 +9,7 @@ ghost use Rattle.sts_scope.specs.Lookup as look;
 use crate::lookup::base_of;
 use crate::numbers::Numbers;
 use crate::{ClassHead, Entry, Owner};
-use persistent_maps::PersistentMaps;
+use persistent_maps::PersistentMap;
 use std::alloc::Global;
 use std::marker::Model;
 use sts_base::NoMemory;
@@ -108,18 +108,10 @@ impl SymbolTable {
 
     /// Puts the members of the class c over those of its base.
     #[tactic(auto, using(crate::proofs::Longer::own_put))]
-    pub fn put_members(
-        &self,
-        maps: &mut PersistentMaps,
-        c: u32,
-        base: Option<usize>,
-    ) -> Result<Option<usize>, NoMemory>
-        requires { IsWithin maps.old base }
-        ensures stays { Stays maps.old maps.new }
-        ensures within { IfOk result (λ made. IsWithin maps.new made) }
-        ensures made { IfOk result (λ made. (x : ℕ) → found maps.new made x ≡ or_else (look.entry_number self.now (o.Class c) x) (found maps.old base x)) }
+    pub fn put_members(&self, c: u32, base: &PersistentMap) -> Result<PersistentMap, NoMemory>
+        ensures { IfOk result (λ made. (x : ℕ) → value_in made x ≡ or_else (look.entry_number self.now (o.Class c) x) (value_in base.now x)) }
     {
-        self.numbers.put_members(maps, c, base)
+        self.numbers.put_members(c, base)
     }
 
     /// The member of a name of a class: its own one, else that of the nearest base that has one.

@@ -3,7 +3,7 @@
 use crate::numbers::numbers;
 use crate::refusals::{no_memory, refused};
 use bstr::ByteVec;
-use persistent_maps::PersistentMaps;
+use persistent_maps::PersistentMap;
 use std::alloc::Global;
 use std::io;
 use sts_base::{Code, NoMemory, Seq, number, place};
@@ -95,15 +95,14 @@ pub fn write_code(text: &mut String, asked: &str) -> io::Result<()> {
 }
 
 /// Maps each of which has one number more than that before it, which the first of these numbers has; a number's value is 100 and how many maps came before.
-fn maps_of(alloc: Global, keys: &[i32]) -> Result<(PersistentMaps, Vec<Option<usize>>), NoMemory> {
-    let mut maps = PersistentMaps::new(alloc);
+fn maps_of(alloc: Global, keys: &[i32]) -> Result<Vec<PersistentMap>, NoMemory> {
     let mut made = Vec::new(alloc);
-    let mut last = None;
+    let mut last = PersistentMap::Empty;
     for (count, key) in keys.iter().enumerate() {
-        last = Some(maps.make(last, key.cast_unsigned(), 100 + count)?);
-        made.push(last).map_err(|_| NoMemory)?;
+        last = last.with(alloc, key.cast_unsigned(), 100 + count)?;
+        made.push(last.share()?).map_err(|_| NoMemory)?;
     }
-    Ok((maps, made))
+    Ok(made)
 }
 
 /// Makes maps one from another, and writes of each number that is asked what it has in each, a dash for nothing: `maps 5 7 : 7 8`.
@@ -111,11 +110,11 @@ pub fn write_maps(alloc: Global, text: &mut String, asked: &str) -> io::Result<(
     let Some((keys, sought)) = asked.split_once(" : ") else {
         return Err(refused("nothing is asked"));
     };
-    let (maps, made) = maps_of(alloc, numbers(alloc, keys)?.as_slice()).map_err(no_memory)?;
+    let made = maps_of(alloc, numbers(alloc, keys)?.as_slice()).map_err(no_memory)?;
     for x in numbers(alloc, sought)?.as_slice() {
         write!(text, "{x}:")?;
         for map in made.as_slice() {
-            match maps.get(*map, x.cast_unsigned()) {
+            match map.get(x.cast_unsigned()) {
                 Some(value) => write!(text, " {value}")?,
                 None => text.push_str(" -")?,
             }

@@ -4,11 +4,9 @@ use Rattle.std.proofs.lemmas.Option.{slice_get_read}
 use Rattle.sts_scope.proofs.Longer.{line_longer}
 use Rattle.sts_scope.proofs.lines.longer.Goals as goal
 
-pub returns-clause-line : goal.returns-clause-line
-returns-clause-line c =
+pub returns : goal.returns
+returns c =
     let classes = c.args.classes.now in
     let class = c.index-classes-c.result in
     let is : slice_get classes c.args.c ≡ Some class = slice_get_read classes (length classes) c.args.c class refl c.requires.there c.index-classes-c.is in
-    line_longer c.args.entries.now classes c.args.maps.now c.make.new.self c.put_members.new.maps c.args.c c.in_ok-all.all class c.args.above _
-    is c.requires.above c.in_ok-all.ensures.stays c.in_ok-members.ensures.stays refl
-    refl c.in_ok-all.ensures.within c.in_ok-all.ensures.made c.in_ok-members.ensures.within c.in_ok-members.ensures.made c.nearest_maker-maker.ensures
+    line_longer c.args.entries.now classes c.args.c class c.args.above.now _ is c.requires.above refl c.in_ok-all.ensures c.in_ok-members.ensures c.nearest_maker.ensures
