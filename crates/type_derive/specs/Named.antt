@@ -1,10 +1,12 @@
 -- How locals are found by their names.
-use Rattle.std.specs.Prelude.{◌≡◌, ℕ, ◌||◌, Bool, false, Option, is_some, List, [], ◌∷◌, ◌++◌}
-use Rattle.std.specs.BTreeMap.{BTreeMap, get}
-use Rattle.std.specs.Ordering.{nat_cmp}
+use Rattle.std.specs.Prelude.{◌≡◌, ℕ, ◌==◌, Bool, false, Option, Some, None, is_some, List, [], ◌∷◌, ◌++◌, length, take, slice_get, if◌then◌else◌}
+use Rattle.std.specs.Borrow.{Bor}
+use Rattle.persistent_maps.specs.declared.maps.PersistentMap.{PersistentMap}
+use Rattle.persistent_maps.specs.Maps.{value_in}
 use Rattle.sts_scope.specs.declared.known.Local.{Local}
+use Rattle.sts_scope.specs.declared.known.Found.{Found}
+use Rattle.sts_scope.specs.declared.known.Found.TheVariants as found
 use Rattle.sts_scope.specs.Places.{last_named}
-use Rattle.type_derive.specs.declared.around.Outer.{Outer}
 
 -- The parameters and locals of the functions around, and those of this function in scope, outermost first, of which those from `block` on are of this block.
 pub record InScope : Type 0 where
@@ -15,27 +17,26 @@ pub record InScope : Type 0 where
 abbrev pub in_scope : List Local → List Local → ℕ → InScope
 in_scope around own block = record { around = around; own = own; block = block }
 
+-- what a name stands for, if a local has it: this function's innermost one, else one of a function around
+abbrev pub local_found : InScope → ℕ → Option Found
+local_found s x = elim (last_named s.own x) [ Some i ↦ Some (found.Local i) | None ↦ if is_some (last_named s.around x) then Some found.Captured else None ]
+
 -- the locals of functions around, one function's behind the other's
-abbrev pub around_of : List Outer → List Local
+abbrev pub around_of : List (Bor (List Local)) → List Local
 around_of [] = []
-around_of (f ∷ rest) = f.locals.now ++ around_of rest
+around_of (locals ∷ rest) = locals.now ++ around_of rest
 
--- a name has a local in one of their tables
-abbrev pub is_around : List Outer → ℕ → Bool
-is_around [] x = false
-is_around (f ∷ rest) x = is_some (get nat_cmp f.last.now x) || is_around rest x
+-- a function has a local of a name at a place
+abbrev pub is_at : List Local → ℕ → ℕ → Bool
+is_at own i x = elim (slice_get own i) [ None ↦ false | Some l ↦ l.name == x ]
 
--- for each local, the last one of its name before it, where some stand before them
-abbrev pub earlier : List Local → List Local → List (Option ℕ)
-earlier before [] = []
-earlier before (l ∷ ls) = last_named before l.name ∷ earlier (before ++ l ∷ []) ls
+-- In a map of all in scope a name has the place of its innermost local among those of its function.
+pub record HasInnermost (around own : List Local) (map : PersistentMap) : Type 0 where
+  pub own_are : (x i : ℕ) → last_named own x ≡ Some i → value_in map x ≡ Some i
+  pub others_are : (x : ℕ) → last_named own x ≡ None → is_some (value_in map x) ≡ is_some (last_named around x)
 
--- Tables of the last local of each name, and of the one before each: as the locals have it.
-pub record OwnAreNamed (last : BTreeMap ℕ ℕ) (before : List (Option ℕ)) (own : List Local) : Type 0 where
-  pub last_is : (x : ℕ) → get nat_cmp last x ≡ last_named own x
-  pub before_are : before ≡ earlier [] own
-
--- And a table of each function around, of the names that have a local there.
-pub record AreNamed (around : List Outer) (last : BTreeMap ℕ ℕ) (before : List (Option ℕ)) (own : List Local) : Type 0 where
-  pub around_are : (x : ℕ) → is_around around x ≡ is_some (last_named (around_of around) x)
-  pub own_are : OwnAreNamed last before own
+-- So it is in the map, and so it was in that before each local of this function.
+pub record AreNamed (around own : List Local) (map : PersistentMap) (before : List PersistentMap) : Type 0 where
+  pub in_map : HasInnermost around own map
+  pub as_many : length before ≡ length own
+  pub were : (n : ℕ) (earlier : PersistentMap) → slice_get before n ≡ Some earlier → HasInnermost around (take n own) earlier

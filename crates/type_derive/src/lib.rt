@@ -1,7 +1,6 @@
 //! The types of expressions, and what functions return; definitions of derived types, failures and typed trees.
 #![tactic(auto)]
 
-mod around;
 mod beginnings;
 mod boards;
 mod callees;

@@ -1,16 +1,14 @@
 // Parameters and locals in scope, which are found by their names.
-ghost use Rattle.std.specs.Prelude.{◌≡◌, ℕ, ◌-◌, ◌==◌, is_some, Some, None, IsSome, [], ◌∷◌, ◌++◌, length, take, slice_get, IfOk, OnOk, if◌then◌else◌};
-ghost use Rattle.std.specs.BTreeMap.{get};
-ghost use Rattle.std.specs.Ordering.{nat_cmp};
+ghost use Rattle.std.specs.Prelude.{◌≡◌, List, [], ◌∷◌, ◌++◌, length, take, slice_get, IfOk, OnOk};
 ghost use Rattle.sts_scope.specs.Places as name;
-ghost use Rattle.type_derive.specs.Named.{in_scope, OwnAreNamed};
+ghost use Rattle.sts_scope.specs.declared.known.Local.{Local};
+ghost use Rattle.type_derive.specs.Named.{AreNamed, in_scope, is_at, local_found};
 
-use crate::around::{Outer, is_around, lent};
+use persistent_maps::PersistentMap;
 use std::alloc::Global;
-use std::collections::BTreeMap;
 use std::marker::Model;
 use sts_base::NoMemory;
-use sts_scope::Local;
+use sts_scope::{Found, Local};
 
 /// Where a block began: how many locals of the function were in scope, and where the block around it begins.
 #[derive(Clone, Copy)]
@@ -22,19 +20,20 @@ pub struct Mark {
 }
 
 /// The parameters and locals of the function that are in scope, outermost first, and those of the functions around, which are lent, so that none is
-/// copied. A name is found in logarithmic time for each function around.
+/// copied. All are found by their names in one map. A function that stands in this one begins with that map and makes further ones of it, which leave it as it is.
 #[derive(Drop)]
 pub struct Locals<'a> {
-    /// the functions around, outermost first
-    around: Vec<Outer<'a>>,
+    alloc: Global,
+    /// those of each function around, outermost first: contracts alone see them
+    around: Vec<&'a [Local]>,
     /// those of this function
     own: Vec<Local>,
     /// those of this function from here on are of this block
     block: usize,
-    /// the last local of each name of this function
-    last: BTreeMap<u32, usize>,
-    /// for each local of this function, the last one of its name before it
-    before: Vec<Option<usize>>,
+    /// for each name in scope, the place of its innermost local among those of its function
+    innermost: PersistentMap,
+    /// that map as it was before each local of this function
+    before: Vec<PersistentMap>,
 }
 
 impl<'a> Model for Locals<'a> {
@@ -44,62 +43,55 @@ impl<'a> Model for Locals<'a> {
 
     ghost view = { λ l. in_scope (around_of l.around.items) l.own.items l.block };
 
-    ghost invariant = { λ l. AreNamed l.around.items l.last l.before.items l.own.items };
+    ghost invariant = { λ l. AreNamed (around_of l.around.items) l.own.items l.innermost l.before.items };
 }
 
-/// The last local of a name.
-fn last_of(last: &BTreeMap<u32, usize>, x: u32) -> Option<usize>
-    ensures { result ≡ get nat_cmp last.now x }
+/// The same lists once more, and one behind them.
+fn lent<'a>(
+    alloc: Global,
+    around: &[&'a [Local]],
+    inner: &'a [Local],
+) -> Result<Vec<&'a [Local]>, NoMemory>
+    ensures { IfOk result (λ all. all.items ≡ around.now ++ inner.entry ∷ []) }
 {
-    match last.get(&x) {
-        None => None,
-        Some(i) => Some(*i),
+    let mut all = Vec::new(alloc);
+    for k in 0..around.len() {
+        if all.push(around[k]).is_err() {
+            return Err(NoMemory);
+        }
+    }
+    match all.push(inner) {
+        Ok(()) => Ok(all),
+        Err(_) => Err(NoMemory),
     }
 }
 
-/// A name's last local is the one before.
-fn forget(last: &mut BTreeMap<u32, usize>, x: u32, before: Option<usize>)
-    requires { IsSome (get nat_cmp last.old x) }
-    ensures { (y : ℕ) → get nat_cmp last.new y ≡ (if x == y then before else get nat_cmp last.old y) }
+/// Whether a function has a local of a name at a place.
+fn is_at(own: &[Local], i: usize, x: u32) -> bool
+    ensures { result ≡ is_at own.now i x }
 {
-    match before {
-        None => {
-            last.remove(&x);
-        }
-        Some(i) => {
-            if last.insert(x, i).is_err() {
-                unreachable!();
-            }
-        }
+    match own.get(i) {
+        None => false,
+        Some(local) => local.name == x,
     }
 }
 
-/// Takes away the last local of a function, if it has one.
-fn pop(own: &mut Vec<Local>, last: &mut BTreeMap<u32, usize>, before: &mut Vec<Option<usize>>)
-    requires { OwnAreNamed last.old before.old.items own.old.items }
-    ensures named { OwnAreNamed last.new before.new.items own.new.items }
-    ensures rest { own.new.items ≡ take (length own.old.items - 1) own.old.items }
-{
-    if let Some(local) = own.pop() {
-        if let Some(earlier) = before.pop() {
-            forget(last, local.name, earlier);
-        }
-    }
-}
-
-/// Takes away the locals of a function from the n-th on.
-fn truncate(
+/// Takes away the locals of a function from the n-th on. Names stand for what they stood for before it.
+fn take_back(
     own: &mut Vec<Local>,
-    last: &mut BTreeMap<u32, usize>,
-    before: &mut Vec<Option<usize>>,
+    innermost: &mut PersistentMap,
+    before: &mut Vec<PersistentMap>,
     n: usize,
 )
-    requires { OwnAreNamed last.old before.old.items own.old.items }
-    ensures named { OwnAreNamed last.new before.new.items own.new.items }
     ensures rest { own.new.items ≡ take n own.old.items }
+    ensures named { (around : List Local) → AreNamed around own.old.items innermost.old before.old.items → AreNamed around own.new.items innermost.new before.new.items }
 {
-    while n < own.len() {
-        pop(own, last, before);
+    if n < own.len() {
+        own.truncate(n);
+        before.truncate(n + 1);
+        if let Some(earlier) = before.pop() {
+            *innermost = earlier;
+        }
     }
 }
 
@@ -109,10 +101,11 @@ impl<'a> Locals<'a> {
         ensures { result ≡ in_scope [] [] 0 }
     {
         Locals {
+            alloc,
             around: Vec::new(alloc),
             own: Vec::new(alloc),
             block: 0,
-            last: BTreeMap::new(alloc),
+            innermost: PersistentMap::Empty,
             before: Vec::new(alloc),
         }
     }
@@ -127,27 +120,29 @@ impl<'a> Locals<'a> {
         }
     }
 
-    /// The place of the function's innermost local of a name.
-    pub fn last_named(&self, x: u32) -> Option<usize>
-        ensures { result ≡ name.last_named self.now.own x }
+    /// What a name stands for, if a local has it: the function's innermost one of that name, else one of a function around.
+    pub fn named(&self, x: u32) -> Option<Found>
+        ensures { result ≡ local_found self.now x }
     {
-        last_of(&self.last, x)
-    }
-
-    /// Whether a function around has a local of a name.
-    pub fn is_around(&self, x: u32) -> bool
-        ensures { result ≡ is_some (name.last_named self.now.around x) }
-    {
-        is_around(self.around.as_slice(), x)
+        match self.innermost.get(x) {
+            None => None,
+            Some(i) => {
+                if is_at(self.own.as_slice(), i, x) {
+                    Some(Found::Local(i))
+                } else {
+                    Some(Found::Captured)
+                }
+            }
+        }
     }
 
     /// Whether a local of a name stands in the block.
     pub fn is_twice(&self, x: u32) -> bool
         ensures { result ≡ name.is_from self.now.block (name.last_named self.now.own x) }
     {
-        match last_of(&self.last, x) {
+        match self.innermost.get(x) {
             None => false,
-            Some(i) => self.block <= i,
+            Some(i) => self.block <= i && is_at(self.own.as_slice(), i, x),
         }
     }
 
@@ -155,15 +150,13 @@ impl<'a> Locals<'a> {
     pub fn inside(&'a self, alloc: Global) -> Result<Locals<'a>, NoMemory>
         ensures { IfOk result (λ l. l ≡ in_scope (self.now.around ++ self.now.own) [] 0) }
     {
-        let here = Outer {
-            locals: self.own.as_slice(),
-            last: &self.last,
-        };
+        let around = lent(alloc, self.around.as_slice(), self.own.as_slice())?;
         Ok(Locals {
-            around: lent(alloc, self.around.as_slice(), here)?,
+            alloc,
+            around,
             own: Vec::new(alloc),
             block: 0,
-            last: BTreeMap::new(alloc),
+            innermost: self.innermost.share()?,
             before: Vec::new(alloc),
         })
     }
@@ -172,8 +165,8 @@ impl<'a> Locals<'a> {
     pub fn push(&mut self, local: Local) -> Result<(), NoMemory>
         ensures { OnOk result (self.new ≡ record self.old { own = self.old.own ++ local ∷ [] }) }
     {
-        let before = last_of(&self.last, local.name);
-        let i = self.own.len();
+        let innermost = self.innermost.with(self.alloc, local.name, self.own.len())?;
+        let before = self.innermost.share()?;
         if self.before.push(before).is_err() {
             return Err(NoMemory);
         }
@@ -181,11 +174,7 @@ impl<'a> Locals<'a> {
             self.before.pop();
             return Err(NoMemory);
         }
-        if self.last.insert(local.name, i).is_err() {
-            self.own.pop();
-            self.before.pop();
-            return Err(NoMemory);
-        }
+        self.innermost = innermost;
         Ok(())
     }
 
@@ -211,7 +200,12 @@ impl<'a> Locals<'a> {
     pub fn leave(&mut self, mark: Mark)
         ensures { self.new ≡ record self.old { own = take mark.locals self.old.own; block = mark.block } }
     {
-        truncate(&mut self.own, &mut self.last, &mut self.before, mark.locals);
+        take_back(
+            &mut self.own,
+            &mut self.innermost,
+            &mut self.before,
+            mark.locals,
+        );
         self.block = mark.block;
     }
 }

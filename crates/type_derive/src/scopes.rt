@@ -59,15 +59,9 @@ fn global_named(known: &Environment, library: bool, x: u32) -> Found
 fn found_among(known: &Environment, scope: &Scope, x: u32) -> Found
     ensures { result ≡ name.found_among known.now (place scope.now) x (name.last_named (place scope.now).locals x) }
 {
-    match scope.locals.last_named(x) {
-        Some(i) => Found::Local(i),
-        None => {
-            if scope.locals.is_around(x) {
-                Found::Captured
-            } else {
-                global_named(known, scope.library, x)
-            }
-        }
+    match scope.locals.named(x) {
+        Some(found) => found,
+        None => global_named(known, scope.library, x),
     }
 }
 

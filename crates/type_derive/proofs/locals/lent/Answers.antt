@@ -1,6 +1,6 @@
 use Rattle.std.proofs.Common.{◌≡◌, ◌++◌, ◌∷◌, [], ◌≤◌, length, sym, ap, ◌∙◌, arith, append-nil}
 use Rattle.sts_scope.proofs.Laws.{drop_end}
-use Rattle.type_derive.proofs.around.lent.Goals as goal
+use Rattle.type_derive.proofs.locals.lent.Goals as goal
 
 pub returns-in-Ok : goal.returns-in-Ok
 returns-in-Ok c =
