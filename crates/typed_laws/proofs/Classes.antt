@@ -1,6 +1,6 @@
 -- Classes, globals and functions of a typed program stand as its declarations say.
-use Rattle.std.proofs.Common.{◌≡◌, ℕ, zero, suc, ◌+◌, ◌-◌, ◌<◌, ◌≤◌, refl, sym, ap, ◌∙◌, subst, Bool, true, false, Option, Some, None, List, [], ◌∷◌, length, take, get_or, arith, inl, inr, leb-true, leb-false}
-use Rattle.std.specs.Prelude.{slice_get, unwrap_or, not, filter, nat_le}
+use Rattle.std.proofs.Common.{◌≡◌, ℕ, zero, suc, ◌+◌, ◌<◌, refl, sym, ap, ◌∙◌, subst, Bool, true, false, Option, Some, None, List, [], ◌∷◌, length, take, get_or, arith, inl, inr}
+use Rattle.std.specs.Prelude.{slice_get, unwrap_or, not, filter}
 use Rattle.sts_base.specs.declared.tables.Tables.{Tables}
 use Rattle.sts_syntax.specs.Types as t
 use Rattle.sts_syntax.specs.Types.{ValueType}
@@ -33,8 +33,9 @@ use Rattle.typed_laws.specs.Stands.{IsProper, EachProper, Stands}
 use Rattle.type_derive.specs.Libraries.{taken}
 use Rattle.typed_laws.proofs.OneNode.{both_true, same_types}
 use Rattle.typed_laws.proofs.Names.{some_is}
-use Rattle.typed_laws.proofs.Searching.{entry_get, get_within, get_left, get_map, map_get, at_place, get_listed}
-use Rattle.typed_laws.proofs.Members.{SaneAs, AreSane, AreChained, some_or_none, number_own, class_within, number_step, own_member, names_step, member_listed, listed_member, fields_keep, methods_keep, member_sort, own_field_alone, own_method_hides, method_is, field_is, reached}
+use Rattle.typed_laws.proofs.Searching.{some_or_none, entry_get, get_within, get_left, get_map, map_get, at_place, get_listed}
+use Rattle.typed_laws.proofs.Members.{SaneAs, AreSane, AreChained, number_own, class_within, number_step, own_member, names_step, member_listed, listed_member, fields_keep, methods_keep, member_sort, own_field_alone, own_method_hides, method_is, field_is, reached}
+use Rattle.typed_laws.proofs.Chains.{comes_back}
 use Rattle.typed_laws.proofs.Placing.{HasBody, result_at, Aligned, aligned_get, Fits, FitsAs}
 use Rattle.typed_laws.proofs.Makers.{AllMake, make_get}
 
@@ -289,41 +290,8 @@ module _ (tables : Tables) (names : Naming) (k : Known) (numbers : Numbering) (P
         let G : Option ℕ → Option ℕ = λ x. elim x [ None ↦ None | Some b ↦ above k.classes n b ] in
         ap G q ∙ climbs_above n base c rest
 
-    above_more : (n i d c : ℕ) → above k.classes n d ≡ Some c → above k.classes (n + i) d ≡ above k.classes i c
-    above_more zero i d c h = let z : zero + i ≡ i = omega arith in ap (λ (j : ℕ). above k.classes j d) z ∙ ap (λ (x : Option ℕ). elim x [ None ↦ None | Some b ↦ above k.classes i b ]) h
-    above_more (suc n) i d c h =
-        let z : suc n + i ≡ suc (n + i) = omega arith in
-        let G : ℕ → Option ℕ → Option ℕ = λ j x. elim x [ None ↦ None | Some b ↦ above k.classes j b ] in
-        let go : (x : Option ℕ) → G n x ≡ Some c → G (n + i) x ≡ above k.classes i c = λ x. elim x as (λ y. G n y ≡ Some c → G (n + i) y ≡ above k.classes i c) [ None ↦ (λ q. cc) | Some b ↦ (λ q. above_more n i b c q) ] in
-        ap (λ (j : ℕ). above k.classes j d) z ∙ go (base_of k.classes d) h
-
-    above_none : (n i d : ℕ) → above k.classes n d ≡ None → above k.classes (n + i) d ≡ None
-    above_none zero i d h = cc
-    above_none (suc n) i d h =
-        let z : suc n + i ≡ suc (n + i) = omega arith in
-        let G : ℕ → Option ℕ → Option ℕ = λ j x. elim x [ None ↦ None | Some b ↦ above k.classes j b ] in
-        let go : (x : Option ℕ) → G n x ≡ None → G (n + i) x ≡ None = λ x. elim x as (λ y. G n y ≡ None → G (n + i) y ≡ None) [ None ↦ (λ q. refl) | Some b ↦ (λ q. above_none n i b q) ] in
-        ap (λ (j : ℕ). above k.classes j d) z ∙ go (base_of k.classes d) h
-
-    back_case : (n c : ℕ) → above k.classes (suc n) c ≡ Some c → (fuel j : ℕ) → j ≤ suc fuel → above k.classes j c ≡ None → (b : Bool) → nat_le j (suc n) ≡ b → ((i : ℕ) → i ≤ fuel → above k.classes i c ≡ None → ⊥) → ⊥
-    back_case n c h fuel j near q true r more =
-        let le : j ≤ suc n = leb-true j (suc n) r in
-        let z : j + (suc n - j) ≡ suc n = omega arith in
-        let y : None ≡ Some c = sym (ap (λ (i : ℕ). above k.classes i c) (sym z) ∙ above_none j (suc n - j) c q) ∙ h in cc
-    back_case n c h fuel j near q false r more =
-        let gt : suc n < j = leb-false j (suc n) r in
-        let z : suc n + (j - suc n) ≡ j = omega arith in
-        let less : j - suc n ≤ fuel = omega arith in
-        more (j - suc n) less (sym (above_more (suc n) (j - suc n) c c h) ∙ ap (λ (i : ℕ). above k.classes i c) z ∙ q)
-
-    comes_back : (n c : ℕ) → above k.classes (suc n) c ≡ Some c → (fuel j : ℕ) → j ≤ fuel → above k.classes j c ≡ None → ⊥
-    comes_back n c h zero j near q =
-        let z : j ≡ 0 = omega arith in
-        let r : Some c ≡ None = ap (λ (i : ℕ). above k.classes i c) (sym z) ∙ q in cc
-    comes_back n c h (suc fuel) j near q = back_case n c h fuel j near q (nat_le j (suc n)) refl (comes_back n c h fuel)
-
     no_circle : (c n : ℕ) → c < L → Climbs P (suc n) c c → ⊥
-    no_circle c n near h = comes_back n c (climbs_above (suc n) c c h) L L (omega arith) (made.chained.ends c near)
+    no_circle c n near h = comes_back k.classes n c (climbs_above (suc n) c c h) L L (omega arith) (made.chained.ends c near)
 
     -- a base's members stay in their places
     kept_front : (b c : ℕ) (W : Option DeclarationKind → Bool) → c < L → base_of k.classes c ≡ Some b → (i x : ℕ) → slice_get (names_from W k L b) i ≡ Some x → slice_get (names_from W k L c) i ≡ Some x

@@ -40,8 +40,8 @@ use Rattle.typed_laws.proofs.Typed.{last, first, unless_true, own_has}
 use Rattle.typed_laws.proofs.Names.{some_is}
 use Rattle.typed_laws.proofs.Suffixes.{Suffix, suffix_step, suffix_one, suffix_at, suffix_head}
 use Rattle.typed_laws.proofs.Items.{item_sourced}
-use Rattle.typed_laws.proofs.Searching.{get_within, position_is, not_some}
-use Rattle.typed_laws.proofs.Members.{SaneAs, some_or_none}
+use Rattle.typed_laws.proofs.Searching.{some_or_none, get_within, position_is, not_some}
+use Rattle.typed_laws.proofs.Members.{SaneAs}
 use Rattle.typed_laws.proofs.TreeFacts.{written_proper}
 
 -- Lists of declarations of which each one has a property.

@@ -14,6 +14,9 @@ pub mod Items
 pub mod Placing
 pub mod Makers
 pub mod Searching
+mod Pigeons
+pub mod Chains
+pub mod Climbing
 pub mod Members
 pub mod Classes
 pub mod Routines

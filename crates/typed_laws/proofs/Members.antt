@@ -11,7 +11,9 @@ use Rattle.sts_scope.specs.Bases.{above}
 use Rattle.sts_scope.specs.Lookup.{same_owner, declares, entry_number, is_second, base_of, member_from, member_number, inherited, sort_of, is_field, inherits_field}
 use Rattle.sts_scope.specs.Numbers.{is_method, own_names, is_listed, added, names_from}
 use Rattle.typed_laws.proofs.OneNode.{either_true, both_true}
-use Rattle.typed_laws.proofs.Searching.{position_is, position_first, not_some, added_left, added_cases, added_right, or_right}
+use Rattle.typed_laws.proofs.Searching.{some_or_none, position_is, position_first, not_some, added_left, added_cases, added_right, or_right}
+use Rattle.typed_laws.proofs.Chains.{some_many, above_base}
+use Rattle.typed_laws.proofs.Climbing.{names_of_base, names_of_top}
 
 owner_is : (a : Owner) (c : ℕ) → same_owner a (o.Class c) ≡ true → a ≡ o.Class c
 owner_is o.Whole c h = cc
@@ -19,10 +21,6 @@ owner_is (o.Class d) c h = ap (λ (i : ℕ). o.Class i) (eqb-true d c h)
 
 owner_same : (c : ℕ) → same_owner (o.Class c) (o.Class c) ≡ true
 owner_same c = eq-eqb c c refl
-
-pub some_or_none : (A : Type 0) {B : Type 0} (x : Option B) → ((y : B) → x ≡ Some y → A) → (x ≡ None → A) → A
-some_or_none A {B} None f g = g refl
-some_or_none A {B} (Some y) f g = f y refl
 
 -- What the headings say of a declaration: members stand once in their class, fields hide nothing, and methods hide no field.
 module _ (k : Known) where
@@ -126,19 +124,6 @@ module _ (k : Known) where
           ] in
           go (same_owner e.owner (o.Class c)) (W (Some e.sort))
 
-      -- chains
-      names_stay : (n c : ℕ) → above k.classes n c ≡ None → names_from W k n c ≡ names_from W k (suc n) c
-      names_stay zero c h = cc
-      names_stay (suc n) c h =
-          let F : (ℕ → List ℕ) → Option ℕ → List ℕ = λ f x. elim x [ None ↦ own_names W k.entries c | Some b ↦ added (f b) (own_names W k.entries c) ] in
-          let G : Option ℕ → Option ℕ = λ x. elim x [ None ↦ None | Some b ↦ above k.classes n b ] in
-          let go : (x : Option ℕ) → G x ≡ None → F (names_from W k n) x ≡ F (names_from W k (suc n)) x =
-          λ x. elim x as (λ y. G y ≡ None → F (names_from W k n) y ≡ F (names_from W k (suc n)) y) [
-            | None ↦ (λ q. refl)
-            | Some b ↦ (λ q. ap (λ (xs : List ℕ). added xs (own_names W k.entries c)) (names_stay n b q))
-          ] in
-          go (base_of k.classes c) h
-
     members_stay : (n c x : ℕ) → above k.classes n c ≡ None → member_from k.entries k.classes n c x ≡ member_from k.entries k.classes (suc n) c x
     members_stay zero c x h = cc
     members_stay (suc n) c x h =
@@ -152,28 +137,19 @@ module _ (k : Known) where
         ] in
         go (base_of k.classes c) h
 
-    -- there is a class, so there are some
-    more_than : (c : ℕ) → c < length k.classes → (l : ℕ) × (length k.classes ≡ suc l)
-    more_than c h =
-        let go : (n : ℕ) → c < n → (l : ℕ) × (n ≡ suc l) = λ n. elim n as (λ m. c < m → (l : ℕ) × (m ≡ suc l)) [ zero ↦ (λ q. absurd (omega arith)) | suc l ↦ (λ q. (l, refl)) ] in
-        go (length k.classes) h
-
-    above_base : (l c b : ℕ) → base_of k.classes c ≡ Some b → above k.classes (suc l) c ≡ None → above k.classes l b ≡ None
-    above_base l c b q h = let G : Option ℕ → Option ℕ = λ x. elim x [ None ↦ None | Some y ↦ above k.classes l y ] in sym (ap G q) ∙ h
-
     -- a member is the class's own, or its base's
     pub number_step : (c b x : ℕ) → c < length k.classes → base_of k.classes c ≡ Some b
         → member_number k.entries k.classes c x ≡ elim (number_of c x) [ Some d ↦ Some d | None ↦ member_number k.entries k.classes b x ]
     number_step c b x near q =
-        let (l, many) = more_than c near in
+        let (l, many) = some_many k.classes c near in
         let none_so : above k.classes (suc l) c ≡ None = ap (λ (i : ℕ). above k.classes i c) (sym many) ∙ chained.ends c near in
         let H : Option ℕ → Option ℕ = λ z. elim (number_of c x) [ Some d ↦ Some d | None ↦ z ] in
         let G : Option ℕ → Option ℕ = λ y. elim y [ None ↦ None | Some i ↦ member_from k.entries k.classes l i x ] in
-        ap (λ (i : ℕ). member_from k.entries k.classes i c x) many ∙ ap H (ap G q ∙ members_stay l b x (above_base l c b q none_so) ∙ ap (λ (i : ℕ). member_from k.entries k.classes i b x) (sym many))
+        ap (λ (i : ℕ). member_from k.entries k.classes i c x) many ∙ ap H (ap G q ∙ members_stay l b x (above_base k.classes l c b q none_so) ∙ ap (λ (i : ℕ). member_from k.entries k.classes i b x) (sym many))
 
     pub number_top : (c x : ℕ) → c < length k.classes → base_of k.classes c ≡ None → member_number k.entries k.classes c x ≡ number_of c x
     number_top c x near q =
-        let (l, many) = more_than c near in
+        let (l, many) = some_many k.classes c near in
         let H : Option ℕ → Option ℕ = λ z. elim (number_of c x) [ Some d ↦ Some d | None ↦ z ] in
         let G : Option ℕ → Option ℕ = λ y. elim y [ None ↦ None | Some i ↦ member_from k.entries k.classes l i x ] in
         let last : (z : Option ℕ) → elim z [ Some d ↦ Some d | None ↦ None ] ≡ z = λ z. elim z as (λ y. elim y [ Some d ↦ Some d | None ↦ None ] ≡ y) [ Some d ↦ refl | None ↦ refl ] in
@@ -181,7 +157,7 @@ module _ (k : Known) where
 
     pub own_member : (c x d : ℕ) → c < length k.classes → number_of c x ≡ Some d → member_number k.entries k.classes c x ≡ Some d
     own_member c x d near q =
-        let (l, many) = more_than c near in
+        let (l, many) = some_many k.classes c near in
         let H : Option ℕ → Option ℕ = λ y. elim y [ Some i ↦ Some i | None ↦ elim (base_of k.classes c) [ None ↦ None | Some b ↦ member_from k.entries k.classes l b x ] ] in
         ap (λ (i : ℕ). member_from k.entries k.classes i c x) many ∙ ap H q
 
@@ -190,17 +166,10 @@ module _ (k : Known) where
       names_of c = names_from W k (length k.classes) c
 
       pub names_step : (c b : ℕ) → c < length k.classes → base_of k.classes c ≡ Some b → names_of c ≡ added (names_of b) (own_names W k.entries c)
-      names_step c b near q =
-          let (l, many) = more_than c near in
-          let none_so : above k.classes (suc l) c ≡ None = ap (λ (i : ℕ). above k.classes i c) (sym many) ∙ chained.ends c near in
-          let G : Option ℕ → List ℕ = λ y. elim y [ None ↦ own_names W k.entries c | Some i ↦ added (names_from W k l i) (own_names W k.entries c) ] in
-          ap (λ (i : ℕ). names_from W k i c) many ∙ ap G q ∙ ap (λ (xs : List ℕ). added xs (own_names W k.entries c)) (names_stay W l b (above_base l c b q none_so) ∙ ap (λ (i : ℕ). names_from W k i b) (sym many))
+      names_step c b near q = names_of_base k W c near b (chained.ends c near) q
 
       pub names_top : (c : ℕ) → c < length k.classes → base_of k.classes c ≡ None → names_of c ≡ own_names W k.entries c
-      names_top c near q =
-          let (l, many) = more_than c near in
-          let G : Option ℕ → List ℕ = λ y. elim y [ None ↦ own_names W k.entries c | Some i ↦ added (names_from W k l i) (own_names W k.entries c) ] in
-          ap (λ (i : ℕ). names_from W k i c) many ∙ ap G q
+      names_top c near q = names_of_top k W c near q
 
       -- a member of that sort has its name among them
       number_listed : (n c x d : ℕ) (a : Entry) → above k.classes n c ≡ None → c < length k.classes → member_number k.entries k.classes c x ≡ Some d → slice_get k.entries d ≡ Some a → W (Some a.sort) ≡ true → is_listed (names_of c) x ≡ true
@@ -217,7 +186,7 @@ module _ (k : Known) where
           (λ r. let H : Option ℕ → Option ℕ = λ y. elim y [ Some i ↦ Some i | None ↦ member_number k.entries k.classes b x ] in
           let from_base : member_number k.entries k.classes b x ≡ Some d = sym (number_step c b x near qb ∙ ap H r) ∙ h in
           subst (λ (xs : List ℕ). is_listed xs x ≡ true) (sym (names_step c b near qb))
-          (added_left (names_of b) (own_names W k.entries c) x (number_listed n b x d a (above_base n c b qb e) (chained.bases c b qb) from_base q w))))
+          (added_left (names_of b) (own_names W k.entries c) x (number_listed n b x d a (above_base k.classes n c b qb e) (chained.bases c b qb) from_base q w))))
           (λ qn. subst (λ (xs : List ℕ). is_listed xs x ≡ true) (sym (names_top c near qn)) (own_case (sym (number_top c x near qn) ∙ h)))
 
       pub member_listed : (c x d : ℕ) (a : Entry) → c < length k.classes → member_number k.entries k.classes c x ≡ Some d → slice_get k.entries d ≡ Some a → W (Some a.sort) ≡ true → is_listed (names_of c) x ≡ true
@@ -238,7 +207,7 @@ module _ (k : Known) where
             (i, a, own_member c x i near (own_number i c x a is owner name), is, w) in
             some_or_none R (base_of k.classes c)
             (λ b qb. elim (added_cases (names_of b) (own_names W k.entries c) x (subst (λ (xs : List ℕ). is_listed xs x ≡ true) (names_step c b near qb) h)) [
-              | inl q ↦ (let (d', a', m', is', w') = listed_number n b x (above_base n c b qb e) (chained.bases c b qb) q in
+              | inl q ↦ (let (d', a', m', is', w') = listed_number n b x (above_base k.classes n c b qb e) (chained.bases c b qb) q in
                   some_or_none R (number_of c x)
                   (λ d r. let (a, is, owner, name) = number_own c x d r in (d, a, own_member c x d near r, is, keeps c b x d d' a a' qb r is m' is' w'))
                   (λ r. let H : Option ℕ → Option ℕ = λ y. elim y [ Some i ↦ Some i | None ↦ member_number k.entries k.classes b x ] in (d', a', number_step c b x near qb ∙ ap H r ∙ m', is', w')))
@@ -329,7 +298,7 @@ module _ (k : Known) where
               (λ b qb. let H : Option ℕ → Option ℕ = λ y. elim y [ Some i ↦ Some i | None ↦ member_number k.entries k.classes b x ] in
               some_or_none R (number_of j x)
               (λ d' r. let dd : d' ≡ d = (let z : Some d' ≡ Some d = sym (number_step j b x l qb ∙ ap H r) ∙ m in cc) in own_case (r ∙ ap (λ (i : ℕ). Some i) dd))
-              (λ r. let (i, q, p) = ih b (above_base n' j b qb e) (chained.bases j b qb) (sym (number_step j b x l qb ∙ ap H r) ∙ m) in (i, q, up j b i qb p)))
+              (λ r. let (i, q, p) = ih b (above_base k.classes n' j b qb e) (chained.bases j b qb) (sym (number_step j b x l qb ∙ ap H r) ∙ m) in (i, q, up j b i qb p)))
               (λ qn. own_case (sym (number_top j x l qn) ∙ m)))
         ] in
         go (length k.classes) c (chained.ends c near) near h

@@ -62,6 +62,10 @@ position_first {A} p n (x ∷ xs) (suc d) a h q r =
     let y : n + 1 + d ≡ n + suc d = omega arith in
     ap (λ (b : Bool). cond b (Some n) (position_from p (n + 1) xs)) fails ∙ position_first p (n + 1) xs d a h q rest ∙ ap (λ (i : ℕ). Some i) y
 
+pub some_or_none : (A : Type 0) {B : Type 0} (x : Option B) → ((y : B) → x ≡ Some y → A) → (x ≡ None → A) → A
+some_or_none A {B} None f g = g refl
+some_or_none A {B} (Some y) f g = f y refl
+
 pub not_some : {A : Type 0} (o : Option A) → is_some o ≡ false → o ≡ None
 not_some {A} None h = refl
 not_some {A} (Some a) h = cc

@@ -1,3 +1,4 @@
+pub mod Chains
 pub mod Laws
 pub mod LibraryLaws
 pub mod OwnFunctions
