@@ -24,7 +24,7 @@ use Rattle.sts_scope.specs.Bases.{above}
 use Rattle.sts_scope.specs.Entries.{Naming}
 use Rattle.sts_scope.specs.Lookup.{entry_number, base_of, member_number, member_from, inherited, sort_of, is_field}
 use Rattle.sts_scope.specs.Scopes.{is_global, names_of}
-use Rattle.sts_scope.specs.Rules.{kind_at, takes_at, maker_takes_of, object_part, member_part}
+use Rattle.sts_scope.specs.Rules.{kind_at, takes_at, maker_takes_of, class_part, object_part, member_part}
 use Rattle.type_derive.specs.Typing.{method_of}
 use Rattle.type_derive.specs.Passes.{same_kinds, same_result, agrees}
 use Rattle.sts_scope.specs.Numbers.{Numbering, is_method, is_listed, own_names, names_from, field_names, slot_names, place_among, global_number, routine_number, maker_number}
@@ -243,6 +243,19 @@ module _ (tables : Tables) (names : Naming) (k : Known) (numbers : Numbering) (P
     slot_is c x d a h q s =
         let listed : is_listed (slot_names k c) x ≡ true = member_listed k made.sane made.chained is_method c x d a (member_within c x d h) h q (ap (λ (y : DeclarationKind). is_method (Some y)) s) in
         at_place (member_routine tables names k numbers c) (slot_names k c) x listed ∙ ap (λ (j : ℕ). Some j) (routine_of_member c x d h)
+
+    -- a member's name stands among those of its class
+    pub field_listed : (c m d : ℕ) → class_part k (Some c) m ≡ part.Field d → is_listed (field_names k c) m ≡ true
+    field_listed c m d h =
+        let (at_m, s) = field_number (member_number k.entries k.classes c m) d h in
+        let (a, is, sa) = sort_entry d sort.Field s in
+        member_listed k made.sane made.chained is_field c m d a (member_within c m d at_m) at_m is (ap (λ (y : DeclarationKind). is_field (Some y)) sa)
+
+    pub method_listed : (c m d : ℕ) → class_part k (Some c) m ≡ part.Method d → is_listed (slot_names k c) m ≡ true
+    method_listed c m d h =
+        let (at_m, s) = method_number (member_number k.entries k.classes c m) d h in
+        let (a, is, sa) = sort_entry d sort.Method s in
+        member_listed k made.sane made.chained is_method c m d a (member_within c m d at_m) at_m is (ap (λ (y : DeclarationKind). is_method (Some y)) sa)
 
     pub stands : Stands tables k numbers P
     stands = record {

@@ -3,6 +3,7 @@ pub mod Typed
 pub mod OneNode
 pub mod Makings
 pub mod Names
+mod WholeNodes
 pub mod Sites
 pub mod Boards
 mod TreeFacts

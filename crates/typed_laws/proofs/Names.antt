@@ -1,5 +1,5 @@
 -- What names and members stand for, and that expressions have types that values have.
-use Rattle.std.proofs.Common.{◌≡◌, ℕ, refl, sym, subst, Bool, true, false, ◌&&◌, ◌||◌, ◌==◌, Option, Some, None, List, [], ◌∷◌}
+use Rattle.std.proofs.Common.{◌≡◌, ℕ, refl, sym, subst, Bool, true, false, ◌&&◌, ◌||◌, ◌==◌, Option, Some, None, List, [], ◌∷◌, inl, inr}
 use Rattle.std.specs.Prelude.{ℤ, is_some, nat_le, nat_lt, if◌then◌else◌, codes}
 use Rattle.sts_base.specs.declared.tables.Tables.{Tables}
 use Rattle.sts_syntax.specs.Types as t
@@ -25,7 +25,7 @@ use Rattle.sts_scope.specs.Rules.{local_kind, name_kind, this_kind, kind_at, tak
 use Rattle.type_derive.specs.declared.roles.Role.TheVariants.{Free, Given}
 use Rattle.type_derive.specs.Typing.{◌>>=◌, Callee, callee, board_kind, finds, constant_of, board_callee, named_callee, part_callee, callee_of, super_method, made, called, type_of, types_of, are_given, settable}
 use Rattle.typed_laws.specs.Stands.{IsProper}
-use Rattle.typed_laws.proofs.OneNode.{if_gives, if_some}
+use Rattle.typed_laws.proofs.OneNode.{if_cases, if_gives, if_some}
 
 pub record Is {A : Type 0} (o : Option A) : Type 0 where
   pub it : A
@@ -46,6 +46,19 @@ either_some {A} P false a c r f g h = g r h
 fixed_some : {A : Type 0} (P : A → Type 0) (x : Bool) (a r : A) → P a → (if x then Some a else None) ≡ Some r → P r
 fixed_some {A} P true a r p h = let q : a ≡ r = some_is a r h in subst P q p
 fixed_some {A} P false a r p h = cc
+
+-- what a call has that has a type: what is called, and arguments that go there
+call_parts : (k : Known) (takes : List StaticType) (gives : Option StaticType) (us : List StaticType) (u : StaticType) → call_kind k.classes takes gives us ≡ Some u → (all_go k.classes us takes ≡ true) × (gives ≡ Some u)
+unfolding call_kind
+call_parts k takes gives us u h = elim (if_cases (all_go k.classes us takes) gives None u h) [ inl q ↦ q | inr q ↦ (let z : None ≡ Some u = q.1 in cc) ]
+
+pub called_parts : (tables : Tables) (k : Known) (d : Option Callee) (ts : Option (List StaticType)) (u : StaticType) → called tables k d ts ≡ Some u
+    → (x : Callee) × (us : List StaticType) × (d ≡ Some x) × (ts ≡ Some us) × (all_go k.classes us x.takes ≡ true) × (x.gives ≡ Some u)
+called_parts tables k d ts u h =
+    let (x, q, h1) = bind_some d (λ x. ts >>= λ us. call_kind k.classes x.takes x.gives us) u h in
+    let (us, r, h2) = bind_some ts (λ us. call_kind k.classes x.takes x.gives us) u h1 in
+    let (a, b) = call_parts k x.takes x.gives us u h2 in
+    (x, us, q, r, a, b)
 
 module _ (k : Known) where
   -- a global, a function and a class are declared so

@@ -48,7 +48,7 @@ use Rattle.typed_laws.proofs.OneNode.{both_true, either_true, if_gives, if_some,
 use Rattle.typed_laws.proofs.Typed.{typed, first, last, unless_true}
 use Rattle.typed_laws.proofs.Makings.{Gives, gives_pure, gives_bind, gives_as, good_free, good_as}
 use Rattle.typed_laws.proofs.Makings.{Good as Built}
-use Rattle.typed_laws.proofs.Names.{bind_some, some_is, Real, HasPart, has_part, proper}
+use Rattle.typed_laws.proofs.Names.{called_parts, bind_some, some_is, Real, HasPart, has_part, proper}
 use Rattle.typed_laws.proofs.Sites.{seen, seen_proper, Suits, improper, IsEmptyOr, suits_given, given_goes, empty_is_not_below, nothing_below_empty, IsGood, At}
 use Rattle.typed_laws.proofs.Boards.{are_plain, draw_nothing, serve_nothing, fit_action, gives_plain, takes_plain, action_fits, constant_int32, drawing_int32}
 use Rattle.typed_laws.proofs.TreeFacts.{kind_is, not_called, and_first, empty_same, empty_takes_null, empty_null, empty_number, nothing_is, none_is, hidden_is}
@@ -397,17 +397,6 @@ module _ (tables : Tables) (names : Naming) (k : Known) (numbers : Numbering) (P
   part_takes_are part.Length d q = cc
   part_takes_are part.Missing d q = cc
 
-  call_parts : (takes : List StaticType) (gives : Option StaticType) (us : List StaticType) (u : StaticType) → call_kind k.classes takes gives us ≡ Some u → (all_go k.classes us takes ≡ true) × (gives ≡ Some u)
-  unfolding call_kind
-  call_parts takes gives us u h = elim (if_cases (all_go k.classes us takes) gives None u h) [ inl q ↦ q | inr q ↦ (let z : None ≡ Some u = q.1 in cc) ]
-
-  pub called_parts : (d : Option Callee) (ts : Option (List StaticType)) (u : StaticType) → called tables k d ts ≡ Some u → (x : Callee) × (us : List StaticType) × (d ≡ Some x) × (ts ≡ Some us) × (all_go k.classes us x.takes ≡ true) × (x.gives ≡ Some u)
-  called_parts d ts u h =
-      let (x, q, h1) = bind_some d (λ x. ts >>= λ us. call_kind k.classes x.takes x.gives us) u h in
-      let (us, r, h2) = bind_some ts (λ us. call_kind k.classes x.takes x.gives us) u h1 in
-      let (a, b) = call_parts x.takes x.gives us u h2 in
-      (x, us, q, r, a, b)
-
   pub go_parts : (s v : StaticType) (ss vs : List StaticType) → all_go k.classes (s ∷ ss) (v ∷ vs) ≡ true → (goes k.classes s v ≡ true) × (all_go k.classes ss vs ≡ true)
   unfolding all_go
   go_parts s v ss vs h = both_true (goes k.classes s v) (all_go k.classes ss vs) h
@@ -634,7 +623,7 @@ module _ (tables : Tables) (names : Naming) (k : Known) (numbers : Numbering) (P
       (elim d [ None ↦ pure amiss | Some j ↦ made_given tables names k numbers s (takes_at k.entries j) args >=> λ xs. pure (e.SuperCall n (routine_number numbers j) xs) ])
   super S known s g m args u n None at f is h q same_n p typed = cc
   super S known s g m args u n (Some j) at f is h q same_n p typed =
-      let (d, us, q1, ts, go, result) = called_parts (Some (callee (takes_at k.entries j) (kind_at k j))) (types_of tables k s.place args) u q in
+      let (d, us, q1, ts, go, result) = called_parts tables k (Some (callee (takes_at k.entries j) (kind_at k j))) (types_of tables k s.place args) u q in
       let same_d : callee (takes_at k.entries j) (kind_at k j) ≡ d = some_is _ d q1 in
       let go_j : all_go k.classes us (takes_at k.entries j) ≡ true = subst (λ (x : Callee). all_go k.classes us x.takes ≡ true) (sym same_d) go in
       let result_j : kind_at k j ≡ Some u = ap (λ (x : Callee). x.gives) same_d ∙ result in

@@ -47,11 +47,11 @@ use Rattle.typed_laws.proofs.OneNode.{both_true, same_is, works, prefixes, joins
 use Rattle.typed_laws.proofs.Typed.{typed, last, first, unless_true, own_has}
 use Rattle.typed_laws.proofs.Makings.{IsInner, Inners, Gives, gives_pure, gives_bind, gives_as, kept_all, good_pure, good_bind, good_bind_at, good_free, good_local, good_as}
 use Rattle.typed_laws.proofs.Makings.{Good as Built}
-use Rattle.typed_laws.proofs.Names.{bind_some, some_is, either_some, real, has_part, board_proper}
+use Rattle.typed_laws.proofs.Names.{called_parts, bind_some, some_is, either_some, real, has_part, board_proper}
 use Rattle.typed_laws.proofs.Sites.{seen, Suits, Wanted, suits_given, given_goes, at_block, at_local, IsGood, At, name_good, this_good}
 use Rattle.typed_laws.proofs.Boards.{are_plain, plain_first, plain_rest}
 use Rattle.typed_laws.proofs.TreeFacts.{nothing_either, noted_is, kind_is, parts2, parts3, settable_is, test_is, alone_is, unless_waived, parts4, kind_proper}
-use Rattle.typed_laws.proofs.TreeParts.{free_proper, given_proper, seen_as, one, two, function_call, set_good, assign_suits, make_good, make_takes, takes_of_found, takes_of_part, takes_of_made, called_parts, go_parts, go_none, go_more, go_to_parts, items_parts, Asked, called_failure, call_failure, call_type, call_made, plain_serves, served_so, given_to_is, drawing_good, ArgumentsTyped, AskedTyped, member, member_target, super, board_call, member_call, list_is, fits_is, handler_stand, gives_after, Declared, declared_one, declare, first_place, first_gives, declared_more}
+use Rattle.typed_laws.proofs.TreeParts.{free_proper, given_proper, seen_as, one, two, function_call, set_good, assign_suits, make_good, make_takes, takes_of_found, takes_of_part, takes_of_made, go_parts, go_none, go_more, go_to_parts, items_parts, Asked, called_failure, call_failure, call_type, call_made, plain_serves, served_so, given_to_is, drawing_good, ArgumentsTyped, AskedTyped, member, member_target, super, board_call, member_call, list_is, fits_is, handler_stand, gives_after, Declared, declared_one, declare, first_place, first_gives, declared_more}
 
 module _ (tables : Tables) (names : Naming) (k : Known) (numbers : Numbering) (P : TypedProgram) (st : Stands tables k numbers P) where
   abbrev Good : Setting → List ℕ → ValueType → TypedTree → Type 0
@@ -287,7 +287,7 @@ module _ (tables : Tables) (names : Naming) (k : Known) (numbers : Numbering) (P
         (λ takes us p' h' q' go. given S known s takes us args at f p' h' q' go)
     tree S known s g (Make i x args) u at f g' h q z =
         let l : Found = finds tables k s.place x in
-        let (d, us, is, ts, go, result) = called_parts tables names k numbers P st (made tables k l) (types_of tables k s.place args) u q in
+        let (d, us, is, ts, go, result) = called_parts tables k (made tables k l) (types_of tables k s.place args) u q in
         let ha : failures tables names k s.place [] args ≡ None = first (failures tables names k s.place [] args) (own_make tables names k l (made tables k l) (ty s (kind_role g) (Make i x args)) i) h in
         let class : ℕ = class_found tables names k numbers l in
         let Q : TypedTree → Type 0 = Good S known (value_type u) in
@@ -386,12 +386,12 @@ module _ (tables : Tables) (names : Naming) (k : Known) (numbers : Numbering) (P
     call S known s g i c' args u n (Some b) at f is h q same_n p typed asked' = board_call tables names k numbers P st S known s g i c' args u n b is h q same_n p asked'
     call S known s g i (Name j x) args u n None at f is h q same_n p typed asked' =
         let l : Found = finds tables k s.place x in
-        let (d, us, q1, ts, go, result) = called_parts tables names k numbers P st (named_callee tables k l) (types_of tables k s.place args) u q in
+        let (d, us, q1, ts, go, result) = called_parts tables k (named_callee tables k l) (types_of tables k s.place args) u q in
         let (hf, ha, ho) = parts2 (bad s Called (Name j x)) (failures tables names k s.place [] args) (own_called tables names k (named_callee tables k l) (types_of tables k s.place args) i) h in
         seen_as tables names k numbers P st S known g u (handlers_of args) (0 + handlers_of args) (made_given tables names k numbers s (routine_takes tables names k numbers l) args >=> λ xs. pure (e.Call n (c.Function (routine_of tables names k numbers l)) xs)) p
         (function_call tables names k numbers P st S known s args l d u n (real k tables s.place x) q1 result same_n (typed d.takes us (takes_of_found tables names k numbers P st l d q1) ha ts go)) (omega arith)
     call S known s g i (Member j a m) args u n None at f is h q same_n p typed asked' =
-        let (d, us, q1, ts, go, result) = called_parts tables names k numbers P st (callee_of tables k s.place (Member j a m)) (types_of tables k s.place args) u q in
+        let (d, us, q1, ts, go, result) = called_parts tables k (callee_of tables k s.place (Member j a m)) (types_of tables k s.place args) u q in
         let (v, r, q2) = bind_some (ty s Free a) (λ v. part_callee tables k (part_of tables.names k v m)) d q1 in
         let (hf, ha, ho) = parts2 (bad s Called (Member j a m)) (failures tables names k s.place [] args) (own_called tables names k (callee_of tables k s.place (Member j a m)) (types_of tables k s.place args) i) h in
         let free_a : bad s Free a ≡ None = called_failure tables names k numbers P st s j a m v (constant_of tables k s.place a m) (board_callee tables k s.place (Member j a m)) refl is r hf in

@@ -457,7 +457,7 @@ module _ (tables : Tables) (library text : Program) (kinds : List (Option Static
     at_zero : (Q : DeclarationKind → Owner → ℕ → ℕ → Type 0) (d : ℕ) (a : Entry) → EachIs Q 0 k.entries → slice_get k.entries d ≡ Some a → Q a.sort a.owner a.name d
     at_zero Q d a h q = subst (λ (j : ℕ). Q a.sort a.owner a.name j) (let z : 0 + d ≡ d = omega arith in z) (each_is_get Q 0 k.entries d a h q)
 
-    made_all : Made tables names k numbers P
+    pub made_all : Made tables names k numbers P
     made_all = record {
       sane = λ d a h. at_zero (SaneAs k) d a sane_all h;
       chained = chained_all;

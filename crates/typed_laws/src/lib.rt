@@ -4,6 +4,7 @@
 mod bases;
 mod formed;
 mod library;
+mod needs;
 mod rows;
 mod theorems;
 
@@ -14,6 +15,10 @@ pub use bases::{
 pub use formed::{spelled_programs_are_formed, typed_programs_name_texts_of_their_trees};
 pub use library::{
     library_is_read, library_leaves_first, prelude_is_library, typed_library_is_light,
+};
+pub use needs::{
+    each_local_in_scope_has_a_spot, members_stand_among_the_names_of_their_class,
+    nodes_without_a_failure_are_whole,
 };
 pub use rows::{rows_of_accepted, rows_of_failures, rows_of_functions, rows_of_limits};
 pub use theorems::{

@@ -1,0 +1,60 @@
+//! What the making of typed trees looks for is there, where a tree has no failure.
+ghost use Rattle.std.specs.Prelude.{◌≡◌, ℕ, Bool, true, Option, Some, None, List, [], ◌∷◌, ◌++◌, IsSome};
+ghost use Rattle.sts_base.specs.declared.tables.Tables.{Tables};
+ghost use Rattle.sts_syntax.specs.declared.typed.Spot.TheVariants.{Local};
+ghost use Rattle.sts_syntax.specs.Annotations.{Annotation};
+ghost use Rattle.sts_syntax.specs.Programs.{Program};
+ghost use Rattle.sts_syntax.specs.Trees.{Parameter, Tree, Statement, ForOf, Statements, OptionalTree, Declare};
+ghost use Rattle.sts_scope.specs.declared.kinds.StaticType.{StaticType};
+ghost use Rattle.sts_scope.specs.declared.known.Known.{Known};
+ghost use Rattle.sts_scope.specs.declared.known.Part.TheVariants as part;
+ghost use Rattle.sts_scope.specs.declared.known.This.{This};
+ghost use Rattle.sts_scope.specs.Entries.{Naming};
+ghost use Rattle.sts_scope.specs.Numbers.{Numbering, is_listed, field_names, slot_names};
+ghost use Rattle.sts_scope.specs.Places.{NameScope, inner, outside};
+ghost use Rattle.sts_scope.specs.Rules.{class_part};
+ghost use Rattle.type_derive.specs.declared.roles.Role.{Role};
+ghost use Rattle.type_derive.specs.declared.roles.Role.TheVariants.{Free};
+ghost use Rattle.type_derive.specs.Accepted.{AreDerived, known, refusal};
+ghost use Rattle.type_derive.specs.Built.{Site, in_block, behind_statement, in_handler_site};
+ghost use Rattle.type_derive.specs.Formed.{IsFormedProgram};
+ghost use Rattle.type_derive.specs.Libraries.{IsLibrary};
+ghost use Rattle.type_derive.specs.Nodes.{failure, declaration_failure, statement_failure};
+ghost use Rattle.type_derive.specs.Programs.{site};
+ghost use Rattle.type_derive.specs.Returns.{bound, looped, items_of};
+ghost use Rattle.type_derive.specs.Typing.{type_of};
+ghost use Rattle.typed_laws.specs.Laws.{IsRead};
+ghost use Rattle.typed_laws.specs.Needs.{IsWholeNode, HasSpots};
+
+/// At a node that is read and has no failure all is there that the making of its typed tree looks for; so is the type of a name that is declared, and of the items
+/// that a loop goes through. The parts of such a node have no failure, so the same holds of them.
+pub fn nodes_without_a_failure_are_whole()
+    ensures expressions { (tables : Tables) (names : Naming) (k : Known) (p : NameScope) (r : Role) (e : Tree) → IsRead r → failure tables names k p r e ≡ None → IsWholeNode tables k p r e }
+    ensures declarations { (tables : Tables) (names : Naming) (k : Known) (p : NameScope) (at x : ℕ) (shape : Option Annotation) (first : OptionalTree) →
+        declaration_failure tables names k p (Declare at x shape first) ≡ None → IsSome (bound tables names k p shape first) }
+    ensures loops { (tables : Tables) (names : Naming) (k : Known) (p : NameScope) (at x : ℕ) (fixed : Bool) (list : Tree) (a : Statement) →
+        statement_failure tables names k p (ForOf at fixed x list a) ≡ None → IsSome (items_of tables names k (type_of tables k p Free list)) }
+{}
+
+/// Each local in scope has its spot: outside all functions and where a function or a handler without parameters begins, and then in a block, behind a statement and in a loop.
+pub fn each_local_in_scope_has_a_spot()
+    ensures outside { (this : This) (library : Bool) (gives : Option StaticType) → HasSpots (record { place = outside this library gives; spots = [] }) }
+    ensures functions { (tables : Tables) (names : Naming) (k : Known) (numbers : Numbering) (this : This) (result : Option StaticType) (library : Bool) (i : ℕ) (params : List Parameter) →
+        HasSpots (site tables names k numbers this result library i params) }
+    ensures handlers { (tables : Tables) (names : Naming) (k : Known) (numbers : Numbering) (s : Site) (gives : Option Annotation) (all : Statements) →
+        HasSpots (in_handler_site tables names k numbers s [] gives all) }
+    ensures blocks { (s : Site) → HasSpots s → HasSpots (in_block s) }
+    ensures statements { (tables : Tables) (names : Naming) (k : Known) (numbers : Numbering) (m : ℕ) (s : Site) (a : Statement) → HasSpots s → HasSpots (behind_statement tables names k numbers m s a) }
+    ensures loops { (tables : Tables) (names : Naming) (k : Known) (m x : ℕ) (s : Site) (fixed : Bool) (list : Tree) → HasSpots s →
+        HasSpots (record { place = inner (looped tables names k s.place fixed x list); spots = s.spots ++ Local m ∷ [] }) }
+{}
+
+/// In an accepted text a field and a method, found by its name in a class, stands among the names of the class's fields or slots.
+pub fn members_stand_among_the_names_of_their_class()
+    ensures fields { (tables : Tables) (library text : Program) (kinds : List (Option StaticType)) → IsFormedProgram text → AreDerived tables library text kinds →
+        IsLibrary tables library text kinds → refusal tables library text kinds ≡ None → (c m d : ℕ) → class_part (known library text kinds) (Some c) m ≡ part.Field d →
+        is_listed (field_names (known library text kinds) c) m ≡ true }
+    ensures slots { (tables : Tables) (library text : Program) (kinds : List (Option StaticType)) → IsFormedProgram text → AreDerived tables library text kinds →
+        IsLibrary tables library text kinds → refusal tables library text kinds ≡ None → (c m d : ℕ) → class_part (known library text kinds) (Some c) m ≡ part.Method d →
+        is_listed (slot_names (known library text kinds) c) m ≡ true }
+{}
