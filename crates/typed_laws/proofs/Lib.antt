@@ -4,6 +4,7 @@ pub mod OneNode
 pub mod Makings
 pub mod Names
 mod WholeNodes
+mod FailsFor
 pub mod Sites
 pub mod Boards
 mod TreeFacts

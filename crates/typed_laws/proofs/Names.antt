@@ -23,7 +23,7 @@ use Rattle.sts_scope.specs.Lookup.{entry_number, sort_of, member_number}
 use Rattle.sts_scope.specs.Places.{NameScope, is_hidden, last_named, found_among, found_around, whole_found, sort_found, entry_found}
 use Rattle.sts_scope.specs.Rules.{local_kind, name_kind, this_kind, kind_at, takes_at, is_spelled, array_part, member_part, object_part, class_part, part_of, part_kind, call_kind, all_go, maker_takes_of, operate, prefix, joined, common, choose, assign, counted, element, items_type, comparable, below, goes, all_go_to, is_arithmetic, is_order, is_equality}
 use Rattle.type_derive.specs.declared.roles.Role.TheVariants.{Free, Given}
-use Rattle.type_derive.specs.Typing.{◌>>=◌, Callee, callee, board_kind, finds, constant_of, board_callee, named_callee, part_callee, callee_of, super_method, made, called, type_of, types_of, are_given, settable}
+use Rattle.type_derive.specs.Typing.{◌>>=◌, Callee, callee, board_kind, finds, space_of, space, constant_of, board_callee, named_callee, part_callee, callee_of, super_method, made, called, type_of, types_of, are_given, settable}
 use Rattle.typed_laws.specs.Stands.{IsProper}
 use Rattle.typed_laws.proofs.OneNode.{if_cases, if_gives, if_some}
 
@@ -59,6 +59,38 @@ called_parts tables k d ts u h =
     let (us, r, h2) = bind_some ts (λ us. call_kind k.classes x.takes x.gives us) u h1 in
     let (a, b) = call_parts k x.takes x.gives us u h2 in
     (x, us, q, r, a, b)
+
+module _ (tables : Tables) (k : Known) (p : NameScope) where
+  -- a name before a part of the board's interface has no type
+  unknown_space : (x : ℕ) (f : Found) (s : List ℕ) → space_of tables k x f ≡ Some s → name_kind k p f ≡ None
+  unknown_space x found.Unknown s h = refl
+  unknown_space x (found.Local i) s h = cc
+  unknown_space x found.Captured s h = cc
+  unknown_space x (found.Global d) s h = cc
+  unknown_space x (found.Function d) s h = cc
+  unknown_space x (found.Class c) s h = cc
+
+  pub space_valueless : (a : Tree) (s : List ℕ) → space tables k p a ≡ Some s → type_of tables k p Free a ≡ None
+  space_valueless (Name at x) s h = unknown_space x (finds tables k p x) s h
+  space_valueless (Num at n) s h = cc
+  space_valueless (Text at n) s h = cc
+  space_valueless (Truth at b) s h = cc
+  space_valueless (Null at) s h = cc
+  space_valueless (This at) s h = cc
+  space_valueless (Unary at op a) s h = cc
+  space_valueless (Binary at op a b) s h = cc
+  space_valueless (Both at a b) s h = cc
+  space_valueless (Either at a b) s h = cc
+  space_valueless (Choice at c a b) s h = cc
+  space_valueless (Set at op x a) s h = cc
+  space_valueless (Bump at x by late) s h = cc
+  space_valueless (Member at a m) s h = cc
+  space_valueless (Item at a i) s h = cc
+  space_valueless (Items at items) s h = cc
+  space_valueless (Call at f args) s h = cc
+  space_valueless (SuperCall at m args) s h = cc
+  space_valueless (Make at x args) s h = cc
+  space_valueless (Handler at body) s h = cc
 
 module _ (k : Known) where
   -- a global, a function and a class are declared so

@@ -48,7 +48,7 @@ use Rattle.typed_laws.proofs.OneNode.{both_true, either_true, if_gives, if_some,
 use Rattle.typed_laws.proofs.Typed.{typed, first, last, unless_true}
 use Rattle.typed_laws.proofs.Makings.{Gives, gives_pure, gives_bind, gives_as, good_free, good_as}
 use Rattle.typed_laws.proofs.Makings.{Good as Built}
-use Rattle.typed_laws.proofs.Names.{called_parts, bind_some, some_is, Real, HasPart, has_part, proper}
+use Rattle.typed_laws.proofs.Names.{called_parts, bind_some, space_valueless, some_is, Real, HasPart, has_part, proper}
 use Rattle.typed_laws.proofs.Sites.{seen, seen_proper, Suits, improper, IsEmptyOr, suits_given, given_goes, empty_is_not_below, nothing_below_empty, IsGood, At}
 use Rattle.typed_laws.proofs.Boards.{are_plain, draw_nothing, serve_nothing, fit_action, gives_plain, takes_plain, action_fits, constant_int32, drawing_int32}
 use Rattle.typed_laws.proofs.TreeFacts.{kind_is, not_called, and_first, empty_same, empty_takes_null, empty_null, empty_number, nothing_is, none_is, hidden_is}
@@ -136,36 +136,6 @@ module _ (tables : Tables) (names : Naming) (k : Known) (numbers : Numbering) (P
   space_alone s (SuperCall i m args) sp h = cc
   space_alone s (Make i x args) sp h = cc
   space_alone s (Handler i body) sp h = cc
-
-  unknown_space : (s : Site) (x : ℕ) (f : Found) (sp : List ℕ) → space_of tables k x f ≡ Some sp → name_kind k s.place f ≡ None
-  unknown_space s x found.Unknown sp h = refl
-  unknown_space s x (found.Local i) sp h = cc
-  unknown_space s x (found.Global d) sp h = cc
-  unknown_space s x (found.Function d) sp h = cc
-  unknown_space s x (found.Class d) sp h = cc
-  unknown_space s x found.Captured sp h = cc
-
-  space_valueless : (s : Site) (a : Tree) (sp : List ℕ) → space tables k s.place a ≡ Some sp → ty s Free a ≡ None
-  space_valueless s (Name i x) sp h = unknown_space s x (finds tables k s.place x) sp h
-  space_valueless s (Num i n) sp h = cc
-  space_valueless s (Text i n) sp h = cc
-  space_valueless s (Truth i x) sp h = cc
-  space_valueless s (Null i) sp h = cc
-  space_valueless s (This i) sp h = cc
-  space_valueless s (Unary i op a) sp h = cc
-  space_valueless s (Binary i op a b) sp h = cc
-  space_valueless s (Both i a b) sp h = cc
-  space_valueless s (Either i a b) sp h = cc
-  space_valueless s (Choice i q a b) sp h = cc
-  space_valueless s (Set i op x a) sp h = cc
-  space_valueless s (Bump i x by late) sp h = cc
-  space_valueless s (Member i a m) sp h = cc
-  space_valueless s (Item i a j) sp h = cc
-  space_valueless s (Items i items) sp h = cc
-  space_valueless s (Call i f args) sp h = cc
-  space_valueless s (SuperCall i m args) sp h = cc
-  space_valueless s (Make i x args) sp h = cc
-  space_valueless s (Handler i body) sp h = cc
 
   constant_is : (s : Site) (a : Tree) (m : ℕ) (z : ℤ) → constant_of tables k s.place a m ≡ Some z → (sp : List ℕ) × (space tables k s.place a ≡ Some sp) × (is_int32 z ≡ true)
   constant_is s a m z h =
@@ -458,7 +428,7 @@ module _ (tables : Tables) (names : Naming) (k : Known) (numbers : Numbering) (P
   constant_handlers s a m z h = let (sp, q, r) = constant_is s a m z h in sym (space_alone s a sp q)
 
   no_value : (s : Site) (a : Tree) (m : ℕ) (z : ℤ) (u : StaticType) → constant_of tables k s.place a m ≡ Some z → ty s Free a ≡ Some u → ⊥
-  no_value s a m z u h q = let (sp, r, i) = constant_is s a m z h in let n : None ≡ Some u = sym (space_valueless s a sp r) ∙ q in cc
+  no_value s a m z u h q = let (sp, r, i) = constant_is s a m z h in let n : None ≡ Some u = sym (space_valueless tables k s.place a sp r) ∙ q in cc
 
   abbrev member_failure : Site → Role → ℕ → Tree → ℕ → Option ℤ → Option BoardCall → Option Failure
   member_failure s r i a m z b = elim z [
