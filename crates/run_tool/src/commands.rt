@@ -19,9 +19,9 @@ use crate::build::build;
 use crate::check::check;
 use crate::class::class;
 use crate::ending::{Ending, Status};
-use crate::run::{RunOptions, run};
+use crate::run::{AskedRun, RunOptions, run};
 use crate::run_at::{Outside, run_at};
-use crate::run_hex::run_hex;
+use crate::run_hex::{AskedImageRun, run_hex};
 use crate::said::say;
 use board_ports::Device;
 use command_line::read_command_line;
@@ -62,13 +62,17 @@ fn perform_order<F: Folder, K: Sink, D: Device>(
                 stats,
                 image,
             };
-            run(alloc, program, script, options, folder, out, places)
+            let asked = AskedRun { script, options };
+            run(alloc, program, asked, folder, out, places)
         }
         Order::RunHex {
             image,
             script,
             budget,
-        } => run_hex(alloc, image, script, budget, folder, out, places),
+        } => {
+            let asked = AskedImageRun { script, budget };
+            run_hex(alloc, image, asked, folder, out, places)
+        }
         Order::RunAt {
             program,
             script,

@@ -51,6 +51,22 @@ pub struct RunOptions {
     pub image: bool,
 }
 
+/// A run that is asked for, beside its program.
+#[derive(Clone, Copy, Drop)]
+pub struct AskedRun<'a> {
+    /// the file of its script, if one is named
+    pub script: Option<&'a str>,
+    /// what it is to be done with
+    pub options: RunOptions,
+}
+
+/// An image, and its HEX text where that is asked for.
+#[derive(Drop)]
+struct Made {
+    image: Vec<u8>,
+    hex: Vec<u8>,
+}
+
 /// Goes on with a count in decimal, unless a put before has failed.
 fn then_put_count<K: Sink>(
     before: Result<(), PutFailed>,
@@ -135,22 +151,22 @@ fn finish<K: Sink>(out: &mut K, end: End, options: RunOptions, stats: &Stats, he
 /// Runs an image, and puts behind the transcript what is asked for, where this is the image's HEX text, if that is asked for.
 fn run_with<K: Sink, D: Device>(
     alloc: Global,
-    image: Vec<u8>,
-    hex: &[u8],
+    made: Made,
     script: Script,
     options: RunOptions,
     out: &mut K,
     places: &mut Vec<Option<D>>,
 ) -> Ending
-    requires size { vec_len image ≤ flash_end }
-    requires text { options.image ≡ true → hex.now ≡ hextext image.items }
+    requires size { vec_len made.image ≤ flash_end }
+    requires text { options.image ≡ true → made.hex.items ≡ hextext made.image.items }
     requires script { IsSound script }
     requires budget { IsBudget options.budget }
-    ensures { (P : TypedProgram) (texts : List ByteList) → ImageImplements P texts image.items
+    ensures { (P : TypedProgram) (texts : List ByteList) → ImageImplements P texts made.entry.image.items
         → Concludes (of_sink K.taken K.faults out.old out.new) (of_devices D.account places.old.items places.new.items) [] (RunsProgram P texts script options.budget options.stats options.image) result }
 {
+    let Made { image, hex } = made;
     match run_image(alloc, image, script, places, options.budget, out) {
-        Ok((end, stats)) => finish(out, end, options, &stats, hex),
+        Ok((end, stats)) => finish(out, end, options, &stats, &hex),
         Err(NoMemory) => Ending::NoMemory,
     }
 }
@@ -183,7 +199,7 @@ pub fn run_program<K: Sink, D: Device>(
         → Concludes (of_sink K.taken K.faults out.old out.new) (of_devices D.account places.old.items places.new.items) [] (RunsProgram P texts script options.budget options.stats options.image) result }
 {
     match hex_of(alloc, &image, options) {
-        Ok(hex) => run_with(alloc, image, &hex, script, options, out, places),
+        Ok(hex) => run_with(alloc, Made { image, hex }, script, options, out, places),
         Err(NoMemory) => Ending::NoMemory,
     }
 }
@@ -192,24 +208,23 @@ pub fn run_program<K: Sink, D: Device>(
 fn run_named<F: Folder, K: Sink, D: Device>(
     alloc: Global,
     image: Vec<u8>,
-    script: Option<&str>,
-    options: RunOptions,
+    asked: AskedRun<'_>,
     folder: &mut F,
     out: &mut K,
     places: &mut Vec<Option<D>>,
 ) -> Ending
     requires size { vec_len image ≤ flash_end }
-    requires budget { IsBudget options.budget }
+    requires budget { IsBudget asked.options.budget }
     ensures answer { (P : TypedProgram) (texts : List ByteList) → ImageImplements P texts image.items
         → Concludes (of_sink K.taken K.faults out.old out.new) (of_devices D.account places.old.items places.new.items) []
-        (OverScript (told_by F.holds F.faults folder.old folder.new) (option_map spoken script.entry)
-        (λ read. RunsProgram P texts read options.budget options.stats options.image)) result }
+        (OverScript (told_by F.holds F.faults folder.old folder.new) (option_map spoken asked.entry.script)
+        (λ read. RunsProgram P texts read asked.entry.options.budget asked.entry.options.stats asked.entry.options.image)) result }
     ensures asked { HasAsked F.asked folder.old folder.new
-        (WantsScript (told_by F.holds F.faults folder.old folder.new) (FoundNoMemory result) (option_map spoken script.entry) wants_none) }
+        (WantsScript (told_by F.holds F.faults folder.old folder.new) (FoundNoMemory result) (option_map spoken asked.entry.script) wants_none) }
     ensures folder_later { F.faults folder.old ≤ F.faults folder.new }
 {
-    match script_of(alloc, script, folder, out) {
-        Ok(script) => run_program(alloc, image, script, options, out, places),
+    match script_of(alloc, asked.script, folder, out) {
+        Ok(script) => run_program(alloc, image, script, asked.options, out, places),
         Err(ending) => ending,
     }
 }
@@ -218,21 +233,20 @@ fn run_named<F: Folder, K: Sink, D: Device>(
 fn run_text<F: Folder, K: Sink, D: Device>(
     alloc: Global,
     text: &[u8],
-    script: Option<&str>,
-    options: RunOptions,
+    asked: AskedRun<'_>,
     folder: &mut F,
     out: &mut K,
     places: &mut Vec<Option<D>>,
 ) -> Ending
-    requires budget { IsBudget options.budget }
+    requires budget { IsBudget asked.options.budget }
     ensures answer { Concludes (of_sink K.taken K.faults out.old out.new) (of_devices D.account places.old.items places.new.items) []
-        (RunsText (told_by F.holds F.faults folder.old folder.new) (option_map spoken script.entry) options.budget options.stats options.image text.now) result }
+        (RunsText (told_by F.holds F.faults folder.old folder.new) (option_map spoken asked.entry.script) asked.entry.options.budget asked.entry.options.stats asked.entry.options.image text.now) result }
     ensures asked { HasAsked F.asked folder.old folder.new
-        (OrLacks (FoundNoMemory result) (Onwards programs (λ read. WantsScript (told_by F.holds F.faults folder.old folder.new) (FoundNoMemory result) (option_map spoken script.entry) wants_none) text.now)) }
+        (OrLacks (FoundNoMemory result) (Onwards programs (λ read. WantsScript (told_by F.holds F.faults folder.old folder.new) (FoundNoMemory result) (option_map spoken asked.entry.script) wants_none) text.now)) }
     ensures folder_later { F.faults folder.old ≤ F.faults folder.new }
 {
     match image_of(alloc, text, out) {
-        Ok(image) => run_named(alloc, image, script, options, folder, out, places),
+        Ok(image) => run_named(alloc, image, asked, folder, out, places),
         Err(ending) => ending,
     }
 }
@@ -241,22 +255,21 @@ fn run_text<F: Folder, K: Sink, D: Device>(
 pub fn run<F: Folder, K: Sink, D: Device>(
     alloc: Global,
     name: &str,
-    script: Option<&str>,
-    options: RunOptions,
+    asked: AskedRun<'_>,
     folder: &mut F,
     out: &mut K,
     places: &mut Vec<Option<D>>,
 ) -> Ending
-    requires budget { IsBudget options.budget }
+    requires budget { IsBudget asked.options.budget }
     ensures answer { Concludes (of_sink K.taken K.faults out.old out.new) (of_devices D.account places.old.items places.new.items) []
         (AnswersFile (told_by F.holds F.faults folder.old folder.new) name.now
-        (RunsText (told_by F.holds F.faults folder.old folder.new) (option_map spoken script.entry) options.budget options.stats options.image)) result }
+        (RunsText (told_by F.holds F.faults folder.old folder.new) (option_map spoken asked.entry.script) asked.entry.options.budget asked.entry.options.stats asked.entry.options.image)) result }
     ensures asked { HasAsked F.asked folder.old folder.new
-        (WantsFile (told_by F.holds F.faults folder.old folder.new) (FoundNoMemory result) name.now (Onwards programs (λ read. WantsScript (told_by F.holds F.faults folder.old folder.new) (FoundNoMemory result) (option_map spoken script.entry) wants_none))) }
+        (WantsFile (told_by F.holds F.faults folder.old folder.new) (FoundNoMemory result) name.now (Onwards programs (λ read. WantsScript (told_by F.holds F.faults folder.old folder.new) (FoundNoMemory result) (option_map spoken asked.entry.script) wants_none))) }
     ensures folder_later { F.faults folder.old ≤ F.faults folder.new }
 {
     match text_of(alloc, name, folder, out) {
-        Ok(text) => run_text(alloc, &text, script, options, folder, out, places),
+        Ok(text) => run_text(alloc, &text, asked, folder, out, places),
         Err(ending) => ending,
     }
 }

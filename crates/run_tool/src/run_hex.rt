@@ -66,6 +66,15 @@ pub fn ending_of(end: End) -> Ending
     }
 }
 
+/// A run of an image that is asked for.
+#[derive(Clone, Copy, Drop)]
+pub struct AskedImageRun<'a> {
+    /// the file of its script, if one is named
+    pub script: Option<&'a str>,
+    /// the most instructions
+    pub budget: u32,
+}
+
 /// Runs an image on a script within a budget.
 fn run_board<K: Sink, D: Device>(
     alloc: Global,
@@ -90,22 +99,21 @@ fn run_board<K: Sink, D: Device>(
 fn run_named<F: Folder, K: Sink, D: Device>(
     alloc: Global,
     image: Vec<u8>,
-    script: Option<&str>,
-    budget: u32,
+    asked: AskedImageRun<'_>,
     folder: &mut F,
     out: &mut K,
     places: &mut Vec<Option<D>>,
 ) -> Ending
     requires size { vec_len image ≤ flash_size }
-    requires budget { IsBudget budget }
+    requires budget { IsBudget asked.budget }
     ensures answer { Concludes (of_sink K.taken K.faults out.old out.new) (of_devices D.account places.old.items places.new.items) []
-        (OverScript (told_by F.holds F.faults folder.old folder.new) (option_map spoken script.entry) (λ read. RunsBoard image.items read budget)) result }
+        (OverScript (told_by F.holds F.faults folder.old folder.new) (option_map spoken asked.entry.script) (λ read. RunsBoard image.items read asked.entry.budget)) result }
     ensures asked { HasAsked F.asked folder.old folder.new
-        (WantsScript (told_by F.holds F.faults folder.old folder.new) (FoundNoMemory result) (option_map spoken script.entry) wants_none) }
+        (WantsScript (told_by F.holds F.faults folder.old folder.new) (FoundNoMemory result) (option_map spoken asked.entry.script) wants_none) }
     ensures folder_later { F.faults folder.old ≤ F.faults folder.new }
 {
-    match script_of(alloc, script, folder, out) {
-        Ok(script) => run_board(alloc, image, script, budget, out, places),
+    match script_of(alloc, asked.script, folder, out) {
+        Ok(script) => run_board(alloc, image, script, asked.budget, out, places),
         Err(ending) => ending,
     }
 }
@@ -114,21 +122,20 @@ fn run_named<F: Folder, K: Sink, D: Device>(
 fn run_hex_text<F: Folder, K: Sink, D: Device>(
     alloc: Global,
     text: &[u8],
-    script: Option<&str>,
-    budget: u32,
+    asked: AskedImageRun<'_>,
     folder: &mut F,
     out: &mut K,
     places: &mut Vec<Option<D>>,
 ) -> Ending
-    requires budget { IsBudget budget }
+    requires budget { IsBudget asked.budget }
     ensures answer { Concludes (of_sink K.taken K.faults out.old out.new) (of_devices D.account places.old.items places.new.items) []
-        (RunsHex (told_by F.holds F.faults folder.old folder.new) (option_map spoken script.entry) budget text.now) result }
+        (RunsHex (told_by F.holds F.faults folder.old folder.new) (option_map spoken asked.entry.script) asked.entry.budget text.now) result }
     ensures asked { HasAsked F.asked folder.old folder.new
-        (OrLacks (FoundNoMemory result) (Onwards images (λ image. WantsScript (told_by F.holds F.faults folder.old folder.new) (FoundNoMemory result) (option_map spoken script.entry) wants_none) text.now)) }
+        (OrLacks (FoundNoMemory result) (Onwards images (λ image. WantsScript (told_by F.holds F.faults folder.old folder.new) (FoundNoMemory result) (option_map spoken asked.entry.script) wants_none) text.now)) }
     ensures folder_later { F.faults folder.old ≤ F.faults folder.new }
 {
     match read_hex(alloc, text) {
-        Ok(image) => run_named(alloc, image, script, budget, folder, out, places),
+        Ok(image) => run_named(alloc, image, asked, folder, out, places),
         Err(why) => match why {
             HexRefused::Image(code) => say_image_refused(out, code),
             HexRefused::NoMemory => Ending::NoMemory,
@@ -140,22 +147,21 @@ fn run_hex_text<F: Folder, K: Sink, D: Device>(
 pub fn run_hex<F: Folder, K: Sink, D: Device>(
     alloc: Global,
     name: &str,
-    script: Option<&str>,
-    budget: u32,
+    asked: AskedImageRun<'_>,
     folder: &mut F,
     out: &mut K,
     places: &mut Vec<Option<D>>,
 ) -> Ending
-    requires budget { IsBudget budget }
+    requires budget { IsBudget asked.budget }
     ensures answer { Concludes (of_sink K.taken K.faults out.old out.new) (of_devices D.account places.old.items places.new.items) []
         (AnswersFile (told_by F.holds F.faults folder.old folder.new) name.now
-        (RunsHex (told_by F.holds F.faults folder.old folder.new) (option_map spoken script.entry) budget)) result }
+        (RunsHex (told_by F.holds F.faults folder.old folder.new) (option_map spoken asked.entry.script) asked.entry.budget)) result }
     ensures asked { HasAsked F.asked folder.old folder.new
-        (WantsFile (told_by F.holds F.faults folder.old folder.new) (FoundNoMemory result) name.now (Onwards images (λ image. WantsScript (told_by F.holds F.faults folder.old folder.new) (FoundNoMemory result) (option_map spoken script.entry) wants_none))) }
+        (WantsFile (told_by F.holds F.faults folder.old folder.new) (FoundNoMemory result) name.now (Onwards images (λ image. WantsScript (told_by F.holds F.faults folder.old folder.new) (FoundNoMemory result) (option_map spoken asked.entry.script) wants_none))) }
     ensures folder_later { F.faults folder.old ≤ F.faults folder.new }
 {
     match text_of(alloc, name, folder, out) {
-        Ok(text) => run_hex_text(alloc, &text, script, budget, folder, out, places),
+        Ok(text) => run_hex_text(alloc, &text, asked, folder, out, places),
         Err(ending) => ending,
     }
 }

@@ -24,8 +24,8 @@ returns-in-Ok-clause-answer g c =
     let files = told_by holds faults old new in
     let files_mid = told_by holds faults mid new in
     let on = last-part holds faults old mid new c.in-Ok.ensures.stays c.in-Ok.ensures.folder_later in
-    let name = option_map spoken c.args.script in
-    let m = c.args.options in
+    let name = option_map spoken c.args.asked.script in
+    let m = c.args.asked.options in
     text-concludes g.K.Sink.taken g.K.Sink.faults c.args.out.now c.text_of.new.out c.run_text.new.out (RunsText files name m.budget m.stats m.image) files c.args.name.now
     c.in-Ok.text c.deref.result.now c.run_text.result c.in-Ok.ensures.unwritten c.in-Ok.ensures.later c.deref.ensures.value c.in-Ok.ensures.text
     (concludes-more (RunsText files_mid name m.budget m.stats m.image c.deref.result.now)
@@ -35,8 +35,8 @@ returns-in-Ok-clause-answer g c =
 pub returns-in-Err-clause-answer : goal.returns-in-Err-clause-answer
 returns-in-Err-clause-answer g c =
     let files = told_by g.F.Folder.holds g.F.Folder.faults c.args.folder.now c.text_of.new.folder in
-    let m = c.args.options in
-    let answers = RunsText files (option_map spoken c.args.script) m.budget m.stats m.image in
+    let m = c.args.asked.options in
+    let answers = RunsText files (option_map spoken c.args.asked.script) m.budget m.stats m.image in
     says-concludes g.D.Device.account c.args.places.now.items c.args.places.now.items refl (AnswersFile files c.args.name.now answers) c.in-Err.ending
     (no-text-gives answers files c.args.name.now c.in-Err.ending c.in-Err.ensures.none)
 
@@ -53,13 +53,13 @@ returns-in-Ok-clause-asked g c =
     let on = last-part holds faults old mid new c.in-Ok.ensures.stays c.in-Ok.ensures.folder_later in
     let lacking = c.run_text.result ≡ NoMemory in
     let text = c.deref.result.now in
-    let next = WantsScript files lacking (option_map spoken c.args.script) wants_none in
-    let next_mid = WantsScript files_mid lacking (option_map spoken c.args.script) wants_none in
+    let next = WantsScript files lacking (option_map spoken c.args.asked.script) wants_none in
+    let next_mid = WantsScript files_mid lacking (option_map spoken c.args.asked.script) wants_none in
     then-behind asked holds faults old mid new lacking c.args.name.now (Onwards programs (λ read. next)) c.in-Ok.text text c.in-Ok.ensures.asked c.in-Ok.ensures.text c.deref.ensures.value
     c.run_text.ensures.folder_later
     (asked-more asked mid new (OrLacks lacking (Onwards programs (λ read. next_mid) text)) (OrLacks lacking (Onwards programs (λ read. next) text))
     (λ names h. or-more lacking lacking (Onwards programs (λ read. next_mid) text) (Onwards programs (λ read. next) text) names (λ l. l)
-    (λ x. onwards-more programs (λ read. next_mid) (λ read. next) text names (λ read y. script-more files_mid files lacking lacking on (λ l. l) (option_map spoken c.args.script) wants_none wants_none names (λ names z. z) y) x) h) c.run_text.ensures.asked)
+    (λ x. onwards-more programs (λ read. next_mid) (λ read. next) text names (λ read y. script-more files_mid files lacking lacking on (λ l. l) (option_map spoken c.args.asked.script) wants_none wants_none names (λ names z. z) y) x) h) c.run_text.ensures.asked)
 
 pub returns-in-Err-clause-asked : goal.returns-in-Err-clause-asked
 returns-in-Err-clause-asked g c =
@@ -70,6 +70,6 @@ returns-in-Err-clause-asked g c =
     let new = c.text_of.new.folder in
     let files = told_by holds faults old new in
     let lacking = c.in-Err.ending ≡ NoMemory in
-    let next = WantsScript files lacking (option_map spoken c.args.script) wants_none in
+    let next = WantsScript files lacking (option_map spoken c.args.asked.script) wants_none in
     asked-more asked old new (WantsFile files lacking c.args.name.now never_behind) (WantsFile files lacking c.args.name.now (Onwards programs (λ read. next)))
     (λ names h. file-missed files lacking c.args.name.now (Onwards programs (λ read. next)) names h) c.in-Err.ensures.stopped

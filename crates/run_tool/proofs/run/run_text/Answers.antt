@@ -19,8 +19,8 @@ use Rattle.run_tool.proofs.run.run_text.Goals as goal
 pub returns-in-Ok-clause-answer : goal.returns-in-Ok-clause-answer
 returns-in-Ok-clause-answer g c =
     let files = told_by g.F.Folder.holds g.F.Folder.faults c.args.folder.now c.run_named.new.folder in
-    let name = option_map spoken c.args.script in
-    let m = c.args.options in
+    let name = option_map spoken c.args.asked.script in
+    let m = c.args.asked.options in
     let answers = λ (P : TypedProgram) (texts : List ByteList). OverScript files name (λ read. RunsProgram P texts read m.budget m.stats m.image) in
     let b = c.in-Ok.ensures.built in
     let may = RunsText files name m.budget m.stats m.image c.args.text.now in
@@ -32,8 +32,8 @@ returns-in-Ok-clause-answer g c =
 pub returns-in-Err-clause-answer : goal.returns-in-Err-clause-answer
 returns-in-Err-clause-answer g c =
     let files = told_by g.F.Folder.holds g.F.Folder.faults c.args.folder.now c.args.folder.now in
-    let name = option_map spoken c.args.script in
-    let m = c.args.options in
+    let name = option_map spoken c.args.asked.script in
+    let m = c.args.asked.options in
     let answers = λ (P : TypedProgram) (texts : List ByteList). OverScript files name (λ read. RunsProgram P texts read m.budget m.stats m.image) in
     says-concludes g.D.Device.account c.args.places.now.items c.args.places.now.items refl (RunsText files name m.budget m.stats m.image c.args.text.now) c.in-Err.ending
     (no-program-gives answers c.args.text.now c.in-Err.ending c.in-Err.ensures.none)
@@ -48,7 +48,7 @@ returns-in-Ok-clause-asked g c =
     let files = told_by holds faults old new in
     let text = c.args.text.now in
     let lacking = c.run_named.result ≡ NoMemory in
-    let next = WantsScript files lacking (option_map spoken c.args.script) wants_none in
+    let next = WantsScript files lacking (option_map spoken c.args.asked.script) wants_none in
     asked-more asked old new next (OrLacks lacking (Onwards programs (λ read. next) text)) (λ names h. inl (accepted text c.in-Ok.image.items c.in-Ok.ensures.built (λ read. next) names h)) c.run_named.ensures.asked
 
 pub returns-in-Err-clause-asked : goal.returns-in-Err-clause-asked
@@ -61,5 +61,5 @@ returns-in-Err-clause-asked g c =
     let files = told_by holds faults old new in
     let text = c.args.text.now in
     let lacking = c.in-Err.ending ≡ NoMemory in
-    let next = WantsScript files lacking (option_map spoken c.args.script) wants_none in
+    let next = WantsScript files lacking (option_map spoken c.args.asked.script) wants_none in
     asked-none asked old (OrLacks lacking (Onwards programs (λ read. next) text)) (program-stops text c.in-Err.ending (λ read. next) c.in-Err.ensures.none)

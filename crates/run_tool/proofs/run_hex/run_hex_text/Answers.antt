@@ -25,17 +25,17 @@ run_named-requires-clause-size g c =
 pub returns-in-Ok-clause-answer : goal.returns-in-Ok-clause-answer
 returns-in-Ok-clause-answer g c =
     let files = told_by g.F.Folder.holds g.F.Folder.faults c.args.folder.now c.run_named.new.folder in
-    let name = option_map spoken c.args.script in
-    concludes-more (OverScript files name (λ read. RunsBoard c.in-Ok.image.items read c.args.budget)) (RunsHex files name c.args.budget c.args.text.now) c.run_named.result
+    let name = option_map spoken c.args.asked.script in
+    concludes-more (OverScript files name (λ read. RunsBoard c.in-Ok.image.items read c.args.asked.budget)) (RunsHex files name c.args.asked.budget c.args.text.now) c.run_named.result
     (λ answer h. inl (c.in-Ok.image.items, c.in-Ok.ensures.image, h)) c.run_named.ensures.answer
 
 pub returns-in-Image-clause-answer : goal.returns-in-Image-clause-answer
 returns-in-Image-clause-answer g c =
     let files = told_by g.F.Folder.holds g.F.Folder.faults c.args.folder.now c.args.folder.now in
-    let name = option_map spoken c.args.script in
-    says-concludes g.D.Device.account c.args.places.now.items c.args.places.now.items refl (RunsHex files name c.args.budget c.args.text.now) c.say_image_refused.result
-    (gives-more (λ answer. answer ≡ says ImageRefused (image_refused_line (number_of c.in-Image.code))) (RunsHex files name c.args.budget c.args.text.now) c.say_image_refused.result
-    (broken-answer files name c.args.text.now c.args.budget c.in-Image.code c.in-Err.why c.in-Image.is c.in-Err.ensures.code) c.say_image_refused.ensures)
+    let name = option_map spoken c.args.asked.script in
+    says-concludes g.D.Device.account c.args.places.now.items c.args.places.now.items refl (RunsHex files name c.args.asked.budget c.args.text.now) c.say_image_refused.result
+    (gives-more (λ answer. answer ≡ says ImageRefused (image_refused_line (number_of c.in-Image.code))) (RunsHex files name c.args.asked.budget c.args.text.now) c.say_image_refused.result
+    (broken-answer files name c.args.text.now c.args.asked.budget c.in-Image.code c.in-Err.why c.in-Image.is c.in-Err.ensures.code) c.say_image_refused.ensures)
 
 pub returns-in-Ok-clause-asked : goal.returns-in-Ok-clause-asked
 returns-in-Ok-clause-asked g c =
@@ -47,7 +47,7 @@ returns-in-Ok-clause-asked g c =
     let files = told_by holds faults old new in
     let text = c.args.text.now in
     let lacking = c.run_named.result ≡ NoMemory in
-    let next = WantsScript files lacking (option_map spoken c.args.script) wants_none in
+    let next = WantsScript files lacking (option_map spoken c.args.asked.script) wants_none in
     asked-more asked old new next (OrLacks lacking (Onwards images (λ image. next) text)) (λ names h. inl (inl (c.in-Ok.image.items, c.in-Ok.ensures.image, h))) c.run_named.ensures.asked
 
 pub returns-in-Image-clause-asked : goal.returns-in-Image-clause-asked
@@ -60,7 +60,7 @@ returns-in-Image-clause-asked g c =
     let files = told_by holds faults old new in
     let text = c.args.text.now in
     let lacking = c.say_image_refused.result ≡ NoMemory in
-    let next = WantsScript files lacking (option_map spoken c.args.script) wants_none in
+    let next = WantsScript files lacking (option_map spoken c.args.asked.script) wants_none in
     asked-none asked old (OrLacks lacking (Onwards images (λ image. next) text)) (inl (broken text c.in-Err.why c.in-Image.code c.in-Image.is c.in-Err.ensures.code (λ image. next)))
 
 pub returns-in-NoMemory-clause-asked : goal.returns-in-NoMemory-clause-asked
@@ -73,5 +73,5 @@ returns-in-NoMemory-clause-asked g c =
     let files = told_by holds faults old new in
     let text = c.args.text.now in
     let lacking = NoMemory ≡ NoMemory in
-    let next = WantsScript files lacking (option_map spoken c.args.script) wants_none in
+    let next = WantsScript files lacking (option_map spoken c.args.asked.script) wants_none in
     asked-none asked old (OrLacks lacking (Onwards images (λ image. next) text)) (inr (refl, refl))

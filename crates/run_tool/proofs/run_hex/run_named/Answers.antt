@@ -18,20 +18,20 @@ use Rattle.run_tool.proofs.run_hex.run_named.Goals as goal
 pub returns-in-Ok-clause-answer : goal.returns-in-Ok-clause-answer
 returns-in-Ok-clause-answer g c =
     let files = told_by g.F.Folder.holds g.F.Folder.faults c.args.folder.now c.script_of.new.folder in
-    let name = option_map spoken c.args.script in
-    let may = OverScript files name (λ read. RunsBoard c.args.image.items read c.args.budget) in
+    let name = option_map spoken c.args.asked.script in
+    let may = OverScript files name (λ read. RunsBoard c.args.image.items read c.args.asked.budget) in
     concludes-after g.K.Sink.taken g.K.Sink.faults c.args.out.now c.script_of.new.out c.run_board.new.out may c.run_board.result
     (subst (λ x. Took x (g.K.Sink.taken c.script_of.new.out) []) c.in-Ok.ensures.unwritten (took-nothing (g.K.Sink.taken c.script_of.new.out))) c.in-Ok.ensures.later
-    (concludes-more (RunsBoard c.args.image.items c.in-Ok.script c.args.budget) may c.run_board.result
-    (λ answer h. over-script files name (λ read. RunsBoard c.args.image.items read c.args.budget) c.in-Ok.script answer c.in-Ok.ensures.script h) c.run_board.ensures)
+    (concludes-more (RunsBoard c.args.image.items c.in-Ok.script c.args.asked.budget) may c.run_board.result
+    (λ answer h. over-script files name (λ read. RunsBoard c.args.image.items read c.args.asked.budget) c.in-Ok.script answer c.in-Ok.ensures.script h) c.run_board.ensures)
 
 pub returns-in-Err-clause-answer : goal.returns-in-Err-clause-answer
 returns-in-Err-clause-answer g c =
     let files = told_by g.F.Folder.holds g.F.Folder.faults c.args.folder.now c.script_of.new.folder in
-    let name = option_map spoken c.args.script in
-    let may = OverScript files name (λ read. RunsBoard c.args.image.items read c.args.budget) in
+    let name = option_map spoken c.args.asked.script in
+    let may = OverScript files name (λ read. RunsBoard c.args.image.items read c.args.asked.budget) in
     says-concludes g.D.Device.account c.args.places.now.items c.args.places.now.items refl may c.in-Err.ending
-    (gives-more (OverScript files name none_to_read) may c.in-Err.ending (λ answer h. no-script files name (λ read. RunsBoard c.args.image.items read c.args.budget) answer h) c.in-Err.ensures.none)
+    (gives-more (OverScript files name none_to_read) may c.in-Err.ending (λ answer h. no-script files name (λ read. RunsBoard c.args.image.items read c.args.asked.budget) answer h) c.in-Err.ensures.none)
 
 pub returns-in-Ok-clause-asked : goal.returns-in-Ok-clause-asked
 returns-in-Ok-clause-asked g c =
@@ -41,7 +41,7 @@ returns-in-Ok-clause-asked g c =
     let old = c.args.folder.now in
     let new = c.script_of.new.folder in
     let files = told_by holds faults old new in
-    let name = option_map spoken c.args.script in
+    let name = option_map spoken c.args.asked.script in
     (names_given name, c.in-Ok.ensures.asked, script-read files (c.run_board.result ≡ NoMemory) name c.in-Ok.script c.in-Ok.ensures.script)
 
 pub returns-in-Err-clause-asked : goal.returns-in-Err-clause-asked
@@ -52,7 +52,7 @@ returns-in-Err-clause-asked g c =
     let old = c.args.folder.now in
     let new = c.script_of.new.folder in
     let files = told_by holds faults old new in
-    let name = option_map spoken c.args.script in
+    let name = option_map spoken c.args.asked.script in
     let lacking = c.in-Err.ending ≡ NoMemory in
     asked-more asked old new (WantsScript files lacking name wants_never) (WantsScript files lacking name wants_none)
     (λ names h. script-more files files lacking lacking (λ file. refl, λ r. r) (λ l. l) name wants_never wants_none names (λ names x. absurd x) h) c.in-Err.ensures.stopped
