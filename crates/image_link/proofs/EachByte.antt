@@ -1,5 +1,5 @@
 -- The image of sound bodies is made of bytes.
-use Rattle.std.proofs.Common.{◌≡◌, ℕ, ℤ, zero, suc, ◌+◌, ◌-◌, ◌*◌, ◌/◌, ◌%◌, ◌^◌, ◌<◌, ◌≤◌, List, [], ◌∷◌, ◌++◌, length, Bool, true, false, cond, nat_lt, Some, None, Option, refl, sym, ap, subst, arith, get_or, slice_index, set}
+use Rattle.std.proofs.Common.{◌≡◌, ℕ, ℤ, zero, suc, ◌+◌, ◌-◌, ◌*◌, ◌/◌, ◌%◌, ◌^◌, ◌<◌, ◌≤◌, List, [], ◌∷◌, ◌++◌, length, Bool, true, false, cond, nat_lt, Some, None, Option, refl, sym, ap, subst, arith, get_or, set}
 use Rattle.std.specs.Prelude.{replicate}
 use Rattle.std.specs.List.{AllByRecursion}
 use Rattle.std.proofs.lemmas.Bool.Decides.{nat_tests}
@@ -23,9 +23,9 @@ use Rattle.thumb_layout.proofs.Laws.{laid_long, cells_fit}
 use Rattle.flat_ir.specs.declared.ops.FlatClass.{FlatClass}
 use Rattle.flat_ir.specs.declared.ops.FlatCode.{FlatCode}
 use Rattle.thumb_divide.specs.Routine.{routine_bytes}
-use Rattle.image_link.specs.declared.addresses.Addresses.{Addresses}
+use Rattle.thumb_emit.specs.InFlash.{Addresses, callee_at, word_for}
 use Rattle.image_link.specs.Parts.{padded, with_part, with_parts}
-use Rattle.image_link.specs.Image.{base, head, is_named, opened, filled, called, word_for, slot_words, text_bytes, code_parts, class_parts, text_parts, parts, image, addresses}
+use Rattle.image_link.specs.Image.{base, head, is_named, opened, filled, slot_words, text_bytes, code_parts, class_parts, text_parts, parts, image, addresses}
 
 abbrev pub EachByte : List ℕ → Type 0
 EachByte = AllByRecursion (λ b. b < 256)
@@ -113,7 +113,7 @@ call_fits : (z : ℤ) → EachFits (row (Bl z))
 call_fits z = (omega arith, (omega arith, (omega arith, (omega arith, (omega arith, (omega arith, (omega arith, (omega arith, tt))))))))
 
 opened_is : (a : Addresses) (at : ℕ) (call : Bool) (what : What) → EachByte (opened a at call what)
-opened_is a at true (Function f) = spelled_is (Bl (offset at (called a f))) (call_fits (offset at (called a f)))
+opened_is a at true (Function f) = spelled_is (Bl (offset at (callee_at a f))) (call_fits (offset at (callee_at a f)))
 opened_is a at true (Text i) = word_is (word_for a (Text i))
 opened_is a at true (Class c) = word_is (word_for a (Class c))
 opened_is a at false what = word_is (word_for a what)
@@ -145,7 +145,7 @@ parts_are xs (p ∷ ps) h k = parts_are (with_part xs p) ps (part_is xs p h k.0)
 
 codes_are : (a : Addresses) (n : ℕ) (ls : List Laid) → AllByRecursion (λ l. EachByte l.bytes) ls → AreParts (code_parts a n ls)
 codes_are a n [] h = tt
-codes_are a n (l ∷ ls) h = (filled_is a (slice_index a.functions n) l.fixes l.bytes h.0, codes_are a (n + 1) ls h.1)
+codes_are a n (l ∷ ls) h = (filled_is a (a.function n) l.fixes l.bytes h.0, codes_are a (n + 1) ls h.1)
 
 slots_are : (a : Addresses) (fs : List ℕ) → EachByte (slot_words a fs)
 slots_are a [] = tt

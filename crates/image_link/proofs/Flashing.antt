@@ -1,5 +1,5 @@
 -- The image, as flash, shows its program.
-use Rattle.std.proofs.Common.{◌≡◌, ℕ, zero, suc, ◌+◌, ◌*◌, ◌/◌, ◌%◌, ◌^◌, ◌<◌, ◌≤◌, List, [], ◌∷◌, length, refl, sym, ap, ◌∙◌, subst, arith, Some, Bool, true, false, cond, get_or, slice_index, slice_get, ◌==◌}
+use Rattle.std.proofs.Common.{◌≡◌, ℕ, zero, suc, ◌+◌, ◌*◌, ◌/◌, ◌%◌, ◌^◌, ◌<◌, ◌≤◌, List, [], ◌∷◌, length, refl, sym, ap, ◌∙◌, subst, arith, Some, Bool, true, false, cond, get_or, slice_get, ◌==◌}
 use Rattle.std.specs.Prelude.{map, ◌||◌, Contains}
 use Rattle.std.specs.Option.{option_map}
 use Rattle.std.proofs.lemmas.Bool.Decides.{nat_tests}
@@ -22,12 +22,9 @@ use Rattle.thumb_layout.specs.Flash.{IsOpened, AreFixed}
 use Rattle.thumb_layout.specs.Openings.{called, callees, addressed}
 use Rattle.thumb_layout.proofs.Laws.{fixes_called, fixes_named}
 use Rattle.thumb_emit.specs.Emit.{division}
-use Rattle.thumb_emit.specs.InFlash.{IsNamed, callee_at, word_for}
-use Rattle.image_link.specs.declared.addresses.Addresses.{Addresses}
-use Rattle.image_link.specs.Image as image
+use Rattle.thumb_emit.specs.InFlash.{Addresses, IsNamed, callee_at, word_for}
 use Rattle.image_link.specs.Image.{head, is_named, is_this_text, names_text, opened, filled, class_table, slot_words, text_bytes, image_end, addresses}
 use Rattle.image_link.specs.Linkable.{IsPlace, ArePlaced}
-use Rattle.image_link.specs.Shown.{by_number}
 use Rattle.image_link.proofs.Showing.{bl_reaches, AllFilled}
 
 -- four bytes from an address on
@@ -60,36 +57,31 @@ IsCallable true (Function f) = Unit {0}
 IsCallable true what = ⊥
 IsCallable false what = Unit {0}
 
-place_called : (a : Addresses) → ArePlaced a → (f : ℕ) → IsPlace (image.called a f)
+place_called : (a : Addresses) → ArePlaced a → (f : ℕ) → IsPlace (callee_at a f)
 place_called a h f = by (f == division)
   where
-    by : (b : Bool) → IsPlace (cond b a.routine (slice_index a.functions f))
+    by : (b : Bool) → IsPlace (cond b a.routine (a.function f))
     by true = h.routine
     by false = h.functions f
 
-pub word_small : (a : Addresses) → ArePlaced a → (what : What) → image.word_for a what < 2 ^ 32
+pub word_small : (a : Addresses) → ArePlaced a → (what : What) → word_for a what < 2 ^ 32
 word_small a h (Function f) = let g = h.functions f in let l = g.0 in omega arith
 word_small a h (Text i) = let g = h.texts i in let l = g.0 in omega arith
 word_small a h (Class c) = let g = h.classes c in let l = g.0 in omega arith
 
-same_word : (a : Addresses) (what : What) → image.word_for a what ≡ word_for (by_number a) what
-same_word a (Function f) = refl
-same_word a (Text i) = refl
-same_word a (Class c) = refl
-
 opened_there : (flash : List ℕ) (a : Addresses) (base p : ℕ) → ArePlaced a → p % 2 ≡ 0 → p < 2 ^ 20 → (call : Bool) (what : What) → IsCallable call what → HasFour flash p (opened a p call what)
-    → IsOpened flash base (callee_at (by_number a)) (word_for (by_number a)) call p what
+    → IsOpened flash base (callee_at a) (word_for a) call p what
 opened_there flash a base p h e l true (Function f) ok g =
     let to = place_called a h f in
     let low = to.0 in
     let four = to.1 in
-    let o = offset p (image.called a f) in
-    let fits = bl_reaches p (image.called a f) e (omega arith) l (omega arith) in
+    let o = offset p (callee_at a f) in
+    let fits = bl_reaches p (callee_at a f) e (omega arith) l (omega arith) in
     let halves = call_there flash p (half (Bl o)) refl g _ _ refl in
     (o, fits.0, (sym halves.0, sym halves.1), fits.1)
 opened_there flash a base p h e l true (Text i) ok g = elim ok [ ]
 opened_there flash a base p h e l true (Class c) ok g = elim ok [ ]
-opened_there flash a base p h e l false what ok g = word_there flash p (image.word_for a what) (word_small a h what) g ∙ same_word a what
+opened_there flash a base p h e l false what ok g = word_there flash p (word_for a what) (word_small a h what) g
 
 -- the calls of laid code are of functions
 abbrev pub AllCallable : List Fix → Type 0
@@ -125,7 +117,7 @@ laid_callable xs = callable_from (laid xs).fixes (subst AreFunctions (sym (fixes
 
 -- what was open in code that a flash has is there
 pub are_fixed : (flash : List ℕ) (a : Addresses) (at : ℕ) (out : List ℕ) (fs : List Fix) → ArePlaced a → at % 4 ≡ 0 → at + length out ≤ flash_end → ((k : ℕ) → k < length out → flash_byte flash (at + k) ≡ get_or out k 255)
-    → AllFilled a at out fs → AllCallable fs → AreFixed flash at (callee_at (by_number a)) (word_for (by_number a)) fs
+    → AllFilled a at out fs → AllCallable fs → AreFixed flash at (callee_at a) (word_for a) fs
 are_fixed flash a at out [] p e l shown h ok = tt
 are_fixed flash a at out (f ∷ fs) p e l shown h ok =
     let first = h.0 in
@@ -169,15 +161,15 @@ text_named bodies i h =
     named_in i (map laid bodies) h.function (laid h.body) (laid_at bodies h.function h.body h.there) (addressed_names i (laid h.body).fixes a.0 a.1 a.2)
 
 -- the words of a class's table
-pub slot_there : (a : Addresses) (fs : List ℕ) (j g : ℕ) → slice_get fs j ≡ Some g → (i : ℕ) → i < 4 → get_or (slot_words a fs) (4 * j + i) 255 ≡ get_or (word_bytes (image.word_for a (Function g))) i 255
+pub slot_there : (a : Addresses) (fs : List ℕ) (j g : ℕ) → slice_get fs j ≡ Some g → (i : ℕ) → i < 4 → get_or (slot_words a fs) (4 * j + i) 255 ≡ get_or (word_bytes (word_for a (Function g))) i 255
 slot_there a [] j g e i l = let bad : ⊥ = cc in absurd bad
 slot_there a (f ∷ fs) zero g e i l =
     let same : f ≡ g = cc in
     let z : 4 * 0 + i ≡ i = omega arith in
-    ap (λ n. get_or (slot_words a (f ∷ fs)) n 255) z ∙ (get_or_append_left (word_bytes (image.word_for a (Function f))) (slot_words a fs) 255 i l ∙ ap (λ q. get_or (word_bytes (image.word_for a (Function q))) i 255) same)
+    ap (λ n. get_or (slot_words a (f ∷ fs)) n 255) z ∙ (get_or_append_left (word_bytes (word_for a (Function f))) (slot_words a fs) 255 i l ∙ ap (λ q. get_or (word_bytes (word_for a (Function q))) i 255) same)
 slot_there a (f ∷ fs) (suc j) g e i l =
     let z : 4 * suc j + i ≡ 4 + (4 * j + i) = omega arith in
-    ap (λ n. get_or (slot_words a (f ∷ fs)) n 255) z ∙ (get_or-append-add (word_bytes (image.word_for a (Function f))) (slot_words a fs) (4 * j + i) 255 ∙ slot_there a fs j g e i l)
+    ap (λ n. get_or (slot_words a (f ∷ fs)) n 255) z ∙ (get_or-append-add (word_bytes (word_for a (Function f))) (slot_words a fs) (4 * j + i) 255 ∙ slot_there a fs j g e i l)
 
 -- the bytes of a text
 pub bytes_there : (flash : List ℕ) (t : List ℕ) (p : ℕ) → ((k : ℕ) → k < length t → flash_byte flash (p + k) ≡ get_or t k 255) → flash_bytes flash (length t) p ≡ t

@@ -1,5 +1,5 @@
 -- The image, as flash, shows its whole program.
-use Rattle.std.proofs.Common.{◌≡◌, ℕ, suc, [], ◌∷◌, ◌+◌, ◌-◌, ◌*◌, ◌/◌, ◌%◌, ◌^◌, ◌<◌, ◌≤◌, List, length, refl, ap, ◌∙◌, arith, Some, true, get_or, slice_index, slice_get, ◌==◌}
+use Rattle.std.proofs.Common.{◌≡◌, ℕ, suc, [], ◌∷◌, ◌+◌, ◌-◌, ◌*◌, ◌/◌, ◌%◌, ◌^◌, ◌<◌, ◌≤◌, List, length, refl, ap, ◌∙◌, arith, Some, true, get_or, slice_get, ◌==◌}
 use Rattle.std.specs.List.{AllByRecursion}
 use Rattle.std.specs.Prelude.{map, nat_le}
 use Rattle.std.proofs.lemmas.Bool.Decides.{nat_tests}
@@ -19,12 +19,10 @@ use Rattle.thumb_layout.specs.Cells.{word_bytes, laid}
 use Rattle.thumb_layout.proofs.Laws.{fixes_apart}
 use Rattle.thumb_divide.specs.Routine.{routine_bytes, HasRoutine}
 use Rattle.thumb_divide.proofs.Laws.{bytes_have_routine}
-use Rattle.thumb_emit.specs.InFlash.{IsNamed, ShowsFunction, ShowsClass, ShowsText, InFlash}
-use Rattle.image_link.specs.declared.addresses.Addresses.{Addresses}
-use Rattle.image_link.specs.Image as link
+use Rattle.thumb_emit.specs.InFlash.{Addresses, IsNamed, word_for, ShowsFunction, ShowsClass, ShowsText, InFlash}
 use Rattle.image_link.specs.Image.{base, head, is_named, filled, class_table, slot_words, text_bytes, image, image_end, addresses}
 use Rattle.image_link.specs.Linkable.{ArePlaced}
-use Rattle.image_link.specs.Shown.{IsImaged, by_number, shown_at}
+use Rattle.image_link.specs.Shown.{IsImaged, shown_at}
 use Rattle.image_link.proofs.Whole.{filled_long, slots_long, image_long, are_placed}
 use Rattle.image_link.proofs.Showing.{filled_outside, all_filled}
 use Rattle.image_link.proofs.Sections.{head_stands, code_stands, routine_stands, class_stands, text_stands, code_ends, routine_ends, class_ends, text_ends, texts_apart}
@@ -67,11 +65,11 @@ module _ (C : FlatCode) (bodies : List (List Piece)) (texts : List ByteList) whe
   base_there : base_of bytes ≡ base
   base_there = word_from bytes 0 base (omega arith) (head_stands laid_bodies C texts 0 (omega arith)) (head_stands laid_bodies C texts 1 (omega arith)) (head_stands laid_bodies C texts 2 (omega arith)) (head_stands laid_bodies C texts 3 (omega arith))
 
-  main_there : IsImaged C bodies texts → main_of bytes ≡ slice_index there.functions C.main + 1
+  main_there : IsImaged C bodies texts → main_of bytes ≡ there.function C.main + 1
   main_there h =
       let p = (placed h).functions C.main in
       let l = p.0 in
-      word_from bytes 4 (slice_index there.functions C.main + 1) (omega arith) (head_stands laid_bodies C texts 4 (omega arith)) (head_stands laid_bodies C texts 5 (omega arith)) (head_stands laid_bodies C texts 6 (omega arith)) (head_stands laid_bodies C texts 7 (omega arith))
+      word_from bytes 4 (there.function C.main + 1) (omega arith) (head_stands laid_bodies C texts 4 (omega arith)) (head_stands laid_bodies C texts 5 (omega arith)) (head_stands laid_bodies C texts 6 (omega arith)) (head_stands laid_bodies C texts 7 (omega arith))
 
   return_there : return_of bytes ≡ 13
   return_there = word_from bytes 8 13 (omega arith) (head_stands laid_bodies C texts 8 (omega arith)) (head_stands laid_bodies C texts 9 (omega arith)) (head_stands laid_bodies C texts 10 (omega arith)) (head_stands laid_bodies C texts 11 (omega arith))
@@ -80,10 +78,10 @@ module _ (C : FlatCode) (bodies : List (List Piece)) (texts : List ByteList) whe
   ends_there = let a : flash_byte bytes 12 ≡ 0 = head_stands laid_bodies C texts 12 (omega arith) in let b : flash_byte bytes 13 ≡ 0xDF = head_stands laid_bodies C texts 13 (omega arith) in omega arith
 
   -- a function's code
-  code_there : IsImaged C bodies texts → (f : ℕ) (body : List Piece) → slice_get bodies f ≡ Some body → ShowsFunction bytes (by_number there) (slice_index there.functions f) body
+  code_there : IsImaged C bodies texts → (f : ℕ) (body : List Piece) → slice_get bodies f ≡ Some body → ShowsFunction bytes there (there.function f) body
   code_there h f body e =
       let l = laid body in
-      let at = slice_index there.functions f in
+      let at = there.function f in
       let out = filled there at l.fixes l.bytes in
       let long = filled_long there at l.fixes l.bytes in
       let one = laid_at bodies f body e in
@@ -109,9 +107,9 @@ module _ (C : FlatCode) (bodies : List (List Piece)) (texts : List ByteList) whe
       bytes_have_routine bytes there.routine (omega arith) (omega arith) (λ k l. routine_stands laid_bodies C texts k l ∙ get_or_default routine_bytes k 255 0 l)
 
   -- a class's table
-  class_there : IsImaged C bodies texts → (c : ℕ) (class : FlatClass) → slice_get C.classes c ≡ Some class → ShowsClass bytes (by_number there) (slice_index there.classes c) class
+  class_there : IsImaged C bodies texts → (c : ℕ) (class : FlatClass) → slice_get C.classes c ≡ Some class → ShowsClass bytes there (there.class c) class
   class_there h c class e =
-      let at = slice_index there.classes c in
+      let at = there.class c in
       let room = fits h in
       let ends = class_ends laid_bodies C.classes texts c class e in
       let low = ends.1 in
@@ -125,21 +123,21 @@ module _ (C : FlatCode) (bodies : List (List Piece)) (texts : List ByteList) whe
         words = word_there bytes at class.words (h.words c class e) first;
         slots = λ j g s. (
             let within = slice_get_within class.slots j g s in
-            let four : HasFour bytes (at + 4 + 4 * j) (word_bytes (link.word_for there (Function g))) = (λ i l. (
+            let four : HasFour bytes (at + 4 + 4 * j) (word_bytes (word_for there (Function g))) = (λ i l. (
             let z : at + 4 + 4 * j + i ≡ at + (4 + (4 * j + i)) = omega arith in
             ap (flash_byte bytes) z ∙ (class_stands laid_bodies C texts c class e (4 + (4 * j + i)) (omega arith)
             ∙ (get_or-append-add (word_bytes class.words) (slot_words there class.slots) (4 * j + i) 255 ∙ slot_there there class.slots j g s i l)))) in
-            word_there bytes (at + 4 + 4 * j) (link.word_for there (Function g)) (word_small there (placed h) (Function g)) four);
+            word_there bytes (at + 4 + 4 * j) (word_for there (Function g)) (word_small there (placed h) (Function g)) four);
       }
 
   -- a text
-  text_there : IsImaged C bodies texts → (i : ℕ) → IsNamed bodies i → (t : ByteList) × (slice_get texts i ≡ Some t) × ShowsText bytes (slice_index there.texts i) t
+  text_there : IsImaged C bodies texts → (i : ℕ) → IsNamed bodies i → (t : ByteList) × (slice_get texts i ≡ Some t) × ShowsText bytes (there.text i) t
   text_there h i n =
       let found = h.texts_are i n in
       let t = found.0 in
       let e = found.1 in
       let short = found.2 in
-      let at = slice_index there.texts i in
+      let at = there.text i in
       let named = text_named bodies i n in
       let room = fits h in
       let ends = text_ends laid_bodies C.classes texts i t e named in
@@ -161,7 +159,7 @@ module _ (C : FlatCode) (bodies : List (List Piece)) (texts : List ByteList) whe
         },
       )
 
-  text_alone : IsImaged C bodies texts → (i j : ℕ) → IsNamed bodies i → IsNamed bodies j → slice_index there.texts i ≡ slice_index there.texts j → i ≡ j
+  text_alone : IsImaged C bodies texts → (i j : ℕ) → IsNamed bodies i → IsNamed bodies j → there.text i ≡ there.text j → i ≡ j
   text_alone h i j n m same =
       let s = h.texts_are i n in
       let t = h.texts_are j m in

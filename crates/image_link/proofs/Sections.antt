@@ -8,21 +8,21 @@ use Rattle.flat_ir.specs.declared.ops.FlatCode.{FlatCode}
 use Rattle.thumb_layout.specs.declared.laid.Laid.{Laid}
 use Rattle.thumb_layout.specs.Layout.{up}
 use Rattle.thumb_divide.specs.Routine.{routine_bytes, routine_length}
-use Rattle.image_link.specs.declared.addresses.Addresses.{Addresses}
+use Rattle.thumb_emit.specs.InFlash.{Addresses}
 use Rattle.image_link.specs.Parts.{padded, with_parts, starts, end_behind}
 use Rattle.image_link.specs.Image.{head_length, head, is_named, code_lengths, class_lengths, text_lengths, code_end, routine_end, class_end, image_end, addresses, filled, class_table, text_bytes, code_parts, class_parts, text_parts, parts, image}
 use Rattle.image_link.proofs.Standing.{lengths, length_padded, length_parts, with_append, before_parts, part_stands, part_stands_before, part_ends, start_behind, start_order}
 use Rattle.image_link.proofs.Whole.{filled_long, code_long, classes_long, texts_long, classes_grow, texts_grow}
 
 -- a part by its number
-code_part : (a : Addresses) (n : ℕ) (ls : List Laid) (f : ℕ) (l : Laid) → slice_get ls f ≡ Some l → slice_get (code_parts a n ls) f ≡ Some (Some (filled a (slice_index a.functions (n + f)) l.fixes l.bytes))
+code_part : (a : Addresses) (n : ℕ) (ls : List Laid) (f : ℕ) (l : Laid) → slice_get ls f ≡ Some l → slice_get (code_parts a n ls) f ≡ Some (Some (filled a (a.function (n + f)) l.fixes l.bytes))
 code_part a n [] f l e = let bad : ⊥ = cc in absurd bad
 code_part a n (m ∷ ls) zero l e =
     let same : m ≡ l = cc in
     let z : n ≡ n + 0 = omega arith in
-    ap (λ k. Some (Some (filled a (slice_index a.functions k) m.fixes m.bytes))) z ∙ ap (λ (q : Laid). Some (Some (filled a (slice_index a.functions (n + 0)) q.fixes q.bytes))) same
+    ap (λ k. Some (Some (filled a (a.function k) m.fixes m.bytes))) z ∙ ap (λ (q : Laid). Some (Some (filled a (a.function (n + 0)) q.fixes q.bytes))) same
 code_part a n (m ∷ ls) (suc f) l e =
-    let z : n + 1 + f ≡ n + suc f = omega arith in code_part a (n + 1) ls f l e ∙ ap (λ k. Some (Some (filled a (slice_index a.functions k) l.fixes l.bytes))) z
+    let z : n + 1 + f ≡ n + suc f = omega arith in code_part a (n + 1) ls f l e ∙ ap (λ k. Some (Some (filled a (a.function k) l.fixes l.bytes))) z
 
 text_part : (ls : List Laid) (n : ℕ) (ts : List (List ℕ)) (i : ℕ) (t : List ℕ) → slice_get ts i ≡ Some t → is_named ls (n + i) ≡ true → slice_get (text_parts ls n ts) i ≡ Some (Some (text_bytes t))
 text_part ls n [] i t e h = let bad : ⊥ = cc in absurd bad
@@ -68,15 +68,15 @@ unfolding image
 head_stands ls C ts k l = before_parts (head (addresses ls C.classes ts) C.main) (parts (addresses ls C.classes ts) ls C.classes ts) k 255 l
 
 pub code_stands : (ls : List Laid) (C : FlatCode) (ts : List (List ℕ)) (f : ℕ) (l : Laid) → slice_get ls f ≡ Some l → (k : ℕ) → k < length l.bytes
-    → let a = addresses ls C.classes ts in get_or (image ls C ts) (slice_index a.functions f + k) 255 ≡ get_or (filled a (slice_index a.functions f) l.fixes l.bytes) k 255
+    → let a = addresses ls C.classes ts in get_or (image ls C ts) (a.function f + k) 255 ≡ get_or (filled a (a.function f) l.fixes l.bytes) k 255
 unfolding image addresses
 code_stands ls C ts f l e k h =
     let a = addresses ls C.classes ts in
     let z : 0 + f ≡ f = omega arith in
-    let p = filled a (slice_index a.functions f) l.fixes l.bytes in
-    let part : slice_get (code_parts a 0 ls) f ≡ Some (Some p) = code_part a 0 ls f l e ∙ ap (λ n. Some (Some (filled a (slice_index a.functions n) l.fixes l.bytes))) z in
-    let long : length p ≡ length l.bytes = filled_long a (slice_index a.functions f) l.fixes l.bytes in
-    let at : slice_index (starts head_length (lengths (code_parts a 0 ls))) f ≡ slice_index a.functions f = ap (λ ns. slice_index (starts head_length ns) f) (code_long a 0 ls) in
+    let p = filled a (a.function f) l.fixes l.bytes in
+    let part : slice_get (code_parts a 0 ls) f ≡ Some (Some p) = code_part a 0 ls f l e ∙ ap (λ n. Some (Some (filled a (a.function n) l.fixes l.bytes))) z in
+    let long : length p ≡ length l.bytes = filled_long a (a.function f) l.fixes l.bytes in
+    let at : slice_index (starts head_length (lengths (code_parts a 0 ls))) f ≡ a.function f = ap (λ ns. slice_index (starts head_length ns) f) (code_long a 0 ls) in
     ap (λ n. get_or (image ls C ts) (n + k) 255) (sym at)
     ∙ part_stands_before (head a C.main) (code_parts a 0 ls) (Some routine_bytes ∷ (class_parts a C.classes ++ text_parts ls 0 ts)) f p 255 part k (omega arith)
 
@@ -90,31 +90,31 @@ routine_stands ls C ts k h =
     ∙ part_stands_before x (Some routine_bytes ∷ []) (class_parts a C.classes ++ text_parts ls 0 ts) 0 routine_bytes 255 refl k h)
 
 pub class_stands : (ls : List Laid) (C : FlatCode) (ts : List (List ℕ)) (c : ℕ) (class : FlatClass) → slice_get C.classes c ≡ Some class → (k : ℕ)
-    → let a = addresses ls C.classes ts in k < length (class_table a class) → get_or (image ls C ts) (slice_index a.classes c + k) 255 ≡ get_or (class_table a class) k 255
+    → let a = addresses ls C.classes ts in k < length (class_table a class) → get_or (image ls C ts) (a.class c + k) 255 ≡ get_or (class_table a class) k 255
 unfolding image addresses
 class_stands ls C ts c class e k h =
     let a = addresses ls C.classes ts in
     let x = with_routine a C.main ls in
     let part : slice_get (class_parts a C.classes) c ≡ Some (Some (class_table a class)) = slice_get-map (λ (q : FlatClass). Some (class_table a q)) C.classes c ∙ ap (option_map (λ (q : FlatClass). Some (class_table a q))) e in
-    let at : slice_index (starts (length x) (lengths (class_parts a C.classes))) c ≡ slice_index a.classes c = ap (λ n. slice_index (starts n (lengths (class_parts a C.classes))) c) (routine_there a C.main ls) ∙ ap (λ ns. slice_index (starts (routine_end ls) ns) c) (classes_long a C.classes) in
-    ap (λ q. get_or q (slice_index a.classes c + k) 255) (behind_code a C.main ls C.classes ts)
+    let at : slice_index (starts (length x) (lengths (class_parts a C.classes))) c ≡ a.class c = ap (λ n. slice_index (starts n (lengths (class_parts a C.classes))) c) (routine_there a C.main ls) ∙ ap (λ ns. slice_index (starts (routine_end ls) ns) c) (classes_long a C.classes) in
+    ap (λ q. get_or q (a.class c + k) 255) (behind_code a C.main ls C.classes ts)
     ∙ (ap (λ n. get_or (with_parts x (class_parts a C.classes ++ text_parts ls 0 ts)) (n + k) 255) (sym at)
     ∙ part_stands_before x (class_parts a C.classes) (text_parts ls 0 ts) c (class_table a class) 255 part k h)
 
 pub text_stands : (ls : List Laid) (C : FlatCode) (ts : List (List ℕ)) (i : ℕ) (t : List ℕ) → slice_get ts i ≡ Some t → is_named ls i ≡ true → (k : ℕ) → k < length (text_bytes t)
-    → let a = addresses ls C.classes ts in get_or (image ls C ts) (slice_index a.texts i + k) 255 ≡ get_or (text_bytes t) k 255
+    → let a = addresses ls C.classes ts in get_or (image ls C ts) (a.text i + k) 255 ≡ get_or (text_bytes t) k 255
 unfolding image addresses
 text_stands ls C ts i t e named k h =
     let a = addresses ls C.classes ts in
     let x = with_classes a C.main ls C.classes in
     let z : i ≡ 0 + i = omega arith in
     let part = text_part ls 0 ts i t e (ap (is_named ls) (sym z) ∙ named) in
-    let at : slice_index (starts (length x) (lengths (text_parts ls 0 ts))) i ≡ slice_index a.texts i = ap (λ n. slice_index (starts n (lengths (text_parts ls 0 ts))) i) (classes_there a C.main ls C.classes) ∙ ap (λ ns. slice_index (starts (class_end ls C.classes) ns) i) (texts_long ls 0 ts) in
-    ap (λ q. get_or q (slice_index a.texts i + k) 255) (behind_classes a C.main ls C.classes ts)
+    let at : slice_index (starts (length x) (lengths (text_parts ls 0 ts))) i ≡ a.text i = ap (λ n. slice_index (starts n (lengths (text_parts ls 0 ts))) i) (classes_there a C.main ls C.classes) ∙ ap (λ ns. slice_index (starts (class_end ls C.classes) ns) i) (texts_long ls 0 ts) in
+    ap (λ q. get_or q (a.text i + k) 255) (behind_classes a C.main ls C.classes ts)
     ∙ (ap (λ n. get_or (with_parts x (text_parts ls 0 ts)) (n + k) 255) (sym at) ∙ part_stands x (text_parts ls 0 ts) i (text_bytes t) 255 part k h)
 
 -- and where each ends
-pub code_ends : (ls : List Laid) (cs : List FlatClass) (ts : List (List ℕ)) (f : ℕ) (l : Laid) → slice_get ls f ≡ Some l → slice_index (addresses ls cs ts).functions f + length l.bytes ≤ image_end ls cs ts
+pub code_ends : (ls : List Laid) (cs : List FlatClass) (ts : List (List ℕ)) (f : ℕ) (l : Laid) → slice_get ls f ≡ Some l → (addresses ls cs ts).function f + length l.bytes ≤ image_end ls cs ts
 unfolding addresses
 code_ends ls cs ts f l e =
     let long : slice_get (code_lengths ls) f ≡ Some (Some (length l.bytes)) = slice_get-map (λ (q : Laid). Some (length q.bytes)) ls f ∙ ap (option_map (λ (q : Laid). Some (length q.bytes))) e in
@@ -127,7 +127,7 @@ unfolding addresses
 routine_ends ls cs ts = let b = classes_grow ls cs in let c = texts_grow ls cs ts in omega arith
 
 pub class_ends : (ls : List Laid) (cs : List FlatClass) (ts : List (List ℕ)) (c : ℕ) (class : FlatClass) → slice_get cs c ≡ Some class
-    → (0 < slice_index (addresses ls cs ts).classes c) × (slice_index (addresses ls cs ts).classes c + (4 + 4 * length class.slots) ≤ image_end ls cs ts)
+    → (0 < (addresses ls cs ts).class c) × ((addresses ls cs ts).class c + (4 + 4 * length class.slots) ≤ image_end ls cs ts)
 unfolding addresses
 class_ends ls cs ts c class e =
     let long : slice_get (class_lengths cs) c ≡ Some (Some (4 + 4 * length class.slots)) = slice_get-map (λ (q : FlatClass). Some (4 + 4 * length q.slots)) cs c ∙ ap (option_map (λ (q : FlatClass). Some (4 + 4 * length q.slots))) e in
@@ -143,7 +143,7 @@ text_length ls ts i t e named =
     ∙ (slice_get-map (option_map length) (text_parts ls 0 ts) i ∙ (ap (option_map (option_map length)) (text_part ls 0 ts i t e (ap (is_named ls) (sym z) ∙ named)) ∙ ap (λ m. Some (Some m)) n))
 
 pub text_ends : (ls : List Laid) (cs : List FlatClass) (ts : List (List ℕ)) (i : ℕ) (t : List ℕ) → slice_get ts i ≡ Some t → is_named ls i ≡ true
-    → (0 < slice_index (addresses ls cs ts).texts i) × (slice_index (addresses ls cs ts).texts i + (4 + length t) ≤ image_end ls cs ts)
+    → (0 < (addresses ls cs ts).text i) × ((addresses ls cs ts).text i + (4 + length t) ≤ image_end ls cs ts)
 unfolding addresses
 text_ends ls cs ts i t e named =
     let long = text_length ls ts i t e named in
@@ -153,7 +153,7 @@ text_ends ls cs ts i t e named =
 
 -- two texts that stand at one address are one
 pub texts_apart : (ls : List Laid) (cs : List FlatClass) (ts : List (List ℕ)) (i j : ℕ) (s t : List ℕ) → slice_get ts i ≡ Some s → slice_get ts j ≡ Some t → is_named ls i ≡ true → is_named ls j ≡ true
-    → slice_index (addresses ls cs ts).texts i ≡ slice_index (addresses ls cs ts).texts j → i ≡ j
+    → (addresses ls cs ts).text i ≡ (addresses ls cs ts).text j → i ≡ j
 unfolding addresses
 texts_apart ls cs ts i j s t e f named too same =
     let ns = text_lengths ls 0 ts in

@@ -14,7 +14,7 @@ use Rattle.thumb_layout.specs.Cells.{offset}
 use Rattle.thumb_layout.specs.Holds.{moved}
 use Rattle.thumb_layout.specs.Flash.{IsOutside}
 use Rattle.thumb_layout.specs.Openings.{StandApart}
-use Rattle.image_link.specs.declared.addresses.Addresses.{Addresses}
+use Rattle.thumb_emit.specs.InFlash.{Addresses}
 use Rattle.image_link.specs.Image.{opened, filled}
 use Rattle.image_link.proofs.Whole.{filled_long}
 

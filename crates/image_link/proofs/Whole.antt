@@ -1,5 +1,5 @@
 -- The image as a whole: how long it is, and where its parts stand.
-use Rattle.std.proofs.Common.{◌≡◌, ℕ, zero, suc, ◌+◌, ◌*◌, ◌<◌, ◌≤◌, List, [], ◌∷◌, ◌++◌, length, refl, sym, ap, ◌∙◌, arith, Option, Some, None, Bool, true, false, cond, slice_index}
+use Rattle.std.proofs.Common.{◌≡◌, ℕ, zero, suc, ◌+◌, ◌*◌, ◌<◌, ◌≤◌, List, [], ◌∷◌, ◌++◌, length, refl, sym, ap, ◌∙◌, arith, Option, Some, None, Bool, true, false, cond}
 use Rattle.std.specs.Prelude.{slice_index_or}
 use Rattle.std.specs.Option.{option_map}
 use Rattle.std.specs.List.{AllByRecursion}
@@ -13,7 +13,7 @@ use Rattle.thumb_layout.specs.declared.laid.Fix.{Fix}
 use Rattle.thumb_layout.specs.declared.laid.Laid.{Laid}
 use Rattle.thumb_layout.specs.Layout.{up}
 use Rattle.thumb_divide.specs.Routine.{routine_bytes, routine_length}
-use Rattle.image_link.specs.declared.addresses.Addresses.{Addresses}
+use Rattle.thumb_emit.specs.InFlash.{Addresses}
 use Rattle.image_link.specs.Parts.{padded, with_parts, end_with, end_behind}
 use Rattle.image_link.specs.Image.{head_length, head, is_named, code_lengths, class_lengths, text_lengths, code_end, routine_end, class_end, image_end, addresses, opened, filled, slot_words, class_table, text_bytes, code_parts, class_parts, text_parts, parts, image}
 use Rattle.image_link.specs.Linkable.{ArePlaced}
@@ -61,7 +61,7 @@ filled_long a at (f ∷ fs) bytes = filled_long a at fs (sets bytes f.at (opened
 pub code_long : (a : Addresses) (i : ℕ) (ls : List Laid) → lengths (code_parts a i ls) ≡ code_lengths ls
 code_long a i [] = refl
 code_long a i (l ∷ ls) =
-    ap (λ n. Some n ∷ lengths (code_parts a (i + 1) ls)) (filled_long a (slice_index a.functions i) l.fixes l.bytes) ∙ ap (λ q. Some (length l.bytes) ∷ q) (code_long a (i + 1) ls)
+    ap (λ n. Some n ∷ lengths (code_parts a (i + 1) ls)) (filled_long a (a.function i) l.fixes l.bytes) ∙ ap (λ q. Some (length l.bytes) ∷ q) (code_long a (i + 1) ls)
 
 pub slots_long : (a : Addresses) (fs : List ℕ) → length (slot_words a fs) ≡ 4 * length fs
 slots_long a [] = refl

@@ -6,14 +6,14 @@ use Rattle.thumb_code.specs.Table.{half}
 use Rattle.flat_ir.specs.declared.ops.FlatClass.{FlatClass}
 use Rattle.flat_ir.specs.declared.ops.FlatCode.{FlatCode}
 use Rattle.thumb_layout.specs.declared.pieces.What.{What}
-use Rattle.thumb_layout.specs.declared.pieces.What.TheVariants.{Function, Text, Class}
+use Rattle.thumb_layout.specs.declared.pieces.What.TheVariants.{Function, Text}
 use Rattle.thumb_layout.specs.declared.laid.Fix.{Fix}
 use Rattle.thumb_layout.specs.declared.laid.Laid.{Laid}
 use Rattle.thumb_layout.specs.Layout.{up}
 use Rattle.thumb_layout.specs.Cells.{word_bytes, spelled, offset}
-use Rattle.thumb_emit.specs.Emit.{division}
+use Rattle.thumb_emit.specs.InFlash.{Addresses, callee_at, word_for}
 use Rattle.thumb_divide.specs.Routine.{routine_bytes, routine_length}
-use Rattle.image_link.specs.declared.addresses.Addresses.{Addresses}
+use Rattle.image_link.specs.declared.addresses.Addresses as code
 use Rattle.image_link.specs.Parts.{starts, end_behind, with_parts}
 
 -- The base of a built image: the end of the stack that a fiber may use.
@@ -67,25 +67,19 @@ image_end laid classes texts = end_behind (class_end laid classes) (text_lengths
 
 unfoldable pub addresses : List Laid → List FlatClass → List (List ℕ) → Addresses
 addresses laid classes texts = record {
-  functions = starts head_length (code_lengths laid);
+  function = slice_index (starts head_length (code_lengths laid));
+  class = slice_index (starts (routine_end laid) (class_lengths classes));
+  text = slice_index (starts (class_end laid classes) (text_lengths laid 0 texts));
   routine = up (code_end laid);
-  classes = starts (routine_end laid) (class_lengths classes);
-  texts = starts (class_end laid classes) (text_lengths laid 0 texts);
 }
 
--- The word that stands for a thing: a function's code address has bit 0 set.
-abbrev pub word_for : Addresses → What → ℕ
-word_for a (Function f) = slice_index a.functions f + 1
-word_for a (Text i) = slice_index a.texts i
-word_for a (Class c) = slice_index a.classes c
-
--- Where a call goes: one number names the division routine.
-abbrev pub called : Addresses → ℕ → ℕ
-called a f = if f == division then a.routine else slice_index a.functions f
+-- The addresses that the code keeps, by numbers.
+abbrev pub as_addresses : code.Addresses → Addresses
+as_addresses a = record { function = slice_index a.functions; class = slice_index a.classes; text = slice_index a.texts; routine = a.routine }
 
 -- The four bytes for what is open at an address: a BL, or a word.
 abbrev pub opened : Addresses → ℕ → Bool → What → List ℕ
-opened a at true (Function f) = spelled (half (Bl (offset at (called a f))))
+opened a at true (Function f) = spelled (half (Bl (offset at (callee_at a f))))
 opened a at call what = word_bytes (word_for a what)
 
 -- The bytes of code that stands at an address, with what was open in it.
@@ -96,7 +90,7 @@ filled a at (f ∷ fs) bytes = filled a at fs (sets bytes f.at (opened a (at + f
 -- The parts: the functions' code from function i on, the classes' tables, and the texts from text i on.
 abbrev pub code_parts : Addresses → ℕ → List Laid → List (Option (List ℕ))
 code_parts a i [] = []
-code_parts a i (l ∷ ls) = Some (filled a (slice_index a.functions i) l.fixes l.bytes) ∷ code_parts a (i + 1) ls
+code_parts a i (l ∷ ls) = Some (filled a (a.function i) l.fixes l.bytes) ∷ code_parts a (i + 1) ls
 
 abbrev pub slot_words : Addresses → List ℕ → List ℕ
 slot_words a [] = []

@@ -1,5 +1,5 @@
 -- What is asked of a program so that its image shows it.
-use Rattle.std.specs.Prelude.{◌≡◌, ℕ, ◌^◌, ◌<◌, ◌≤◌, List, length, map, Some, slice_get, slice_index}
+use Rattle.std.specs.Prelude.{◌≡◌, ℕ, ◌^◌, ◌<◌, ◌≤◌, List, length, map, Some, slice_get}
 use Rattle.std.specs.List.{AllByRecursion}
 use Rattle.thumb_code.specs.Map.{flash_end}
 use Rattle.board_world.specs.Observations.{ByteList}
@@ -10,9 +10,7 @@ use Rattle.thumb_layout.specs.declared.pieces.Piece.{Piece}
 use Rattle.thumb_layout.specs.Soundness.{IsSound}
 use Rattle.thumb_layout.specs.Cells.{laid}
 use Rattle.thumb_emit.specs.Emit.{division}
-use Rattle.thumb_emit.specs.InFlash as flash
-use Rattle.thumb_emit.specs.InFlash.{IsNamed}
-use Rattle.image_link.specs.declared.addresses.Addresses.{Addresses}
+use Rattle.thumb_emit.specs.InFlash.{Addresses, IsNamed}
 use Rattle.image_link.specs.Image.{addresses, image}
 
 -- There is a sound body of each function, and no function has the division routine's number. A class's word is a word. Texts are bytes, and each that a
@@ -26,9 +24,6 @@ pub record IsImaged (C : FlatCode) (bodies : List (List Piece)) (texts : List By
   pub bytes : AllByRecursion (AllByRecursion (λ b. b < 256)) texts
   pub room : length (image (map laid bodies) C texts) ≤ flash_end
 
--- The addresses in an image of functions with these bodies, by numbers.
-abbrev pub by_number : Addresses → flash.Addresses
-by_number a = record { function = λ f. slice_index a.functions f; class = λ c. slice_index a.classes c; text = λ i. slice_index a.texts i; routine = a.routine }
-
-abbrev pub shown_at : FlatCode → List (List Piece) → List ByteList → flash.Addresses
-shown_at C bodies texts = by_number (addresses (map laid bodies) C.classes texts)
+-- Where all stand in an image of functions with these bodies.
+abbrev pub shown_at : FlatCode → List (List Piece) → List ByteList → Addresses
+shown_at C bodies texts = addresses (map laid bodies) C.classes texts

@@ -3,7 +3,7 @@ ghost use Rattle.std.specs.Prelude.{◌≡◌, ◌<◌, ◌≤◌, ◌+◌, ◌*
 ghost use Rattle.thumb_code.specs.Map.{flash_end};
 ghost use Rattle.thumb_layout.specs.Layout.{up};
 ghost use Rattle.image_link.specs.Parts.{end_with, starts, end_behind};
-ghost use Rattle.image_link.specs.Image.{code_lengths, class_lengths, text_lengths, is_named, addresses, image_end};
+ghost use Rattle.image_link.specs.Image.{code_lengths, class_lengths, text_lengths, is_named, as_addresses, addresses, image_end};
 
 use crate::refused::LinkRefused;
 use flat_ir::FlatClass;
@@ -134,7 +134,7 @@ pub fn place_parts(
 ) -> Result<Addresses, LinkRefused>
     requires long { length marks.now ≡ length texts.now }
     requires marks { (i : ℕ) → i < length texts.now → slice_index_or marks.now i false ≡ is_named laid.now i }
-    ensures addresses { IfOk result (λ found. found ≡ addresses laid.now classes.now texts.now) }
+    ensures addresses { IfOk result (λ found. as_addresses found ≡ addresses laid.now classes.now texts.now) }
     ensures fits { OnOk result (image_end laid.now classes.now texts.now ≤ flash_end) }
     ensures past { IfErr result (λ why. why ≡ LinkRefused.PastFlash → flash_end < image_end laid.now classes.now texts.now) }
 {

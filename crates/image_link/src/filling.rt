@@ -5,7 +5,8 @@ ghost use Rattle.std.proofs.lemmas.List.Edits.{sets};
 ghost use Rattle.thumb_code.specs.declared.instructions.Instr.TheVariants.{Bl};
 ghost use Rattle.thumb_code.specs.Table.{half, is_two, Fits};
 ghost use Rattle.thumb_layout.specs.Cells.{half_bytes, word_bytes, spelled, offset};
-ghost use Rattle.image_link.specs.Image.{word_for, called, opened, filled};
+ghost use Rattle.thumb_emit.specs.InFlash.{callee_at, word_for};
+ghost use Rattle.image_link.specs.Image.{as_addresses, opened, filled};
 ghost use Rattle.image_link.specs.Linkable.{ArePlaced, IsFixOf};
 
 use crate::addresses::Addresses;
@@ -82,15 +83,15 @@ fn number_at(numbers: &Seq<u32>, at: usize) -> u32
 impl Addresses {
     /// Where a function stands.
     pub fn function(&self, number: usize) -> u32
-        ensures { result ≡ slice_index self.now.functions number }
+        ensures { result ≡ (as_addresses self.now).function number }
     {
         number_at(&self.functions, number)
     }
 
     /// The word that stands for a thing. A function's code address has bit 0 set.
     pub fn word_for(&self, what: What) -> u32
-        requires { ArePlaced self.now }
-        ensures { result ≡ word_for self.now what }
+        requires { ArePlaced (as_addresses self.now) }
+        ensures { result ≡ word_for (as_addresses self.now) what }
     {
         match what {
             What::Function(function) => self.function(function as usize) + 1,
@@ -100,8 +101,8 @@ impl Addresses {
     }
 
     /// Where a call goes.
-    fn called(&self, function: u32) -> u32
-        ensures { result ≡ called self.now function }
+    fn callee_at(&self, function: u32) -> u32
+        ensures { result ≡ callee_at (as_addresses self.now) function }
     {
         if function == DIVISION {
             self.routine
@@ -112,13 +113,13 @@ impl Addresses {
 
     /// The four bytes for what is open at an address.
     fn opened(&self, at: u32, call: bool, what: What) -> [u8; 4]
-        requires placed { ArePlaced self.now }
+        requires placed { ArePlaced (as_addresses self.now) }
         requires at { at < 2 ^ 20 }
         requires even { at % 2 ≡ 0 }
-        ensures { result ≡ opened self.now at call what }
+        ensures { result ≡ opened (as_addresses self.now) at call what }
     {
         match what {
-            What::Function(function) if call => call_bytes(at, self.called(function)),
+            What::Function(function) if call => call_bytes(at, self.callee_at(function)),
             _ => word_bytes(self.word_for(what)),
         }
     }
@@ -143,11 +144,11 @@ pub fn filled(
     at: u32,
     addresses: &Addresses,
 ) -> Result<Vec<u8>, NoMemory>
-    requires placed { ArePlaced addresses.now }
+    requires placed { ArePlaced (as_addresses addresses.now) }
     requires at { at % 4 ≡ 0 }
     requires low { at + length laid.now.bytes < 2 ^ 20 }
     requires fixes { AllByRecursion (IsFixOf (length laid.now.bytes)) laid.now.fixes }
-    ensures { IfOk result (λ bytes. bytes.items ≡ filled addresses.now at laid.now.fixes laid.now.bytes) }
+    ensures { IfOk result (λ bytes. bytes.items ≡ filled (as_addresses addresses.now) at laid.now.fixes laid.now.bytes) }
 {
     let Ok(mut bytes) = Vec::from_slice(alloc, laid.bytes.as_slice()) else {
         return Err(NoMemory);

@@ -3,7 +3,7 @@ ghost use Rattle.std.specs.Prelude.{◌≡◌, ◌<◌, ◌≤◌, ◌+◌, ℕ,
 ghost use Rattle.std.specs.List.{AllByRecursion};
 ghost use Rattle.thumb_code.specs.Map.{flash_end};
 ghost use Rattle.image_link.specs.Image as whole;
-ghost use Rattle.image_link.specs.Image.{is_named, image_end, image};
+ghost use Rattle.image_link.specs.Image.{is_named, as_addresses, image_end, image};
 ghost use Rattle.image_link.specs.Linkable.{IsLinkable, AreFixesOf};
 
 use crate::addresses::{Addresses, place_parts};
@@ -28,7 +28,7 @@ fn written(
     requires fixes { AllByRecursion AreFixesOf laid.now }
     requires long { length marks.now ≡ length texts.now }
     requires marks { (i : ℕ) → i < length texts.now → slice_index_or marks.now i false ≡ is_named laid.now i }
-    requires addresses { addresses.now ≡ whole.addresses laid.now code.now.classes texts.now }
+    requires addresses { as_addresses addresses.now ≡ whole.addresses laid.now code.now.classes texts.now }
     requires fits { image_end laid.now code.now.classes texts.now ≤ flash_end }
     ensures { IfOk result (λ bytes. bytes.items ≡ image laid.now code.now texts.now) }
 {

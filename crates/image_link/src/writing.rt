@@ -7,7 +7,7 @@ ghost use Rattle.thumb_code.specs.Map.{flash_end};
 ghost use Rattle.thumb_layout.specs.Layout.{up};
 ghost use Rattle.thumb_layout.specs.Cells.{word_bytes, spelled};
 ghost use Rattle.image_link.specs.Parts.{padded, with_parts};
-ghost use Rattle.image_link.specs.Image.{head, class_table, class_parts, code_parts, slot_words, text_bytes, text_parts, is_named};
+ghost use Rattle.image_link.specs.Image.{as_addresses, head, class_table, class_parts, code_parts, slot_words, text_bytes, text_parts, is_named};
 ghost use Rattle.image_link.specs.Linkable.{ArePlaced, AreFixesOf};
 
 use crate::addresses::Addresses;
@@ -54,8 +54,8 @@ pub fn put_part(image: &mut Vec<u8>, part: &[u8]) -> Result<(), NoMemory>
 
 /// Puts the words at reset, and the instruction that ends a fiber.
 pub fn put_head(image: &mut Vec<u8>, addresses: &Addresses, main: u32) -> Result<(), NoMemory>
-    requires { ArePlaced addresses.now }
-    ensures { OnOk result (image.new.items ≡ image.old.items ++ head addresses.now main) }
+    requires { ArePlaced (as_addresses addresses.now) }
+    ensures { OnOk result (image.new.items ≡ image.old.items ++ head (as_addresses addresses.now) main) }
 {
     put_word(image, BASE)?;
     put_word(image, addresses.word_for(What::Function(main)))?;
@@ -70,10 +70,10 @@ pub fn put_code(
     laid: &[Laid],
     addresses: &Addresses,
 ) -> Result<(), NoMemory>
-    requires placed { ArePlaced addresses.now }
+    requires placed { ArePlaced (as_addresses addresses.now) }
     requires fixes { AllByRecursion AreFixesOf laid.now }
     requires short { AllByRecursion (λ l. length l.bytes ≤ flash_end) laid.now }
-    ensures { OnOk result (image.new.items ≡ with_parts image.old.items (code_parts addresses.now 0 laid.now)) }
+    ensures { OnOk result (image.new.items ≡ with_parts image.old.items (code_parts (as_addresses addresses.now) 0 laid.now)) }
 {
     for (index, code) in laid.iter().enumerate() {
         let bytes = filled(alloc, code, addresses.function(index), addresses)?;
@@ -84,8 +84,8 @@ pub fn put_code(
 
 /// The bytes of a class's table.
 fn class_table(alloc: Global, class: &FlatClass, addresses: &Addresses) -> Result<Vec<u8>, NoMemory>
-    requires { ArePlaced addresses.now }
-    ensures { IfOk result (λ bytes. bytes.items ≡ class_table addresses.now class.now) }
+    requires { ArePlaced (as_addresses addresses.now) }
+    ensures { IfOk result (λ bytes. bytes.items ≡ class_table (as_addresses addresses.now) class.now) }
 {
     let mut bytes = Vec::new(alloc);
     put_word(&mut bytes, class.words)?;
@@ -102,8 +102,8 @@ pub fn put_classes(
     classes: &[FlatClass],
     addresses: &Addresses,
 ) -> Result<(), NoMemory>
-    requires { ArePlaced addresses.now }
-    ensures { OnOk result (image.new.items ≡ with_parts image.old.items (class_parts addresses.now classes.now)) }
+    requires { ArePlaced (as_addresses addresses.now) }
+    ensures { OnOk result (image.new.items ≡ with_parts image.old.items (class_parts (as_addresses addresses.now) classes.now)) }
 {
     for class in classes {
         put_part(image, &class_table(alloc, class, addresses)?)?;

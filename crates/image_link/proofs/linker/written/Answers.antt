@@ -1,8 +1,8 @@
 use Rattle.std.proofs.Common.{◌≡◌, List, ℕ, ◌++◌, sym, ap, ◌∙◌, subst}
 use Rattle.flat_ir.specs.declared.ops.FlatClass.{FlatClass}
-use Rattle.image_link.specs.declared.addresses.Addresses.{Addresses}
+use Rattle.thumb_emit.specs.InFlash.{Addresses}
 use Rattle.image_link.specs.Parts.{padded, with_parts}
-use Rattle.image_link.specs.Image.{head, class_parts}
+use Rattle.image_link.specs.Image.{as_addresses, head, class_parts}
 use Rattle.image_link.specs.Linkable.{ArePlaced}
 use Rattle.image_link.proofs.Whole.{are_placed, codes_short, code_low, texts_short, written}
 use Rattle.image_link.proofs.linker.written.Goals as goal
@@ -24,7 +24,7 @@ put_texts-requires-clause-short c = texts_short c.args.laid.now c.args.code.now.
 
 pub returns : goal.returns
 returns c =
-    let a = c.args.addresses.now in
+    let a = as_addresses c.args.addresses.now in
     let x = c.put_head.new.image.items in
     let y = c.put_code.new.image.items in
     let z = c.put_part.new.image.items in
