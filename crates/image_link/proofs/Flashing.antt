@@ -1,6 +1,7 @@
 -- The image, as flash, shows its program.
-use Rattle.std.proofs.Common.{◌≡◌, ℕ, zero, suc, ◌+◌, ◌*◌, ◌/◌, ◌%◌, ◌^◌, ◌<◌, ◌≤◌, List, [], ◌∷◌, length, refl, sym, ap, ◌∙◌, subst, arith, Some, Bool, true, false, cond, get_or, slice_get, ◌==◌}
+use Rattle.std.proofs.Common.{◌≡◌, ℕ, zero, suc, ◌+◌, ◌*◌, ◌/◌, ◌%◌, ◌^◌, ◌<◌, ◌≤◌, List, [], ◌∷◌, length, refl, sym, ap, ◌∙◌, subst, arith, Some, Bool, true, false, cond, get_or, slice_index, slice_get, ◌==◌}
 use Rattle.std.specs.Prelude.{map, ◌||◌, Contains}
+use Rattle.std.specs.List.{AllByRecursion}
 use Rattle.std.specs.Option.{option_map}
 use Rattle.std.proofs.lemmas.Bool.Decides.{nat_tests}
 use Rattle.std.proofs.lemmas.Option.{slice_get-map}
@@ -16,20 +17,19 @@ use Rattle.thumb_layout.specs.declared.pieces.What.TheVariants.{Function, Text, 
 use Rattle.thumb_layout.specs.declared.pieces.Piece.{Piece}
 use Rattle.thumb_layout.specs.declared.pieces.Piece.TheVariants.{Plain, Label, Go, CallTo, Number, Address}
 use Rattle.thumb_layout.specs.declared.laid.Fix.{Fix}
-use Rattle.thumb_layout.specs.declared.laid.Laid.{Laid}
 use Rattle.thumb_layout.specs.Cells.{word_bytes, spelled, offset, laid}
 use Rattle.thumb_layout.specs.Flash.{IsOpened, AreFixed}
-use Rattle.thumb_layout.specs.Openings.{called, callees, addressed}
+use Rattle.thumb_layout.specs.Openings.{called, callees, addressed, StandApart}
 use Rattle.thumb_layout.proofs.Laws.{fixes_called, fixes_named}
-use Rattle.thumb_emit.specs.Emit.{division}
 use Rattle.thumb_emit.specs.InFlash.{Addresses, IsNamed, callee_at, word_for}
-use Rattle.image_link.specs.Image.{head, is_named, is_this_text, names_text, opened, filled, class_table, slot_words, text_bytes, image_end, addresses}
-use Rattle.image_link.specs.Linkable.{IsPlace, ArePlaced}
-use Rattle.image_link.proofs.Showing.{bl_reaches, AllFilled}
+use Rattle.image_link.specs.Image.{is_named, is_this_text, names_text, opened, slot_words, AreFilled}
+use Rattle.image_link.specs.inner.Written.{IsPlace}
+use Rattle.image_link.proofs.NamedTexts.{or_true, named_in}
+use Rattle.image_link.proofs.Showing.{bl_reaches, apart_outside, apart_within}
 
 -- four bytes from an address on
 abbrev pub HasFour : List ℕ → ℕ → List ℕ → Type 0
-HasFour flash p bytes = (j : ℕ) → j < 4 → flash_byte flash (p + j) ≡ get_or bytes j 255
+HasFour flash p bytes = (j : ℕ) → j < 4 → flash_byte flash (p + j) ≡ slice_index bytes j
 
 pub word_there : (flash : List ℕ) (p n : ℕ) → n < 2 ^ 32 → HasFour flash p (word_bytes n) → flash_word flash p ≡ n
 word_there flash p n l h =
@@ -57,31 +57,30 @@ IsCallable true (Function f) = Unit {0}
 IsCallable true what = ⊥
 IsCallable false what = Unit {0}
 
-place_called : (a : Addresses) → ArePlaced a → (f : ℕ) → IsPlace (callee_at a f)
-place_called a h f = by (f == division)
-  where
-    by : (b : Bool) → IsPlace (cond b a.routine (a.function f))
-    by true = h.routine
-    by false = h.functions f
+-- and what stands for it has an address
+abbrev pub IsSet : Addresses → What → Type 0
+IsSet a (Function f) = IsPlace (callee_at a f) × IsPlace (a.function f)
+IsSet a (Text i) = IsPlace (a.text i)
+IsSet a (Class c) = IsPlace (a.class c)
 
-pub word_small : (a : Addresses) → ArePlaced a → (what : What) → word_for a what < 2 ^ 32
-word_small a h (Function f) = let g = h.functions f in let l = g.0 in omega arith
-word_small a h (Text i) = let g = h.texts i in let l = g.0 in omega arith
-word_small a h (Class c) = let g = h.classes c in let l = g.0 in omega arith
+pub word_small : (a : Addresses) (what : What) → IsSet a what → word_for a what < 2 ^ 32
+word_small a (Function f) h = let g = h.1 in let l = g.0 in omega arith
+word_small a (Text i) h = let l = h.0 in omega arith
+word_small a (Class c) h = let l = h.0 in omega arith
 
-opened_there : (flash : List ℕ) (a : Addresses) (base p : ℕ) → ArePlaced a → p % 2 ≡ 0 → p < 2 ^ 20 → (call : Bool) (what : What) → IsCallable call what → HasFour flash p (opened a p call what)
+opened_there : (flash : List ℕ) (a : Addresses) (base p : ℕ) → p % 2 ≡ 0 → p < 2 ^ 20 → (call : Bool) (what : What) → IsSet a what → IsCallable call what → HasFour flash p (opened a p call what)
     → IsOpened flash base (callee_at a) (word_for a) call p what
-opened_there flash a base p h e l true (Function f) ok g =
-    let to = place_called a h f in
+opened_there flash a base p e l true (Function f) h ok g =
+    let to = h.0 in
     let low = to.0 in
     let four = to.1 in
     let o = offset p (callee_at a f) in
     let fits = bl_reaches p (callee_at a f) e (omega arith) l (omega arith) in
     let halves = call_there flash p (half (Bl o)) refl g _ _ refl in
     (o, fits.0, (sym halves.0, sym halves.1), fits.1)
-opened_there flash a base p h e l true (Text i) ok g = elim ok [ ]
-opened_there flash a base p h e l true (Class c) ok g = elim ok [ ]
-opened_there flash a base p h e l false what ok g = word_there flash p (word_for a what) (word_small a h what) g
+opened_there flash a base p e l true (Text i) h ok g = elim ok [ ]
+opened_there flash a base p e l true (Class c) h ok g = elim ok [ ]
+opened_there flash a base p e l false what h ok g = word_there flash p (word_for a what) (word_small a what h) g
 
 -- the calls of laid code are of functions
 abbrev pub AllCallable : List Fix → Type 0
@@ -116,21 +115,17 @@ pub laid_callable : (xs : List Piece) → AllCallable (laid xs).fixes
 laid_callable xs = callable_from (laid xs).fixes (subst AreFunctions (sym (fixes_called xs)) (called_functions xs))
 
 -- what was open in code that a flash has is there
-pub are_fixed : (flash : List ℕ) (a : Addresses) (at : ℕ) (out : List ℕ) (fs : List Fix) → ArePlaced a → at % 4 ≡ 0 → at + length out ≤ flash_end → ((k : ℕ) → k < length out → flash_byte flash (at + k) ≡ get_or out k 255)
-    → AllFilled a at out fs → AllCallable fs → AreFixed flash at (callee_at a) (word_for a) fs
-are_fixed flash a at out [] p e l shown h ok = tt
-are_fixed flash a at out (f ∷ fs) p e l shown h ok =
-    let first = h.0 in
-    let even = first.0 in
-    let within = first.1 in
-    let four : HasFour flash (at + f.at) (opened a (at + f.at) f.call f.what) = (λ j m. (let z : at + f.at + j ≡ at + (f.at + j) = omega arith in ap (flash_byte flash) z ∙ (shown (f.at + j) (omega arith) ∙ first.2 j m))) in
-    (opened_there flash a at (at + f.at) p (omega arith) (omega arith) f.call f.what ok.0 four, are_fixed flash a at out fs p e l shown h.1 ok.1)
+pub are_fixed : (flash : List ℕ) (a : Addresses) (at from : ℕ) (fs : List Fix) (to : ℕ) → at % 4 ≡ 0 → at + to ≤ flash_end → StandApart from fs to → AllByRecursion (λ f. IsSet a f.what) fs
+    → AreFilled flash a at fs → AllCallable fs → AreFixed flash at (callee_at a) (word_for a) fs
+are_fixed flash a at from [] to e l apart set h ok = tt
+are_fixed flash a at from (f ∷ fs) to e l apart set h ok =
+    let even = apart.1 in
+    let within = apart_within (f.at + 4) fs to apart.2 in
+    let four : HasFour flash (at + f.at) (opened a (at + f.at) f.call f.what) =
+    (λ j m. (let z : at + f.at + j ≡ at + (f.at + j) = omega arith in ap (flash_byte flash) z ∙ h.0 j m (apart_outside (f.at + 4) fs to (f.at + j) apart.2 (omega arith)))) in
+    (opened_there flash a at (at + f.at) (omega arith) (omega arith) f.call f.what set.0 ok.0 four, are_fixed flash a at (f.at + 4) fs to e l apart.2 set.1 h.1 ok.1)
 
 -- texts that bodies name are in the image
-or_true : (b : Bool) → (b || true) ≡ true
-or_true true = refl
-or_true false = refl
-
 this_text : (i : ℕ) (what : What) → what ≡ Text i → is_this_text i what ≡ true
 this_text i what e = let t : (i == i) ≡ true = grind (arith, nat_tests) in ap (is_this_text i) e ∙ t
 
@@ -144,13 +139,6 @@ addressed_names : (i : ℕ) (fs : List Fix) (k : ℕ) → k < length (addressed 
 addressed_names i [] k l e = absurd (omega arith)
 addressed_names i (f ∷ fs) k l e = named_by i f.call f.what (addressed fs) (names_text i fs) (addressed_names i fs) k l e
 
-named_in : (i : ℕ) (ls : List Laid) (n : ℕ) (l : Laid) → slice_get ls n ≡ Some l → names_text i l.fixes ≡ true → is_named ls i ≡ true
-named_in i [] n l e h = let bad : ⊥ = cc in absurd bad
-named_in i (m ∷ ls) zero l e h =
-    let same : m ≡ l = cc in
-    ap (λ b. b || is_named ls i) (ap (λ (q : Laid). names_text i q.fixes) same ∙ h)
-named_in i (m ∷ ls) (suc n) l e h = ap (λ b. names_text i m.fixes || b) (named_in i ls n l e h) ∙ or_true (names_text i m.fixes)
-
 pub laid_at : (bodies : List (List Piece)) (f : ℕ) (body : List Piece) → slice_get bodies f ≡ Some body → slice_get (map laid bodies) f ≡ Some (laid body)
 laid_at bodies f body e = slice_get-map laid bodies f ∙ ap (option_map laid) e
 
@@ -161,18 +149,18 @@ text_named bodies i h =
     named_in i (map laid bodies) h.function (laid h.body) (laid_at bodies h.function h.body h.there) (addressed_names i (laid h.body).fixes a.0 a.1 a.2)
 
 -- the words of a class's table
-pub slot_there : (a : Addresses) (fs : List ℕ) (j g : ℕ) → slice_get fs j ≡ Some g → (i : ℕ) → i < 4 → get_or (slot_words a fs) (4 * j + i) 255 ≡ get_or (word_bytes (word_for a (Function g))) i 255
+pub slot_there : (a : Addresses) (fs : List ℕ) (j g : ℕ) → slice_get fs j ≡ Some g → (i : ℕ) → i < 4 → slice_index (slot_words a fs) (4 * j + i) ≡ slice_index (word_bytes (word_for a (Function g))) i
 slot_there a [] j g e i l = let bad : ⊥ = cc in absurd bad
 slot_there a (f ∷ fs) zero g e i l =
     let same : f ≡ g = cc in
     let z : 4 * 0 + i ≡ i = omega arith in
-    ap (λ n. get_or (slot_words a (f ∷ fs)) n 255) z ∙ (get_or_append_left (word_bytes (word_for a (Function f))) (slot_words a fs) 255 i l ∙ ap (λ q. get_or (word_bytes (word_for a (Function q))) i 255) same)
+    ap (λ n. slice_index (slot_words a (f ∷ fs)) n) z ∙ (get_or_append_left (word_bytes (word_for a (Function f))) (slot_words a fs) 0 i l ∙ ap (λ q. slice_index (word_bytes (word_for a (Function q))) i) same)
 slot_there a (f ∷ fs) (suc j) g e i l =
     let z : 4 * suc j + i ≡ 4 + (4 * j + i) = omega arith in
-    ap (λ n. get_or (slot_words a (f ∷ fs)) n 255) z ∙ (get_or-append-add (word_bytes (word_for a (Function f))) (slot_words a fs) (4 * j + i) 255 ∙ slot_there a fs j g e i l)
+    ap (λ n. slice_index (slot_words a (f ∷ fs)) n) z ∙ (get_or-append-add (word_bytes (word_for a (Function f))) (slot_words a fs) (4 * j + i) 0 ∙ slot_there a fs j g e i l)
 
 -- the bytes of a text
-pub bytes_there : (flash : List ℕ) (t : List ℕ) (p : ℕ) → ((k : ℕ) → k < length t → flash_byte flash (p + k) ≡ get_or t k 255) → flash_bytes flash (length t) p ≡ t
+pub bytes_there : (flash : List ℕ) (t : List ℕ) (p : ℕ) → ((k : ℕ) → k < length t → flash_byte flash (p + k) ≡ slice_index t k) → flash_bytes flash (length t) p ≡ t
 bytes_there flash [] p h = refl
 bytes_there flash (b ∷ t) p h =
     let z : p + 0 ≡ p = omega arith in

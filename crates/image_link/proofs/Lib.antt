@@ -1,10 +1,15 @@
+pub mod Lists
 pub mod Placing
 pub mod Standing
 pub mod Whole
+pub mod Behind
+pub mod NamedTexts
+pub mod Alike
 pub mod Showing
 pub mod Sections
+pub mod Linked
 pub mod Flashing
-pub mod Programs
 pub mod EachByte
-pub mod Sizing
+pub mod Programs
 pub mod Linking
+pub mod Sizing

@@ -18,12 +18,9 @@ use Rattle.thumb_layout.proofs.Laws.{fixes_called, fixes_named, fixes_apart}
 use Rattle.thumb_emit.specs.Emit.{function_pieces}
 use Rattle.thumb_emit.specs.Names.{name_of, names_of, call_of, calls_of, IsCalledBy}
 use Rattle.thumb_emit.proofs.Laws.{function_named, function_called}
-use Rattle.image_link.proofs.Showing.{apart_within}
+use Rattle.image_link.proofs.Lists.{all_append}
+use Rattle.image_link.proofs.Showing.{all_fixed}
 use Rattle.image_link.specs.Linkable.{IsThere, IsFixOf, AreFixesOf, AreThere, IsLinkable, NamesTextBelow, NamesTextsBelow}
-
-all_append : {X : Type 0} (P : X → Type 0) (xs ys : List X) → AllByRecursion P xs → AllByRecursion P ys → AllByRecursion P (xs ++ ys)
-all_append P [] ys h k = k
-all_append P (x ∷ xs) ys h k = (h.0, all_append P xs ys h.1 k)
 
 all_at : {X : Type 0} (P : X → Type 0) (xs : List X) (k : ℕ) (d : X) → k < length xs → AllByRecursion P xs → P (get_or xs k d)
 all_at P [] k d l h = absurd (omega arith)
@@ -86,15 +83,6 @@ module _ (functions classes texts : ℕ) where
       → AllByRecursion (AreThere functions classes texts) (map laid (map function_pieces placed))
   all_there [] h k = tt
   all_there (p ∷ placed) h k = (placed_there p h.0 k.0, all_there placed h.1 k.1)
-
--- fixes stand in their code
-apart_are : (from : ℕ) (fs : List Fix) (to : ℕ) → StandApart from fs to → AllByRecursion (IsFixOf to) fs
-apart_are from [] to h = tt
-apart_are from (f ∷ fs) to h = let w = apart_within (f.at + 4) fs to h.2 in (record { even = h.1; within = w }, apart_are (f.at + 4) fs to h.2)
-
-all_fixed : (bodies : List (List Piece)) → AllByRecursion AreFixesOf (map laid bodies)
-all_fixed [] = tt
-all_fixed (body ∷ bodies) = (apart_are 0 (laid body).fixes (length (laid body).bytes) (fixes_apart body), all_fixed bodies)
 
 pub can_be_linked : (C : FlatCode) (placed : List Placed) (texts : ℕ) → IsWellFormed C → map (λ p. p.function) placed ≡ C.functions → AllByRecursion (NamesTextsBelow texts) C.functions
     → IsLinkable (map laid (map function_pieces placed)) C texts

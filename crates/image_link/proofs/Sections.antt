@@ -1,7 +1,7 @@
--- Where the image has each thing: its head, functions, the routine, classes and texts.
-use Rattle.std.proofs.Common.{◌≡◌, ℕ, zero, suc, ◌+◌, ◌*◌, ◌<◌, ◌≤◌, List, [], ◌∷◌, ◌++◌, length, refl, sym, ap, ◌∙◌, arith, Some, None, true, cond, get_or, slice_index, slice_get}
+-- Where what is written has each thing: its head, functions, the routine, classes and texts.
+use Rattle.std.proofs.Common.{◌≡◌, ℕ, zero, suc, ◌+◌, ◌<◌, List, [], ◌∷◌, ◌++◌, length, refl, sym, ap, ◌∙◌, arith, Some, None, true, cond, get_or, slice_index, slice_get}
 use Rattle.std.specs.Option.{option_map}
-use Rattle.std.proofs.lemmas.Option.{slice_get-map, slice_get_within}
+use Rattle.std.proofs.lemmas.Option.{slice_get-map}
 use Rattle.std.proofs.lemmas.List.{length-append}
 use Rattle.flat_ir.specs.declared.ops.FlatClass.{FlatClass}
 use Rattle.flat_ir.specs.declared.ops.FlatCode.{FlatCode}
@@ -9,10 +9,11 @@ use Rattle.thumb_layout.specs.declared.laid.Laid.{Laid}
 use Rattle.thumb_layout.specs.Layout.{up}
 use Rattle.thumb_divide.specs.Routine.{routine_bytes, routine_length}
 use Rattle.thumb_emit.specs.InFlash.{Addresses}
-use Rattle.image_link.specs.Parts.{padded, with_parts, starts, end_behind}
-use Rattle.image_link.specs.Image.{head_length, head, is_named, code_lengths, class_lengths, text_lengths, code_end, routine_end, class_end, image_end, addresses, filled, class_table, text_bytes, code_parts, class_parts, text_parts, parts, image}
-use Rattle.image_link.proofs.Standing.{lengths, length_padded, length_parts, with_append, before_parts, part_stands, part_stands_before, part_ends, start_behind, start_order}
-use Rattle.image_link.proofs.Whole.{filled_long, code_long, classes_long, texts_long, classes_grow, texts_grow}
+use Rattle.image_link.specs.inner.Parts.{padded, with_parts, starts, end_behind}
+use Rattle.image_link.specs.Image.{head_length, head, is_named, class_table, text_bytes}
+use Rattle.image_link.specs.inner.Written.{code_end, routine_end, class_end, addresses, filled, code_parts, class_parts, text_parts, parts, written_bytes}
+use Rattle.image_link.proofs.Standing.{lengths, length_padded, length_parts, with_append, before_parts, part_stands, part_stands_before}
+use Rattle.image_link.proofs.Whole.{filled_long, code_long, classes_long, texts_long}
 
 -- a part by its number
 code_part : (a : Addresses) (n : ℕ) (ls : List Laid) (f : ℕ) (l : Laid) → slice_get ls f ≡ Some l → slice_get (code_parts a n ls) f ≡ Some (Some (filled a (a.function (n + f)) l.fixes l.bytes))
@@ -63,13 +64,13 @@ behind_classes : (a : Addresses) (main : ℕ) (ls : List Laid) (cs : List FlatCl
 behind_classes a main ls cs ts = behind_code a main ls cs ts ∙ with_append (with_routine a main ls) (class_parts a cs) (text_parts ls 0 ts)
 
 -- the bytes of each
-pub head_stands : (ls : List Laid) (C : FlatCode) (ts : List (List ℕ)) (k : ℕ) → k < head_length → get_or (image ls C ts) k 255 ≡ get_or (head (addresses ls C.classes ts) C.main) k 255
-unfolding image
+pub head_stands : (ls : List Laid) (C : FlatCode) (ts : List (List ℕ)) (k : ℕ) → k < head_length → get_or (written_bytes ls C ts) k 255 ≡ get_or (head (addresses ls C.classes ts) C.main) k 255
+unfolding written_bytes
 head_stands ls C ts k l = before_parts (head (addresses ls C.classes ts) C.main) (parts (addresses ls C.classes ts) ls C.classes ts) k 255 l
 
 pub code_stands : (ls : List Laid) (C : FlatCode) (ts : List (List ℕ)) (f : ℕ) (l : Laid) → slice_get ls f ≡ Some l → (k : ℕ) → k < length l.bytes
-    → let a = addresses ls C.classes ts in get_or (image ls C ts) (a.function f + k) 255 ≡ get_or (filled a (a.function f) l.fixes l.bytes) k 255
-unfolding image addresses
+    → let a = addresses ls C.classes ts in get_or (written_bytes ls C ts) (a.function f + k) 255 ≡ get_or (filled a (a.function f) l.fixes l.bytes) k 255
+unfolding written_bytes addresses
 code_stands ls C ts f l e k h =
     let a = addresses ls C.classes ts in
     let z : 0 + f ≡ f = omega arith in
@@ -77,11 +78,11 @@ code_stands ls C ts f l e k h =
     let part : slice_get (code_parts a 0 ls) f ≡ Some (Some p) = code_part a 0 ls f l e ∙ ap (λ n. Some (Some (filled a (a.function n) l.fixes l.bytes))) z in
     let long : length p ≡ length l.bytes = filled_long a (a.function f) l.fixes l.bytes in
     let at : slice_index (starts head_length (lengths (code_parts a 0 ls))) f ≡ a.function f = ap (λ ns. slice_index (starts head_length ns) f) (code_long a 0 ls) in
-    ap (λ n. get_or (image ls C ts) (n + k) 255) (sym at)
+    ap (λ n. get_or (written_bytes ls C ts) (n + k) 255) (sym at)
     ∙ part_stands_before (head a C.main) (code_parts a 0 ls) (Some routine_bytes ∷ (class_parts a C.classes ++ text_parts ls 0 ts)) f p 255 part k (omega arith)
 
-pub routine_stands : (ls : List Laid) (C : FlatCode) (ts : List (List ℕ)) (k : ℕ) → k < routine_length → let a = addresses ls C.classes ts in get_or (image ls C ts) (a.routine + k) 255 ≡ get_or routine_bytes k 255
-unfolding image addresses
+pub routine_stands : (ls : List Laid) (C : FlatCode) (ts : List (List ℕ)) (k : ℕ) → k < routine_length → let a = addresses ls C.classes ts in get_or (written_bytes ls C ts) (a.routine + k) 255 ≡ get_or routine_bytes k 255
+unfolding written_bytes addresses
 routine_stands ls C ts k h =
     let a = addresses ls C.classes ts in
     let x = with_code a C.main ls in
@@ -90,8 +91,8 @@ routine_stands ls C ts k h =
     ∙ part_stands_before x (Some routine_bytes ∷ []) (class_parts a C.classes ++ text_parts ls 0 ts) 0 routine_bytes 255 refl k h)
 
 pub class_stands : (ls : List Laid) (C : FlatCode) (ts : List (List ℕ)) (c : ℕ) (class : FlatClass) → slice_get C.classes c ≡ Some class → (k : ℕ)
-    → let a = addresses ls C.classes ts in k < length (class_table a class) → get_or (image ls C ts) (a.class c + k) 255 ≡ get_or (class_table a class) k 255
-unfolding image addresses
+    → let a = addresses ls C.classes ts in k < length (class_table a class) → get_or (written_bytes ls C ts) (a.class c + k) 255 ≡ get_or (class_table a class) k 255
+unfolding written_bytes addresses
 class_stands ls C ts c class e k h =
     let a = addresses ls C.classes ts in
     let x = with_routine a C.main ls in
@@ -102,8 +103,8 @@ class_stands ls C ts c class e k h =
     ∙ part_stands_before x (class_parts a C.classes) (text_parts ls 0 ts) c (class_table a class) 255 part k h)
 
 pub text_stands : (ls : List Laid) (C : FlatCode) (ts : List (List ℕ)) (i : ℕ) (t : List ℕ) → slice_get ts i ≡ Some t → is_named ls i ≡ true → (k : ℕ) → k < length (text_bytes t)
-    → let a = addresses ls C.classes ts in get_or (image ls C ts) (a.text i + k) 255 ≡ get_or (text_bytes t) k 255
-unfolding image addresses
+    → let a = addresses ls C.classes ts in get_or (written_bytes ls C ts) (a.text i + k) 255 ≡ get_or (text_bytes t) k 255
+unfolding written_bytes addresses
 text_stands ls C ts i t e named k h =
     let a = addresses ls C.classes ts in
     let x = with_classes a C.main ls C.classes in
@@ -112,53 +113,3 @@ text_stands ls C ts i t e named k h =
     let at : slice_index (starts (length x) (lengths (text_parts ls 0 ts))) i ≡ a.text i = ap (λ n. slice_index (starts n (lengths (text_parts ls 0 ts))) i) (classes_there a C.main ls C.classes) ∙ ap (λ ns. slice_index (starts (class_end ls C.classes) ns) i) (texts_long ls 0 ts) in
     ap (λ q. get_or q (a.text i + k) 255) (behind_classes a C.main ls C.classes ts)
     ∙ (ap (λ n. get_or (with_parts x (text_parts ls 0 ts)) (n + k) 255) (sym at) ∙ part_stands x (text_parts ls 0 ts) i (text_bytes t) 255 part k h)
-
--- and where each ends
-pub code_ends : (ls : List Laid) (cs : List FlatClass) (ts : List (List ℕ)) (f : ℕ) (l : Laid) → slice_get ls f ≡ Some l → (addresses ls cs ts).function f + length l.bytes ≤ image_end ls cs ts
-unfolding addresses
-code_ends ls cs ts f l e =
-    let long : slice_get (code_lengths ls) f ≡ Some (Some (length l.bytes)) = slice_get-map (λ (q : Laid). Some (length q.bytes)) ls f ∙ ap (option_map (λ (q : Laid). Some (length q.bytes))) e in
-    let a = part_ends head_length (code_lengths ls) f (length l.bytes) long in
-    let b = classes_grow ls cs in
-    let c = texts_grow ls cs ts in omega arith
-
-pub routine_ends : (ls : List Laid) (cs : List FlatClass) (ts : List (List ℕ)) → (addresses ls cs ts).routine + routine_length ≤ image_end ls cs ts
-unfolding addresses
-routine_ends ls cs ts = let b = classes_grow ls cs in let c = texts_grow ls cs ts in omega arith
-
-pub class_ends : (ls : List Laid) (cs : List FlatClass) (ts : List (List ℕ)) (c : ℕ) (class : FlatClass) → slice_get cs c ≡ Some class
-    → (0 < (addresses ls cs ts).class c) × ((addresses ls cs ts).class c + (4 + 4 * length class.slots) ≤ image_end ls cs ts)
-unfolding addresses
-class_ends ls cs ts c class e =
-    let long : slice_get (class_lengths cs) c ≡ Some (Some (4 + 4 * length class.slots)) = slice_get-map (λ (q : FlatClass). Some (4 + 4 * length q.slots)) cs c ∙ ap (option_map (λ (q : FlatClass). Some (4 + 4 * length q.slots))) e in
-    let a = part_ends (routine_end ls) (class_lengths cs) c (4 + 4 * length class.slots) long in
-    let b = start_behind (routine_end ls) (class_lengths cs) c (slice_get_within (class_lengths cs) c (Some (4 + 4 * length class.slots)) long) in
-    let d = texts_grow ls cs ts in (omega arith, omega arith)
-
-text_length : (ls : List Laid) (ts : List (List ℕ)) (i : ℕ) (t : List ℕ) → slice_get ts i ≡ Some t → is_named ls i ≡ true → slice_get (text_lengths ls 0 ts) i ≡ Some (Some (4 + length t))
-text_length ls ts i t e named =
-    let z : i ≡ 0 + i = omega arith in
-    let n : length (text_bytes t) ≡ 4 + length t = omega arith in
-    ap (λ ns. slice_get ns i) (sym (texts_long ls 0 ts))
-    ∙ (slice_get-map (option_map length) (text_parts ls 0 ts) i ∙ (ap (option_map (option_map length)) (text_part ls 0 ts i t e (ap (is_named ls) (sym z) ∙ named)) ∙ ap (λ m. Some (Some m)) n))
-
-pub text_ends : (ls : List Laid) (cs : List FlatClass) (ts : List (List ℕ)) (i : ℕ) (t : List ℕ) → slice_get ts i ≡ Some t → is_named ls i ≡ true
-    → (0 < (addresses ls cs ts).text i) × ((addresses ls cs ts).text i + (4 + length t) ≤ image_end ls cs ts)
-unfolding addresses
-text_ends ls cs ts i t e named =
-    let long = text_length ls ts i t e named in
-    let a = part_ends (class_end ls cs) (text_lengths ls 0 ts) i (4 + length t) long in
-    let b = start_behind (class_end ls cs) (text_lengths ls 0 ts) i (slice_get_within (text_lengths ls 0 ts) i (Some (4 + length t)) long) in
-    let d = classes_grow ls cs in (omega arith, a)
-
--- two texts that stand at one address are one
-pub texts_apart : (ls : List Laid) (cs : List FlatClass) (ts : List (List ℕ)) (i j : ℕ) (s t : List ℕ) → slice_get ts i ≡ Some s → slice_get ts j ≡ Some t → is_named ls i ≡ true → is_named ls j ≡ true
-    → (addresses ls cs ts).text i ≡ (addresses ls cs ts).text j → i ≡ j
-unfolding addresses
-texts_apart ls cs ts i j s t e f named too same =
-    let ns = text_lengths ls 0 ts in
-    let x = text_length ls ts i s e named in
-    let y = text_length ls ts j t f too in
-    let before : i < j → ⊥ = λ l. (let o = start_order (class_end ls cs) ns i j (4 + length s) x l (slice_get_within ns j (Some (4 + length t)) y) in omega arith) in
-    let behind : j < i → ⊥ = λ l. (let o = start_order (class_end ls cs) ns j i (4 + length t) y l (slice_get_within ns i (Some (4 + length s)) x) in omega arith) in
-    grind arith

@@ -2,20 +2,28 @@
 use Rattle.std.proofs.Common.{◌≡◌, ℕ, pos, negsuc, zero, suc, ◌+◌, ◌-◌, ◌%◌, ◌^◌, ◌<◌, ◌≤◌, ◌⊎◌, ◌≢◌, inl, inr, List, [], ◌∷◌, length, Bool, true, false, cond, nat_lt, refl, sym, ap, ◌∙◌, subst, arith, get_or, set}
 use Rattle.std.proofs.lemmas.Bool.Decides.{nat_tests}
 use Rattle.std.proofs.lemmas.Int.{ints}
-use Rattle.std.proofs.lemmas.List.{get_or-set_same, get_or-set_other, length-set}
+use Rattle.std.specs.Prelude.{map}
+use Rattle.std.specs.List.{AllByRecursion}
+use Rattle.std.proofs.lemmas.List.{get_or-set_same, get_or-set_other, get_or_default, length-set}
 use Rattle.std.proofs.lemmas.List.Edits.{sets}
 use Rattle.std.proofs.Math.Seq.{length-sets}
 use Rattle.thumb_code.specs.declared.instructions.Instr.TheVariants.{Bl}
 use Rattle.thumb_code.specs.Table.{Fits, IsOffset}
+use Rattle.thumb_code.specs.Map.{flash_byte}
+use Rattle.thumb_layout.specs.declared.laid.Laid.{Laid}
 use Rattle.thumb_layout.specs.declared.pieces.What.{What}
 use Rattle.thumb_layout.specs.declared.pieces.What.TheVariants.{Function, Text, Class}
 use Rattle.thumb_layout.specs.declared.laid.Fix.{Fix}
-use Rattle.thumb_layout.specs.Cells.{offset}
+use Rattle.thumb_layout.specs.declared.pieces.Piece.{Piece}
+use Rattle.thumb_layout.specs.Cells.{offset, laid}
 use Rattle.thumb_layout.specs.Holds.{moved}
 use Rattle.thumb_layout.specs.Flash.{IsOutside}
 use Rattle.thumb_layout.specs.Openings.{StandApart}
+use Rattle.thumb_layout.proofs.Laws.{fixes_apart}
 use Rattle.thumb_emit.specs.InFlash.{Addresses}
-use Rattle.image_link.specs.Image.{opened, filled}
+use Rattle.image_link.specs.Image.{opened, AreFilled, HasFunction}
+use Rattle.image_link.specs.Linkable.{IsFixOf, AreFixesOf}
+use Rattle.image_link.specs.inner.Written.{filled}
 use Rattle.image_link.proofs.Whole.{filled_long}
 
 -- a branch of 25 bits leads to its target
@@ -60,7 +68,7 @@ filled_outside a at (f ∷ fs) bytes k d h =
     filled_outside a at fs (sets bytes f.at four) k d h.1 ∙ sets_outside bytes f.at four k d (subst (λ m. (k < f.at) ⊎ (f.at + m ≤ k)) (sym n) h.0)
 
 -- fixes from a place on leave what is before it
-apart_outside : (from : ℕ) (fs : List Fix) (to k : ℕ) → StandApart from fs to → k < from → IsOutside k fs
+pub apart_outside : (from : ℕ) (fs : List Fix) (to k : ℕ) → StandApart from fs to → k < from → IsOutside k fs
 apart_outside from [] to k h l = tt
 apart_outside from (f ∷ fs) to k h l = let x = h.0 in (inl (omega arith), apart_outside (f.at + 4) fs to k h.2 (omega arith))
 
@@ -68,19 +76,47 @@ pub apart_within : (from : ℕ) (fs : List Fix) (to : ℕ) → StandApart from f
 apart_within from [] to h = h
 apart_within from (f ∷ fs) to h = let x = h.0 in let y = apart_within (f.at + 4) fs to h.2 in omega arith
 
--- each fix has its four bytes there
-abbrev pub AllFilled : Addresses → ℕ → List ℕ → List Fix → Type 0
-AllFilled a at out [] = Unit {0}
-AllFilled a at out (f ∷ fs) = ((f.at % 2 ≡ 0) × (f.at + 4 ≤ length out) × ((j : ℕ) → j < 4 → get_or out (f.at + j) 255 ≡ get_or (opened a (at + f.at) f.call f.what) j 255)) × AllFilled a at out fs
+-- each fix has its four bytes there, but for those that one behind it has
+abbrev AreIn : Addresses → ℕ → List ℕ → List Fix → Type 0
+AreIn a at out [] = Unit {0}
+AreIn a at out (f ∷ fs) =
+    ((f.at + 4 ≤ length out) × ((j : ℕ) → j < 4 → IsOutside (f.at + j) fs → get_or out (f.at + j) 255 ≡ get_or (opened a (at + f.at) f.call f.what) j 255)) × AreIn a at out fs
 
-pub all_filled : (a : Addresses) (at from : ℕ) (fs : List Fix) (bytes : List ℕ) → StandApart from fs (length bytes) → AllFilled a at (filled a at fs bytes) fs
-all_filled a at from [] bytes h = tt
-all_filled a at from (f ∷ fs) bytes h =
+all_in : (a : Addresses) (at : ℕ) (fs : List Fix) (bytes : List ℕ) → AllByRecursion (IsFixOf (length bytes)) fs → AreIn a at (filled a at fs bytes) fs
+all_in a at [] bytes h = tt
+all_in a at (f ∷ fs) bytes h =
     let four = opened a (at + f.at) f.call f.what in
     let next = sets bytes f.at four in
     let n = four_bytes a (at + f.at) f.call f.what in
     let same : length next ≡ length bytes = length-sets bytes f.at four in
-    let apart : StandApart (f.at + 4) fs (length next) = subst (λ m. StandApart (f.at + 4) fs m) (sym same) h.2 in
-    let room = apart_within (f.at + 4) fs (length bytes) h.2 in
-    let long = filled_long a at fs next in
-    ((h.1, omega arith, λ j l. filled_outside a at fs next (f.at + j) 255 (apart_outside (f.at + 4) fs (length next) (f.at + j) apart (omega arith)) ∙ sets_inside bytes f.at four j 255 (omega arith) (omega arith)), all_filled a at (f.at + 4) fs next apart)
+    let room = h.0.within in
+    let long = filled_long a at fs next in (
+      (omega arith, λ j l o. filled_outside a at fs next (f.at + j) 255 o ∙ sets_inside bytes f.at four j 255 (omega arith) (omega arith)),
+      all_in a at fs next (subst (λ m. AllByRecursion (IsFixOf m) fs) (sym same) h.1),
+    )
+
+shown_in : (flash : List ℕ) (a : Addresses) (at : ℕ) (out : List ℕ) (fs : List Fix) → ((k : ℕ) → k < length out → flash_byte flash (at + k) ≡ get_or out k 255) → AreIn a at out fs → AreFilled flash a at fs
+shown_in flash a at out [] shown h = tt
+shown_in flash a at out (f ∷ fs) shown h =
+    let four = opened a (at + f.at) f.call f.what in
+    let n = four_bytes a (at + f.at) f.call f.what in
+    let room = h.0.0 in
+    (λ j l o. shown (f.at + j) (omega arith) ∙ (h.0.1 j l o ∙ get_or_default four j 255 0 (omega arith)), shown_in flash a at out fs shown h.1)
+
+-- where filled code stands, a function's code does
+pub function_there : (flash : List ℕ) (a : Addresses) (at : ℕ) (l : Laid) → AreFixesOf l → ((k : ℕ) → k < length l.bytes → flash_byte flash (at + k) ≡ get_or (filled a at l.fixes l.bytes) k 255) → HasFunction flash a at l
+function_there flash a at l fixed shown =
+    let long = filled_long a at l.fixes l.bytes in
+    record {
+      bytes = λ k m o. shown k m ∙ (filled_outside a at l.fixes l.bytes k 255 o ∙ get_or_default l.bytes k 255 0 m);
+      fixes = shown_in flash a at (filled a at l.fixes l.bytes) l.fixes (λ k m. shown k (omega arith)) (all_in a at l.fixes l.bytes fixed);
+    }
+
+-- fixes stand in their code
+apart_are : (from : ℕ) (fs : List Fix) (to : ℕ) → StandApart from fs to → AllByRecursion (IsFixOf to) fs
+apart_are from [] to h = tt
+apart_are from (f ∷ fs) to h = let w = apart_within (f.at + 4) fs to h.2 in (record { even = h.1; within = w }, apart_are (f.at + 4) fs to h.2)
+
+pub all_fixed : (bodies : List (List Piece)) → AllByRecursion AreFixesOf (map laid bodies)
+all_fixed [] = tt
+all_fixed (body ∷ bodies) = (apart_are 0 (laid body).fixes (length (laid body).bytes) (fixes_apart body), all_fixed bodies)

@@ -17,10 +17,14 @@ use Rattle.thumb_layout.specs.Cells.{laid}
 use Rattle.thumb_layout.specs.Openings.{named, addressed}
 use Rattle.thumb_layout.proofs.Laws.{fixes_named}
 use Rattle.thumb_emit.specs.InFlash.{IsNamed}
-use Rattle.image_link.specs.Parts.{end_with, end_behind}
-use Rattle.image_link.specs.Image.{is_this_text, names_text, is_named, code_lengths, class_lengths, text_lengths, routine_end, class_end, image}
+use Rattle.image_link.specs.inner.Parts.{end_with, end_behind}
+use Rattle.image_link.specs.Image.{is_this_text, names_text, is_named, IsLinked}
+use Rattle.image_link.specs.inner.Written.{code_lengths, class_lengths, text_lengths, routine_end, class_end, written_bytes}
 use Rattle.image_link.specs.Sizes.{one_text, texts_among, used_bytes, KeepWeights, all_weights, IsLimited}
 use Rattle.image_link.proofs.Whole.{image_long}
+use Rattle.image_link.proofs.Alike.{alike_long}
+use Rattle.image_link.proofs.Linked.{linked}
+use Rattle.image_link.proofs.Showing.{all_fixed}
 use Rattle.image_link.proofs.Flashing.{IsCallable, AllCallable, laid_callable}
 
 -- how many fixes are of texts
@@ -196,8 +200,8 @@ used_more p q h i [] = omega arith
 used_more p q h i (t ∷ ts) = let a = more_by (p i) (q i) (length t) (h i) in let b = used_more p q h (suc i) ts in omega arith
 
 -- The bound.
-pub image_most : (C : FlatCode) (bodies : List (List Piece)) (texts : List ByteList) (ws : List ℕ) (used : ℕ → Bool) → IsLimited C bodies texts ws used → length (image (map laid bodies) C texts) ≤ flash_end
-image_most C bodies texts ws used h =
+written_most : (C : FlatCode) (bodies : List (List Piece)) (texts : List ByteList) (ws : List ℕ) (used : ℕ → Bool) → IsLimited C bodies texts ws used → length (written_bytes (map laid bodies) C texts) ≤ flash_end
+written_most C bodies texts ws used h =
     let ls = map laid bodies in
     let k = kept bodies ws h.keeps in
     let code = k.0 in
@@ -212,4 +216,11 @@ image_most C bodies texts ws used h =
     let e = count_hits ls 0 texts in
     let f = image_long ls C texts in
     let g = used_more (is_named ls) used (λ j n. h.uses j (named_back bodies j n)) 0 texts in
+    omega arith
+
+pub image_most : (C : FlatCode) (bodies : List (List Piece)) (texts : List ByteList) (ws : List ℕ) (used : ℕ → Bool) (image : List ℕ) → IsLimited C bodies texts ws used → IsLinked (map laid bodies) C texts image
+    → length image ≤ flash_end
+image_most C bodies texts ws used image h linked_to =
+    let long = alike_long (map laid bodies) C texts image (written_bytes (map laid bodies) C texts) linked_to (linked (map laid bodies) C texts (all_fixed bodies)) in
+    let most = written_most C bodies texts ws used h in
     omega arith

@@ -6,8 +6,8 @@ use Rattle.std.proofs.lemmas.List.{length-append, length-replicate, get_or_appen
 use Rattle.std.proofs.lemmas.Option.{slice_get-map}
 use Rattle.thumb_code.specs.Map.{flash_end}
 use Rattle.thumb_layout.specs.Layout.{up}
-use Rattle.image_link.specs.Parts.{padded, with_part, with_parts, end_with, starts, end_behind}
-use Rattle.image_link.specs.Linkable.{IsPlace}
+use Rattle.image_link.specs.inner.Parts.{padded, with_part, with_parts, end_with, starts, end_behind}
+use Rattle.image_link.specs.inner.Written.{IsPlace}
 use Rattle.image_link.proofs.Placing.{with_grows, behind_grows}
 
 abbrev pub lengths : List (Option (List ℕ)) → List (Option ℕ)
@@ -36,10 +36,6 @@ with_append bytes (p ∷ ps) qs = with_append (with_part bytes p) ps qs
 pub end_append : (end : ℕ) (ns ms : List (Option ℕ)) → end_behind end (ns ++ ms) ≡ end_behind (end_behind end ns) ms
 end_append end [] ms = refl
 end_append end (n ∷ ns) ms = end_append (end_with end n) ns ms
-
-pub starts_append : (end : ℕ) (ns ms : List (Option ℕ)) → starts end (ns ++ ms) ≡ starts end ns ++ starts (end_behind end ns) ms
-starts_append end [] ms = refl
-starts_append end (n ∷ ns) ms = ap (λ q. up end ∷ q) (starts_append (end_with end n) ns ms)
 
 pub length_starts : (end : ℕ) (ns : List (Option ℕ)) → length (starts end ns) ≡ length ns
 length_starts end [] = refl
@@ -87,12 +83,6 @@ part_ends end (m ∷ ns) zero n e =
     let f : end_with end m ≡ up end + n = ap (end_with end) same in omega arith
 part_ends end (m ∷ ns) (suc i) n e = part_ends (end_with end m) ns i n e
 
--- a part begins at or behind what it is put behind
-pub start_behind : (end : ℕ) (ns : List (Option ℕ)) (i : ℕ) → i < length ns → end ≤ slice_index (starts end ns) i
-start_behind end [] i l = absurd (omega arith)
-start_behind end (n ∷ ns) zero l = omega arith
-start_behind end (n ∷ ns) (suc i) l = let a = with_grows end n in let b = start_behind (end_with end n) ns i (omega arith) in omega arith
-
 -- the same with more parts behind
 pub part_stands_before : (bytes : List ℕ) (ps qs : List (Option (List ℕ))) (i : ℕ) (p : List ℕ) (d : ℕ) → slice_get ps i ≡ Some (Some p) → (k : ℕ) → k < length p
     → get_or (with_parts bytes (ps ++ qs)) (slice_index (starts (length bytes) (lengths ps)) i + k) d ≡ get_or p k d
@@ -102,13 +92,3 @@ part_stands_before bytes ps qs i p d e k l =
     let whole = length_parts bytes ps in
     ap (λ q. get_or q (slice_index (starts (length bytes) (lengths ps)) i + k) d) (with_append bytes ps qs)
     ∙ (before_parts (with_parts bytes ps) qs (slice_index (starts (length bytes) (lengths ps)) i + k) d (omega arith) ∙ part_stands bytes ps i p d e k l)
-
--- a part ends before the next ones begin
-pub start_order : (end : ℕ) (ns : List (Option ℕ)) (i j n : ℕ) → slice_get ns i ≡ Some (Some n) → i < j → j < length ns → slice_index (starts end ns) i + n ≤ slice_index (starts end ns) j
-start_order end [] i j n e l h = absurd (omega arith)
-start_order end (m ∷ ns) i zero n e l h = absurd (omega arith)
-start_order end (m ∷ ns) zero (suc j) n e l h =
-    let same : m ≡ Some n = cc in
-    let f : end_with end m ≡ up end + n = ap (end_with end) same in
-    let g = start_behind (end_with end m) ns j (omega arith) in omega arith
-start_order end (m ∷ ns) (suc i) (suc j) n e l h = start_order (end_with end m) ns i j n e (omega arith) (omega arith)

@@ -14,9 +14,9 @@ use Rattle.thumb_layout.specs.declared.laid.Laid.{Laid}
 use Rattle.thumb_layout.specs.Layout.{up}
 use Rattle.thumb_divide.specs.Routine.{routine_bytes, routine_length}
 use Rattle.thumb_emit.specs.InFlash.{Addresses}
-use Rattle.image_link.specs.Parts.{padded, with_parts, end_with, end_behind}
-use Rattle.image_link.specs.Image.{head_length, head, is_named, code_lengths, class_lengths, text_lengths, code_end, routine_end, class_end, image_end, addresses, opened, filled, slot_words, class_table, text_bytes, code_parts, class_parts, text_parts, parts, image}
-use Rattle.image_link.specs.Linkable.{ArePlaced}
+use Rattle.image_link.specs.inner.Parts.{padded, with_parts, end_with, end_behind}
+use Rattle.image_link.specs.Image.{head_length, head, is_named, opened, slot_words, class_table, text_bytes}
+use Rattle.image_link.specs.inner.Written.{code_lengths, class_lengths, text_lengths, code_end, routine_end, class_end, image_end, addresses, filled, code_parts, class_parts, text_parts, parts, written_bytes, ArePlaced}
 use Rattle.image_link.proofs.Placing.{behind_grows}
 use Rattle.image_link.proofs.Standing.{lengths, length_parts, with_append, end_append, start_place}
 
@@ -96,8 +96,8 @@ pub end_is : (ls : List Laid) (cs : List FlatClass) (ts : List (List ℕ)) → e
 end_is ls cs ts = end_append head_length (code_lengths ls) (Some routine_length ∷ (class_lengths cs ++ text_lengths ls 0 ts)) ∙ end_append (routine_end ls) (class_lengths cs) (text_lengths ls 0 ts)
 
 -- how long the image is
-pub image_long : (ls : List Laid) (C : FlatCode) (ts : List (List ℕ)) → length (image ls C ts) ≡ image_end ls C.classes ts
-unfolding image
+pub image_long : (ls : List Laid) (C : FlatCode) (ts : List (List ℕ)) → length (written_bytes ls C ts) ≡ image_end ls C.classes ts
+unfolding written_bytes
 image_long ls C ts =
     let a = addresses ls C.classes ts in
     length_parts (head a C.main) (parts a ls C.classes ts) ∙ (ap (end_behind head_length) (parts_long a ls C.classes ts) ∙ end_is ls C.classes ts)
@@ -123,8 +123,8 @@ texts_short ls cs ts h i l e = let z : 0 + i ≡ i = omega arith in texts_short_
 
 -- what is written part by part is the image
 pub written : (ls : List Laid) (C : FlatCode) (ts : List (List ℕ)) (a : Addresses) (x y z v w : List ℕ) → a ≡ addresses ls C.classes ts → x ≡ head a C.main → y ≡ with_parts x (code_parts a 0 ls) → z ≡ padded y ++ routine_bytes
-    → v ≡ with_parts z (class_parts a C.classes) → w ≡ with_parts v (text_parts ls 0 ts) → w ≡ image ls C ts
-unfolding image
+    → v ≡ with_parts z (class_parts a C.classes) → w ≡ with_parts v (text_parts ls 0 ts) → w ≡ written_bytes ls C ts
+unfolding written_bytes
 written ls C ts a x y z v w e p q r s t =
     let cs = C.classes in
     let later = class_parts a cs ++ text_parts ls 0 ts in
@@ -138,9 +138,9 @@ written ls C ts a x y z v w e p q r s t =
 pub code_low : (ls : List Laid) (cs : List FlatClass) (ts : List (List ℕ)) → image_end ls cs ts ≤ flash_end → code_end ls ≤ flash_end
 code_low ls cs ts l = let a = routine_grows ls in let b = classes_grow ls cs in let c = texts_grow ls cs ts in omega arith
 
--- equal lists give equal ends and addresses
+-- equal lists give equal ends and bytes
 pub same_end : (ls ms : List Laid) (cs ds : List FlatClass) (ts us : List (List ℕ)) → ls ≡ ms → cs ≡ ds → ts ≡ us → image_end ls cs ts ≡ image_end ms ds us
 same_end ls ms cs ds ts us e f g = ap (λ q. image_end q cs ts) e ∙ (ap (λ q. image_end ms q ts) f ∙ ap (image_end ms ds) g)
 
-pub same_addresses : (ls ms : List Laid) (cs ds : List FlatClass) (ts us : List (List ℕ)) → ls ≡ ms → cs ≡ ds → ts ≡ us → addresses ls cs ts ≡ addresses ms ds us
-same_addresses ls ms cs ds ts us e f g = ap (λ q. addresses q cs ts) e ∙ (ap (λ q. addresses ms q ts) f ∙ ap (addresses ms ds) g)
+pub same_written : (ls ms : List Laid) (C : FlatCode) (ts us : List (List ℕ)) → ls ≡ ms → ts ≡ us → written_bytes ls C ts ≡ written_bytes ms C us
+same_written ls ms C ts us e f = ap (λ q. written_bytes q C ts) e ∙ ap (written_bytes ms C) f

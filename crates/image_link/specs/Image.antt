@@ -1,8 +1,9 @@
--- The image of laid code: three words and the instruction to which a fiber's function returns, and then the parts of the program.
-use Rattle.std.specs.Prelude.{ℕ, ◌+◌, ◌*◌, List, [], ◌∷◌, ◌++◌, length, map, Bool, true, false, ◌||◌, ◌==◌, if◌then◌else◌, Option, Some, None, slice_index}
-use Rattle.std.proofs.lemmas.List.Edits.{sets}
+-- The image of laid code: what stands in it, and where.
+use Rattle.std.specs.Prelude.{◌≡◌, ℕ, ◌+◌, ◌*◌, ◌<◌, ◌≤◌, List, [], ◌∷◌, ◌++◌, length, map, Bool, true, false, ◌==◌, Some, slice_get, slice_index}
+use Rattle.std.specs.List.{enumerate_from, filter, list_any}
 use Rattle.thumb_code.specs.declared.instructions.Instr.TheVariants.{Bl, Svc}
 use Rattle.thumb_code.specs.Table.{half}
+use Rattle.thumb_code.specs.Map.{flash_byte}
 use Rattle.flat_ir.specs.declared.ops.FlatClass.{FlatClass}
 use Rattle.flat_ir.specs.declared.ops.FlatCode.{FlatCode}
 use Rattle.thumb_layout.specs.declared.pieces.What.{What}
@@ -11,87 +12,32 @@ use Rattle.thumb_layout.specs.declared.laid.Fix.{Fix}
 use Rattle.thumb_layout.specs.declared.laid.Laid.{Laid}
 use Rattle.thumb_layout.specs.Layout.{up}
 use Rattle.thumb_layout.specs.Cells.{word_bytes, spelled, offset}
-use Rattle.thumb_emit.specs.InFlash.{Addresses, callee_at, word_for}
+use Rattle.thumb_layout.specs.Flash.{IsOutside}
 use Rattle.thumb_divide.specs.Routine.{routine_bytes, routine_length}
-use Rattle.image_link.specs.declared.addresses.Addresses as code
-use Rattle.image_link.specs.Parts.{starts, end_behind, with_parts}
+use Rattle.thumb_emit.specs.InFlash.{Addresses, callee_at, word_for}
 
 -- The base of a built image: the end of the stack that a fiber may use.
 abbrev pub base : ℕ
 base = 0x20003F80
 
--- Where the instruction stands to which a fiber's function returns, and where the head ends.
+-- Where the instruction stands to which a fiber's function returns.
 abbrev pub return_at : ℕ
 return_at = 12
 
+-- An image begins with three words (the base, main's code address, and the one to which a fiber's function returns) and the instruction that
+-- ends a fiber.
 abbrev pub head_length : ℕ
 head_length = 14
 
--- Which texts are in the image: those of which the word stands in some code.
-abbrev pub is_this_text : ℕ → What → Bool
-is_this_text i (Text j) = j == i
-is_this_text i _ = false
+abbrev pub head : Addresses → ℕ → List ℕ
+head a main = word_bytes base ++ (word_bytes (word_for a (Function main)) ++ (word_bytes (return_at + 1) ++ spelled (half (Svc 0))))
 
-abbrev pub names_text : ℕ → List Fix → Bool
-names_text i [] = false
-names_text i (f ∷ fs) = is_this_text i f.what || names_text i fs
-
-abbrev pub is_named : List Laid → ℕ → Bool
-is_named [] i = false
-is_named (l ∷ ls) i = names_text i l.fixes || is_named ls i
-
--- The lengths of the parts: of the functions' code; of the classes' tables, which are a word and one a slot; and of the texts from number i
--- on, which are a word and the bytes.
-abbrev pub code_lengths : List Laid → List (Option ℕ)
-code_lengths laid = map (λ l. Some (length l.bytes)) laid
-
-abbrev pub class_lengths : List FlatClass → List (Option ℕ)
-class_lengths classes = map (λ c. Some (4 + 4 * length c.slots)) classes
-
-abbrev pub text_lengths : List Laid → ℕ → List (List ℕ) → List (Option ℕ)
-text_lengths laid i [] = []
-text_lengths laid i (t ∷ ts) = (if is_named laid i then Some (4 + length t) else None) ∷ text_lengths laid (i + 1) ts
-
--- Where all stand: behind the head the functions, the routine, the classes and the texts.
-abbrev pub code_end : List Laid → ℕ
-code_end laid = end_behind head_length (code_lengths laid)
-
-abbrev pub routine_end : List Laid → ℕ
-routine_end laid = up (code_end laid) + routine_length
-
-abbrev pub class_end : List Laid → List FlatClass → ℕ
-class_end laid classes = end_behind (routine_end laid) (class_lengths classes)
-
-abbrev pub image_end : List Laid → List FlatClass → List (List ℕ) → ℕ
-image_end laid classes texts = end_behind (class_end laid classes) (text_lengths laid 0 texts)
-
-unfoldable pub addresses : List Laid → List FlatClass → List (List ℕ) → Addresses
-addresses laid classes texts = record {
-  function = slice_index (starts head_length (code_lengths laid));
-  class = slice_index (starts (routine_end laid) (class_lengths classes));
-  text = slice_index (starts (class_end laid classes) (text_lengths laid 0 texts));
-  routine = up (code_end laid);
-}
-
--- The addresses that the code keeps, by numbers.
-abbrev pub as_addresses : code.Addresses → Addresses
-as_addresses a = record { function = slice_index a.functions; class = slice_index a.classes; text = slice_index a.texts; routine = a.routine }
-
--- The four bytes for what is open at an address: a BL, or a word.
+-- The four bytes for what is open in code at an address: a BL to what is called, or the word for what is named.
 abbrev pub opened : Addresses → ℕ → Bool → What → List ℕ
 opened a at true (Function f) = spelled (half (Bl (offset at (callee_at a f))))
 opened a at call what = word_bytes (word_for a what)
 
--- The bytes of code that stands at an address, with what was open in it.
-abbrev pub filled : Addresses → ℕ → List Fix → List ℕ → List ℕ
-filled a at [] bytes = bytes
-filled a at (f ∷ fs) bytes = filled a at fs (sets bytes f.at (opened a (at + f.at) f.call f.what))
-
--- The parts: the functions' code from function i on, the classes' tables, and the texts from text i on.
-abbrev pub code_parts : Addresses → ℕ → List Laid → List (Option (List ℕ))
-code_parts a i [] = []
-code_parts a i (l ∷ ls) = Some (filled a (a.function i) l.fixes l.bytes) ∷ code_parts a (i + 1) ls
-
+-- A class's table: a word with the words of its objects, and for each slot its method's code address.
 abbrev pub slot_words : Addresses → List ℕ → List ℕ
 slot_words a [] = []
 slot_words a (f ∷ fs) = word_bytes (word_for a (Function f)) ++ slot_words a fs
@@ -99,22 +45,85 @@ slot_words a (f ∷ fs) = word_bytes (word_for a (Function f)) ++ slot_words a f
 abbrev pub class_table : Addresses → FlatClass → List ℕ
 class_table a c = word_bytes c.words ++ slot_words a c.slots
 
-abbrev pub class_parts : Addresses → List FlatClass → List (Option (List ℕ))
-class_parts a classes = map (λ c. Some (class_table a c)) classes
-
+-- A text with the word of its length before it.
 abbrev pub text_bytes : List ℕ → List ℕ
 text_bytes text = word_bytes (length text) ++ text
 
-abbrev pub text_parts : List Laid → ℕ → List (List ℕ) → List (Option (List ℕ))
-text_parts laid i [] = []
-text_parts laid i (t ∷ ts) = (if is_named laid i then Some (text_bytes t) else None) ∷ text_parts laid (i + 1) ts
+-- Which texts are in the image: those of which the word stands in some code.
+abbrev pub is_this_text : ℕ → What → Bool
+is_this_text i (Text j) = j == i
+is_this_text i what = false
 
--- The words at reset, and the instruction that ends a fiber.
-abbrev pub head : Addresses → ℕ → List ℕ
-head a main = word_bytes base ++ (word_bytes (word_for a (Function main)) ++ (word_bytes (return_at + 1) ++ spelled (half (Svc 0))))
+abbrev pub names_text : ℕ → List Fix → Bool
+names_text i fixes = list_any (λ f. is_this_text i f.what) fixes
 
-abbrev pub parts : Addresses → List Laid → List FlatClass → List (List ℕ) → List (Option (List ℕ))
-parts a laid classes texts = code_parts a 0 laid ++ (Some routine_bytes ∷ (class_parts a classes ++ text_parts laid 0 texts))
+abbrev pub is_named : List Laid → ℕ → Bool
+is_named laid i = list_any (λ l. names_text i l.fixes) laid
 
-unfoldable pub image : List Laid → FlatCode → List (List ℕ) → List ℕ
-image laid code texts = let a = addresses laid code.classes texts in with_parts (head a code.main) (parts a laid code.classes texts)
+-- Bytes stand in an image from an address on.
+abbrev pub HasBytes : List ℕ → ℕ → List ℕ → Type 0
+HasBytes image at bytes = (k : ℕ) → k < length bytes → flash_byte image (at + k) ≡ slice_index bytes k
+
+-- What is open in code that stands at an address has its four bytes, but for those that are open once more, further on in the list.
+abbrev pub AreFilled : List ℕ → Addresses → ℕ → List Fix → Type 0
+AreFilled image a at [] = Unit {0}
+AreFilled image a at (f ∷ fs) =
+    ((j : ℕ) → j < 4 → IsOutside (f.at + j) fs → flash_byte image (at + (f.at + j)) ≡ slice_index (opened a (at + f.at) f.call f.what) j) × AreFilled image a at fs
+
+-- A function's code stands at an address: its bytes, and what was open in it.
+pub record HasFunction (image : List ℕ) (a : Addresses) (at : ℕ) (l : Laid) : Type 0 where
+  pub bytes : (k : ℕ) → k < length l.bytes → IsOutside k l.fixes → flash_byte image (at + k) ≡ slice_index l.bytes k
+  pub fixes : AreFilled image a at l.fixes
+
+-- A section of an image: where it begins, and how many bytes it has.
+pub record Section : Type 0 where
+  pub at : ℕ
+  pub long : ℕ
+
+abbrev pub code_section : Addresses → ℕ × Laid → Section
+code_section a p = record { at = a.function p.0; long = length p.1.bytes }
+
+abbrev pub routine_section : Addresses → Section
+routine_section a = record { at = a.routine; long = routine_length }
+
+abbrev pub table_section : Addresses → ℕ × FlatClass → Section
+table_section a p = record { at = a.class p.0; long = 4 + 4 * length p.1.slots }
+
+abbrev pub text_section : Addresses → ℕ × List ℕ → Section
+text_section a p = record { at = a.text p.0; long = 4 + length p.1 }
+
+-- The sections in their order: each function's code, the division routine, each class's table, and each text that code names.
+abbrev pub code_sections : Addresses → List Laid → List Section
+code_sections a laid = map (code_section a) (enumerate_from 0 laid)
+
+abbrev pub table_sections : Addresses → List FlatClass → List Section
+table_sections a classes = map (table_section a) (enumerate_from 0 classes)
+
+abbrev pub text_sections : Addresses → List Laid → List (List ℕ) → List Section
+text_sections a laid texts = map (text_section a) (filter (λ p. is_named laid p.0) (enumerate_from 0 texts))
+
+abbrev pub sections : Addresses → List Laid → List FlatClass → List (List ℕ) → List Section
+sections a laid classes texts = code_sections a laid ++ (routine_section a ∷ (table_sections a classes ++ text_sections a laid texts))
+
+-- Sections stand one behind another, the first behind an end: each begins at the next multiple of 4, with zeros before it, and the image ends
+-- with the last.
+abbrev pub StandBehind : List ℕ → ℕ → List Section → Type 0
+StandBehind image end [] = length image ≡ end
+StandBehind image end (s ∷ ss) = (s.at ≡ up end) × ((k : ℕ) → end ≤ k → k < s.at → flash_byte image k ≡ 0) × StandBehind image (s.at + s.long) ss
+
+-- Laid code, a program's flat code and its texts are linked to an image: each has its bytes in it, and nothing else stands there.
+pub record IsLinked (laid : List Laid) (code : FlatCode) (texts : List (List ℕ)) (image : List ℕ) : Type 0 where
+  -- where each stands
+  pub at : Addresses
+  -- the words at reset, each function's code, the division routine, each class's table, and each text that code names
+  pub begins : HasBytes image 0 (head at code.main)
+  pub functions : (f : ℕ) (l : Laid) → slice_get laid f ≡ Some l → HasFunction image at (at.function f) l
+  pub routine : HasBytes image at.routine routine_bytes
+  pub classes : (c : ℕ) (class : FlatClass) → slice_get code.classes c ≡ Some class → HasBytes image (at.class c) (class_table at class)
+  pub named_texts : (i : ℕ) (text : List ℕ) → slice_get texts i ≡ Some text → is_named laid i ≡ true → HasBytes image (at.text i) (text_bytes text)
+  -- one behind another, in this order
+  pub order : StandBehind image head_length (sections at laid code.classes texts)
+  -- a number that no function, class or text has stands for address 0
+  pub no_function : (f : ℕ) → length laid ≤ f → at.function f ≡ 0
+  pub no_class : (c : ℕ) → length code.classes ≤ c → at.class c ≡ 0
+  pub no_text : (i : ℕ) → length texts ≤ i → at.text i ≡ 0

@@ -1,5 +1,5 @@
-pub mod Parts
 pub mod Image
 pub mod Linkable
 pub mod Shown
 pub mod Sizes
+pub mod inner

@@ -1,7 +1,6 @@
 -- What can be linked.
 use Rattle.std.specs.Prelude.{◌≡◌, ◌⊎◌, ℕ, ◌+◌, ◌%◌, ◌<◌, ◌≤◌, List, length, Bool, true, false}
 use Rattle.std.specs.List.{AllByRecursion}
-use Rattle.thumb_code.specs.Map.{flash_end}
 use Rattle.flat_ir.specs.declared.ops.Op.{Op}
 use Rattle.flat_ir.specs.declared.ops.Op.TheVariants.{TextOf}
 use Rattle.flat_ir.specs.declared.ops.Function as flat
@@ -12,7 +11,6 @@ use Rattle.thumb_layout.specs.declared.pieces.What.TheVariants.{Function, Text, 
 use Rattle.thumb_layout.specs.declared.laid.Fix.{Fix}
 use Rattle.thumb_layout.specs.declared.laid.Laid.{Laid}
 use Rattle.thumb_emit.specs.Emit.{division}
-use Rattle.thumb_emit.specs.InFlash.{Addresses}
 
 -- A call is of a function or of the division routine, and what a word stands for is there, among so many functions, classes and texts.
 abbrev pub IsThere : (functions classes texts : ℕ) → Bool → What → Type 0
@@ -47,13 +45,3 @@ NamesTextBelow texts op = Unit {0}
 
 abbrev pub NamesTextsBelow : ℕ → flat.Function → Type 0
 NamesTextsBelow texts f = AllByRecursion (NamesTextBelow texts) f.ops
-
--- An address of a part is a multiple of 4, and no part is past the end of flash.
-abbrev pub IsPlace : ℕ → Type 0
-IsPlace at = (at ≤ flash_end) × (at % 4 ≡ 0)
-
-pub record ArePlaced (a : Addresses) : Type 0 where
-  pub functions : (i : ℕ) → IsPlace (a.function i)
-  pub routine : IsPlace a.routine
-  pub classes : (i : ℕ) → IsPlace (a.class i)
-  pub texts : (i : ℕ) → IsPlace (a.text i)

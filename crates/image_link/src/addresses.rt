@@ -2,8 +2,9 @@
 ghost use Rattle.std.specs.Prelude.{◌≡◌, ◌<◌, ◌≤◌, ◌+◌, ◌*◌, ℕ, false, length, slice_index_or, IfOk, IfErr, OnOk};
 ghost use Rattle.thumb_code.specs.Map.{flash_end};
 ghost use Rattle.thumb_layout.specs.Layout.{up};
-ghost use Rattle.image_link.specs.Parts.{end_with, starts, end_behind};
-ghost use Rattle.image_link.specs.Image.{code_lengths, class_lengths, text_lengths, is_named, as_addresses, addresses, image_end};
+ghost use Rattle.image_link.specs.Image.{is_named};
+ghost use Rattle.image_link.specs.inner.Parts.{end_with, starts, end_behind};
+ghost use Rattle.image_link.specs.inner.Written.{as_addresses, code_lengths, class_lengths, text_lengths, addresses, image_end};
 
 use crate::refused::LinkRefused;
 use flat_ir::FlatClass;
@@ -124,7 +125,7 @@ fn text_lengths(
 }
 
 /// Where all parts of an image stand. It is `PastFlash` exactly where the last one ends past the end of flash.
-#[tactic(auto, unfolding(crate::specs::Image::addresses))]
+#[tactic(auto, unfolding(crate::specs::inner::Written::addresses))]
 pub fn place_parts(
     alloc: Global,
     laid: &[Laid],

@@ -6,8 +6,9 @@ ghost use Rattle.thumb_code.specs.declared.instructions.Instr.TheVariants.{Bl};
 ghost use Rattle.thumb_code.specs.Table.{half, is_two, Fits};
 ghost use Rattle.thumb_layout.specs.Cells.{half_bytes, word_bytes, spelled, offset};
 ghost use Rattle.thumb_emit.specs.InFlash.{callee_at, word_for};
-ghost use Rattle.image_link.specs.Image.{as_addresses, opened, filled};
-ghost use Rattle.image_link.specs.Linkable.{ArePlaced, IsFixOf};
+ghost use Rattle.image_link.specs.Image.{opened};
+ghost use Rattle.image_link.specs.Linkable.{IsFixOf};
+ghost use Rattle.image_link.specs.inner.Written.{as_addresses, ArePlaced, filled};
 
 use crate::addresses::Addresses;
 use byteorder::{ByteOrder, LittleEndian};

@@ -1,10 +1,11 @@
 //! Linking.
-ghost use Rattle.std.specs.Prelude.{◌≡◌, ◌<◌, ◌≤◌, ◌+◌, ℕ, false, length, slice_index_or, IfOk, IfErr, OnOk};
+ghost use Rattle.std.specs.Prelude.{◌≡◌, ◌<◌, ◌≤◌, ◌+◌, ℕ, List, false, length, slice_index_or, IfOk, IfErr};
 ghost use Rattle.std.specs.List.{AllByRecursion};
 ghost use Rattle.thumb_code.specs.Map.{flash_end};
-ghost use Rattle.image_link.specs.Image as whole;
-ghost use Rattle.image_link.specs.Image.{is_named, as_addresses, image_end, image};
+ghost use Rattle.image_link.specs.Image.{is_named, IsLinked};
 ghost use Rattle.image_link.specs.Linkable.{IsLinkable, AreFixesOf};
+ghost use Rattle.image_link.specs.inner.Written as whole;
+ghost use Rattle.image_link.specs.inner.Written.{as_addresses, image_end, written_bytes};
 
 use crate::addresses::{Addresses, place_parts};
 use crate::naming::named_texts;
@@ -30,7 +31,7 @@ fn written(
     requires marks { (i : ℕ) → i < length texts.now → slice_index_or marks.now i false ≡ is_named laid.now i }
     requires addresses { as_addresses addresses.now ≡ whole.addresses laid.now code.now.classes texts.now }
     requires fits { image_end laid.now code.now.classes texts.now ≤ flash_end }
-    ensures { IfOk result (λ bytes. bytes.items ≡ image laid.now code.now texts.now) }
+    ensures { IfOk result (λ bytes. bytes.items ≡ written_bytes laid.now code.now texts.now) }
 {
     let mut image = Vec::new(alloc);
     put_head(&mut image, addresses, code.main)?;
@@ -57,9 +58,9 @@ pub fn link(
     tables: &Tables,
 ) -> Result<Vec<u8>, LinkRefused>
     requires { IsLinkable laid.now code.now (length tables.now.texts) }
-    ensures linked { IfOk result (λ bytes. bytes.items ≡ image laid.now code.now tables.now.texts) }
-    ensures fits { OnOk result (length (image laid.now code.now tables.now.texts) ≤ flash_end) }
-    ensures past_flash { IfErr result (λ why. why ≡ LinkRefused.PastFlash → flash_end < length (image laid.now code.now tables.now.texts)) }
+    ensures linked { IfOk result (λ bytes. IsLinked laid.now code.now tables.now.texts bytes.items) }
+    ensures fits { IfOk result (λ bytes. length bytes.items ≤ flash_end) }
+    ensures past_flash { IfErr result (λ why. why ≡ LinkRefused.PastFlash → (image : List ℕ) × IsLinked laid.now code.now tables.now.texts image × (flash_end < length image)) }
 {
     let laid = laid.as_slice();
     let classes = code.classes.as_slice();

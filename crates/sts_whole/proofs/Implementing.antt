@@ -6,7 +6,6 @@ use Rattle.std.specs.List.{AllByRecursion}
 use Rattle.std.proofs.lemmas.List.{length-map}
 use Rattle.std.proofs.lemmas.List.Elements.{Contains-append_cases}
 use Rattle.std.proofs.lemmas.Bool.Decides.{nat_tests}
-use Rattle.thumb_code.specs.Map.{flash_end}
 use Rattle.thumb_code.specs.Machine.{main_of}
 use Rattle.board_world.specs.Observations.{ByteList}
 use Rattle.bank_model.specs.Texts.{text_limit}
@@ -48,15 +47,13 @@ use Rattle.thumb_layout.specs.declared.pieces.What.TheVariants.{Text}
 use Rattle.thumb_layout.specs.declared.pieces.Piece.{Piece}
 use Rattle.thumb_layout.specs.Soundness.{IsSound}
 use Rattle.thumb_layout.specs.Openings.{named}
-use Rattle.thumb_layout.specs.Cells.{laid}
 use Rattle.thumb_emit.specs.Emit.{function_pieces, division}
 use Rattle.thumb_emit.specs.Names.{name_of, names_of}
 use Rattle.thumb_emit.specs.Ready.{IsReady, HasNumber, HasNumbers}
 use Rattle.thumb_emit.specs.InFlash.{IsNamed, Addresses, InFlash}
 use Rattle.thumb_emit.proofs.Laws.{function_named, function_sound}
 use Rattle.emit_simulation.specs.Ties.{IsImage, IsText, IsCode, ties}
-use Rattle.image_link.specs.Image as link
-use Rattle.image_link.specs.Shown.{IsImaged, shown_at}
+use Rattle.image_link.specs.Shown.{IsImaged}
 use Rattle.sts_whole.specs.Buildable.{IsBuildable}
 use Rattle.sts_whole.specs.Compiled.{functions_of, bodies_of, IsCompiled}
 
@@ -238,7 +235,7 @@ module _ (P : TypedProgram) (texts : List ByteList) (image : List ℕ) (b : IsBu
   bodies_sound : (f : ℕ) (body : List Piece) → slice_get bodies f ≡ Some body → IsSound body
   bodies_sound f body e = let m = mapped_at function_pieces placed f body e in subst (λ (xs : List Piece). IsSound xs) m.2 (function_sound m.0 (ready f m.0 m.1).0)
 
-  pub imaged : IsImaged C bodies texts
+  imaged : IsImaged C bodies texts image
   imaged = record {
     bodies_are = lengths;
     sound = bodies_sound;
@@ -246,14 +243,20 @@ module _ (P : TypedProgram) (texts : List ByteList) (image : List ℕ) (b : IsBu
     words = λ c class e. words_few P.classes (few_fields P texts b.limits) c class e;
     texts_are = λ i n. text_is P texts b.limits b.named i (named_is P placed k.functions i n);
     bytes = b.bytes;
-    room = subst (λ (x : List ℕ). length x ≤ flash_end) k.linked k.room;
+    linked = k.linked;
+    room = k.room;
   }
 
   abbrev a : Addresses
-  a = shown_at C bodies texts
+  a = k.linked.at
 
-  pub shown : InFlash C bodies texts (link.image (map laid bodies) C texts) a → IsImage C placed image a texts
-  shown f = record { formed = formed; functions = k.functions; ready = ready; shows = subst (λ (x : List ℕ). InFlash C bodies texts x a) (sym k.linked) f }
+  -- where images show their programs this one does
+  pub shows : ((C : FlatCode) (bodies : List (List Piece)) (texts : List ByteList) (image : List ℕ) (h : IsImaged C bodies texts image) → InFlash C bodies texts image h.linked.at) → InFlash C bodies texts image a
+  unfolding imaged
+  shows law = law C bodies texts image imaged
+
+  pub shown : InFlash C bodies texts image a → IsImage C placed image a texts
+  shown f = record { formed = formed; functions = k.functions; ready = ready; shows = f }
 
   main_below : P.main < length P.functions
   main_below = let m = b.typed.main in entry_within P.functions P.main m.0 m.1
@@ -262,7 +265,7 @@ module _ (P : TypedProgram) (texts : List ByteList) (image : List ℕ) (b : IsBu
   globals_few = let l = defaults_long P.globals in let m = b.limits.globals in omega (arith, l, m)
 
   -- so the image does what the program's source does
-  pub implements : InFlash C bodies texts (link.image (map laid bodies) C texts) a
+  pub implements : InFlash C bodies texts image a
       → ((weight : FlatActivity → FlatHeap → ℕ) → IsLight C weight → Lowers P texts (flat C texts) (λ h x y. Tied P texts x y) (CodeTied P texts) weight)
       → (IsImage C placed image a texts → Emits (flat C texts) image (ties C placed image a) (weight_of C)) → ImageImplements P texts image
   implements f lowers emits =

@@ -26,7 +26,7 @@ use Rattle.thumb_layout.specs.Cells.{laid}
 use Rattle.thumb_emit.specs.Emit.{function_pieces}
 use Rattle.thumb_emit.specs.Ready.{IsReady}
 use Rattle.emitted_bytes.specs.Weighed.{bytes_of_weight, bytes_of_text, texts_named}
-use Rattle.image_link.specs.Image.{image}
+use Rattle.image_link.specs.Image.{IsLinked}
 use Rattle.image_link.specs.Sizes.{IsLimited}
 use Rattle.image_link.specs.Linkable.{NamesTextBelow, NamesTextsBelow}
 use Rattle.sts_whole.specs.Building.{IsPlaceable, HasSoundPlaces, IsLayable}
@@ -93,16 +93,16 @@ module _ (routines : (P : TypedProgram) (f : ℕ) (r : TypedRoutine) (p : Placed
     → length (laid (function_pieces p)).bytes + bytes_of_text * cost texts_named p.function.ops ≤ bytes_of_weight * weight r)
     (repeats : (f : ℕ) (p : Placed) → IsReady p → p.function ≡ repeating_function f → length (laid (function_pieces p)).bytes + bytes_of_text * cost
     texts_named p.function.ops ≤ bytes_of_weight * repeating_weight) where
-  pub fits : ((C : FlatCode) (bodies : List (List Piece)) (texts : List ByteList) (weights : List ℕ) (used : ℕ → Bool) → IsLimited C bodies texts weights used
-      → length (image (map laid bodies) C texts) ≤ flash_end)
-      → (P : TypedProgram) (texts : List ByteList) (placed : List Placed) → IsProgramWithinLimits P texts → routines_weight (take library_size P.functions) ≤
+  pub fits : ((C : FlatCode) (bodies : List (List Piece)) (texts : List ByteList) (weights : List ℕ) (used : ℕ → Bool) (image : List ℕ) → IsLimited C bodies texts weights used
+      → IsLinked (map laid bodies) C texts image → length image ≤ flash_end)
+      → (P : TypedProgram) (texts : List ByteList) (placed : List Placed) (image : List ℕ) → IsProgramWithinLimits P texts → routines_weight (take library_size P.functions) ≤
       600
       → IsWellFormed (lowered P) → functions_of placed ≡ (lowered P).functions → AllByRecursion HasSoundPlaces placed
-      → length (image (map laid (bodies_of placed)) (lowered P) texts) ≤ flash_end
-  fits fit P texts placed limits library formed e sound =
+      → IsLinked (map laid (bodies_of placed)) (lowered P) texts image → length image ≤ flash_end
+  fits fit P texts placed image limits library formed e sound linked =
       let ready = ready_all (length (lowered P).functions) (length (lowered P).classes) (lowered P).functions placed e formed.functions sound in
-      fit (lowered P) (bodies_of placed) texts (weights_of P.functions (repeated_in_program P)) (λ i. is_among (program_texts P) i)
-      (limited P (routines P) repeats texts placed limits library e ready (named_among P placed e))
+      fit (lowered P) (bodies_of placed) texts (weights_of P.functions (repeated_in_program P)) (λ i. is_among (program_texts P) i) image
+      (limited P (routines P) repeats texts placed limits library e ready (named_among P placed e)) linked
 
 -- texts that code names are among the first so many, where those of its program are
 among_below : (n : ℕ) (xs : List ℕ) → All (λ t. t < n) xs → (i : ℕ) → IsOneOf i xs → i < n

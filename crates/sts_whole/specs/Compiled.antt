@@ -11,7 +11,7 @@ use Rattle.register_assign.specs.Sound.{ArePlacesSound}
 use Rattle.thumb_layout.specs.declared.pieces.Piece.{Piece}
 use Rattle.thumb_layout.specs.Cells.{laid}
 use Rattle.thumb_emit.specs.Emit.{function_pieces}
-use Rattle.image_link.specs.Image as link
+use Rattle.image_link.specs.Image.{IsLinked}
 
 -- the functions of functions with places, and their pieces
 abbrev pub functions_of : List Placed → List Function
@@ -20,10 +20,10 @@ functions_of placed = map (λ p. p.function) placed
 abbrev pub bodies_of : List Placed → List (List Piece)
 bodies_of placed = map function_pieces placed
 
--- Each function of a program's flat code has sound places; its pieces are laid, and all are linked with the program's texts. The image fits into flash.
+-- Each function of a program's flat code has sound places; its pieces are laid, and all are linked with the program's texts to an image that fits into flash.
 pub record IsCompiled (P : TypedProgram) (texts : List ByteList) (image : List ℕ) : Type 0 where
   pub placed : List Placed
   pub functions : functions_of placed ≡ (lowered P).functions
   pub sound : AllByRecursion (λ p. ArePlacesSound p.function p.places) placed
-  pub linked : image ≡ link.image (map laid (bodies_of placed)) (lowered P) texts
+  pub linked : IsLinked (map laid (bodies_of placed)) (lowered P) texts image
   pub room : length image ≤ flash_end

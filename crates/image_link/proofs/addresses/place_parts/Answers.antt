@@ -2,8 +2,8 @@ use Rattle.std.proofs.Common.{◌≡◌, ℕ, ◌+◌, ◌<◌, List, Option, le
 use Rattle.std.proofs.lemmas.Result.{err_from_is_err_and}
 use Rattle.thumb_code.specs.Map.{flash_end}
 use Rattle.thumb_layout.specs.Layout.{up}
-use Rattle.image_link.specs.Parts.{end_behind}
-use Rattle.image_link.specs.Image.{code_end, routine_end}
+use Rattle.image_link.specs.inner.Parts.{end_behind}
+use Rattle.image_link.specs.inner.Written.{code_end, routine_end}
 use Rattle.image_link.proofs.Whole.{past_code, past_routine, past_classes}
 use Rattle.image_link.proofs.addresses.place_parts.Goals as goal
 

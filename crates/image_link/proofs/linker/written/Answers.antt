@@ -1,9 +1,9 @@
 use Rattle.std.proofs.Common.{◌≡◌, List, ℕ, ◌++◌, sym, ap, ◌∙◌, subst}
 use Rattle.flat_ir.specs.declared.ops.FlatClass.{FlatClass}
 use Rattle.thumb_emit.specs.InFlash.{Addresses}
-use Rattle.image_link.specs.Parts.{padded, with_parts}
-use Rattle.image_link.specs.Image.{as_addresses, head, class_parts}
-use Rattle.image_link.specs.Linkable.{ArePlaced}
+use Rattle.image_link.specs.inner.Parts.{padded, with_parts}
+use Rattle.image_link.specs.Image.{head}
+use Rattle.image_link.specs.inner.Written.{as_addresses, class_parts, ArePlaced}
 use Rattle.image_link.proofs.Whole.{are_placed, codes_short, code_low, texts_short, written}
 use Rattle.image_link.proofs.linker.written.Goals as goal
 

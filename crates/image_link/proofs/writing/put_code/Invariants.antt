@@ -1,6 +1,6 @@
 use Rattle.std.proofs.Common.{◌≡◌, drop}
-use Rattle.image_link.specs.Parts.{with_parts}
-use Rattle.image_link.specs.Image.{as_addresses, code_parts}
+use Rattle.image_link.specs.inner.Parts.{with_parts}
+use Rattle.image_link.specs.inner.Written.{as_addresses, code_parts}
 use Rattle.image_link.proofs.writing.put_code.Given as goal
 
 -- what is put, and what is left to put, is the whole

@@ -1,6 +1,5 @@
-use Rattle.std.proofs.Common.{◌≡◌, ℕ, ◌<◌, ◌≤◌, List, length, map, subst, sym, ap, ◌∙◌, arith}
+use Rattle.std.proofs.Common.{List, length, map, subst, sym, ap, ◌∙◌, arith}
 use Rattle.std.specs.List.{AllByRecursion}
-use Rattle.thumb_code.specs.Map.{flash_end}
 use Rattle.sts_syntax.specs.TypedViews.{typed_program}
 use Rattle.flat_ir.specs.declared.ops.Function.{Function}
 use Rattle.flat_ir.specs.declared.ops.FlatCode.{FlatCode}
@@ -8,7 +7,7 @@ use Rattle.sts_lower.specs.Lowered.{lowered}
 use Rattle.register_assign.specs.declared.places.Placed.{Placed}
 use Rattle.thumb_layout.specs.declared.laid.Laid.{Laid}
 use Rattle.thumb_layout.specs.Cells.{laid}
-use Rattle.image_link.specs.Image.{image}
+use Rattle.image_link.specs.Image.{IsLinked}
 use Rattle.image_link.specs.Linkable.{IsLinkable}
 use Rattle.sts_whole.specs.Building.{IsPlaceable, IsLayable}
 use Rattle.sts_whole.specs.Compiled.{bodies_of}
@@ -54,14 +53,15 @@ unreachable-requires c =
     let placed = c.in_ok-placed.placed.items in
     let functions = c.in_ok-placed.ensures.functions ∙ c.as_slice.ensures ∙ ap (λ (k : FlatCode). k.functions) c.in_ok-code.ensures in
     let laid_is = c.in_ok-laid.ensures ∙ ap (λ (all : List Placed). map laid (bodies_of all)) c.deref.ensures.value in
-    let past : flash_end < length (image c.in_ok-laid.laid c.in_ok-code.code texts) = c.in-Err-PastFlash.ensures.past_flash c.in-Err-PastFlash.field-0-is in
-    let more : flash_end < length (image (map laid (bodies_of placed)) (lowered P) texts) =
-    subst (λ (k : FlatCode). flash_end < length (image (map laid (bodies_of placed)) k texts)) c.in_ok-code.ensures
-    (subst (λ (all : List Laid). flash_end < length (image all c.in_ok-code.code texts)) laid_is past) in
+    let past = c.in-Err-PastFlash.ensures.past_flash c.in-Err-PastFlash.field-0-is in
+    let more = past.2 in
+    let linked : IsLinked (map laid (bodies_of placed)) (lowered P) texts past.0 =
+    subst (λ (k : FlatCode). IsLinked (map laid (bodies_of placed)) k texts past.0) c.in_ok-code.ensures
+    (subst (λ (all : List Laid). IsLinked all c.in_ok-code.code texts past.0) laid_is past.1) in
     let formed = c.code_is_well_formed.ensures.formed P texts c.requires.well_typed c.requires.limits in
     let fit = fits c.laid_code_keeps_its_weight.ensures.routines c.laid_code_keeps_its_weight.ensures.repeating c.programs_within_the_limits_fit.ensures.image
-    P texts placed
-    c.requires.limits c.requires.library formed functions c.in_ok-placed.ensures.sound in
+    P texts placed past.0
+    c.requires.limits c.requires.library formed functions c.in_ok-placed.ensures.sound linked in
     absurd (omega (arith, more, fit))
 
 pub returns-in-Ok : goal.returns-in-Ok
@@ -71,17 +71,13 @@ returns-in-Ok c =
     let placed = c.in_ok-placed.placed.items in
     let functions = c.in_ok-placed.ensures.functions ∙ c.as_slice.ensures ∙ ap (λ (k : FlatCode). k.functions) c.in_ok-code.ensures in
     let laid_is = c.in_ok-laid.ensures ∙ ap (λ (all : List Placed). map laid (bodies_of all)) c.deref.ensures.value in
-    let linked : c.in-Ok.image.items ≡ image (map laid (bodies_of placed)) (lowered P) texts =
-    c.in-Ok.ensures.linked ∙ ap (λ (all : List Laid). image all c.in_ok-code.code texts) laid_is ∙ ap (λ (k : FlatCode). image (map laid (bodies_of placed)) k
-    texts) c.in_ok-code.ensures in
-    let formed = c.code_is_well_formed.ensures.formed P texts c.requires.well_typed c.requires.limits in
-    let fit = fits c.laid_code_keeps_its_weight.ensures.routines c.laid_code_keeps_its_weight.ensures.repeating c.programs_within_the_limits_fit.ensures.image
-    P texts placed
-    c.requires.limits c.requires.library formed functions c.in_ok-placed.ensures.sound in
+    let linked : IsLinked (map laid (bodies_of placed)) (lowered P) texts c.in-Ok.image.items =
+    subst (λ (k : FlatCode). IsLinked (map laid (bodies_of placed)) k texts c.in-Ok.image.items) c.in_ok-code.ensures
+    (subst (λ (all : List Laid). IsLinked all c.in_ok-code.code texts c.in-Ok.image.items) laid_is c.in-Ok.ensures.linked) in
     record {
       placed = placed;
       functions = functions;
       sound = c.in_ok-placed.ensures.sound;
       linked = linked;
-      room = subst (λ (bytes : List ℕ). length bytes ≤ flash_end) (sym linked) fit;
+      room = c.in-Ok.ensures.fits;
     }

@@ -1,4 +1,4 @@
--- Parts of an image one behind another, each from the next multiple of 4 on. A part that is left out takes nothing.
+-- Bytes one behind another, each part from the next multiple of 4 on. A part that is left out takes nothing.
 use Rattle.std.specs.Prelude.{ℕ, ◌+◌, ◌-◌, List, [], ◌∷◌, ◌++◌, length, replicate, Option, Some, None}
 use Rattle.thumb_layout.specs.Layout.{up}
 

@@ -1,0 +1,6 @@
+use Rattle.image_link.specs.inner.Written.{written_bytes}
+use Rattle.image_link.proofs.Linked.{linked}
+use Rattle.image_link.proofs.theorems.linkable_code_has_an_image.Goals as goal
+
+pub returns : goal.returns
+returns c laid code texts h = (written_bytes laid code texts, linked laid code texts h.fixes)
