@@ -3,8 +3,8 @@ use Rattle.std.proofs.Common.{◌≡◌, ℕ, zero, suc, ◌+◌, ◌*◌, List,
 use Rattle.flat_ir.specs.declared.ops.Op.{Op}
 use Rattle.sts_lower.specs.Code.{span}
 use Rattle.lowered_code.specs.Costs.{cost, Costs, EntryCosts}
-use Rattle.thumb_emit.specs.Bounds.{ops_bytes, entry_bytes}
-use Rattle.emitted_bytes.specs.Weighed.{bytes_of_weight, bytes_of_room, bytes_of_text, texts_named, full_bytes}
+use Rattle.thumb_emit.specs.Bounds.{ops_bytes, bytes_of_text, bytes_of_weight, entry_bytes}
+use Rattle.emitted_bytes.specs.Weighed.{bytes_of_room, texts_named, full_bytes}
 
 pub ops_cost : (ops : List Op) → ops_bytes ops + bytes_of_text * cost texts_named ops ≡ cost full_bytes ops
 ops_cost [] = refl

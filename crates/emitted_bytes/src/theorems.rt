@@ -6,10 +6,10 @@ ghost use Rattle.sts_lower.specs.Lowered.{lowered_routine, repeating_function};
 ghost use Rattle.lowered_code.specs.Costs.{cost, Costs, EntryCosts};
 ghost use Rattle.register_assign.specs.declared.places.Placed.{Placed};
 ghost use Rattle.thumb_layout.specs.Cells.{laid};
-ghost use Rattle.thumb_emit.specs.Bounds.{entry_bytes};
+ghost use Rattle.thumb_emit.specs.Bounds.{bytes_of_text, bytes_of_weight, entry_bytes};
 ghost use Rattle.thumb_emit.specs.Emit.{function_pieces};
 ghost use Rattle.thumb_emit.specs.Ready.{IsReady};
-ghost use Rattle.emitted_bytes.specs.Weighed.{bytes_of_weight, bytes_of_room, bytes_of_text, texts_named, full_bytes};
+ghost use Rattle.emitted_bytes.specs.Weighed.{bytes_of_room, texts_named, full_bytes};
 
 use lowered_code::code_costs_at_most_its_weight;
 use thumb_emit::{pieces_can_be_laid, pieces_keep_their_bounds};

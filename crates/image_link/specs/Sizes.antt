@@ -8,6 +8,7 @@ use Rattle.thumb_layout.specs.declared.pieces.What.TheVariants.{Text}
 use Rattle.thumb_layout.specs.declared.pieces.Piece.{Piece}
 use Rattle.thumb_layout.specs.Cells.{laid}
 use Rattle.thumb_layout.specs.Openings.{named}
+use Rattle.thumb_emit.specs.Bounds.{bytes_of_text, bytes_of_weight}
 use Rattle.thumb_emit.specs.InFlash.{IsNamed}
 
 -- How many of some things are texts.
@@ -19,14 +20,10 @@ abbrev pub texts_among : List What → ℕ
 texts_among [] = 0
 texts_among (w ∷ ws) = one_text w + texts_among ws
 
--- What a text takes beside its bytes: its word, and three bytes at most before it.
-abbrev pub bytes_of_text : ℕ
-bytes_of_text = 7
-
--- The laid code of bodies keeps their weights: each weighs four at least, and has at most 52 bytes for a unit of its weight, with what the texts take that it names.
+-- The laid code of bodies keeps their weights: each weighs four at least, and has no more bytes than its weight allows, with what the texts take that it names.
 abbrev pub KeepWeights : List (List Piece) → List ℕ → Type 0
 KeepWeights [] [] = Unit {0}
-KeepWeights (body ∷ bodies) (w ∷ ws) = (4 ≤ w) × (length (laid body).bytes + bytes_of_text * texts_among (named body) ≤ 52 * w) × KeepWeights bodies ws
+KeepWeights (body ∷ bodies) (w ∷ ws) = (4 ≤ w) × (length (laid body).bytes + bytes_of_text * texts_among (named body) ≤ bytes_of_weight * w) × KeepWeights bodies ws
 KeepWeights bodies ws = ⊥
 
 abbrev pub all_weights : List ℕ → ℕ

@@ -9,6 +9,7 @@ ghost use Rattle.register_assign.specs.declared.places.Placed.{Placed};
 ghost use Rattle.thumb_layout.specs.declared.laid.Laid.{Laid};
 ghost use Rattle.thumb_layout.specs.declared.pieces.Piece.{Piece};
 ghost use Rattle.thumb_layout.specs.Cells.{laid};
+ghost use Rattle.thumb_emit.specs.Bounds.{bytes_of_weight};
 ghost use Rattle.thumb_emit.specs.Emit.{function_pieces};
 ghost use Rattle.thumb_emit.specs.InFlash.{InFlash};
 ghost use Rattle.image_link.specs.Image.{IsLinked};
@@ -38,7 +39,7 @@ pub fn the_image_shows_its_program()
 pub fn programs_within_the_limits_fit()
     ensures image { (C : FlatCode) (bodies : List (List Piece)) (texts : List ByteList) (weights : List ℕ) (used : ℕ → Bool) (image : List ℕ) → IsLimited C bodies texts weights used
         → IsLinked (map laid bodies) C texts image → length image ≤ flash_end }
-    ensures function { (body : List Piece) (weight : ℕ) → length (laid body).bytes ≤ 52 * weight → weight ≤ 1200 → length (laid body).bytes ≤ 65536 }
+    ensures function { (body : List Piece) (weight : ℕ) → length (laid body).bytes ≤ bytes_of_weight * weight → weight ≤ 1200 → length (laid body).bytes ≤ 65536 }
 {}
 
 /// The laid code of a well-formed program's functions can be linked, wherever their temporaries stand, where each text that it names is there.

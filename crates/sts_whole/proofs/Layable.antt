@@ -25,7 +25,8 @@ use Rattle.thumb_layout.specs.declared.pieces.Piece.{Piece}
 use Rattle.thumb_layout.specs.Cells.{laid}
 use Rattle.thumb_emit.specs.Emit.{function_pieces}
 use Rattle.thumb_emit.specs.Ready.{IsReady}
-use Rattle.emitted_bytes.specs.Weighed.{bytes_of_weight, bytes_of_text, texts_named}
+use Rattle.thumb_emit.specs.Bounds.{bytes_of_text, bytes_of_weight}
+use Rattle.emitted_bytes.specs.Weighed.{texts_named}
 use Rattle.image_link.specs.Image.{IsLinked}
 use Rattle.image_link.specs.Sizes.{IsLimited}
 use Rattle.image_link.specs.Linkable.{NamesTextBelow, NamesTextsBelow}

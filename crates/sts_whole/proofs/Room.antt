@@ -29,7 +29,8 @@ use Rattle.thumb_emit.specs.Names.{name_of, names_of}
 use Rattle.thumb_emit.specs.Ready.{IsReady}
 use Rattle.thumb_emit.specs.InFlash.{IsNamed}
 use Rattle.thumb_emit.proofs.Laws.{function_named}
-use Rattle.emitted_bytes.specs.Weighed.{bytes_of_weight, bytes_of_text, texts_named}
+use Rattle.thumb_emit.specs.Bounds.{bytes_of_text, bytes_of_weight}
+use Rattle.emitted_bytes.specs.Weighed.{texts_named}
 use Rattle.image_link.specs.Sizes.{texts_among, KeepWeights, all_weights, used_bytes, IsLimited}
 use Rattle.sts_whole.specs.Compiled.{functions_of, bodies_of}
 

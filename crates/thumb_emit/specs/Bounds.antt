@@ -65,6 +65,14 @@ abbrev pub ops_bytes : List Op → ℕ
 ops_bytes [] = 0
 ops_bytes (op ∷ ops) = op_bytes op + ops_bytes ops
 
+-- what a text takes in an image beside its own bytes: the word of its length, and up to three bytes before it
+abbrev pub bytes_of_text : ℕ
+bytes_of_text = 7
+
+-- what a function's code, with what its texts take, may have for each unit of its weight
+abbrev pub bytes_of_weight : ℕ
+bytes_of_weight = 52
+
 -- those of the entry of a function, which has at most 8 parameters
 abbrev pub entry_cost : ℕ
 entry_cost = 55

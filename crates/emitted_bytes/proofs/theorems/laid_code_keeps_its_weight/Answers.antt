@@ -4,10 +4,10 @@ use Rattle.flat_ir.specs.declared.ops.Function.{Function}
 use Rattle.lowered_code.specs.Costs.{cost}
 use Rattle.thumb_layout.specs.Rounds.{total_most}
 use Rattle.thumb_layout.specs.Cells.{laid}
-use Rattle.thumb_emit.specs.Bounds.{entry_bytes}
+use Rattle.thumb_emit.specs.Bounds.{bytes_of_weight, entry_bytes}
 use Rattle.thumb_emit.specs.Emit.{function_pieces}
 use Rattle.sts_lower.specs.Lowered.{routine_ops, repeating_ops}
-use Rattle.emitted_bytes.specs.Weighed.{bytes_of_weight, bytes_of_room, full_bytes}
+use Rattle.emitted_bytes.specs.Weighed.{bytes_of_room, full_bytes}
 use Rattle.emitted_bytes.proofs.Rows.{ops_cost, rows_cost, entry_costs}
 use Rattle.emitted_bytes.proofs.theorems.laid_code_keeps_its_weight.Goals as goal
 
