@@ -28,7 +28,7 @@ use Rattle.sts_meaning.specs.Heaps.{FlatHeap}
 use Rattle.sts_implements.specs.Passes.{trailing_instructions}
 use Rattle.flat_meaning.specs.Frames.{FlatFrame, Stands, given, depth_of, words_of}
 use Rattle.flat_meaning.specs.Steps.{FlatTurn, flat}
-use Rattle.thumb_emit.specs.Emit.{loads, answers, asks}
+use Rattle.thumb_emit.specs.Emit.{loads, answers_in_r0, asks}
 use Rattle.thumb_emit.specs.Frame.{lands, idle_piece}
 use Rattle.thumb_emit.specs.InFlash.{Addresses}
 use Rattle.thumb_emit.specs.Bounds.{op_instructions, total_cost}
@@ -112,7 +112,7 @@ module _ (C : FlatCode) (placed : List Placed) (flash : List ℕ) (a : Addresses
 
   -- what stands behind the arguments
   asks_first : (b : Bool) (n : ℕ) → slice_get (asks b n) 0 ≡ Some (Plain (Svc n))
-  asks_first b n = by (b || answers n)
+  asks_first b n = by (b || answers_in_r0 n)
     where
       by : (y : Bool) → slice_get (if y then Plain (Svc n) ∷ [] else Plain (Svc n) ∷ Plain (MovImm 0 0) ∷ []) 0 ≡ Some (Plain (Svc n))
       by true = refl
@@ -121,11 +121,11 @@ module _ (C : FlatCode) (placed : List Placed) (flash : List ℕ) (a : Addresses
   asks_left : (b : Bool) (n : ℕ) → b ≡ true → asks b n ≡ Plain (Svc n) ∷ []
   asks_left b n e = rw e refl
 
-  asks_answers : (b : Bool) (n : ℕ) → answers n ≡ true → asks b n ≡ Plain (Svc n) ∷ []
+  asks_answers : (b : Bool) (n : ℕ) → answers_in_r0 n ≡ true → asks b n ≡ Plain (Svc n) ∷ []
   asks_answers true n e = refl
   asks_answers false n e = rw e refl
 
-  asks_read : (b : Bool) (n : ℕ) → b ≡ false → answers n ≡ false → asks b n ≡ Plain (Svc n) ∷ Plain (MovImm 0 0) ∷ []
+  asks_read : (b : Bool) (n : ℕ) → b ≡ false → answers_in_r0 n ≡ false → asks b n ≡ Plain (Svc n) ∷ Plain (MovImm 0 0) ∷ []
   asks_read b n e g = rw e (rw g refl)
 
   svc_at : slice_get (pieces C placed flash a texts image p f callers base c used h t op e x sh) count ≡ Some (Plain (Svc number))
@@ -146,7 +146,7 @@ module _ (C : FlatCode) (placed : List Placed) (flash : List ℕ) (a : Addresses
       (s.matches y.at)
 
   -- A service that answers nothing: r0 becomes 0, and that is put, where somebody reads it.
-  module _ (quiet : answers number ≡ false) where
+  module _ (quiet : answers_in_r0 number ≡ false) where
     whole : is_unread p.function f.place ≡ false
         → pieces C placed flash a texts image p f callers base c used h t op e x sh ≡ front ++ (Plain (Svc number) ∷ (Plain (MovImm 0 0) ∷ [] ++ put ∷ []))
     whole u = ap (λ xs. front ++ (xs ++ put ∷ [])) (asks_read (is_unread p.function f.place) number u quiet)
@@ -254,7 +254,7 @@ module _ (C : FlatCode) (placed : List Placed) (flash : List ℕ) (a : Addresses
         }
 
   -- A service that answers in r0, which is put, where somebody reads it.
-  module _ (answering : answers number ≡ true) where
+  module _ (answering : answers_in_r0 number ≡ true) where
     whole_answer : pieces C placed flash a texts image p f callers base c used h t op e x sh ≡ front ++ (Plain (Svc number) ∷ put ∷ [])
     whole_answer = ap (λ xs. front ++ (xs ++ put ∷ [])) (asks_answers (is_unread p.function f.place) number answering)
 

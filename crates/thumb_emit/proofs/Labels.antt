@@ -14,7 +14,7 @@ use Rattle.register_assign.specs.declared.places.Place.{Place}
 use Rattle.register_assign.specs.declared.places.Place.TheVariants.{Reg, Slot, Incoming}
 use Rattle.register_assign.specs.Unread.{is_unread}
 use Rattle.thumb_emit.specs.Frame.{from_instr, to_instr, from_place, register_of, idle_piece, copies, carries, raises, lowers, below_saved, saved_list}
-use Rattle.thumb_emit.specs.Emit.{its_register, bring, made_in, keep, land, passes, loads, op_pieces, unless, unequal, below_unsigned, at_least_unsigned, tests_null, tests_index, finds_item, decides, beside, combines, shifts, divides, loads_field, stores_field, asks, answers, calls_slot, move_pieces, moves_pieces, entry_pieces}
+use Rattle.thumb_emit.specs.Emit.{its_register, bring, made_in, keep, land, passes, loads, op_pieces, unless, unequal, below_unsigned, at_least_unsigned, tests_null, tests_index, finds_item, decides, beside, combines, shifts, divides, loads_field, stores_field, asks, answers_in_r0, calls_slot, move_pieces, moves_pieces, entry_pieces}
 use Rattle.thumb_emit.proofs.Lists.{if_has, times_append}
 use Rattle.thumb_emit.proofs.Still.{IsStill, Idle, Single, brings_still, keeps_still, lands_still, moves_still}
 use Rattle.thumb_emit.proofs.Operators.{unary_has, binary_has}
@@ -103,7 +103,7 @@ module _ (f : Function) where
   lowers_bare n = if_bare (nat_lt 127 n) _ _ (record { stand = λ l d. refl; goes = refl }) (record { stand = λ l d. refl; goes = refl })
 
   asks_bare : (unread : Bool) (service : ℕ) → IsMarked [] [] (asks unread service)
-  asks_bare unread service = if_bare (unread || answers service) _ _ (record { stand = λ l d. refl; goes = refl }) (record { stand = λ l d. refl; goes = refl })
+  asks_bare unread service = if_bare (unread || answers_in_r0 service) _ _ (record { stand = λ l d. refl; goes = refl }) (record { stand = λ l d. refl; goes = refl })
 
   -- The pieces of op k of n ops have no labels but their own two, the first or both, each of which they go to; or they go to an op.
   pub data Marks (k n : ℕ) (xs : List Piece) : Type 0 where

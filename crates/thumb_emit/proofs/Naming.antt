@@ -18,7 +18,7 @@ use Rattle.register_assign.specs.declared.places.Placed.{Placed}
 use Rattle.register_assign.specs.Sound.{place_of}
 use Rattle.register_assign.specs.Unread.{is_unread}
 use Rattle.thumb_emit.specs.Frame.{copies, carries, lowers, below_saved, saved_list}
-use Rattle.thumb_emit.specs.Emit.{get, its_register, bring, made_in, keep, land, passes, loads, op_pieces, beside, division, stores_field, tests_null, asks, answers, calls_slot, move_pieces, moves_pieces, entry_pieces, ops_pieces, function_pieces}
+use Rattle.thumb_emit.specs.Emit.{get, its_register, bring, made_in, keep, land, passes, loads, op_pieces, beside, division, stores_field, tests_null, asks, answers_in_r0, calls_slot, move_pieces, moves_pieces, entry_pieces, ops_pieces, function_pieces}
 use Rattle.thumb_emit.specs.Names.{name_of, names_of, call_of, calls_of, IsCalledBy}
 use Rattle.thumb_emit.proofs.Lists.{if_has, all_append, named_append, called_append}
 use Rattle.thumb_emit.proofs.Still.{IsStill, brings_still, keeps_still, lands_still, moves_still, still_names, still_calls}
@@ -159,7 +159,7 @@ module _ (f : Function) (place : ℕ → Place) where
       (mute_append (passes f place 0 args) (calls_slot slot (3 * k + 1) ++ (land f place k to ∷ [])) (passes_mute 0 args) (let h = landed k to in record { names = h.names; calls = h.calls })) refl
   op_names k (Ask to service args) =
       let g = landed k to in
-      let h : IsMute (asks (is_unread f k) service ++ (land f place k to ∷ [])) = if_has (λ xs. IsMute (xs ++ (land f place k to ∷ []))) (is_unread f k || answers service) _ _
+      let h : IsMute (asks (is_unread f k) service ++ (land f place k to ∷ [])) = if_has (λ xs. IsMute (xs ++ (land f place k to ∷ []))) (is_unread f k || answers_in_r0 service) _ _
       (record { names = g.names; calls = g.calls }) (record { names = g.names; calls = g.calls }) in
       mute_of (Ask to service args) _ (mute_append (loads f place 0 args) (asks (is_unread f k) service ++ (land f place k to ∷ [])) (loads_mute 0 args) h) refl
   op_names k (Return from) =

@@ -14,7 +14,7 @@ use Rattle.register_assign.specs.Sound.{place_of}
 use Rattle.register_assign.specs.Unread.{is_unread}
 use Rattle.register_assign.specs.declared.places.Place.TheVariants.{Reg, Slot, Incoming}
 use Rattle.thumb_emit.specs.Frame.{copies, carries, lowers, below_saved, saved_list}
-use Rattle.thumb_emit.specs.Emit.{get, its_register, bring, made_in, keep, land, passes, loads, op_pieces, beside, tests_null, asks, answers, calls_slot, move_pieces, moves_pieces, entry_pieces, ops_pieces, function_pieces}
+use Rattle.thumb_emit.specs.Emit.{get, its_register, bring, made_in, keep, land, passes, loads, op_pieces, beside, tests_null, asks, answers_in_r0, calls_slot, move_pieces, moves_pieces, entry_pieces, ops_pieces, function_pieces}
 use Rattle.thumb_emit.specs.Bounds.{total_cost, op_cost, op_bytes, ops_bytes, entry_cost, entry_bytes}
 use Rattle.thumb_emit.proofs.Lists.{if_has, cost_append, most_append}
 use Rattle.thumb_emit.proofs.Still.{brings_still, keeps_still, lands_still, moves_still, still_takes, still_fills}
@@ -71,7 +71,7 @@ module _ (f : Function) (place : ℕ → Place) where
   op_takes k (CallSlot to slot args) = let a = cost_append (passes f place 0 args) (calls_slot slot (3 * k + 1) ++ (land f place k to ∷ [])) in let b = takes_passes 0 args in let d = takes_land k to in omega (arith, a, b, d)
   op_takes k (Ask to service args) =
       let a = cost_append (loads f place 0 args) (asks (is_unread f k) service ++ (land f place k to ∷ [])) in let b = takes_loads 0 args in let d = takes_land k to in
-      let c : total_cost (asks (is_unread f k) service ++ (land f place k to ∷ [])) ≤ 6 = if_has (λ xs. total_cost (xs ++ (land f place k to ∷ [])) ≤ 6) (is_unread f k || answers service) _ _ (omega arith) (omega arith) in
+      let c : total_cost (asks (is_unread f k) service ++ (land f place k to ∷ [])) ≤ 6 = if_has (λ xs. total_cost (xs ++ (land f place k to ∷ [])) ≤ 6) (is_unread f k || answers_in_r0 service) _ _ (omega arith) (omega arith) in
       omega (arith, a, b, c)
   op_takes k (Return from) = if_has (λ xs. total_cost (get f place 0 from ∷ xs ++ (Plain (PopMany (saved_list f place) true) ∷ [])) ≤ 8) (nat_lt 127 (below_saved f place)) _ _ (omega arith) (omega arith)
   op_takes k (Const to value) = let x0 = takes_keep k to in omega arith
@@ -154,7 +154,7 @@ module _ (f : Function) (place : ℕ → Place) where
   op_fills k (CallSlot to slot args) = let a = most_append (passes f place 0 args) (calls_slot slot (3 * k + 1) ++ (land f place k to ∷ [])) in let b = fills_passes 0 args in let d = fills_land k to in omega (arith, a, b, d)
   op_fills k (Ask to service args) =
       let a = most_append (loads f place 0 args) (asks (is_unread f k) service ++ (land f place k to ∷ [])) in let b = fills_loads 0 args in let d = fills_land k to in
-      let c : total_most (asks (is_unread f k) service ++ (land f place k to ∷ [])) ≤ 6 = if_has (λ xs. total_most (xs ++ (land f place k to ∷ [])) ≤ 6) (is_unread f k || answers service) _ _ (omega arith) (omega arith) in
+      let c : total_most (asks (is_unread f k) service ++ (land f place k to ∷ [])) ≤ 6 = if_has (λ xs. total_most (xs ++ (land f place k to ∷ [])) ≤ 6) (is_unread f k || answers_in_r0 service) _ _ (omega arith) (omega arith) in
       omega (arith, a, b, c)
   op_fills k (Return from) = if_has (λ xs. total_most (get f place 0 from ∷ xs ++ (Plain (PopMany (saved_list f place) true) ∷ [])) ≤ 8) (nat_lt 127 (below_saved f place)) _ _ (omega arith) (omega arith)
   op_fills k (Const to value) = let x0 = fills_keep k to in omega arith
@@ -218,7 +218,7 @@ op_some f place k (Call to function args) = let a = counted_append (passes f pla
 op_some f place k (CallSlot to slot args) = let a = counted_append (passes f place 0 args) (calls_slot slot (3 * k + 1) ++ (land f place k to ∷ [])) in omega (arith, a)
 op_some f place k (Ask to service args) =
     let a = counted_append (loads f place 0 args) (asks (is_unread f k) service ++ (land f place k to ∷ [])) in let b = counted_append (asks (is_unread f k) service) (land f place k to ∷ []) in
-    let c : 0 < counted (asks (is_unread f k) service) = if_has (λ xs. 0 < counted xs) (is_unread f k || answers service) _ _ (omega arith) (omega arith) in omega (arith, a, b, c)
+    let c : 0 < counted (asks (is_unread f k) service) = if_has (λ xs. 0 < counted xs) (is_unread f k || answers_in_r0 service) _ _ (omega arith) (omega arith) in omega (arith, a, b, c)
 op_some f place k (Copy to from) = copies_some f (is_unread f k) (place to) (place from)
 op_some f place k (Unary to op from) =
     unary_has (λ xs. 0 < counted (bring f place 0 from ∷ xs ++ (keep f place k to ∷ []))) f (made_in f place k to) op (3 * k + 1) (λ x. omega arith)

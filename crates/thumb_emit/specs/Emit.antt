@@ -145,11 +145,11 @@ abbrev pub finds_global : ℕ → Piece
 finds_global slot = Number 1 (0x20000000 + 4 * slot)
 
 -- the services that answer in r0; behind each other one r0 becomes 0, unless nobody reads that
-abbrev pub answers : ℕ → Bool
-answers service = service == TIME || service == EVENT_VALUE || service == BUTTON || service == TEXT_GLYPH || service == NUMBER_GLYPH
+abbrev pub answers_in_r0 : ℕ → Bool
+answers_in_r0 service = service == TIME || service == EVENT_VALUE || service == BUTTON || service == TEXT_GLYPH || service == NUMBER_GLYPH
 
 abbrev pub asks : Bool → ℕ → List Piece
-asks unread service = if unread || answers service then Plain (Svc service) ∷ [] else Plain (Svc service) ∷ Plain (MovImm 0 0) ∷ []
+asks unread service = if unread || answers_in_r0 service then Plain (Svc service) ∷ [] else Plain (Svc service) ∷ Plain (MovImm 0 0) ∷ []
 
 -- Words for an object of a class, whose first word in flash says how many; then the class's address goes into the first of them. RAM
 -- begins with zeros and no word is given out twice, so the fields are 0 already.

@@ -4,7 +4,7 @@ ghost use Rattle.std.specs.List.{AllByRecursion};
 ghost use Rattle.flat_ir.specs.declared.ops.Op.TheVariants as o;
 ghost use Rattle.flat_ir.specs.WellFormed.{temporaries};
 ghost use Rattle.register_assign.specs.Sound.{place_of};
-ghost use Rattle.thumb_emit.specs.Emit.{passes, loads, answers, asks, calls_slot};
+ghost use Rattle.thumb_emit.specs.Emit.{passes, loads, answers_in_r0, asks, calls_slot};
 ghost use Rattle.thumb_emit.specs.Ready.{IsReady, IsOpTold, pieces_of};
 
 use crate::frame::{below_saved, bring, get, keep, land, made_in, raise, register, saved_list};
@@ -128,8 +128,8 @@ pub(crate) fn handler(
 }
 
 /// The services that answer in r0.
-fn answers(service: u8) -> bool
-    ensures { result ≡ answers service }
+fn answers_in_r0(service: u8) -> bool
+    ensures { result ≡ answers_in_r0 service }
 {
     service == TIME
         || service == EVENT_VALUE
@@ -165,7 +165,7 @@ fn put_service(out: &mut Seq<Piece>, unread: bool, service: u8) -> Result<(), No
     ensures { OnOk result (out.new ≡ out.old ++ asks unread service) }
 {
     let asked = Piece::Plain(Instr::Svc { imm: service });
-    if unread || answers(service) {
+    if unread || answers_in_r0(service) {
         return out.push(asked);
     }
     add(out, &[asked, Piece::Plain(Instr::MovImm { rd: 0, imm: 0 })])
