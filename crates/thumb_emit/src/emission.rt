@@ -8,7 +8,7 @@ ghost use Rattle.thumb_emit.specs.Ready.{IsReadyAt, IsGoing, pieces_of};
 
 use crate::calls::{ask, branch, call, call_slot, give, handler, jump};
 use crate::entry::enter;
-use crate::numbers::{binary, constant, copy, unary};
+use crate::numbers::{Operands, binary, constant, copy, unary};
 use crate::pieces::At;
 use crate::things::{
     get_field, get_global, get_item, length, make_array, make_object, pop, set_field, set_global,
@@ -52,7 +52,10 @@ fn put_op(out: &mut Seq<Piece>, placed: &Placed, at: At, op: &Op) -> Result<(), 
             op,
             left,
             right,
-        } => binary(out, placed, at, *to, *op, *left, *right),
+        } => {
+            let (left, right) = (*left, *right);
+            binary(out, placed, at, *to, *op, Operands { left, right })
+        }
         Op::GlobalGet { to, slot } => get_global(out, placed, at, *to, *slot),
         Op::GlobalSet { slot, from } => set_global(out, placed, *slot, *from),
         Op::FieldGet { to, object, field } => get_field(out, placed, at, *to, *object, *field),

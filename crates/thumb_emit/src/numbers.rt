@@ -77,19 +77,24 @@ fn beside(scratch: u8, rd: u8, operand: u8) -> u8
     if rd == operand { scratch } else { rd }
 }
 
-/// A register becomes 1 where the condition holds behind a comparison, and else 0, by way of another one.
-fn decide(
-    out: &mut Seq<Piece>,
-    placed: &Placed,
-    rd: u8,
-    by: u8,
+/// A comparison, the condition that is looked at behind it, and the label behind what is done where that doesn't hold.
+#[derive(Clone, Copy, Drop)]
+struct Test {
     compared: Instr,
     cond: u8,
     label: u32,
-) -> Result<(), NoMemory>
+}
+
+/// A register becomes 1 where the condition holds behind a comparison, and else 0, by way of another one.
+fn decide(out: &mut Seq<Piece>, placed: &Placed, rd: u8, by: u8, test: Test) -> Result<(), NoMemory>
     requires labels { 3 * length placed.now.function.ops + 1 < 2 ^ 32 }
-    ensures { OnOk result (out.new ≡ out.old ++ decides placed.now.function rd by compared cond label) }
+    ensures { OnOk result (out.new ≡ out.old ++ decides placed.now.function rd by test.compared test.cond test.label) }
 {
+    let Test {
+        compared,
+        cond,
+        label,
+    } = test;
     add(
         out,
         &[
@@ -119,8 +124,12 @@ fn put_prefix(
         NEGATE => Instr::Rsb { rdn: rd, rm: from },
         PLUS => Instr::MovHigh { rd, rm: from },
         NOT => {
-            let compared = Instr::CmpImm { rd: from, imm: 0 };
-            return decide(out, placed, rd, beside(1, rd, from), compared, EQ, label);
+            let test = Test {
+                compared: Instr::CmpImm { rd: from, imm: 0 },
+                cond: EQ,
+                label,
+            };
+            return decide(out, placed, rd, beside(1, rd, from), test);
         }
         COMPLEMENT => Instr::Mvn { rdn: rd, rm: from },
         ONE_MORE => Instr::AddImm3 {
@@ -161,7 +170,12 @@ fn compare(
         rdn: r.left,
         rm: r.right,
     };
-    decide(out, placed, r.rd, by, compared, cond, label)
+    let test = Test {
+        compared,
+        cond,
+        label,
+    };
+    decide(out, placed, r.rd, by, test)
 }
 
 /// An instruction whose target is its first operand: `|`, `^`, `&`, and else `*`.
@@ -291,6 +305,13 @@ pub(crate) fn unary(
     out.push(keep(placed, at, to))
 }
 
+/// The temporaries of an operator's operands.
+#[derive(Clone, Copy, Drop)]
+pub(crate) struct Operands {
+    pub left: u32,
+    pub right: u32,
+}
+
 /// An operator between two operands.
 pub(crate) fn binary(
     out: &mut Seq<Piece>,
@@ -298,18 +319,18 @@ pub(crate) fn binary(
     at: At,
     to: u32,
     op: u8,
-    left: u32,
-    right: u32,
+    operands: Operands,
 ) -> Result<(), NoMemory>
     requires ready { IsReady placed.now }
     requires told { IsOpTold placed.now at }
     requires to { to < temporaries placed.now.function }
-    requires left { left < temporaries placed.now.function }
-    requires right { right < temporaries placed.now.function }
+    requires left { operands.left < temporaries placed.now.function }
+    requires right { operands.right < temporaries placed.now.function }
     requires label { 3 * at.k + 1 < 2 ^ 32 }
     requires labels { 3 * length placed.now.function.ops + 1 < 2 ^ 32 }
-    ensures { OnOk result (out.new ≡ out.old ++ pieces_of placed.now at.k (o.Binary to op left right)) }
+    ensures { OnOk result (out.new ≡ out.old ++ pieces_of placed.now at.k (o.Binary to op operands.left operands.right)) }
 {
+    let Operands { left, right } = operands;
     out.push(bring(placed, 0, left))?;
     out.push(bring(placed, 1, right))?;
     let registers = Three {
