@@ -57,11 +57,7 @@ fn perform_order<F: Folder, K: Sink, D: Device>(
             stats,
             image,
         } => {
-            let options = RunOptions {
-                budget,
-                stats,
-                image,
-            };
+            let options = RunOptions::new(budget, stats, image);
             let asked = AskedRun { script, options };
             run(alloc, program, asked, folder, out, places)
         }
@@ -92,11 +88,7 @@ fn perform_order<F: Folder, K: Sink, D: Device>(
             budget,
             stats,
         } => {
-            let options = RunOptions {
-                budget,
-                stats,
-                image: false,
-            };
+            let options = RunOptions::new(budget, stats, false);
             big(alloc, size, options, out, places)
         }
     }

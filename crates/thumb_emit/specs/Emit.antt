@@ -10,6 +10,7 @@ use Rattle.thumb_layout.specs.declared.pieces.What.TheVariants.{Function as Func
 use Rattle.thumb_layout.specs.declared.pieces.Piece.{Piece}
 use Rattle.thumb_layout.specs.declared.pieces.Piece.TheVariants.{Plain, Label, Go, CallTo, Number, Address}
 use Rattle.thumb_layout.specs.Pieces.{always}
+use Rattle.flat_ir.specs.declared.operators.TheConstants.{INCREMENT}
 use Rattle.flat_ir.specs.declared.ops.Op.{Op}
 use Rattle.flat_ir.specs.declared.ops.Op.TheVariants.{Const, Copy, Unary, Binary, GlobalGet, GlobalSet, FieldGet, FieldSet, ItemGet, ItemSet, Length, Pop, TextOf, MakeObject, MakeArray, Call, CallSlot, HandlerOf, Ask, Jump, Branch, Return}
 use Rattle.flat_ir.specs.declared.ops.Function.{Function}
@@ -94,14 +95,14 @@ shifts f rd left right instr = Plain (MovImm 2 31) ∷ Plain (And 2 right) ∷ c
 abbrev pub divides : Function → ℕ → ℕ → ℕ → ℕ → List Piece
 divides f rd left right answer = carries f 0 left ∷ carries f 1 right ∷ CallTo division ∷ carries f rd answer ∷ []
 
--- a prefix operator; 5 and 6 are one more and one less
+-- a prefix operator, of the source or of flat code
 abbrev pub unary : Function → ℕ → ℕ → ℕ → ℕ → List Piece
 unary f rd from op label =
     if op == NEGATE then Plain (Rsb rd from) ∷ []
     else if op == PLUS then Plain (MovHigh rd from) ∷ []
     else if op == NOT then decides f rd (beside 1 rd from) (CmpImm from 0) equal label
     else if op == COMPLEMENT then Plain (Mvn rd from) ∷ []
-    else if op == 5 then Plain (AddImm3 rd from 1) ∷ []
+    else if op == INCREMENT then Plain (AddImm3 rd from 1) ∷ []
     else Plain (SubImm3 rd from 1) ∷ []
 
 -- an operator

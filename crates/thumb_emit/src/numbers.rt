@@ -9,6 +9,7 @@ ghost use Rattle.thumb_emit.specs.Ready.{IsReady, IsOpTold, pieces_of};
 
 use crate::frame::{bring, get, idle_piece, keep, made_in, moved, place_of, register, to_place};
 use crate::pieces::{At, EQ, GE, GT, LE, LT, NE, add};
+use flat_ir::INCREMENT;
 use register_assign::{Place, Placed};
 use sts_base::{NoMemory, Seq};
 use sts_syntax::operators::{
@@ -17,9 +18,6 @@ use sts_syntax::operators::{
 };
 use thumb_code::Instr;
 use thumb_layout::Piece;
-
-/// The prefix operator of flat code that gives one more.
-const ONE_MORE: u8 = 5;
 
 /// The function number that names the division routine.
 const DIVISION: u32 = 4_294_967_295;
@@ -132,7 +130,7 @@ fn put_prefix(
             return decide(out, placed, rd, beside(1, rd, from), test);
         }
         COMPLEMENT => Instr::Mvn { rdn: rd, rm: from },
-        ONE_MORE => Instr::AddImm3 {
+        INCREMENT => Instr::AddImm3 {
             rd,
             rn: from,
             imm: 1,
