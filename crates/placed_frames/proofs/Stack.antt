@@ -4,7 +4,7 @@ use Rattle.std.proofs.lemmas.List.{length-append, length-drop, length-set}
 use Rattle.thumb_code.specs.declared.instructions.Instr.TheVariants.{AddSpImm, SubSpImm}
 use Rattle.thumb_code.specs.declared.register_file.Registers.{Registers}
 use Rattle.thumb_code.specs.RegisterFile.{word, filled}
-use Rattle.thumb_code.specs.Effect.{effect, Outcome, Goes, Access, words_from, words_to, jumps, pushes, pops}
+use Rattle.thumb_code.specs.Effect.{effect, Outcome, Goes, Access, word_accesses, words_to, jumps, pushes, pops}
 use Rattle.thumb_code.specs.Memory.{Done, first_fault, store_all, load_all}
 use Rattle.thumb_code.specs.Map.{stack_at, sp_in_range}
 use Rattle.bank_model.specs.Bank.{Bank, bank_sp, bank_memory, bank_move, lowered, next_free}
@@ -132,13 +132,13 @@ stores_all flash sp at k b free h e (v ∷ vs) w l =
     (at_length flash sp b (slice_set b.words k v) g h) (omega arith) vs w.1 (omega arith)
 
 load_faults : (flash : List ℕ) (sp at k : ℕ) (b : Bank) (free : List ℕ) → At flash sp b → at ≡ sp + k * 4 → (n : ℕ) → k + n ≤ length b.words
-    → first_fault bank_memory (b, free) false (words_from at n) ≡ None
+    → first_fault bank_memory (b, free) false (word_accesses at n) ≡ None
 load_faults flash sp at k b free h e zero l = refl
 load_faults flash sp at k b free h e (suc n) l = let f = own_fault b (word at) k (own_here flash sp at k b h e (omega arith)) false in rw f
     (load_faults flash sp (at + 4) (k + 1) b free h (omega arith) n (omega arith))
 
 loads_all : (flash : List ℕ) (sp at k : ℕ) (b : Bank) (free : List ℕ) → At flash sp b → at ≡ sp + k * 4 → (n : ℕ) → AllWords (get_from b.words k n)
-    → k + n ≤ length b.words → load_all bank_memory (b, free) (words_from at n) ≡ (get_from b.words k n, (b, free))
+    → k + n ≤ length b.words → load_all bank_memory (b, free) (word_accesses at n) ≡ (get_from b.words k n, (b, free))
 loads_all flash sp at k b free h e zero w l = refl
 loads_all flash sp at k b free h e (suc n) w l =
     let f = own_load b free (word at) k (slice_index b.words k) (own_here flash sp at k b h e (omega arith)) refl w.0 in
@@ -218,7 +218,7 @@ pops_words flash next a s b free ks h l aw g odd =
     let m : min s.sp t ≡ s.sp = omega arith in
     let o : ((a + 1) % 2 == 1) ≡ true = grind arith in
     let z : a + 1 - 1 ≡ a = omega arith in (
-      rw w (executes_loads (b, free) (b, free) (b, free) (record b { words = drop n b.words }, free) s.sp t (words_from s.sp n)
+      rw w (executes_loads (b, free) (b, free) (b, free) (record b { words = drop n b.words }, free) s.sp t (word_accesses s.sp n)
           (λ ws. jumps (record s { r = filled s.r ks ws; sp = t; pc = next }) (slice_index ws (length ks))) ws
           (record s { r = r'; sp = t; pc = a })
           (in_range t b.base (omega arith) (omega arith)) (ap (bank_move (b, free)) m ∙ sp_stays flash s.sp b free h)
