@@ -174,7 +174,7 @@ fn run_with<K: Sink, D: Device>(
     requires text { options.image ≡ true → made.hex.items ≡ hextext made.image.items }
     requires script { IsSound script }
     requires budget { IsBudget options.budget }
-    ensures { (P : TypedProgram) (texts : List ByteList) → ImageImplements P texts made.entry.image.items
+    ensures { (P : TypedProgram) (texts : List ByteList) → ImageImplements P texts made.image.items
         → Concludes (of_sink K.taken K.faults out.old out.new) (of_devices D.account places.old.items places.new.items) [] (RunsProgram P texts script options.budget options.stats options.image) result }
 {
     let Made { image, hex } = made;
