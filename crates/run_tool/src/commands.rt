@@ -57,7 +57,11 @@ fn perform_order<F: Folder, K: Sink, D: Device>(
             stats,
             image,
         } => {
-            let options = RunOptions::new(budget, stats, image);
+            let options = RunOptions {
+                budget,
+                stats,
+                image,
+            };
             let asked = AskedRun { script, options };
             run(alloc, program, asked, folder, out, places)
         }
@@ -88,7 +92,11 @@ fn perform_order<F: Folder, K: Sink, D: Device>(
             budget,
             stats,
         } => {
-            let options = RunOptions::new(budget, stats, false);
+            let options = RunOptions {
+                budget,
+                stats,
+                image: false,
+            };
             big(alloc, size, options, out, places)
         }
     }

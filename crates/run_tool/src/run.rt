@@ -51,19 +51,6 @@ pub struct RunOptions {
     pub image: bool,
 }
 
-impl RunOptions {
-    /// These.
-    pub fn new(budget: u32, stats: bool, image: bool) -> RunOptions
-        ensures { result ≡ record { budget = budget; stats = stats; image = image } }
-    {
-        RunOptions {
-            budget,
-            stats,
-            image,
-        }
-    }
-}
-
 /// A run that is asked for, beside its program.
 #[derive(Clone, Copy, Drop)]
 pub struct AskedRun<'a> {
