@@ -60,13 +60,6 @@ pub struct AskedRun<'a> {
     pub options: RunOptions,
 }
 
-/// An image, and its HEX text where that is asked for.
-#[derive(Drop)]
-struct Made {
-    image: Vec<u8>,
-    hex: Vec<u8>,
-}
-
 /// Goes on with a count in decimal, unless a put before has failed.
 fn then_put_count<K: Sink>(
     before: Result<(), PutFailed>,
@@ -151,22 +144,22 @@ fn finish<K: Sink>(out: &mut K, end: End, options: RunOptions, stats: &Stats, he
 /// Runs an image, and puts behind the transcript what is asked for, where this is the image's HEX text, if that is asked for.
 fn run_with<K: Sink, D: Device>(
     alloc: Global,
-    made: Made,
+    image: Vec<u8>,
+    hex: &[u8],
     script: Script,
     options: RunOptions,
     out: &mut K,
     places: &mut Vec<Option<D>>,
 ) -> Ending
-    requires size { vec_len made.image ≤ flash_end }
-    requires text { options.image ≡ true → made.hex.items ≡ hextext made.image.items }
+    requires size { vec_len image ≤ flash_end }
+    requires text { options.image ≡ true → hex.now ≡ hextext image.items }
     requires script { IsSound script }
     requires budget { IsBudget options.budget }
-    ensures { (P : TypedProgram) (texts : List ByteList) → ImageImplements P texts made.image.items
+    ensures { (P : TypedProgram) (texts : List ByteList) → ImageImplements P texts image.items
         → Concludes (of_sink K.taken K.faults out.old out.new) (of_devices D.account places.old.items places.new.items) [] (RunsProgram P texts script options.budget options.stats options.image) result }
 {
-    let Made { image, hex } = made;
     match run_image(alloc, image, script, places, options.budget, out) {
-        Ok((end, stats)) => finish(out, end, options, &stats, &hex),
+        Ok((end, stats)) => finish(out, end, options, &stats, hex),
         Err(NoMemory) => Ending::NoMemory,
     }
 }
@@ -199,7 +192,7 @@ pub fn run_program<K: Sink, D: Device>(
         → Concludes (of_sink K.taken K.faults out.old out.new) (of_devices D.account places.old.items places.new.items) [] (RunsProgram P texts script options.budget options.stats options.image) result }
 {
     match hex_of(alloc, &image, options) {
-        Ok(hex) => run_with(alloc, Made { image, hex }, script, options, out, places),
+        Ok(hex) => run_with(alloc, image, &hex, script, options, out, places),
         Err(NoMemory) => Ending::NoMemory,
     }
 }
