@@ -2,7 +2,6 @@
 use Rattle.std.proofs.Common.{◌≡◌, ℕ, zero, suc, ◌+◌, ◌<◌, ◌≤◌, ◌==◌, ◌||◌, refl, sym, ap, ◌∙◌, subst, Bool, true, false, Option, Some, None, List, [], ◌∷◌, ◌++◌, length, get_or, arith, inl, inr, eqb-true, eq-eqb, append_assoc, length-append}
 use Rattle.std.specs.Prelude.{slice_get, unwrap_or, ◌⊎◌, if◌then◌else◌}
 use Rattle.sts_base.specs.declared.tables.Tables.{Tables}
-use Rattle.sts_syntax.specs.Annotations as s
 use Rattle.sts_syntax.specs.declared.typed.Spot.TheVariants.{Global}
 use Rattle.sts_syntax.specs.Types as t
 use Rattle.sts_syntax.specs.Types.{ValueType}
@@ -17,7 +16,7 @@ use Rattle.sts_scope.specs.declared.entries.ClassHead.{ClassHead}
 use Rattle.sts_scope.specs.declared.known.Known.{Known}
 use Rattle.sts_scope.specs.declared.known.This.{This as Self}
 use Rattle.sts_scope.specs.declared.known.This.TheVariants as this
-use Rattle.sts_scope.specs.Kinds.{number, nothing, value_type, value_types}
+use Rattle.sts_scope.specs.Kinds.{nothing, value_type, value_types}
 use Rattle.sts_scope.specs.Entries.{Naming, written_kind, parameter_kinds}
 use Rattle.sts_scope.specs.Lookup.{base_of}
 use Rattle.sts_scope.specs.Rules.{local_kind}

@@ -31,10 +31,10 @@ use Rattle.sts_scope.specs.Kinds.{number, boolean, nothing, null, empty, object,
 use Rattle.sts_scope.specs.Failures.{Failure, ◌then◌, unless, own}
 use Rattle.sts_scope.specs.Entries.{Naming}
 use Rattle.sts_scope.specs.Places.{NameScope}
-use Rattle.sts_scope.specs.Rules.{name_kind, kind_at, takes_at, maker_takes_of, part_of, part_kind, part_settable, operate, assign, comparable, below, is_equality, is_arithmetic, is_order, items_type, all_go, all_go_to, goes, call_kind, serves, none_taken, is_nothing}
+use Rattle.sts_scope.specs.Rules.{kind_at, takes_at, maker_takes_of, part_of, part_kind, part_settable, operate, assign, comparable, below, is_equality, is_arithmetic, is_order, items_type, all_go, all_go_to, goes, serves, none_taken, is_nothing}
 use Rattle.type_derive.specs.declared.roles.Role.{Role}
 use Rattle.type_derive.specs.declared.roles.Role.TheVariants.{Free, Given, Called, Served}
-use Rattle.type_derive.specs.Typing.{◌>>=◌, Callee, callee, names_function, board_kind, space, space_of, finds, constant_of, board_callee, named_callee, part_callee, callee_of, super_method, made, called, given_to, type_of, types_of, are_given, is_drawing, drawn, spelling, text_at}
+use Rattle.type_derive.specs.Typing.{◌>>=◌, Callee, callee, names_function, board_kind, space, constant_of, board_callee, named_callee, part_callee, callee_of, super_method, made, called, given_to, type_of, types_of, are_given, is_drawing, drawn, spelling, text_at}
 use Rattle.type_derive.specs.Returns.{declared, all_declared, after, after_first}
 use Rattle.type_derive.specs.Nodes.{kind_role, is_called, failure, failures, is_list, own_name, own_member, own_called, own_board, fits}
 use Rattle.sts_scope.specs.Handlers.{handlers, handlers_of}

@@ -19,7 +19,6 @@ use Rattle.sts_syntax.specs.WellTyped.{Setting, Has, HasThis, IsTyped, IsTarget,
 use Rattle.sts_syntax.specs.WellTyped as w
 use Rattle.sts_syntax.specs.WellTypedPrograms as w'
 use Rattle.sts_syntax.specs.WellTypedPrograms.{declared_local, declared_names, first_declared}
-use Rattle.sts_syntax.specs.Annotations as s
 use Rattle.sts_syntax.specs.Trees.{Tree, Num, Text, Truth, Null, This, Name, Unary, Binary, Both, Either, Choice, Set, Bump, Member, Item, Call, SuperCall, Make, Items, Handler, Trees, none, more, OptionalTree, absent, present, Statement, Block, Let, IfOnly, IfElse, While, DoWhile, For, ForOf, Return, Break, Continue, Plain, Empty, Statements, done, also, OptionalStatement, omitted, written, Declaration, Declare, Declarations, ended, next, Does}
 use Rattle.sts_scope.specs.declared.kinds.StaticType.{StaticType}
 use Rattle.sts_scope.specs.declared.known.Known.{Known}

@@ -64,16 +64,17 @@ module _ (tables : Tables) (names : Naming) (k : Known) (p : NameScope) where
   parts_failure (Handler at body) = handler_failure tables names k p body
   parts_failure e = None
 
-  -- a member of what has this type
+  -- of a member of what has this type
   abbrev pub cause_of_member : ℕ → Option StaticType → Code
   cause_of_member m None = Mismatch
   cause_of_member m (Some u) = why_part (part_of tables.names k u m)
 
-  -- a call of this, and of the method of a base
+  -- of a call of this
   abbrev pub cause_of_call : Option Callee → Code
   cause_of_call None = Mismatch
   cause_of_call (Some d) = why_call d.gives
 
+  -- of a call of a base's method, by its number
   abbrev pub cause_of_super : ℕ → Option ℕ → Code
   cause_of_super m None = why_super k p.this m
   cause_of_super m (Some d) = why_call (kind_at k d)

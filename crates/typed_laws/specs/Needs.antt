@@ -33,11 +33,12 @@ IsReadPart u (part.Field d) = IsOfSomeClass u
 IsReadPart u part.Length = Unit {0}
 IsReadPart u _ = ⊥
 
--- what is called: a function by its name, a method of a class, `push` or `pop`
+-- a name that is called: a function's
 abbrev pub IsCalledName : Found → Type 0
 IsCalledName (found.Function d) = Unit {0}
 IsCalledName _ = ⊥
 
+-- a member that is called: a method of a class, `push` or `pop`
 abbrev pub IsCalledPart : StaticType → Part → Type 0
 IsCalledPart u (part.Method d) = IsOfSomeClass u
 IsCalledPart u (part.Push t) = Unit {0}
@@ -45,6 +46,7 @@ IsCalledPart u (part.Pop t) = Unit {0}
 IsCalledPart u _ = ⊥
 
 module _ (tables : Tables) (k : Known) (p : NameScope) where
+  -- what is called, but for calls of the board
   abbrev pub IsCalledTree : Tree → Type 0
   IsCalledTree (Name at x) = IsCalledName (finds tables k p x)
   IsCalledTree (Member at a m) = (u : StaticType) × (type_of tables k p Free a ≡ Some u) × IsCalledPart u (part_of tables.names k u m)
