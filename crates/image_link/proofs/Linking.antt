@@ -1,5 +1,5 @@
 -- Emitted and laid code can be linked.
-use Rattle.std.proofs.Common.{◌≡◌, ℕ, zero, suc, ◌+◌, ◌<◌, inl, inr, List, [], ◌∷◌, ◌++◌, length, Bool, true, false, cond, sym, ap, ◌∙◌, subst, arith, get_or}
+use Rattle.std.proofs.Common.{◌≡◌, ℕ, zero, suc, ◌<◌, inl, inr, List, [], ◌∷◌, length, Bool, true, false, cond, sym, ap, ◌∙◌, subst, arith, get_or}
 use Rattle.std.specs.Prelude.{map, Contains}
 use Rattle.std.specs.List.{AllByRecursion}
 use Rattle.std.proofs.lemmas.List.{length-map}
@@ -10,17 +10,16 @@ use Rattle.flat_ir.specs.WellFormed.{NamesParts, IsFunctionAmong, IsWellFormed}
 use Rattle.register_assign.specs.declared.places.Placed.{Placed}
 use Rattle.thumb_layout.specs.declared.pieces.What.{What}
 use Rattle.thumb_layout.specs.declared.pieces.What.TheVariants.{Function, Text, Class}
-use Rattle.thumb_layout.specs.declared.pieces.Piece.{Piece}
 use Rattle.thumb_layout.specs.declared.laid.Fix.{Fix}
 use Rattle.thumb_layout.specs.Cells.{laid}
-use Rattle.thumb_layout.specs.Openings.{called, callees, addressed, StandApart}
-use Rattle.thumb_layout.proofs.Laws.{fixes_called, fixes_named, fixes_apart}
+use Rattle.thumb_layout.specs.Openings.{called, callees, addressed}
+use Rattle.thumb_layout.proofs.Laws.{fixes_called, fixes_named}
 use Rattle.thumb_emit.specs.Emit.{function_pieces}
 use Rattle.thumb_emit.specs.Names.{name_of, names_of, call_of, calls_of, IsCalledBy}
 use Rattle.thumb_emit.proofs.Laws.{function_named, function_called}
 use Rattle.image_link.proofs.Lists.{all_append}
 use Rattle.image_link.proofs.Showing.{all_fixed}
-use Rattle.image_link.specs.Linkable.{IsThere, IsFixOf, AreFixesOf, AreThere, IsLinkable, NamesTextBelow, NamesTextsBelow}
+use Rattle.image_link.specs.Linkable.{IsThere, AreThere, IsLinkable, NamesTextBelow, NamesTextsBelow}
 
 all_at : {X : Type 0} (P : X → Type 0) (xs : List X) (k : ℕ) (d : X) → k < length xs → AllByRecursion P xs → P (get_or xs k d)
 all_at P [] k d l h = absurd (omega arith)
