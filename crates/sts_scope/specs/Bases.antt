@@ -18,7 +18,7 @@ abbrev pub above : List ClassHead → ℕ → ℕ → Option ℕ
 above classes zero c = Some c
 above classes (suc n) c = elim (base_of classes c) [ None ↦ None | Some b ↦ above classes n b ]
 
--- A class has as many bases above it as there are classes: then one of them stands there twice, and the chain has no end.
+-- The chain of a class goes on for as many bases as there are classes: exactly then it comes back (`endless_chains_come_back` in crates/typed_laws).
 abbrev pub is_endless : List ClassHead → ℕ → Bool
 is_endless classes c = is_some (above classes (length classes) c)
 

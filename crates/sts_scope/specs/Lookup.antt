@@ -30,7 +30,7 @@ is_second entries d owner x = is_some (entry_number (take d entries) owner x)
 abbrev pub base_of : List ClassHead → ℕ → Option ℕ
 base_of classes c = elim (slice_get classes c) [ None ↦ None | Some class ↦ class.base ]
 
--- A member of a class: its own one of this name, else that of the nearest base that has one. There are not more bases than classes.
+-- A member of a class: its own one of this name, else that of the nearest base that has one (`members_are_of_the_nearest` in crates/typed_laws, without a count).
 abbrev pub member_from : List Entry → List ClassHead → ℕ → ℕ → ℕ → Option ℕ
 member_from entries classes zero c x = None
 member_from entries classes (suc n) c x =

@@ -1,4 +1,4 @@
--- The typed tree of a program, node by node. It is total: where a tree has a failure, what it gives doesn't matter.
+-- The typed tree of a program, node by node. Where a node has no failure, all is there that is looked for (`nodes_without_a_failure_are_whole` in crates/typed_laws).
 use Rattle.std.specs.Prelude.{ℕ, pos, suc, ◌+◌, ◌*◌, Bool, Option, Some, None, List, [], ◌∷◌, ◌++◌, ◌==◌, unwrap_or, get_or, if◌then◌else◌}
 use Rattle.sts_base.specs.declared.tables.Tables.{Tables}
 use Rattle.sts_syntax.specs.Annotations.{Annotation}
