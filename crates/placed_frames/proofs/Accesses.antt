@@ -2,7 +2,7 @@
 use Rattle.std.proofs.Common.{◌≡◌, ℕ, ◌+◌, ◌*◌, ◌-◌, ◌/◌, ◌%◌, ◌^◌, ◌<◌, ◌≤◌, List, length, Bool, true, false, nat_lt, None, refl, ap, arith, slice_set, slice_index, ◌==◌}
 use Rattle.thumb_code.specs.RegisterFile.{word}
 use Rattle.thumb_code.specs.Forms.{Access}
-use Rattle.thumb_code.specs.Map.{flash_end, globals_at, arena_at, stack_at, ram_end, access_fault, sp_in_range, flash_word}
+use Rattle.thumb_code.specs.Map.{flash_end, globals_at, arena_at, stack_at, ram_end, access_fault, low_bytes, number_in, sp_in_range, flash_word}
 use Rattle.bank_model.specs.Bank.{Bank, bank_sp, bank_load, bank_store, bank_move}
 use Rattle.placed_frames.specs.View.{At}
 
@@ -21,8 +21,8 @@ word_at a = record { at = a; bytes = 4 }
 part_whole : (w : ℕ) → w < 2 ^ 32 → w / 1 % 4294967296 ≡ w
 part_whole w l = omega arith
 
-merged_whole : (v w : ℕ) → v < 2 ^ 32 → w % 1 + (v % 4294967296 + w / 4294967296 % 1 * 4294967296) * 1 ≡ v
-merged_whole v w l = omega arith
+merged_whole : (v : ℕ) → v < 2 ^ 32 → number_in (low_bytes 4 v) ≡ v
+merged_whole v l = omega arith
 
 -- an own word
 pub record Own (b : Bank) (a k : ℕ) : Type 0 where
@@ -65,7 +65,7 @@ own_load b free a k w o e l =
 pub own_store : (b : Bank) (a k w : ℕ) → Own b a k → w < 2 ^ 32 → bank_store b (word_at a) w ≡ record b { words = slice_set b.words k w }
 own_store b a k w o l =
     let z = o.at_four in let n = o.arena in let s = o.stack in let x = o.above in let y = o.below in let p = o.is_place in
-    rw n (rw s (rw x (rw y (rw p (rw z (ap (λ q. record b { words = slice_set b.words k q }) (merged_whole w (slice_index b.words k) l)))))))
+    rw n (rw s (rw x (rw y (rw p (rw z (ap (λ q. record b { words = slice_set b.words k q }) (merged_whole w l)))))))
 
 -- a word of the arena, and one of the globals
 pub arena_fault : (base k : ℕ) → k < 2816 → (store : Bool) → access_fault base store (word_at (arena_at + 4 * k)) ≡ None
@@ -90,7 +90,7 @@ pub arena_store : (b : Bank) (k w : ℕ) → k < 2816 → w < 2 ^ 32 → bank_st
 arena_store b k w l h =
     let n = no (arena_at + 4 * k) arena_at (omega arith) in let s = yes (arena_at + 4 * k) stack_at (omega arith) in
     let z : (arena_at + 4 * k) % 4 ≡ 0 = omega arith in let p : (arena_at + 4 * k - arena_at) / 4 ≡ k = omega arith in
-    rw n (rw s (rw p (rw z (ap (λ q. record b { arena = slice_set b.arena k q }) (merged_whole w (slice_index b.arena k) h)))))
+    rw n (rw s (rw p (rw z (ap (λ q. record b { arena = slice_set b.arena k q }) (merged_whole w h)))))
 
 pub globals_fault : (base k : ℕ) → k < 256 → (store : Bool) → access_fault base store (word_at (globals_at + 4 * k)) ≡ None
 globals_fault base k l true =
@@ -113,7 +113,7 @@ pub globals_store : (b : Bank) (k w : ℕ) → k < 256 → w < 2 ^ 32 → bank_s
 globals_store b k w l h =
     let n = yes (globals_at + 4 * k) arena_at (omega arith) in
     let z : (globals_at + 4 * k) % 4 ≡ 0 = omega arith in let p : (globals_at + 4 * k - globals_at) / 4 ≡ k = omega arith in
-    rw n (rw p (rw z (ap (λ q. record b { globals = slice_set b.globals k q }) (merged_whole w (slice_index b.globals k) h))))
+    rw n (rw p (rw z (ap (λ q. record b { globals = slice_set b.globals k q }) (merged_whole w h))))
 
 -- a word of flash
 pub flash_fault : (base a : ℕ) → a < flash_end → a % 4 ≡ 0 → access_fault base false (word_at a) ≡ None

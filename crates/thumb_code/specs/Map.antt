@@ -1,5 +1,6 @@
 -- The map of addresses.
-use Rattle.std.specs.Prelude.{ℕ, ◌+◌, ◌*◌, ◌/◌, ◌%◌, ◌^◌, ◌-◌, List, Bool, true, false, ◌&&◌, ◌==◌, nat_lt, if◌then◌else◌, Option, Some, None, slice_index, slice_index_or, slice_set}
+use Rattle.std.specs.Prelude.{ℕ, zero, suc, ◌+◌, ◌*◌, ◌/◌, ◌%◌, ◌^◌, ◌-◌, List, [], ◌∷◌, Bool, true, false, ◌&&◌, ◌==◌, nat_lt, if◌then◌else◌, Option, Some, None, slice_index, slice_index_or, slice_set}
+use Rattle.std.specs.List.{splice}
 use Rattle.thumb_code.specs.Faults.{unaligned, out_of_map, above_base}
 use Rattle.thumb_code.specs.Effect.{Access}
 
@@ -60,9 +61,18 @@ is_base base = base % 4 == 0 && (if nat_lt base stack_at then false else if nat_
 abbrev pub part : Access → ℕ → ℕ
 part a w = w / 256 ^ (a.at % 4) % 256 ^ a.bytes
 
--- The word with these bytes replaced.
+-- So many bytes of a number, the low one first, and the number that bytes are.
+abbrev pub low_bytes : ℕ → ℕ → List ℕ
+low_bytes zero v = []
+low_bytes (suc n) v = v % 256 ∷ low_bytes n (v / 256)
+
+abbrev pub number_in : List ℕ → ℕ
+number_in [] = 0
+number_in (b ∷ bs) = b + 256 * number_in bs
+
+-- The word, of whose four bytes those of an access are replaced by the bytes of a value.
 abbrev pub merged : Access → ℕ → ℕ → ℕ
-merged a v w = w % 256 ^ (a.at % 4) + (v % 256 ^ a.bytes + w / 256 ^ (a.at % 4 + a.bytes) % 256 ^ (4 - (a.at % 4 + a.bytes)) * 256 ^ a.bytes) * 256 ^ (a.at % 4)
+merged a v w = number_in (splice (low_bytes 4 w) (a.at % 4) (a.at % 4 + a.bytes) (low_bytes a.bytes v))
 
 -- Flash past its bytes reads 0xFF.
 abbrev pub flash_byte : List ℕ → ℕ → ℕ
