@@ -19,14 +19,20 @@ use Rattle.type_derive.specs.Programs.{items_made, library_made, class_entries, 
 
 -- what is known of a library and a text, with this table of types
 abbrev pub known : Program → Program → List (Option StaticType) → Known
-known library text kinds = record { entries = all_entries library text; classes = all_classes library text; kinds = kinds; library = library_entries library text }
+known library text kinds = record {
+  entries = all_entries library text;
+  classes = all_classes library text;
+  kinds = kinds;
+  library = library_entries library text;
+}
 
 abbrev pub all_sources : Program → Program → List Source
 all_sources library text = sources_from (all_names library text) 0 (library ++ text)
 
 -- how the type of each declaration follows from those of the others
 abbrev pub derivation : Tables → Program → Program → List (Option StaticType) → ℕ → Option StaticType
-derivation tables library text kinds d = rule tables (all_names library text) (known library text kinds) (all_sources library text) kinds d
+derivation tables library text kinds d =
+    rule tables (all_names library text) (known library text kinds) (all_sources library text) kinds d
 
 -- the types of all declarations: the least table that follows its own rules
 pub record AreDerived (tables : Tables) (library text : Program) (kinds : List (Option StaticType)) : Type 0 where
@@ -43,7 +49,8 @@ typed tables library text kinds =
     let k = known library text kinds in
     let numbers = numbering (library ++ text) in
     let first = library_made tables names k numbers 0 0 library in
-    let made = items_made tables names k numbers (library_classes library text) k.library 0 (all_routines library) text in
+    let made = items_made tables names k numbers (library_classes library text) k.library 0 (all_routines library) text
+    in
     record {
       classes = class_entries tables names k numbers 0 k.classes;
       functions = first ++ made.routines ++ main_routine made ∷ [];
@@ -57,22 +64,28 @@ type_refusal tables library text kinds =
     let names = all_names library text in
     let k = known library text kinds in
     let c = library_classes library text in
-    all_overrides k names c k.library text then nodes_failure tables names k c k.library text then limits_failure tables.texts (typed tables library text kinds)
+    all_overrides k names c k.library text then nodes_failure tables names k c k.library text
+    then limits_failure tables.texts (typed tables library text kinds)
 
 -- the first failure of all passes
 abbrev pub refusal : Tables → Program → Program → List (Option StaticType) → Option Failure
-refusal tables library text kinds = heading_refusal tables.names library text then type_refusal tables library text kinds
+refusal tables library text kinds =
+    heading_refusal tables.names library text then type_refusal tables library text kinds
 
 -- a text is accepted, as this typed program
 abbrev pub IsAccepted : Tables → Program → Program → TypedProgram → Type 0
 IsAccepted tables library text p =
-    (kinds : List (Option StaticType)) × AreDerived tables library text kinds × (refusal tables library text kinds ≡ None) × (p ≡ typed tables library text kinds)
+    (kinds : List (Option StaticType)) × AreDerived tables library text kinds
+    × (refusal tables library text kinds ≡ None) × (p ≡ typed tables library text kinds)
 
 -- a text is refused, with this failure
 abbrev pub IsRefused : Tables → Program → Program → Failure → Type 0
 IsRefused tables library text f =
-    (kinds : List (Option StaticType)) × AreDerived tables library text kinds × (refusal tables library text kinds ≡ Some f)
+    (kinds : List (Option StaticType)) × AreDerived tables library text kinds
+    × (refusal tables library text kinds ≡ Some f)
 
 -- each library and text have derived types
 abbrev pub DerivedTypesExist : Type 0
-DerivedTypesExist = (tables : Tables) (library text : Program) → (kinds : List (Option StaticType)) × AreDerived tables library text kinds
+DerivedTypesExist =
+    (tables : Tables) (library text : Program) → (kinds : List (Option StaticType))
+    × AreDerived tables library text kinds

@@ -89,7 +89,8 @@ module _ (tables : Tables) (names : Naming) (k : Known) (numbers : Numbering) wh
   spot_of s _ = Global 0
 
   abbrev pub in_handler_site : Site → List Parameter → Option Annotation → Statements → Site
-  in_handler_site s params gives all = record { place = handler_place tables names k s.place params gives all; spots = [] }
+  in_handler_site s params gives all =
+      record { place = handler_place tables names k s.place params gives all; spots = [] }
 
   abbrev pub kind_or_nothing : Option StaticType → StaticType
   kind_or_nothing o = unwrap_or o nothing
@@ -153,10 +154,16 @@ module _ (tables : Tables) (names : Naming) (k : Known) (numbers : Numbering) wh
   abbrev pub routine : List ValueType → ValueType → Making TypedStatements → ℕ → Made TypedRoutine
   routine params gives all n =
       let made = all 0 (suc n) in
-      record { it = record { params = params; locals = made.locals; gives = gives; all = made.it }; locals = []; routines = made.routines }
+      record {
+        it = record { params = params; locals = made.locals; gives = gives; all = made.it };
+        locals = [];
+        routines = made.routines;
+      }
 
   abbrev pub handler_made : Making TypedStatements → Making TypedTree
-  handler_made all = λ m n. let made = routine [] t.Nothing all n in record { it = e.Handler t.Nothing n; locals = []; routines = made.it ∷ made.routines }
+  handler_made all = λ m n.
+      let made = routine [] t.Nothing all n in
+      record { it = e.Handler t.Nothing n; locals = []; routines = made.it ∷ made.routines }
 
   abbrev pub plain_handler : Site → Tree → TypedTree
   plain_handler s (Name at x) = e.Handler t.Nothing (routine_of (finds tables k s.place x))
@@ -164,7 +171,8 @@ module _ (tables : Tables) (names : Naming) (k : Known) (numbers : Numbering) wh
 
   -- a text that draws a frame, as the frame's number
   abbrev pub drawing : Tree → TypedTree
-  drawing (Text at n) = if draws (text_at tables n) then e.Num t.Number (pos (frame_of (drawn (text_at tables n)))) else amiss
+  drawing (Text at n) =
+      if draws (text_at tables n) then e.Num t.Number (pos (frame_of (drawn (text_at tables n)))) else amiss
   drawing _ = amiss
 
   -- an argument of a call of the board, which is made so where it is neither a function's name nor a drawing
@@ -184,29 +192,39 @@ module _ (tables : Tables) (names : Naming) (k : Known) (numbers : Numbering) wh
     made_tree s g (This at) = pure (e.This (noted s g (This at)))
     made_tree s g (Name at x) = pure (e.Name (noted s g (Name at x)) (spot_of s (finds tables k s.place x)))
     made_tree s g (Unary at op a) = made_tree s None a >=> λ x. pure (e.Unary (noted s g (Unary at op a)) op x)
-    made_tree s g (Binary at op a b) = made_tree s None a >=> λ x. made_tree s None b >=> λ y. pure (e.Binary (noted s g (Binary at op a b)) op x y)
+    made_tree s g (Binary at op a b) =
+        made_tree s None a >=> λ x. made_tree s None b >=> λ y. pure (e.Binary (noted s g (Binary at op a b)) op x y)
     made_tree s g (Both at a b) = made_tree s None a >=> λ x. made_tree s None b >=> λ y. pure (e.Both t.Boolean x y)
-    made_tree s g (Either at a b) = made_tree s None a >=> λ x. made_tree s None b >=> λ y. pure (e.Either t.Boolean x y)
+    made_tree s g (Either at a b) =
+        made_tree s None a >=> λ x. made_tree s None b >=> λ y. pure (e.Either t.Boolean x y)
     made_tree s g (Choice at q a b) =
-        made_tree s None q >=> λ z. made_tree s None a >=> λ x. made_tree s None b >=> λ y. pure (e.Choice (noted s g (Choice at q a b)) z x y)
-    made_tree s g (Set at op x r) = made_tree s None x >=> λ a. made_tree s (Some (type_in s x)) r >=> λ b. pure (e.Set (noted s g (Set at op x r)) op a b)
+        made_tree s None q >=> λ z. made_tree s None a >=> λ x. made_tree s None b
+        >=> λ y. pure (e.Choice (noted s g (Choice at q a b)) z x y)
+    made_tree s g (Set at op x r) =
+        made_tree s None x >=> λ a. made_tree s (Some (type_in s x)) r
+        >=> λ b. pure (e.Set (noted s g (Set at op x r)) op a b)
     made_tree s g (Bump at x by late) = made_tree s None x >=> λ a. pure (e.Bump t.Number a by late)
     made_tree s g (Member at a m) = elim (constant_of tables k s.place a m) [
       | Some z ↦ pure (e.Num t.Number z)
-      | None ↦ made_tree s None a >=> λ x. pure (member_read (noted s g (Member at a m)) (part_in s a m) (class_in s a) m x)
+      | None ↦ made_tree s None a
+          >=> λ x. pure (member_read (noted s g (Member at a m)) (part_in s a m) (class_in s a) m x)
     ]
-    made_tree s g (Item at a i) = made_tree s None a >=> λ x. made_tree s None i >=> λ y. pure (e.Item (noted s g (Item at a i)) x y)
+    made_tree s g (Item at a i) =
+        made_tree s None a >=> λ x. made_tree s None i >=> λ y. pure (e.Item (noted s g (Item at a i)) x y)
     made_tree s g (Items at none) = pure (e.Items (noted s g (Items at none)) e.none)
     made_tree s g (Items at (more a rest)) =
-        made_tree s None a >=> λ x. made_items s (type_in s a) rest >=> λ xs. pure (e.Items (noted s g (Items at (more a rest))) (e.more x xs))
+        made_tree s None a >=> λ x. made_items s (type_in s a) rest
+        >=> λ xs. pure (e.Items (noted s g (Items at (more a rest))) (e.more x xs))
     made_tree s g (Call at f args) = elim (board_callee tables k s.place f) [
-      | Some call ↦ made_asked s (row_of call).takes args >=> λ xs. pure (e.Call (noted s g (Call at f args)) (board_target call (row_of call).action) xs)
+      | Some call ↦ made_asked s (row_of call).takes args
+          >=> λ xs. pure (e.Call (noted s g (Call at f args)) (board_target call (row_of call).action) xs)
       | None ↦ made_call s (noted s g (Call at f args)) f (made_given s (call_takes s f) args)
     ]
     made_tree s g (SuperCall at None args) = pure amiss
     made_tree s g (SuperCall at (Some m) args) = elim (super_method tables k s.place.this m) [
       | None ↦ pure amiss
-      | Some d ↦ made_given s (takes_at k.entries d) args >=> λ xs. pure (e.SuperCall (noted s g (SuperCall at (Some m) args)) (routine_number numbers d) xs)
+      | Some d ↦ made_given s (takes_at k.entries d) args
+          >=> λ xs. pure (e.SuperCall (noted s g (SuperCall at (Some m) args)) (routine_number numbers d) xs)
     ]
     made_tree s g (Make at x args) =
         let class = class_found (finds tables k s.place x) in
@@ -215,15 +233,18 @@ module _ (tables : Tables) (names : Naming) (k : Known) (numbers : Numbering) wh
 
     -- a call of a function or a method, whose arguments are made so
     pub made_call : Site → ValueType → Tree → Making TypedTrees → Making TypedTree
-    made_call s u (Name at x) args = args >=> λ xs. pure (e.Call u (c.Function (routine_of (finds tables k s.place x))) xs)
+    made_call s u (Name at x) args =
+        args >=> λ xs. pure (e.Call u (c.Function (routine_of (finds tables k s.place x))) xs)
     made_call s u (Member at a m) args =
-        made_tree s None a >=> λ x. args >=> λ xs. pure (e.Call u (part_target (part_in s a m) (class_in s a) m) (e.more x xs))
+        made_tree s None a >=> λ x. args
+        >=> λ xs. pure (e.Call u (part_target (part_in s a m) (class_in s a) m) (e.more x xs))
     made_call s u _ args = pure amiss
 
     -- arguments to which types are given
     pub made_given : Site → List StaticType → Trees → Making TypedTrees
     made_given s takes none = pure e.none
-    made_given s takes (more a rest) = made_tree s (next_given takes) a >=> λ x. made_given s (later_given takes) rest >=> λ xs. pure (e.more x xs)
+    made_given s takes (more a rest) =
+        made_tree s (next_given takes) a >=> λ x. made_given s (later_given takes) rest >=> λ xs. pure (e.more x xs)
 
     -- items to which the first one's type is given
     pub made_items : Site → StaticType → Trees → Making TypedTrees
@@ -233,7 +254,9 @@ module _ (tables : Tables) (names : Naming) (k : Known) (numbers : Numbering) wh
     -- arguments of a call of the board
     pub made_asked : Site → List BoardParameter → Trees → Making TypedTrees
     made_asked s ps none = pure e.none
-    made_asked s ps (more a rest) = argument_made s ps a (made_tree s (asked_given ps) a) >=> λ x. made_asked s (behind ps) rest >=> λ xs. pure (e.more x xs)
+    made_asked s ps (more a rest) =
+        argument_made s ps a (made_tree s (asked_given ps) a) >=> λ x. made_asked s (behind ps) rest
+        >=> λ xs. pure (e.more x xs)
 
     -- the statements of a handler
     pub made_body : Site → Routine → Making TypedStatements
@@ -255,29 +278,39 @@ module _ (tables : Tables) (names : Naming) (k : Known) (numbers : Numbering) wh
     pub made_locals : Site → Bool → Declarations → Making (List TypedDeclaration)
     made_locals s fixed ended = pure []
     made_locals s fixed (next a rest) = λ m n.
-        let all = made_local s a >=> λ d. made_locals (behind_statement m s (Let 0 fixed (next a ended))) fixed rest >=> λ ds. pure (d ∷ ds) in
+        let all = made_local s a >=> λ d. made_locals (behind_statement m s (Let 0 fixed (next a ended))) fixed rest
+        >=> λ ds. pure (d ∷ ds) in
         all m n
 
     pub made_local : Site → Declaration → Making TypedDeclaration
     made_local s (Declare at x shape first) =
-        made_first s shape first >=> λ a. a_local (value_type (kind_or_nothing (bound tables names k s.place shape first))) (λ i. record { name = Local i; first = a })
+        made_first s shape first
+        >=> λ a. a_local (value_type (kind_or_nothing (bound tables names k s.place shape first)))
+        (λ i. record { name = Local i; first = a })
 
     pub made_statement : Site → Statement → Making TypedStatement
     made_statement s (Block at all) = made_statements (in_block s) all >=> λ xs. pure (e.Block xs)
     made_statement s (Let at fixed each) = made_locals s fixed each >=> λ ds. pure (e.Let fixed ds)
-    made_statement s (IfOnly at test a) = made_tree s None test >=> λ q. made_statement (in_block s) a >=> λ x. pure (e.IfOnly q x)
+    made_statement s (IfOnly at test a) =
+        made_tree s None test >=> λ q. made_statement (in_block s) a >=> λ x. pure (e.IfOnly q x)
     made_statement s (IfElse at test a b) =
-        made_tree s None test >=> λ q. made_statement (in_block s) a >=> λ x. made_statement (in_block s) b >=> λ y. pure (e.IfElse q x y)
-    made_statement s (While at test a) = made_tree s None test >=> λ q. made_statement (in_block s) a >=> λ x. pure (e.While q x)
-    made_statement s (DoWhile at a test) = made_statement (in_block s) a >=> λ x. made_tree s None test >=> λ q. pure (e.DoWhile x q)
+        made_tree s None test >=> λ q. made_statement (in_block s) a >=> λ x. made_statement (in_block s) b
+        >=> λ y. pure (e.IfElse q x y)
+    made_statement s (While at test a) =
+        made_tree s None test >=> λ q. made_statement (in_block s) a >=> λ x. pure (e.While q x)
+    made_statement s (DoWhile at a test) =
+        made_statement (in_block s) a >=> λ x. made_tree s None test >=> λ q. pure (e.DoWhile x q)
     made_statement s (For at first test step a) = λ m n.
         let inside = first_site m (in_block s) first in
-        let all = made_opening (in_block s) first >=> λ f. made_optional inside test >=> λ q. made_optional inside step >=> λ i. made_statement (in_block inside) a >=> λ x. pure (e.For f q i x) in
+        let all = made_opening (in_block s) first >=> λ f. made_optional inside test >=> λ q. made_optional inside step
+        >=> λ i. made_statement (in_block inside) a >=> λ x. pure (e.For f q i x) in
         all m n
     made_statement s (ForOf at fixed x list a) = λ m n.
         let u = value_type (kind_or_nothing (items_of tables names k (type_of tables k s.place Free list))) in
-        let inside : Site = record { place = inner (looped tables names k s.place fixed x list); spots = s.spots ++ Local m ∷ [] } in
-        let all = made_tree s None list >=> λ l. a_local u (λ i. i) >=> λ i. a_local (t.ListOf u) (λ j. j) >=> λ j. a_local t.Number (λ j. j) >=> λ j.
+        let inside : Site =
+            record { place = inner (looped tables names k s.place fixed x list); spots = s.spots ++ Local m ∷ [] } in
+        let all = made_tree s None list >=> λ l. a_local u (λ i. i) >=> λ i. a_local (t.ListOf u) (λ j. j)
+        >=> λ j. a_local t.Number (λ j. j) >=> λ j.
         made_statement inside a >=> λ y. pure (e.ForOf fixed (Local i) l y) in
         all m n
     made_statement s (Return at value) = made_value s s.place.gives value >=> λ x. pure (e.Return x)
@@ -293,5 +326,6 @@ module _ (tables : Tables) (names : Naming) (k : Known) (numbers : Numbering) wh
     pub made_statements : Site → Statements → Making TypedStatements
     made_statements s done = pure e.done
     made_statements s (also a rest) = λ m n.
-        let all = made_statement s a >=> λ x. made_statements (behind_statement m s a) rest >=> λ xs. pure (e.also x xs) in
+        let all = made_statement s a >=> λ x. made_statements (behind_statement m s a) rest
+        >=> λ xs. pure (e.also x xs) in
         all m n

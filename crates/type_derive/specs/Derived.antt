@@ -54,7 +54,9 @@ module _ (names : Naming) where
   abbrev pub follows : Tables → Known → Bool → Source → Option StaticType
   follows tables k library (Stated kind) = kind
   follows tables k library (Initial self first) = bound tables names k (outside self library None) None first
-  follows tables k library (Returns self params all) = answered tables names k (all_returned tables names k (within (parameter_locals names params) self None library) all)
+  follows tables k library (Returns self params all) =
+      answered tables names k
+      (all_returned tables names k (within (parameter_locals names params) self None library) all)
 
 -- what a table has at a place
 abbrev pub at : List (Option StaticType) → ℕ → Option StaticType
@@ -62,7 +64,10 @@ at kinds d = get_or kinds d None
 
 -- what the rule of a declaration gives from a table
 abbrev pub rule : Tables → Naming → Known → List Source → List (Option StaticType) → ℕ → Option StaticType
-rule tables names k sources kinds d = elim (slice_get sources d) [ None ↦ None | Some source ↦ follows names tables (record k { kinds = kinds }) (nat_lt d k.library) source ]
+rule tables names k sources kinds d = elim (slice_get sources d) [
+  | None ↦ None
+  | Some source ↦ follows names tables (record k { kinds = kinds }) (nat_lt d k.library) source
+]
 
 -- each declaration has the type that its rule gives from the others'
 abbrev pub Solves : (List (Option StaticType) → ℕ → Option StaticType) → List (Option StaticType) → Type 0
@@ -80,4 +85,5 @@ Within xs ys = (d : ℕ) → Less (at xs d) (at ys d)
 -- the least of the tables that meet the rules
 pub record IsLeast (rule : List (Option StaticType) → ℕ → Option StaticType) (kinds : List (Option StaticType)) : Type 0 where
   pub solves : Solves rule kinds
-  pub least : (others : List (Option StaticType)) → length others ≡ length kinds → Solves rule others → Within kinds others
+  pub least : (others : List (Option StaticType)) → length others ≡ length kinds → Solves rule others
+      → Within kinds others

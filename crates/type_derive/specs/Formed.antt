@@ -60,7 +60,8 @@ module _ (IsNumber : ℤ → Type 0) (IsText : ℕ → Type 0) where
     StatementHas looped (IfElse at test a b) = TreeHas test × StatementHas looped a × StatementHas looped b
     StatementHas looped (While at test a) = TreeHas test × StatementHas true a
     StatementHas looped (DoWhile at a test) = StatementHas true a × TreeHas test
-    StatementHas looped (For at first test step a) = FirstHas first × OptionHas test × OptionHas step × StatementHas true a
+    StatementHas looped (For at first test step a) =
+        FirstHas first × OptionHas test × OptionHas step × StatementHas true a
     StatementHas looped (ForOf at fixed x list a) = TreeHas list × StatementHas true a
     StatementHas looped (Return at value) = OptionHas value
     StatementHas looped (Break at) = looped ≡ true

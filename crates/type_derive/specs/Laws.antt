@@ -13,13 +13,19 @@ use Rattle.type_derive.specs.Growth.{KnownGrows, PlaceGrows}
 
 -- two least tables of the same length and the same rules have the same types
 abbrev pub IsOne : Type 0
-IsOne = (rule : List (Option StaticType) → ℕ → Option StaticType) (xs ys : List (Option StaticType)) → length xs ≡ length ys → IsLeast rule xs → IsLeast rule ys → (d : ℕ) → at xs d ≡ at ys d
+IsOne =
+    (rule : List (Option StaticType) → ℕ → Option StaticType) (xs ys : List (Option StaticType)) → length xs ≡ length ys
+    → IsLeast rule xs → IsLeast rule ys → (d : ℕ) → at xs d ≡ at ys d
 
 -- where more types are known, an expression has the type that it had, if it had one
 abbrev pub GrowsWithTypes : Type 0
-GrowsWithTypes = (tables : Tables) (k l : Known) (p q : NameScope) → KnownGrows k l → PlaceGrows p q → (r : Role) (e : Tree) → Less (type_of tables k p r e) (type_of tables l q r e)
+GrowsWithTypes =
+    (tables : Tables) (k l : Known) (p q : NameScope) → KnownGrows k l → PlaceGrows p q → (r : Role) (e : Tree)
+    → Less (type_of tables k p r e) (type_of tables l q r e)
 
 -- the rules of declarations give no less from a table that has more
 abbrev pub RulesGrow : Type 0
-RulesGrow = (tables : Tables) (names : Naming) (k : Known) (sources : List Source) (xs ys : List (Option StaticType)) → Within xs ys → (d : ℕ) →
+RulesGrow =
+    (tables : Tables) (names : Naming) (k : Known) (sources : List Source) (xs ys : List (Option StaticType))
+    → Within xs ys → (d : ℕ) →
     Less (rule tables names k sources xs d) (rule tables names k sources ys d)

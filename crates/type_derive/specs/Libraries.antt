@@ -42,7 +42,8 @@ module _ (tables : Tables) (names : Naming) (k : Known) where
   abbrev pub library_failure : ℕ → Program → Option Failure
   library_failure d [] = None
   library_failure d (Function x (Does at params gives all arrow) ∷ rest) =
-      statements_failure tables names k (within (parameter_locals names params) this.Nowhere (kind_at k d) true) all then library_failure (suc d) rest
+      statements_failure tables names k (within (parameter_locals names params) this.Nowhere (kind_at k d) true) all
+      then library_failure (suc d) rest
   library_failure d (Class at x base base_at members ∷ rest) = library_failure d rest
   library_failure d (Main a ∷ rest) = library_failure d rest
 
@@ -53,5 +54,6 @@ pub record IsLibrary (tables : Tables) (library text : Program) (kinds : List (O
   pub no_failure : library_failure tables (all_names library text) (known library text kinds) 0 library ≡ None
   -- each row of the board's table that is a function of the library is one of it that takes and gives the same
   pub rows : (call : BoardCall) (f : ℕ) → (row_of call).action ≡ board.Library f
-      → (r : TypedRoutine) × (entry (library_made tables (all_names library text) (known library text kinds) (numbering (library ++ text)) 0 0 library) f ≡ Some r)
+      → (r : TypedRoutine)
+      × (entry (library_made tables (all_names library text) (known library text kinds) (numbering (library ++ text)) 0 0 library) f ≡ Some r)
       × (r.params ≡ taken (row_of call).takes) × (r.gives ≡ (row_of call).gives)

@@ -19,7 +19,10 @@ in_scope around own block = record { around = around; own = own; block = block }
 
 -- what a name stands for, if a local has it: this function's innermost one, else one of a function around
 abbrev pub local_found : InScope → ℕ → Option Found
-local_found s x = elim (last_named s.own x) [ Some i ↦ Some (found.Local i) | None ↦ if is_some (last_named s.around x) then Some found.Captured else None ]
+local_found s x = elim (last_named s.own x) [
+  | Some i ↦ Some (found.Local i)
+  | None ↦ if is_some (last_named s.around x) then Some found.Captured else None
+]
 
 -- the locals of functions around, one function's behind the other's
 abbrev pub around_of : List (Bor (List Local)) → List Local
@@ -39,4 +42,5 @@ pub record HasInnermost (around own : List Local) (map : PersistentMap) : Type 0
 pub record AreNamed (around own : List Local) (map : PersistentMap) (before : List PersistentMap) : Type 0 where
   pub in_map : HasInnermost around own map
   pub as_many : length before ≡ length own
-  pub were : (n : ℕ) (earlier : PersistentMap) → slice_get before n ≡ Some earlier → HasInnermost around (take n own) earlier
+  pub were : (n : ℕ) (earlier : PersistentMap) → slice_get before n ≡ Some earlier
+      → HasInnermost around (take n own) earlier

@@ -66,27 +66,32 @@ tests true is = is
 module _ (tables : Tables) (names : Naming) (k : Known) where
   -- in a handler: its own parameters are known, and its result is the one that is written, else that of its first value, as any function's
   abbrev pub handler_within : NameScope → List Parameter → Option StaticType → NameScope
-  handler_within p params gives = let q = in_handler p gives in inner (record q { locals = q.locals ++ parameter_locals names params })
+  handler_within p params gives =
+      let q = in_handler p gives in inner (record q { locals = q.locals ++ parameter_locals names params })
 
   abbrev pub handler_result : NameScope → List Parameter → Option Annotation → Statements → Option StaticType
   handler_result p params (Some a) all = kind_of names a
-  handler_result p params None all = answered tables names k (all_returned tables names k (handler_within p params None) all)
+  handler_result p params None all =
+      answered tables names k (all_returned tables names k (handler_within p params None) all)
 
   abbrev pub handler_place : NameScope → List Parameter → Option Annotation → Statements → NameScope
   handler_place p params gives all = handler_within p params (handler_result p params gives all)
 
   -- a function expression that may be a handler takes nothing, and its result is nothing
   abbrev pub serves_itself : NameScope → Routine → Bool
-  serves_itself p (Does at params gives all arrow) = takes_nothing params && is_nothing (handler_result p params gives all)
+  serves_itself p (Does at params gives all arrow) =
+      takes_nothing params && is_nothing (handler_result p params gives all)
 
   -- a name: that of a function where one is called is no node, and where a handler is wanted it is one that takes nothing and gives nothing
   abbrev pub own_name : Role → NameScope → Found → ℕ → Option Failure
   own_name Called p (found.Function d) at = None
-  own_name Served p (found.Function d) at = own (kind_at k d) NeedsType at then unless (serves k (found.Function d)) BadHandler at
+  own_name Served p (found.Function d) at =
+      own (kind_at k d) NeedsType at then unless (serves k (found.Function d)) BadHandler at
   own_name r p f at = own (name_kind k p f) (why_name f) at
 
   abbrev pub own_part : Role → Part → ℕ → Option Failure
-  own_part r part at = if is_called r && is_some (part_callee tables k part) then None else own (part_kind k part) (why_part part) at
+  own_part r part at =
+      if is_called r && is_some (part_callee tables k part) then None else own (part_kind k part) (why_part part) at
 
   abbrev pub own_member : Role → Option StaticType → ℕ → ℕ → Option Failure
   own_member r None m at = None
@@ -113,11 +118,13 @@ module _ (tables : Tables) (names : Naming) (k : Known) where
   lacks_handler p (q ∷ ps) none = false
 
   abbrev pub own_board : NameScope → List BoardParameter → Trees → ℕ → Option Failure
-  own_board p takes args at = unless (not (lacks_handler p takes args)) BadHandler at then unless (are_given tables k p takes args) Mismatch at
+  own_board p takes args at =
+      unless (not (lacks_handler p takes args)) BadHandler at then unless (are_given tables k p takes args) Mismatch at
 
   -- a name that is declared in a block
   abbrev pub own_local : NameScope → ℕ → ℕ → Option Failure
-  own_local p x at = unless (not (is_dollar tables.names x)) UnknownName at then unless (not (is_twice p x)) TwiceNamed at
+  own_local p x at =
+      unless (not (is_dollar tables.names x)) UnknownName at then unless (not (is_twice p x)) TwiceNamed at
 
   -- the type of a declared name
   abbrev pub own_bound : NameScope → Option Annotation → OptionalTree → ℕ → Option Failure
@@ -142,11 +149,17 @@ module _ (tables : Tables) (names : Naming) (k : Known) where
     failure p r (This at) = own (this_kind p.this) (why_this p.this) at
     failure p r (Name at x) = own_name r p (finds tables k p x) at
     failure p r (Unary at op a) = failure p Free a then own (type_of tables k p r (Unary at op a)) Mismatch at
-    failure p r (Binary at op a b) = failure p Free a then failure p Free b then own (type_of tables k p r (Binary at op a b)) Mismatch at
-    failure p r (Both at a b) = failure p Free a then failure p Free b then own (type_of tables k p r (Both at a b)) Mismatch at
-    failure p r (Either at a b) = failure p Free a then failure p Free b then own (type_of tables k p r (Either at a b)) Mismatch at
-    failure p r (Choice at c a b) = failure p Free c then failure p Free a then failure p Free b then own (type_of tables k p r (Choice at c a b)) Mismatch at
-    failure p r (Set at op x e) = failure p Free x then failure p Given e then own (type_of tables k p r (Set at op x e)) Mismatch at
+    failure p r (Binary at op a b) =
+        failure p Free a then failure p Free b then own (type_of tables k p r (Binary at op a b)) Mismatch at
+    failure p r (Both at a b) =
+        failure p Free a then failure p Free b then own (type_of tables k p r (Both at a b)) Mismatch at
+    failure p r (Either at a b) =
+        failure p Free a then failure p Free b then own (type_of tables k p r (Either at a b)) Mismatch at
+    failure p r (Choice at c a b) =
+        failure p Free c then failure p Free a then failure p Free b
+        then own (type_of tables k p r (Choice at c a b)) Mismatch at
+    failure p r (Set at op x e) =
+        failure p Free x then failure p Given e then own (type_of tables k p r (Set at op x e)) Mismatch at
     failure p r (Bump at x by late) = failure p Free x then own (type_of tables k p r (Bump at x by late)) Mismatch at
     failure p r (Member at a m) = elim (constant_of tables k p a m) [
       | Some z ↦ None
@@ -155,17 +168,26 @@ module _ (tables : Tables) (names : Naming) (k : Known) where
         | None ↦ failure p Free a then own_member r (type_of tables k p Free a) m at
       ]
     ]
-    failure p r (Item at a i) = failure p Free a then failure p Free i then own (type_of tables k p r (Item at a i)) Mismatch at
+    failure p r (Item at a i) =
+        failure p Free a then failure p Free i then own (type_of tables k p r (Item at a i)) Mismatch at
     failure p r (Items at none) = own (type_of tables k p r (Items at none)) Mismatch at
-    failure p r (Items at (more e rest)) = failure p Free e then failures p [] rest then own (type_of tables k p r (Items at (more e rest))) Mismatch at
+    failure p r (Items at (more e rest)) =
+        failure p Free e then failures p [] rest then own (type_of tables k p r (Items at (more e rest))) Mismatch at
     failure p r (Call at f args) = elim (board_callee tables k p f) [
       | Some call ↦ failures p (row_of call).takes args then own_board p (row_of call).takes args at
-      | None ↦ failure p Called f then failures p [] args then own_called (callee_of tables k p f) (types_of tables k p args) at
+      | None ↦ failure p Called f then failures p [] args
+          then own_called (callee_of tables k p f) (types_of tables k p args) at
     ]
     failure p r (SuperCall at None args) = failures p [] args then failure_at Mismatch at
-    failure p r (SuperCall at (Some m) args) = failures p [] args then own_super p m (super_method tables k p.this m) (type_of tables k p r (SuperCall at (Some m) args)) at
-    failure p r (Make at x args) = failures p [] args then own_make (finds tables k p x) (made tables k (finds tables k p x)) (type_of tables k p r (Make at x args)) at
-    failure p r (Handler at body) = handler_failure p body then unless (is_served r && serves_itself p body) BadHandler at
+    failure p r (SuperCall at (Some m) args) =
+        failures p [] args
+        then own_super p m (super_method tables k p.this m) (type_of tables k p r (SuperCall at (Some m) args)) at
+    failure p r (Make at x args) =
+        failures p [] args
+        then own_make (finds tables k p x) (made tables k (finds tables k p x))
+        (type_of tables k p r (Make at x args)) at
+    failure p r (Handler at body) =
+        handler_failure p body then unless (is_served r && serves_itself p body) BadHandler at
 
     -- of arguments, by what their places do with them
     pub failures : NameScope → List BoardParameter → Trees → Option Failure
@@ -174,7 +196,8 @@ module _ (tables : Tables) (names : Naming) (k : Known) where
 
     pub handler_failure : NameScope → Routine → Option Failure
     handler_failure p (Does at params gives all arrow) =
-        parameter_types_failure names params then written_failure names at gives then statements_failure (handler_place p params gives all) all
+        parameter_types_failure names params then written_failure names at gives
+        then statements_failure (handler_place p params gives all) all
 
     -- of an initialiser; `null` or `[]` alone fails where it is declared
     pub initial_failure : NameScope → Option Annotation → OptionalTree → Option Failure
@@ -191,30 +214,46 @@ module _ (tables : Tables) (names : Naming) (k : Known) where
 
     -- of a declared name in a block
     pub declaration_failure : NameScope → Declaration → Option Failure
-    declaration_failure p (Declare at x shape first) = written_failure names at shape then initial_failure p shape first then own_local p x at then own_bound p shape first at
+    declaration_failure p (Declare at x shape first) =
+        written_failure names at shape then initial_failure p shape first then own_local p x at
+        then own_bound p shape first at
 
     pub declarations_failure : NameScope → Bool → Declarations → Option Failure
     declarations_failure p fixed ended = None
-    declarations_failure p fixed (next a rest) = declaration_failure p a then declarations_failure (after tables names k p (Let 0 fixed (next a ended))) fixed rest
+    declarations_failure p fixed (next a rest) =
+        declaration_failure p a
+        then declarations_failure (after tables names k p (Let 0 fixed (next a ended))) fixed rest
 
     -- of a statement
     pub statement_failure : NameScope → Statement → Option Failure
     statement_failure p (Block at all) = statements_failure (inner p) all
     statement_failure p (Let at fixed each) = declarations_failure p fixed each
-    statement_failure p (IfOnly at test a) = failure p Free test then statement_failure (inner p) a then unless (is_boolean (type_of tables k p Free test)) Mismatch at
+    statement_failure p (IfOnly at test a) =
+        failure p Free test then statement_failure (inner p) a
+        then unless (is_boolean (type_of tables k p Free test)) Mismatch at
     statement_failure p (IfElse at test a b) =
-        failure p Free test then statement_failure (inner p) a then statement_failure (inner p) b then unless (is_boolean (type_of tables k p Free test)) Mismatch at
-    statement_failure p (While at test a) = failure p Free test then statement_failure (inner p) a then unless (is_boolean (type_of tables k p Free test)) Mismatch at
-    statement_failure p (DoWhile at a test) = statement_failure (inner p) a then failure p Free test then unless (is_boolean (type_of tables k p Free test)) Mismatch at
+        failure p Free test then statement_failure (inner p) a then statement_failure (inner p) b
+        then unless (is_boolean (type_of tables k p Free test)) Mismatch at
+    statement_failure p (While at test a) =
+        failure p Free test then statement_failure (inner p) a
+        then unless (is_boolean (type_of tables k p Free test)) Mismatch at
+    statement_failure p (DoWhile at a test) =
+        statement_failure (inner p) a then failure p Free test
+        then unless (is_boolean (type_of tables k p Free test)) Mismatch at
     statement_failure p (For at first test step a) =
         first_failure (inner p) first
-        then optional_failure (after_first tables names k (inner p) first) test then optional_failure (after_first tables names k (inner p) first) step
-        then statement_failure (inner (after_first tables names k (inner p) first)) a then test_failure (after_first tables names k (inner p) first) test at
+        then optional_failure (after_first tables names k (inner p) first) test
+        then optional_failure (after_first tables names k (inner p) first) step
+        then statement_failure (inner (after_first tables names k (inner p) first)) a
+        then test_failure (after_first tables names k (inner p) first) test at
     statement_failure p (ForOf at fixed x list a) =
         failure p Free list then statement_failure (inner (looped tables names k p fixed x list)) a
-        then unless (not (is_dollar tables.names x)) UnknownName at then unless (is_list (type_of tables k p Free list)) Mismatch at
+        then unless (not (is_dollar tables.names x)) UnknownName at
+        then unless (is_list (type_of tables k p Free list)) Mismatch at
     statement_failure p (Return at absent) = unless (is_nothing p.gives) Mismatch at
-    statement_failure p (Return at (present e)) = failure p (kind_role p.gives) e then unless (fits k (type_of tables k p (kind_role p.gives) e) p.gives) Mismatch at
+    statement_failure p (Return at (present e)) =
+        failure p (kind_role p.gives) e
+        then unless (fits k (type_of tables k p (kind_role p.gives) e) p.gives) Mismatch at
     statement_failure p (Break at) = None
     statement_failure p (Continue at) = None
     statement_failure p (Plain at e) = failure p Free e

@@ -34,13 +34,16 @@ same_result (Some s) (Some t) = same s t
 module _ (k : Known) where
   abbrev pub agrees : ℕ → Option ℕ → Bool
   agrees d None = true
-  agrees d (Some e) = same_kinds (takes_at k.entries d) (takes_at k.entries e) && same_result (kind_at k d) (kind_at k e)
+  agrees d (Some e) =
+      same_kinds (takes_at k.entries d) (takes_at k.entries e) && same_result (kind_at k d) (kind_at k e)
 
   -- a method against the nearest one of its name in its bases
   abbrev pub overrides_failure : ℕ → ℕ → List ClassMember → Option Failure
   overrides_failure c d [] = None
   overrides_failure c d (Field a ∷ rest) = overrides_failure c (suc d) rest
-  overrides_failure c d (Method x r ∷ rest) = unless (agrees d (inherited k.entries k.classes c x)) Mismatch (routine_at r) then overrides_failure c (suc d) rest
+  overrides_failure c d (Method x r ∷ rest) =
+      unless (agrees d (inherited k.entries k.classes c x)) Mismatch (routine_at r)
+      then overrides_failure c (suc d) rest
   overrides_failure c d (Constructor r ∷ rest) = overrides_failure c d rest
 
   abbrev pub item_overrides : ℕ → ℕ → TopLevel → Option Failure
@@ -50,14 +53,16 @@ module _ (k : Known) where
 
   abbrev pub all_overrides : Naming → ℕ → ℕ → Program → Option Failure
   all_overrides names c d [] = None
-  all_overrides names c d (i ∷ rest) = item_overrides c d i then all_overrides names (c + classes_in i) (d + length (item_entries names c i)) rest
+  all_overrides names c d (i ∷ rest) =
+      item_overrides c d i then all_overrides names (c + classes_in i) (d + length (item_entries names c i)) rest
 
 -- The nodes of a text.
 module _ (tables : Tables) (names : Naming) (k : Known) where
   -- a field or a global is declared outside all functions
   abbrev pub field_failure : This → Declaration → Option Failure
   field_failure self (Declare at x shape first) =
-      written_failure names at shape then initial_failure tables names k (outside self false None) shape first then own_bound tables names k (outside self false None) shape first at
+      written_failure names at shape then initial_failure tables names k (outside self false None) shape first
+      then own_bound tables names k (outside self false None) shape first at
 
   abbrev pub globals_failure : Declarations → Option Failure
   globals_failure ended = None
@@ -69,7 +74,8 @@ module _ (tables : Tables) (names : Naming) (k : Known) where
 
   -- a function's statements, where `this` and the result are these
   abbrev pub body_failure : This → Option StaticType → Routine → Option Failure
-  body_failure self result (Does at params gives all arrow) = statements_failure tables names k (within (parameter_locals names params) self result false) all
+  body_failure self result (Does at params gives all arrow) =
+      statements_failure tables names k (within (parameter_locals names params) self result false) all
 
   -- `super(..)` calls the base's constructor
   abbrev pub own_super_call : Option (List StaticType) → List StaticType → ℕ → Option Failure
@@ -79,18 +85,21 @@ module _ (tables : Tables) (names : Naming) (k : Known) where
   -- The first statement of a constructor of a class with the base b is `super(..)`; where it isn't, the constructor itself fails behind its statements.
   abbrev pub made_failure : NameScope → ℕ → ℕ → Statements → Option Failure
   made_failure p at b (also (Plain j (SuperCall i None args)) rest) =
-      failures tables names k p [] args then own_super_call (types_of tables k p args) (maker_takes_of k.classes b) i then statements_failure tables names k p rest
+      failures tables names k p [] args then own_super_call (types_of tables k p args) (maker_takes_of k.classes b) i
+      then statements_failure tables names k p rest
   made_failure p at b all = statements_failure tables names k p all then failure_at Mismatch at
 
   abbrev pub constructor_failure : This → Option ℕ → Routine → Option Failure
   constructor_failure self None r = body_failure self (Some nothing) r
-  constructor_failure self (Some b) (Does at params gives all arrow) = made_failure (within (parameter_locals names params) self (Some nothing) false) at b all
+  constructor_failure self (Some b) (Does at params gives all arrow) =
+      made_failure (within (parameter_locals names params) self (Some nothing) false) at b all
 
   abbrev pub members_nodes : ℕ → ℕ → List ClassMember → Option Failure
   members_nodes c d [] = None
   members_nodes c d (Field a ∷ rest) = field_failure (this.Object c) a then members_nodes c (suc d) rest
   members_nodes c d (Method x r ∷ rest) = body_failure (this.Object c) (kind_at k d) r then members_nodes c (suc d) rest
-  members_nodes c d (Constructor r ∷ rest) = constructor_failure (this.Object c) (base_of k.classes c) r then members_nodes c d rest
+  members_nodes c d (Constructor r ∷ rest) =
+      constructor_failure (this.Object c) (base_of k.classes c) r then members_nodes c d rest
 
   abbrev pub item_nodes : ℕ → ℕ → TopLevel → Option Failure
   item_nodes c d (Class at x base base_at members) = members_nodes c (suc d) members
@@ -100,4 +109,5 @@ module _ (tables : Tables) (names : Naming) (k : Known) where
   -- the first failure of the parts of a text, which begin with the class c and the d-th declaration
   abbrev pub nodes_failure : ℕ → ℕ → Program → Option Failure
   nodes_failure c d [] = None
-  nodes_failure c d (i ∷ rest) = item_nodes c d i then nodes_failure (c + classes_in i) (d + length (item_entries names c i)) rest
+  nodes_failure c d (i ∷ rest) =
+      item_nodes c d i then nodes_failure (c + classes_in i) (d + length (item_entries names c i)) rest

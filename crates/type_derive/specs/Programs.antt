@@ -46,7 +46,8 @@ passed_on i (u ∷ us) = e.more (e.Name (value_type u) (Param i)) (passed_on (su
 module _ (tables : Tables) (names : Naming) (k : Known) (numbers : Numbering) where
   -- a function's site: its parameters stand from the number i on
   abbrev pub site : This → Option StaticType → Bool → ℕ → List Parameter → Site
-  site self result library i params = record { place = within (parameter_locals names params) self result library; spots = parameter_spots i params }
+  site self result library i params =
+      record { place = within (parameter_locals names params) self result library; spots = parameter_spots i params }
 
   abbrev pub class_result : Option StaticType → ValueType
   class_result o = value_type (kind_or_nothing tables names k numbers o)
@@ -54,19 +55,23 @@ module _ (tables : Tables) (names : Naming) (k : Known) (numbers : Numbering) wh
   -- a function of the whole text, and the functions in it
   abbrev pub function_made : Bool → ℕ → Option StaticType → Routine → List TypedRoutine
   function_made library n result (Does at params gives all arrow) =
-      let made = routine tables names k numbers (value_types (parameter_kinds names params)) (class_result result) (made_statements tables names k numbers (site this.Nowhere result library 0 params) all) n in
+      let made = routine tables names k numbers (value_types (parameter_kinds names params)) (class_result result)
+      (made_statements tables names k numbers (site this.Nowhere result library 0 params) all) n in
       made.it ∷ made.routines
 
   -- a method takes `this` first
   abbrev pub method_made : ℕ → ℕ → Option StaticType → Routine → List TypedRoutine
   method_made c n result (Does at params gives all arrow) =
-      let made = routine tables names k numbers (t.Object c ∷ value_types (parameter_kinds names params)) (class_result result)
+      let made = routine tables names k numbers
+      (t.Object c ∷ value_types (parameter_kinds names params)) (class_result result)
       (made_statements tables names k numbers (site (this.Object c) result false 1 params) all) n in
       made.it ∷ made.routines
 
   -- a field's initialiser, and the functions in it
   abbrev pub initial_made : ℕ → ℕ → Declaration → Made (Option TypedTree)
-  initial_made c n (Declare at x shape first) = made_first tables names k numbers (record { place = outside (this.Object c) false None; spots = [] }) shape first 0 n
+  initial_made c n (Declare at x shape first) =
+      made_first tables names k numbers (record { place = outside (this.Object c) false None; spots = [] }) shape first
+      0 n
 
   -- `this.f = r`, where the field's number in the declarations is d
   abbrev pub set_field : ℕ → ℕ → Declaration → Option TypedTree → List TypedStatement
@@ -78,7 +83,8 @@ module _ (tables : Tables) (names : Naming) (k : Known) (numbers : Numbering) wh
   -- the initialisers of a class's own fields, in text order: members from n and d on
   abbrev pub initials : ℕ → ℕ → ℕ → List ClassMember → List TypedStatement
   initials c n d [] = []
-  initials c n d (Field a ∷ rest) = set_field c d a (initial_made c n a).it ++ initials c (n + declared_handlers a) (suc d) rest
+  initials c n d (Field a ∷ rest) =
+      set_field c d a (initial_made c n a).it ++ initials c (n + declared_handlers a) (suc d) rest
   initials c n d (Method x r ∷ rest) = initials c (suc n + routine_handlers r) (suc d) rest
   initials c n d (Constructor r ∷ rest) = initials c (suc n + routine_handlers r) d rest
 
@@ -90,9 +96,11 @@ module _ (tables : Tables) (names : Naming) (k : Known) (numbers : Numbering) wh
   abbrev pub made_statements_of : Site → Option ℕ → List TypedStatement → Statements → Making TypedStatements
   made_statements_of s None inits all = made_statements tables names k numbers s all >=> λ xs. pure (inits before xs)
   made_statements_of s (Some b) inits (also (Plain i (SuperCall j None args)) rest) =
-      made_given tables names k numbers s (maker_takes_of k.classes b) args >=> λ ys. made_statements tables names k numbers s rest
+      made_given tables names k numbers s (maker_takes_of k.classes b) args
+      >=> λ ys. made_statements tables names k numbers s rest
       >=> λ xs. pure (e.also (super_called b ys) (inits before xs))
-  made_statements_of s (Some b) inits all = made_statements tables names k numbers s all >=> λ xs. pure (inits before xs)
+  made_statements_of s (Some b) inits all =
+      made_statements tables names k numbers s all >=> λ xs. pure (inits before xs)
 
   abbrev pub constructor_made : ℕ → ℕ → List TypedStatement → Routine → List TypedRoutine
   constructor_made c n inits (Does at params gives all arrow) =
@@ -108,7 +116,12 @@ module _ (tables : Tables) (names : Naming) (k : Known) (numbers : Numbering) wh
   abbrev pub constructor_unwritten : ℕ → List TypedStatement → TypedRoutine
   constructor_unwritten c inits =
       let takes = maker_takes_of k.classes c in
-      record { params = t.Object c ∷ value_types takes; locals = []; gives = t.Object c; all = (passes_on (base_of k.classes c) takes ++ inits) before e.done }
+      record {
+        params = t.Object c ∷ value_types takes;
+        locals = [];
+        gives = t.Object c;
+        all = (passes_on (base_of k.classes c) takes ++ inits) before e.done;
+      }
 
   abbrev pub unwritten_made : ℕ → ℕ → List TypedStatement → List TypedRoutine
   unwritten_made zero c inits = []
@@ -117,9 +130,12 @@ module _ (tables : Tables) (names : Naming) (k : Known) (numbers : Numbering) wh
   -- the functions of members, from n and d on
   abbrev pub members_made : ℕ → List TypedStatement → ℕ → ℕ → List ClassMember → List TypedRoutine
   members_made c inits n d [] = []
-  members_made c inits n d (Field a ∷ rest) = (initial_made c n a).routines ++ members_made c inits (n + declared_handlers a) (suc d) rest
-  members_made c inits n d (Method x r ∷ rest) = method_made c n (kind_at k d) r ++ members_made c inits (suc n + routine_handlers r) (suc d) rest
-  members_made c inits n d (Constructor r ∷ rest) = constructor_made c n inits r ++ members_made c inits (suc n + routine_handlers r) d rest
+  members_made c inits n d (Field a ∷ rest) =
+      (initial_made c n a).routines ++ members_made c inits (n + declared_handlers a) (suc d) rest
+  members_made c inits n d (Method x r ∷ rest) =
+      method_made c n (kind_at k d) r ++ members_made c inits (suc n + routine_handlers r) (suc d) rest
+  members_made c inits n d (Constructor r ∷ rest) =
+      constructor_made c n inits r ++ members_made c inits (suc n + routine_handlers r) d rest
 
   abbrev pub class_made : ℕ → ℕ → ℕ → List ClassMember → List TypedRoutine
   class_made c n d members =
@@ -129,7 +145,9 @@ module _ (tables : Tables) (names : Naming) (k : Known) (numbers : Numbering) wh
 
   -- A statement of the main program: its locals, if it has blocks, are numbered behind m. A declaration gives a global its first value.
   abbrev pub global_made : ℕ → Declaration → Making TypedDeclaration
-  global_made d (Declare at x shape first) = made_first tables names k numbers (record { place = outside this.Nowhere false None; spots = [] }) shape first >=> λ a. pure (record { name = Global (global_number k d); first = a })
+  global_made d (Declare at x shape first) =
+      made_first tables names k numbers (record { place = outside this.Nowhere false None; spots = [] }) shape first
+      >=> λ a. pure (record { name = Global (global_number k d); first = a })
 
   abbrev pub globals_made : ℕ → Declarations → Making (List TypedDeclaration)
   globals_made d ended = pure []
@@ -137,14 +155,16 @@ module _ (tables : Tables) (names : Naming) (k : Known) (numbers : Numbering) wh
 
   abbrev pub main_made : ℕ → Statement → Making TypedStatement
   main_made d (Let at fixed each) = globals_made d each >=> λ ds. pure (e.Let fixed ds)
-  main_made d a = made_statement tables names k numbers (record { place = outside this.Nowhere false None; spots = [] }) a
+  main_made d a =
+      made_statement tables names k numbers (record { place = outside this.Nowhere false None; spots = [] }) a
 
   -- the main program's own statements, and all functions, of the parts of a text from the class c, the d-th declaration, the local m and the function n on
   abbrev pub items_made : ℕ → ℕ → ℕ → ℕ → Program → Made TypedStatements
   items_made c d m n [] = record { it = e.done; locals = []; routines = [] }
   items_made c d m n (Class at x base base_at members ∷ rest) =
       let here = class_made c n (suc d) members in
-      let behind = items_made (suc c) (d + length (item_entries names c (Class at x base base_at members))) m (n + item_routines (Class at x base base_at members)) rest in
+      let behind = items_made (suc c) (d + length (item_entries names c (Class at x base base_at members))) m
+      (n + item_routines (Class at x base base_at members)) rest in
       record { it = behind.it; locals = behind.locals; routines = here ++ behind.routines }
   items_made c d m n (Function x r ∷ rest) =
       let here = function_made false n (kind_at k d) r in
@@ -152,24 +172,36 @@ module _ (tables : Tables) (names : Naming) (k : Known) (numbers : Numbering) wh
       record { it = behind.it; locals = behind.locals; routines = here ++ behind.routines }
   items_made c d m n (Main a ∷ rest) =
       let here = main_made d a m n in
-      let behind = items_made c (d + length (item_entries names c (Main a))) (m + length here.locals) (n + item_routines (Main a)) rest in
-      record { it = e.also here.it behind.it; locals = here.locals ++ behind.locals; routines = here.routines ++ behind.routines }
+      let behind = items_made c (d + length (item_entries names c (Main a))) (m + length here.locals)
+      (n + item_routines (Main a)) rest in
+      record {
+        it = e.also here.it behind.it;
+        locals = here.locals ++ behind.locals;
+        routines = here.routines ++ behind.routines;
+      }
 
   -- the library's functions, which know their own names alone
   abbrev pub library_made : ℕ → ℕ → Program → List TypedRoutine
   library_made d n [] = []
-  library_made d n (Function x r ∷ rest) = function_made true n (kind_at k d) r ++ library_made (suc d) (n + item_routines (Function x r)) rest
+  library_made d n (Function x r ∷ rest) =
+      function_made true n (kind_at k d) r ++ library_made (suc d) (n + item_routines (Function x r)) rest
   library_made d n (i ∷ rest) = library_made d n rest
 
   -- a class by its number: fields and slots are its base's, then its own, and each slot has the nearest method of its name
   abbrev pub member_kind : ℕ → ℕ → ValueType
-  member_kind c x = elim (member_number k.entries k.classes c x) [ None ↦ t.Nothing | Some d ↦ class_result (kind_at k d) ]
+  member_kind c x =
+      elim (member_number k.entries k.classes c x) [ None ↦ t.Nothing | Some d ↦ class_result (kind_at k d) ]
 
   abbrev pub member_routine : ℕ → ℕ → ℕ
   member_routine c x = elim (member_number k.entries k.classes c x) [ None ↦ 0 | Some d ↦ routine_number numbers d ]
 
   abbrev pub class_entry : ℕ → ClassEntry
-  class_entry c = record { base = base_of k.classes c; fields = map (member_kind c) (field_names k c); slots = map (member_routine c) (slot_names k c); maker = maker_number numbers c }
+  class_entry c = record {
+    base = base_of k.classes c;
+    fields = map (member_kind c) (field_names k c);
+    slots = map (member_routine c) (slot_names k c);
+    maker = maker_number numbers c;
+  }
 
   abbrev pub class_entries : ℕ → List ClassHead → List ClassEntry
   class_entries c [] = []
@@ -177,4 +209,7 @@ module _ (tables : Tables) (names : Naming) (k : Known) (numbers : Numbering) wh
 
   abbrev pub global_types : ℕ → List Entry → List ValueType
   global_types d [] = []
-  global_types d (a ∷ rest) = elim (is_global a.sort) [ true ↦ class_result (kind_at k d) ∷ global_types (suc d) rest | false ↦ global_types (suc d) rest ]
+  global_types d (a ∷ rest) = elim (is_global a.sort) [
+    | true ↦ class_result (kind_at k d) ∷ global_types (suc d) rest
+    | false ↦ global_types (suc d) rest
+  ]

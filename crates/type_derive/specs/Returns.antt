@@ -31,7 +31,8 @@ parameter_locals names (p ∷ rest) = local p.name (written_kind names p.shape) 
 
 -- where a function's statements begin: its parameters are known, and its own block begins behind them
 abbrev pub within : List Local → This → Option StaticType → Bool → NameScope
-within params this gives library = record { around = []; locals = params; block = length params; this = this; gives = gives; library = library }
+within params this gives library =
+    record { around = []; locals = params; block = length params; this = this; gives = gives; library = library }
 
 -- Types are written by the names of classes.
 module _ (tables : Tables) (names : Naming) (k : Known) where

@@ -168,10 +168,15 @@ module _ (tables : Tables) (k : Known) where
     type_of p r (Binary at op a b) = type_of p Free a >>= λ s. type_of p Free b >>= λ u. operate k.classes op s u
     type_of p r (Both at a b) = type_of p Free a >>= λ s. type_of p Free b >>= λ u. joined s u
     type_of p r (Either at a b) = type_of p Free a >>= λ s. type_of p Free b >>= λ u. joined s u
-    type_of p r (Choice at c a b) = type_of p Free c >>= λ q. type_of p Free a >>= λ s. type_of p Free b >>= λ u. choose k.classes q s u
-    type_of p r (Set at op x e) = type_of p Free x >>= λ u. type_of p Given e >>= λ s. if settable p x then assign k.classes op u s else None
+    type_of p r (Choice at c a b) =
+        type_of p Free c >>= λ q. type_of p Free a >>= λ s. type_of p Free b >>= λ u. choose k.classes q s u
+    type_of p r (Set at op x e) =
+        type_of p Free x >>= λ u. type_of p Given e >>= λ s. if settable p x then assign k.classes op u s else None
     type_of p r (Bump at x by late) = type_of p Free x >>= λ u. if settable p x then counted u else None
-    type_of p r (Member at a m) = elim (constant_of p a m) [ Some z ↦ Some number | None ↦ type_of p Free a >>= λ u. part_kind k (part_of tables.names k u m) ]
+    type_of p r (Member at a m) = elim (constant_of p a m) [
+      | Some z ↦ Some number
+      | None ↦ type_of p Free a >>= λ u. part_kind k (part_of tables.names k u m)
+    ]
     type_of p r (Item at a i) = type_of p Free a >>= λ s. type_of p Free i >>= λ u. element s u
     type_of p r (Items at none) = if is_given r then Some empty else None
     type_of p r (Items at (more e rest)) = type_of p Free e >>= λ u. types_of p rest >>= λ us. items_type k.classes u us
@@ -180,7 +185,8 @@ module _ (tables : Tables) (k : Known) where
       | None ↦ called (callee_of p f) (types_of p args)
     ]
     type_of p r (SuperCall at None args) = None
-    type_of p r (SuperCall at (Some m) args) = called (super_method p.this m >>= λ d. Some (callee (takes_at k.entries d) (kind_at k d))) (types_of p args)
+    type_of p r (SuperCall at (Some m) args) =
+        called (super_method p.this m >>= λ d. Some (callee (takes_at k.entries d) (kind_at k d))) (types_of p args)
     type_of p r (Make at x args) = called (made (finds p x)) (types_of p args)
     type_of p r (Handler at body) = None
 
@@ -198,7 +204,10 @@ module _ (tables : Tables) (k : Known) where
     -- A target that may be set: no `const`, no length, no constant of the board.
     pub settable : NameScope → Tree → Bool
     settable p (Name at x) = not (name_fixed k p (finds p x))
-    settable p (Member at a m) = elim (constant_of p a m) [ Some z ↦ false | None ↦ elim (type_of p Free a) [ None ↦ false | Some u ↦ part_settable (part_of tables.names k u m) ] ]
+    settable p (Member at a m) = elim (constant_of p a m) [
+      | Some z ↦ false
+      | None ↦ elim (type_of p Free a) [ None ↦ false | Some u ↦ part_settable (part_of tables.names k u m) ]
+    ]
     settable p (Item at a i) = true
     settable p _ = false
 
