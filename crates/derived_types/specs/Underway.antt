@@ -9,7 +9,8 @@ abbrev pub IsMonotone : (List (Option StaticType) → ℕ → Option StaticType)
 IsMonotone rule = (xs ys : List (Option StaticType)) → Within xs ys → (d : ℕ) → Less (rule xs d) (rule ys d)
 
 pub record IsUnderway (rule : List (Option StaticType) → ℕ → Option StaticType) (kinds : List (Option StaticType)) : Type 0 where
-  pub below : (others : List (Option StaticType)) → length others ≡ length kinds → Solves rule others → Within kinds others
+  pub below : (others : List (Option StaticType)) → length others ≡ length kinds → Solves rule others
+      → Within kinds others
   pub kept : (d : ℕ) → d < length kinds → Less (at kinds d) (rule kinds d)
 
 -- the rules of the first n declarations give nothing new

@@ -42,8 +42,10 @@ pub record AsksFor (old new : Work) : Type 0 where
 -- A declaration waits now for each of some others that was asked for before, and for no further one; nobody else begins to wait or stops.
 pub record BeginsToWait (d : ℕ) (others : List ℕ) (old new : Work) : Type 0 where
   pub lists : length new.waiting.items ≡ length old.waiting.items
-  pub waits : All (λ e. is_asked old e ≡ true → e < length old.asked.items → e < length old.waiting.items → Contains (waiters new.waiting.items e) d) others
-  pub only : (e w : ℕ) → Contains (waiters new.waiting.items e) w → Contains (waiters old.waiting.items e) w ⊎ ((w ≡ d) × Contains others e)
+  pub waits : All (λ e. is_asked old e ≡ true → e < length old.asked.items → e < length old.waiting.items
+      → Contains (waiters new.waiting.items e) d) others
+  pub only : (e w : ℕ) → Contains (waiters new.waiting.items e) w
+      → Contains (waiters old.waiting.items e) w ⊎ ((w ≡ d) × Contains others e)
   pub kept : (e w : ℕ) → Contains (waiters old.waiting.items e) w → Contains (waiters new.waiting.items e) w
 
 -- A declaration asked for some others: each of these was asked for now, and is pending, or before, and is waited for.
@@ -73,7 +75,9 @@ pub record HasAnswered (d : ℕ) (old new : Work) : Type 0 where
 
 -- What is left to do, which each step makes less until a type is said: two steps for each declaration that wasn't asked for and for each that was woken, one for each that is pending, and one for each whose turn comes.
 abbrev pub effort : Work → ℕ
-effort work = 2 * unasked work.asked.items + 2 * length work.woken.items + length work.pending.items + (length work.asked.items - work.next)
+effort work =
+    2 * unasked work.asked.items + 2 * length work.woken.items + length work.pending.items
+    + (length work.asked.items - work.next)
 
 -- something is pending, was woken, or has its turn still
 abbrev pub IsOpen : Work → Type 0

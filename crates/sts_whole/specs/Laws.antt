@@ -19,16 +19,21 @@ AcceptedIsBuildable = (text : List ℕ) (tables : Tables) (P : TypedProgram) →
 -- A text isn't both accepted and refused. It is accepted as one program, with one pair of tables, or refused for one reason: only the place of a syntax error isn't
 -- determined.
 pub record OneAnswer : Type 0 where
-  pub either : (text : List ℕ) (tables : Tables) (P : TypedProgram) (code : Code) (at : ℕ) → Accepts text tables P → IsRefusedFor text code at → ⊥
-  pub program : (text : List ℕ) (tables tables' : Tables) (P P' : TypedProgram) → Accepts text tables P → Accepts text tables' P' → (tables ≡ tables') × (P ≡ P')
-  pub refusal : (text : List ℕ) (code code' : Code) (at at' : ℕ) → IsRefusedFor text code at → IsRefusedFor text code' at' → (code ≡ code') × (code ≢ Syntax → at ≡ at')
+  pub either : (text : List ℕ) (tables : Tables) (P : TypedProgram) (code : Code) (at : ℕ) → Accepts text tables P
+      → IsRefusedFor text code at → ⊥
+  pub program : (text : List ℕ) (tables tables' : Tables) (P P' : TypedProgram) → Accepts text tables P
+      → Accepts text tables' P' → (tables ≡ tables') × (P ≡ P')
+  pub refusal : (text : List ℕ) (code code' : Code) (at at' : ℕ) → IsRefusedFor text code at
+      → IsRefusedFor text code' at' → (code ≡ code') × (code ≢ Syntax → at ≡ at')
 
 -- A text that has tokens, behind the library, is accepted or refused.
 abbrev pub SomeAnswer : Type 0
-SomeAnswer = (text : List ℕ) (tables : Tables) (library : Program) (tokens : List Token) → ReadsText text tables library tokens
+SomeAnswer =
+    (text : List ℕ) (tables : Tables) (library : Program) (tokens : List Token) → ReadsText text tables library tokens
     → ((P : TypedProgram) × Accepts text tables P) ⊎ ((code : Code) × (at : ℕ) × IsRefusedFor text code at)
 
 -- A text has one answer: it is accepted or refused, and never both; as one program, or for one reason.
 pub record TextHasOneAnswer : Type 0 where
-  pub some : (text : List ℕ) → ((tables : Tables) × (P : TypedProgram) × Accepts text tables P) ⊎ ((code : Code) × (at : ℕ) × IsRefusedFor text code at)
+  pub some : (text : List ℕ) → ((tables : Tables) × (P : TypedProgram) × Accepts text tables P)
+      ⊎ ((code : Code) × (at : ℕ) × IsRefusedFor text code at)
   pub one : OneAnswer

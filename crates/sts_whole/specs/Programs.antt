@@ -23,7 +23,8 @@ pub record ImageReaches (P : TypedProgram) (texts : List ByteList) (image : List
   pub is_executed : IsExecuted (world_after image script free) budget executed
   pub alike : LooksLike (source_after P texts script steps).board (world_after image script free executed).board
   pub at_most : steps ≤ budget
-  pub at_least : (n : ℕ) → instructions_of_a_step * n ≤ budget → (n ≤ steps) ⊎ (over (source_after P texts script steps).board ≡ true)
+  pub at_least : (n : ℕ) → instructions_of_a_step * n ≤ budget
+      → (n ≤ steps) ⊎ (over (source_after P texts script steps).board ≡ true)
 
 -- The same with what the source has met then.
 pub record Met (P : TypedProgram) (texts : List ByteList) (image : List ℕ) (script : Script) (budget : ℕ) (free : List ℕ) : Type 0 where

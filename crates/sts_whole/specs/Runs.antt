@@ -16,7 +16,8 @@ use Rattle.board_ports.specs.Account.{Account}
 
 -- what is counted on a board of the world, after so many instructions
 abbrev pub counted_on : Board → ℕ → Stats
-counted_on b executed = record { spawned = b.spawned; blocked = b.blocked; words = b.words; seats = b.most; instructions = executed }
+counted_on b executed =
+    record { spawned = b.spawned; blocked = b.blocked; words = b.words; seats = b.most; instructions = executed }
 
 -- For some list of free words, the run of an image after the instructions executed ended so, or not yet; its transcript was taken, the devices met
 -- what it met, and this was counted.
@@ -32,9 +33,12 @@ pub record RunsTo {B : Type 0} (account : B → Account) (image : List ℕ) (scr
   pub counted : stats ≡ counted_on (world_after image script free executed).board executed
 
 -- What a call that ran an image answered: its end, or that the sink failed, where one cut of the run is where the sink and the devices stand.
-abbrev pub RunsImage : {B : Type 0} → (B → Account) → List ℕ → EventScript → ℕ → Outside B → Outside B → End → Stats → Type 0
-RunsImage account image script budget old new SinkFault stats = IsCut account (world_after image script) budget old new × Rose old.faults new.faults
-RunsImage account image script budget old new answer stats = RunsTo account image script budget old new (end_told answer) stats
+abbrev pub RunsImage : {B : Type 0} → (B → Account) → List ℕ → EventScript → ℕ → Outside B → Outside B → End → Stats
+    → Type 0
+RunsImage account image script budget old new SinkFault stats =
+    IsCut account (world_after image script) budget old new × Rose old.faults new.faults
+RunsImage account image script budget old new answer stats =
+    RunsTo account image script budget old new (end_told answer) stats
 
 -- No run of a built image ends by a fault.
 abbrev pub IsFaultless : End → Type 0

@@ -75,7 +75,8 @@ library_function n (Main a) = n
 
 -- a global with its first value, by its number, where the main program's names are in scope
 abbrev pub global_made : Plan → b.Site → ℕ → Declaration → Making TypedDeclaration
-global_made l st number (Declare at x shape first) = s.first_made l st shape first >=> λ a. pure (record { name = Global number; first = a })
+global_made l st number (Declare at x shape first) =
+    s.first_made l st shape first >=> λ a. pure (record { name = Global number; first = a })
 
 -- some expressions before others
 abbrev pub onto : List TypedExpr → TypedTrees → TypedTrees
@@ -127,7 +128,9 @@ behind_made l st first all = s.statements_made l st all >=> λ xs. pure (first b
 
 -- the call of the constructor of the base with this number, then the initialisers, then the statements behind the call
 abbrev pub headed_made : Plan → b.Site → ℕ → List TypedStatement → Trees → Statements → Making TypedStatements
-headed_made l st base inits args rest = s.given_made l st (maker_takes_of l.known.now.classes base) args >=> λ ys. behind_made l st (super_called l base ys ∷ inits) rest
+headed_made l st base inits args rest =
+    s.given_made l st (maker_takes_of l.known.now.classes base) args
+    >=> λ ys. behind_made l st (super_called l base ys ∷ inits) rest
 
 -- the statements of a written constructor
 unfoldable pub maker_statements : Plan → b.Site → Option ℕ → List TypedStatement → Statements → Making TypedStatements
@@ -180,9 +183,12 @@ items_made l = p.items_made l.tables.now (naming l) l.known.now (numbering_of l.
 
 -- those of one part
 abbrev pub item_made : Plan → ℕ → ℕ → ℕ → ℕ → TopLevel → Made (List TypedStatement)
-item_made l c d m n (Class at x base base_at members) = record { it = []; locals = []; routines = class_made l c n (suc d) members }
-item_made l c d m n (Function x r) = record { it = []; locals = []; routines = function_made l false n (kind_at l.known.now d) r }
-item_made l c d m n (Main a) = let here = main_made l d a m n in record { it = here.it ∷ []; locals = here.locals; routines = here.routines }
+item_made l c d m n (Class at x base base_at members) =
+    record { it = []; locals = []; routines = class_made l c n (suc d) members }
+item_made l c d m n (Function x r) =
+    record { it = []; locals = []; routines = function_made l false n (kind_at l.known.now d) r }
+item_made l c d m n (Main a) =
+    let here = main_made l d a m n in record { it = here.it ∷ []; locals = here.locals; routines = here.routines }
 
 -- what a function takes that is written
 abbrev pub written_takes : Plan → List Param → List StaticType

@@ -84,12 +84,16 @@ module _ (tables : Tables) (names : Naming) (k : Known) where
   -- the type of an initialiser, if it gives one
   abbrev pub initial_kind : NameScope → Option Annotation → OptionalTree → Option StaticType
   initial_kind p shape absent = None
-  initial_kind p shape (present e) = if waives tables names k shape e then None else type_of tables k p (shape_role shape) e
+  initial_kind p shape (present e) =
+      if waives tables names k shape e then None else type_of tables k p (shape_role shape) e
 
 module _ (tables : Tables) (k : Known) where
   -- what is seen of a member, by the type of what stands before its dot
   abbrev pub member : Option StaticType → ℕ → Seen
-  member t m = record { kind = t >>= λ u. part_kind k (part_of tables.names k u m); part = t >>= λ u. Some (part_of tables.names k u m) }
+  member t m = record {
+    kind = t >>= λ u. part_kind k (part_of tables.names k u m);
+    part = t >>= λ u. Some (part_of tables.names k u m);
+  }
 
   -- no function stands where a handler is wanted
   abbrev pub lacks_here : NameScope → BoardParameter → Tree → Bool
@@ -105,4 +109,5 @@ module _ (tables : Tables) (k : Known) where
 
   -- the type of a call of the board
   abbrev pub board_kind_of : NameScope → BoardCall → Trees → Option StaticType
-  board_kind_of p call args = if are_given tables k p (row_of call).takes args then Some (board_kind (row_of call).gives) else None
+  board_kind_of p call args =
+      if are_given tables k p (row_of call).takes args then Some (board_kind (row_of call).gives) else None

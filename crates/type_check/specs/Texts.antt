@@ -26,11 +26,14 @@ override_failure k c d (Constructor r) = None
 abbrev pub member_nodes : Tables → Naming → Known → ℕ → ℕ → ClassMember → Option Failure
 member_nodes tables names k c d (Field a) = field_failure tables names k (this.Object c) a
 member_nodes tables names k c d (Method x r) = body_failure tables names k (this.Object c) (kind_at k d) r
-member_nodes tables names k c d (Constructor r) = constructor_failure tables names k (this.Object c) (base_of k.classes c) r
+member_nodes tables names k c d (Constructor r) =
+    constructor_failure tables names k (this.Object c) (base_of k.classes c) r
 
 -- the call of a base's constructor
 abbrev pub super_failure : Tables → Naming → Known → NameScope → ℕ → ℕ → Trees → Option Failure
-super_failure tables names k p at b args = failures tables names k p [] args then own_super_call tables names k (types_of tables k p args) (maker_takes_of k.classes b) at
+super_failure tables names k p at b args =
+    failures tables names k p [] args
+    then own_super_call tables names k (types_of tables k p args) (maker_takes_of k.classes b) at
 
 -- the statements of a constructor without it, of a class with a base
 abbrev pub unmade_failure : Tables → Naming → Known → NameScope → ℕ → Statements → Option Failure
@@ -38,4 +41,5 @@ unmade_failure tables names k p at all = statements_failure tables names k p all
 
 -- the first failure behind the headings, of a text that begins with the class c
 abbrev pub type_failure : Tables → Naming → Known → ℕ → Program → Option Failure
-type_failure tables names k c text = all_overrides k names c k.library text then nodes_failure tables names k c k.library text
+type_failure tables names k c text =
+    all_overrides k names c k.library text then nodes_failure tables names k c k.library text

@@ -78,7 +78,8 @@ planned_made p st (planned.There x) a = pure (typed_tree x)
 -- a list, from the i-th place on
 unfoldable pub arguments_made : Plan → b.Site → Places → ℕ → Trees → Making TypedTrees
 arguments_made p st q i t.none = pure none
-arguments_made p st q i (t.more a rest) = argument_made p st q i a >=> λ x. arguments_made p st q (suc i) rest >=> λ xs. pure (more x xs)
+arguments_made p st q i (t.more a rest) =
+    argument_made p st q i a >=> λ x. arguments_made p st q (suc i) rest >=> λ xs. pure (more x xs)
 
 -- the type that is given to the items of an array behind the first
 abbrev pub first_kind : Plan → b.Site → Trees → StaticType
@@ -88,7 +89,8 @@ first_kind p st (t.more a rest) = unwrap_or (tree_kind p st None a) nothing
 -- what is called, where it is no call of the board
 abbrev pub called_head : Plan → b.Site → Tree → Option Head
 called_head p st (Name at x) = Some (head.Named (typing.finds p.tables.now p.known.now st.place x))
-called_head p st (Member at a m) = Some (head.Behind (s.part_behind p (tree_kind p st None a) m) (s.class_behind (tree_kind p st None a)) m)
+called_head p st (Member at a m) =
+    Some (head.Behind (s.part_behind p (tree_kind p st None a) m) (s.class_behind (tree_kind p st None a)) m)
 called_head p st a = None
 
 -- whether a node has a list
@@ -102,14 +104,18 @@ has_list a = false
 -- `super.m`; `super` alone stands for nothing where it is called
 abbrev pub super_head : Plan → b.Site → Option ℕ → Option Head
 super_head p st None = None
-super_head p st (Some m) = elim (typing.super_method p.tables.now p.known.now st.place.this m) [ None ↦ None | Some d ↦ Some (head.Super d) ]
+super_head p st (Some m) =
+    elim (typing.super_method p.tables.now p.known.now st.place.this m) [ None ↦ None | Some d ↦ Some (head.Super d) ]
 
 -- What a node with a list is. It is none where the tree has a failure, and then nothing is made of its parts.
 unfoldable pub head_of : Plan → b.Site → Tree → Option Head
 head_of p st (Items at items) = Some (head.Items (first_kind p st items))
 head_of p st (Make at x args) = Some (head.Make (s.class_found p (typing.finds p.tables.now p.known.now st.place x)))
 head_of p st (SuperCall at m args) = super_head p st m
-head_of p st (Call at f args) = elim (typing.board_callee p.tables.now p.known.now st.place f) [ Some call ↦ Some (head.Board call) | None ↦ called_head p st f ]
+head_of p st (Call at f args) = elim (typing.board_callee p.tables.now p.known.now st.place f) [
+  | Some call ↦ Some (head.Board call)
+  | None ↦ called_head p st f
+]
 head_of p st a = None
 
 abbrev pub routine_takes : Plan → Found → List StaticType
@@ -166,7 +172,8 @@ unfoldable pub passed_made : Plan → b.Site → Head → Tree → Making TypedT
 passed_made p st h (Items at args) = behind_made p st (head_places p h) none args
 passed_made p st h (Make at x args) = behind_made p st (head_places p h) none args
 passed_made p st h (SuperCall at m args) = behind_made p st (head_places p h) none args
-passed_made p st h (Call at f args) = object_made p st (has_object h) f >=> λ ys. behind_made p st (head_places p h) ys args
+passed_made p st h (Call at f args) =
+    object_made p st (has_object h) f >=> λ ys. behind_made p st (head_places p h) ys args
 passed_made p st h x = pure none
 
 -- the whole node

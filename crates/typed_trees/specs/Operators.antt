@@ -47,4 +47,5 @@ operator_node (o.Choice test) u x y = e.Choice u (typed_tree test.tree.value) x 
 -- behind the operand before it, with its type, the last one is made
 unfoldable pub last_made : Plan → b.Site → Operator → Option StaticType → TypedTree → Tree → Making TypedTree
 last_made p st q k x a =
-    tree_made p st (last_given q k) a >=> λ y. pure (operator_node q (noted (operator_kind p q k (tree_kind p st (last_given q k) a))) x y)
+    tree_made p st (last_given q k) a
+    >=> λ y. pure (operator_node q (noted (operator_kind p q k (tree_kind p st (last_given q k) a))) x y)

@@ -55,9 +55,11 @@ is_for_of (t.ForOf at fixed x list a) = true
 is_for_of a = false
 
 -- a loop behind what it begins with
-unfoldable pub turns_of : Plan → b.Site → OptionalTypedStatement → OptionalTree → OptionalTree → Statement → Making TypedStatement
+unfoldable pub turns_of : Plan → b.Site → OptionalTypedStatement → OptionalTree → OptionalTree → Statement
+    → Making TypedStatement
 turns_of p s f test step a =
-    optional_made p s test >=> λ q. optional_made p s step >=> λ i. statement_made p (b.in_block s) a >=> λ x. pure (For f q i x)
+    optional_made p s test >=> λ q. optional_made p s step >=> λ i. statement_made p (b.in_block s) a
+    >=> λ x. pure (For f q i x)
 
 abbrev pub turns_made : Plan → b.Site → OptionalTypedStatement → Statement → Making TypedStatement
 turns_made p s f (t.For at first test step a) = turns_of p s f test step a
@@ -70,4 +72,5 @@ bound_kind None written first kind = if is_alone first then None else kind
 
 -- where the statements of a handler begin
 abbrev pub handler_site : Plan → b.Site → Routine → b.Site
-handler_site p s (Does at params gives all arrow) = b.in_handler_site p.tables.now (naming p) p.known.now (numbering_of p.numbers.now) s params gives all
+handler_site p s (Does at params gives all arrow) =
+    b.in_handler_site p.tables.now (naming p) p.known.now (numbering_of p.numbers.now) s params gives all
