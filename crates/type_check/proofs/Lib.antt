@@ -1,4 +1,4 @@
-pub mod Handled
+pub mod NoHandler
 pub mod Calls
 pub mod Found
 pub mod Handed

@@ -1,5 +1,5 @@
 use Rattle.sts_scope.specs.Rules.{is_nothing}
-use Rattle.type_check.proofs.Handled.{takes_some}
+use Rattle.type_check.proofs.NoHandler.{takes_some}
 use Rattle.type_check.proofs.failure.may_serve.Goals as goal
 
 pub returns-in-len1-up : goal.returns-in-len1-up
