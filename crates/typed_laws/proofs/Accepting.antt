@@ -18,7 +18,8 @@ use Rattle.type_derive.specs.Libraries.{IsLibrary}
 use Rattle.typed_laws.proofs.OneNode.{both_true}
 use Rattle.typed_laws.proofs.Typed.{unless_true}
 use Rattle.typed_laws.proofs.Rounds.{kinds_proper}
-use Rattle.typed_laws.proofs.Whole.{well_typed, limits_none}
+use Rattle.typed_laws.proofs.TextBehind.{limits_none}
+use Rattle.typed_laws.proofs.Whole.{well_typed}
 
 all_of : {A : Type 0} (Q : A → Type 0) (test : A → Bool) (xs : List A) → ((x : A) → test x ≡ true → Q x) → list_all test xs ≡ true → All Q xs
 all_of {A} Q test [] f h i d near = absurd (omega arith)
@@ -67,5 +68,5 @@ accepted tables library text P formed libraries (kinds, derived, no_failure, is)
     let T : TypedProgram = typed tables library text kinds in
     let proper_so = kinds_proper tables library text kinds derived in
     let sound : IsWellTyped T = well_typed tables library text kinds derived ok formed no_failure proper_so in
-    let within_so : IsProgramWithinLimits T tables.texts = program_within T tables.texts (unless_true (program_fits tables.texts T) OverLimit 0 (limits_none tables library text kinds derived ok formed no_failure proper_so)) in
+    let within_so : IsProgramWithinLimits T tables.texts = program_within T tables.texts (unless_true (program_fits tables.texts T) OverLimit 0 (limits_none tables library text kinds ok.functions no_failure)) in
     subst (λ (p : TypedProgram). IsWellTyped p × IsProgramWithinLimits p tables.texts) (sym is) (sound, within_so)

@@ -1,10 +1,8 @@
 -- What a text without a failure says of its declarations.
-use Rattle.std.proofs.Common.{◌≡◌, ℕ, zero, suc, ◌+◌, ◌<◌, ◌≤◌, ◌==◌, ◌||◌, refl, sym, ap, ◌∙◌, subst, Bool, true, false, Option, Some, None, List, [], ◌∷◌, ◌++◌, length, arith}
+use Rattle.std.proofs.Common.{◌≡◌, ℕ, zero, suc, ◌+◌, ◌<◌, ◌==◌, ◌||◌, refl, sym, ap, ◌∙◌, subst, Bool, true, false, Option, Some, None, List, [], ◌∷◌, ◌++◌, length, arith}
 use Rattle.std.specs.Prelude.{slice_get, unwrap_or, not, is_some}
-use Rattle.sts_base.specs.declared.tables.Tables.{Tables}
-use Rattle.sts_base.specs.declared.refused.Code.TheVariants.{Mismatch, TwiceNamed, ClassCycle, NeedsType, UnknownName}
-use Rattle.sts_syntax.specs.Annotations.{Annotation}
-use Rattle.sts_syntax.specs.Trees.{Parameter, absent, present, Statement, Block, Let, IfOnly, IfElse, While, DoWhile, For, ForOf, Return, Break, Continue, Plain, Empty, Statements, done, also, OptionalStatement, omitted, written, Declaration, Declare, Declarations, ended, next, Routine, Does}
+use Rattle.sts_base.specs.declared.refused.Code.TheVariants.{Mismatch, TwiceNamed, ClassCycle, NeedsType}
+use Rattle.sts_syntax.specs.Trees.{Parameter, Statement, Block, Let, IfOnly, IfElse, While, DoWhile, For, ForOf, Return, Break, Continue, Plain, Empty, Declare, Declarations, ended, next, Routine, Does}
 use Rattle.sts_syntax.specs.Programs.{ClassMember, Field, Method, Constructor, TopLevel, Class, Function, Main, Program}
 use Rattle.sts_scope.specs.declared.kinds.StaticType.{StaticType}
 use Rattle.sts_scope.specs.declared.entries.Owner.{Owner}
@@ -14,31 +12,20 @@ use Rattle.sts_scope.specs.declared.entries.DeclarationKind.TheVariants as sort
 use Rattle.sts_scope.specs.declared.entries.Entry.{Entry}
 use Rattle.sts_scope.specs.declared.entries.ClassHead.{ClassHead}
 use Rattle.sts_scope.specs.declared.known.Known.{Known}
-use Rattle.sts_scope.specs.declared.known.This.TheVariants as this
 use Rattle.sts_scope.specs.Kinds.{text, nothing}
-use Rattle.sts_scope.specs.Failures.{Failure, ◌then◌, unless, own}
-use Rattle.sts_scope.specs.Entries.{Naming, kind_of, written_kind, parameter_kinds, class_names, class_number, classes_in, member_entries, item_entries, main_entries, global_entries, entries_from, heads_of, class_head, maker_takes, base_number}
-use Rattle.sts_scope.specs.Headings.{type_name_failure, type_failure, written_failure, routine_failure, parameters_failure, is_typed, member_failure, members_failure, item_failure, headings_failure}
+use Rattle.sts_scope.specs.Failures.{Failure, ◌then◌, unless}
+use Rattle.sts_scope.specs.Entries.{Naming, written_kind, parameter_kinds, class_names, class_number, classes_in, member_entries, item_entries, main_entries, global_entries, entries_from, heads_of, class_head, maker_takes, base_number}
+use Rattle.sts_scope.specs.Headings.{written_failure, routine_failure, is_typed, member_failure, members_failure, item_failure, headings_failure}
 use Rattle.sts_scope.specs.Bases.{above, is_endless, chain_failure, chains_failure}
 use Rattle.sts_scope.specs.Lookup.{is_second, inherited, inherits_field, base_of}
-use Rattle.sts_scope.specs.Places.{NameScope, inner}
-use Rattle.sts_scope.specs.Globals.{is_dollar}
-use Rattle.type_derive.specs.declared.roles.Role.TheVariants.{Free}
-use Rattle.sts_scope.specs.Rules.{kind_at, takes_at, maker_takes_of, is_boolean}
+use Rattle.sts_scope.specs.Rules.{takes_at, maker_takes_of}
 use Rattle.sts_scope.specs.Rules as rules
-use Rattle.type_derive.specs.Typing.{type_of}
-use Rattle.typed_laws.proofs.Returning.{give_value, gives_value}
-use Rattle.type_derive.specs.Returns.{declared, all_declared, parameter_locals, within, returned, all_returned, answered, or_else, after, after_first, looped}
-use Rattle.type_derive.specs.Derived.{Source, Stated, member_sources, item_sources, sources_from, routine_source, declared_source, follows}
-use Rattle.type_derive.specs.Nodes.{fits, statement_failure, first_failure, statements_failure, failure, kind_role, optional_failure, test_failure, is_list}
-use Rattle.type_derive.specs.Passes.{agrees, overrides_failure, item_overrides, all_overrides, body_failure, members_nodes, item_nodes, nodes_failure}
-use Rattle.type_derive.specs.Passes as pass
+use Rattle.type_derive.specs.Passes.{agrees, overrides_failure, item_overrides, all_overrides}
 use Rattle.typed_laws.specs.Stands.{IsProper, EachProper}
 use Rattle.typed_laws.proofs.OneNode.{not_true}
-use Rattle.typed_laws.proofs.Typed.{last, first, unless_true, own_has}
+use Rattle.typed_laws.proofs.Typed.{last, first, unless_true}
 use Rattle.typed_laws.proofs.Names.{some_is}
-use Rattle.typed_laws.proofs.Suffixes.{Suffix, suffix_step, suffix_one, suffix_at, suffix_head}
-use Rattle.typed_laws.proofs.Items.{item_sourced}
+use Rattle.typed_laws.proofs.Suffixes.{Suffix, suffix_step, suffix_at, suffix_head}
 use Rattle.typed_laws.proofs.Searching.{some_or_none, get_within, position_is, not_some}
 use Rattle.typed_laws.proofs.Members.{SaneAs}
 use Rattle.typed_laws.proofs.TreeFacts.{written_proper}
@@ -97,10 +84,6 @@ module _ (Q : DeclarationKind → Owner → ℕ → ℕ → Type 0) where
       text_each c d (i ∷ rest) h = each_is_both d (item_entries names c i) (entries_from names (c + classes_in i) rest) (item_each c d i h.0) (text_each (c + classes_in i) (d + length (item_entries names c i)) rest h.1)
 
 module _ (names : Naming) (k : Known) where
-  -- types that are written are known
-  type_known : (i : ℕ) (a : Annotation) → type_failure names i a ≡ None → (u : StaticType) × (kind_of names a ≡ Some u)
-  type_known i a h = let r = own_has (kind_of names a) UnknownName i (last (type_name_failure names a) (own (kind_of names a) UnknownName i) h) in (r.it, r.is)
-
   -- headings
   abbrev SaneHere : ℕ → ℕ → TopLevel → Type 0
   SaneHere c d i = (item_failure names k.entries k.classes c d i ≡ None) × ((classes_in i ≡ 1) → c < length k.classes)
@@ -204,179 +187,6 @@ module _ (names : Naming) (k : Known) where
 
   pub agree_text : (c d : ℕ) (text : Program) → all_overrides k names c d text ≡ None → EachIs AgreesAs d (entries_from names c text)
   agree_text c d text h = text_each AgreesAs (λ x d. tt) (λ fixed x d. tt) names AgreeHere agree_class c d text (agree_along c d text h)
-
-  -- a function whose result isn't known returns no value
-  module _ (tables : Tables) where
-    gives_declared_place : (p : NameScope) (fixed : Bool) (each : Declarations) → (all_declared tables names k p fixed each).gives ≡ p.gives
-    gives_declared_place p fixed ended = refl
-    gives_declared_place p fixed (next (Declare i x shape first') rest) = gives_declared_place (declared tables names k p fixed (Declare i x shape first')) fixed rest
-
-    gives_after_place : (p : NameScope) (a : Statement) → (after tables names k p a).gives ≡ p.gives
-    gives_after_place p (Let i fixed each) = gives_declared_place p fixed each
-    gives_after_place p (Block i all) = refl
-    gives_after_place p (IfOnly i test a) = refl
-    gives_after_place p (IfElse i test a b) = refl
-    gives_after_place p (While i test a) = refl
-    gives_after_place p (DoWhile i a test) = refl
-    gives_after_place p (For i one test step a) = refl
-    gives_after_place p (ForOf i fixed x list a) = refl
-    gives_after_place p (Return i value) = refl
-    gives_after_place p (Break i) = refl
-    gives_after_place p (Continue i) = refl
-    gives_after_place p (Plain i a) = refl
-    gives_after_place p (Empty i) = refl
-
-    gives_first_place : (p : NameScope) (a : OptionalStatement) → (after_first tables names k p a).gives ≡ p.gives
-    gives_first_place p omitted = refl
-    gives_first_place p (written a) = gives_after_place p a
-
-    or_false : (a b : Bool) → a ≡ false → b ≡ false → (a || b) ≡ false
-    or_false a b p q = ap (λ (x : Bool). x || b) p ∙ q
-
-    no_fit : (t : Option StaticType) (g : Option StaticType) → g ≡ None → fits k t g ≡ true → ⊥
-    no_fit (Some s) None q h = cc
-    no_fit (Some s) (Some u) q h = cc
-    no_fit None g q h = cc
-
-    mutual
-      gives_none : (p : NameScope) (a : Statement) → p.gives ≡ None → statement_failure tables names k p a ≡ None → gives_value a ≡ false
-      gives_none p (Return i (present a)) g h =
-          let A = failure tables names k p (kind_role p.gives) a in
-          let b = fits k (type_of tables k p (kind_role p.gives) a) p.gives in
-          absurd (no_fit (type_of tables k p (kind_role p.gives) a) p.gives g (unless_true b Mismatch i (last A (unless b Mismatch i) h)))
-      gives_none p (Return i absent) g h = refl
-      gives_none p (Block i all) g h = give_none (inner p) all g h
-      gives_none p (IfOnly i test a) g h =
-          let T = failure tables names k p Free test in let A = statement_failure tables names k (inner p) a in let U = unless (is_boolean (type_of tables k p Free test)) Mismatch i in
-          gives_none (inner p) a g (first A U (last T (A then U) h))
-      gives_none p (IfElse i test a b) g h =
-          let T = failure tables names k p Free test in let A = statement_failure tables names k (inner p) a in let B = statement_failure tables names k (inner p) b in let U = unless (is_boolean (type_of tables k p Free test)) Mismatch i in
-          let r = last T (A then B then U) h in
-          or_false (gives_value a) (gives_value b) (gives_none (inner p) a g (first A (B then U) r)) (gives_none (inner p) b g (first B U (last A (B then U) r)))
-      gives_none p (While i test a) g h =
-          let T = failure tables names k p Free test in let A = statement_failure tables names k (inner p) a in let U = unless (is_boolean (type_of tables k p Free test)) Mismatch i in
-          gives_none (inner p) a g (first A U (last T (A then U) h))
-      gives_none p (DoWhile i a test) g h =
-          let T = failure tables names k p Free test in let A = statement_failure tables names k (inner p) a in let U = unless (is_boolean (type_of tables k p Free test)) Mismatch i in
-          gives_none (inner p) a g (first A (T then U) h)
-      gives_none p (For i one test step a) g h =
-          let q : NameScope = after_first tables names k (inner p) one in
-          let O = first_failure tables names k (inner p) one in let T = optional_failure tables names k q test in let Z = optional_failure tables names k q step in let A = statement_failure tables names k (inner q) a in let U = test_failure tables names k q test i in
-          gives_none (inner q) a (gives_first_place (inner p) one ∙ g) (first A U (last Z (A then U) (last T (Z then A then U) (last O (T then Z then A then U) h))))
-      gives_none p (ForOf i fixed x list a) g h =
-          let q : NameScope = looped tables names k p fixed x list in
-          let T = failure tables names k p Free list in let A = statement_failure tables names k (inner q) a in let D = unless (not (is_dollar tables.names x)) UnknownName i in let U = unless (is_list tables names k (type_of tables k p Free list)) Mismatch i in
-          gives_none (inner q) a g (first A (D then U) (last T (A then D then U) h))
-      gives_none p (Let i fixed each) g h = refl
-      gives_none p (Break i) g h = refl
-      gives_none p (Continue i) g h = refl
-      gives_none p (Plain i a) g h = refl
-      gives_none p (Empty i) g h = refl
-
-      pub give_none : (p : NameScope) (all : Statements) → p.gives ≡ None → statements_failure tables names k p all ≡ None → give_value all ≡ false
-      give_none p done g h = refl
-      give_none p (also a rest) g h =
-          let A = statement_failure tables names k p a in let B = statements_failure tables names k (after tables names k p a) rest in
-          or_false (gives_value a) (give_value rest) (gives_none p a g (first A B h)) (give_none (after tables names k p a) rest (gives_after_place p a ∙ g) (last A B h))
-
-    or_parts : (a b : Bool) → (a || b) ≡ false → (a ≡ false) × (b ≡ false)
-    or_parts true b h = cc
-    or_parts false b h = (refl, h)
-
-    or_none : (a b : Option (Option StaticType)) → a ≡ None → b ≡ None → or_else a b ≡ None
-    or_none a b p q = ap (λ (x : Option (Option StaticType)). or_else x b) p ∙ q
-
-    mutual
-      returns_none : (p : NameScope) (a : Statement) → gives_value a ≡ false → returned tables names k p a ≡ None
-      returns_none p (Return i (present a)) h = cc
-      returns_none p (Return i absent) h = refl
-      returns_none p (Block i all) h = return_none (inner p) all h
-      returns_none p (IfOnly i test a) h = returns_none (inner p) a h
-      returns_none p (IfElse i test a b) h = let (x, y) = or_parts (gives_value a) (gives_value b) h in or_none (returned tables names k (inner p) a) (returned tables names k (inner p) b) (returns_none (inner p) a x) (returns_none (inner p) b y)
-      returns_none p (While i test a) h = returns_none (inner p) a h
-      returns_none p (DoWhile i a test) h = returns_none (inner p) a h
-      returns_none p (For i one test step a) h = returns_none (inner (after_first tables names k (inner p) one)) a h
-      returns_none p (ForOf i fixed x list a) h = returns_none (inner (looped tables names k p fixed x list)) a h
-      returns_none p (Let i fixed each) h = refl
-      returns_none p (Break i) h = refl
-      returns_none p (Continue i) h = refl
-      returns_none p (Plain i a) h = refl
-      returns_none p (Empty i) h = refl
-
-      pub return_none : (p : NameScope) (all : Statements) → give_value all ≡ false → all_returned tables names k p all ≡ None
-      return_none p done h = refl
-      return_none p (also a rest) h = let (x, y) = or_parts (gives_value a) (give_value rest) h in or_none (returned tables names k p a) (all_returned tables names k (after tables names k p a) rest) (returns_none p a x) (return_none (after tables names k p a) rest y)
-
-    -- each method's result is known
-    abbrev pub ResultAs : DeclarationKind → Owner → ℕ → ℕ → Type 0
-    ResultAs sort.Method w x d = (u : StaticType) × (kind_at k d ≡ Some u)
-    ResultAs sort.Field w x d = Unit {0}
-    ResultAs sort.Function w x d = Unit {0}
-    ResultAs (sort.Global fixed) w x d = Unit {0}
-    ResultAs (sort.Class i) w x d = Unit {0}
-
-    module _ (sources : List Source) (solved : (d : ℕ) (source : Source) → slice_get sources d ≡ Some source → k.library ≤ d → kind_at k d ≡ follows names tables k false source) where
-      result_known : (c d i : ℕ) (params : List Parameter) (gives : Option Annotation) (all : Statements) (arrow : Bool) → slice_get sources d ≡ Some (routine_source names (this.Object c) (Does i params gives all arrow)) → k.library ≤ d
-          → written_failure names i gives ≡ None → body_failure tables names k (this.Object c) (kind_at k d) (Does i params gives all arrow) ≡ None → (u : StaticType) × (kind_at k d ≡ Some u)
-      result_known c d i params (Some a) all arrow s near h1 h2 = let (u, q) = type_known i a h1 in (u, solved d (routine_source names (this.Object c) (Does i params (Some a) all arrow)) s near ∙ q)
-      result_known c d i params None all arrow s near h1 h2 =
-          let q = solved d (routine_source names (this.Object c) (Does i params None all arrow)) s near in
-          some_or_none ((u : StaticType) × (kind_at k d ≡ Some u)) (kind_at k d) (λ u r. (u, r))
-          (λ r. let nothing_given = give_none (within (parameter_locals names params) (this.Object c) (kind_at k d) false) all r h2 in
-          (nothing, q ∙ ap (λ (x : Option (Option StaticType)). answered tables names k x) (return_none (within (parameter_locals names params) (this.Object c) None false) all nothing_given)))
-
-      result_members : (c d d' : ℕ) (built : Bool) (members : List ClassMember) (ss : List Source) → Suffix sources d (member_sources names c members ++ ss) → k.library ≤ d → members_failure names k.entries k.classes c d' built members ≡ None
-          → members_nodes tables names k c d members ≡ None → EachIs ResultAs d (member_entries names c members)
-      result_members c d d' built [] ss s near h1 h2 = tt
-      result_members c d d' built (Field (Declare i x shape first') ∷ rest) ss s near h1 h2 =
-          let a : Declaration = Declare i x shape first' in
-          let A = member_failure names k.entries k.classes c d' built (Field a) in
-          let B = members_failure names k.entries k.classes c (d' + 1) (built || false) rest in
-          let C = pass.field_failure tables names k (this.Object c) a in
-          (tt, result_members c (suc d) (d' + 1) (built || false) rest ss (suffix_one sources d (declared_source names (this.Object c) a) (member_sources names c rest ++ ss) s) (omega (arith, near)) (last A B h1) (last C (members_nodes tables names k c (suc d) rest) h2))
-      result_members c d d' built (Method x (Does i params gives all arrow) ∷ rest) ss s near h1 h2 =
-          let r : Routine = Does i params gives all arrow in
-          let A = member_failure names k.entries k.classes c d' built (Method x r) in
-          let B = members_failure names k.entries k.classes c (d' + 1) (built || false) rest in
-          let C = body_failure tables names k (this.Object c) (kind_at k d) r in
-          let u1 = unless (not (is_second k.entries d' (o.Class c) x)) TwiceNamed i in
-          let u2 = unless (not (inherits_field k.entries k.classes c x)) TwiceNamed i in
-          let pf = parameters_failure names params 0 params in
-          let wf = written_failure names i gives in
-          let hr = last u2 (pf then wf) (last u1 (u2 then pf then wf) (first A B h1)) in
-          let src : Source = routine_source names (this.Object c) r in (
-            result_known c d i params gives all arrow (suffix_head sources d src (member_sources names c rest ++ ss) s) near (last pf wf hr) (first C (members_nodes tables names k c (suc d) rest) h2),
-            result_members c (suc d) (d' + 1) (built || false) rest ss (suffix_one sources d src (member_sources names c rest ++ ss) s) (omega (arith, near)) (last A B h1) (last C (members_nodes tables names k c (suc d) rest) h2),
-          )
-      result_members c d d' built (Constructor r ∷ rest) ss s near h1 h2 =
-          let A = member_failure names k.entries k.classes c d' built (Constructor r) in
-          let B = members_failure names k.entries k.classes c (d' + 0) (built || true) rest in
-          let C = pass.constructor_failure tables names k (this.Object c) (base_of k.classes c) r in
-          result_members c d (d' + 0) (built || true) rest ss s near (last A B h1) (last C (members_nodes tables names k c d rest) h2)
-
-      -- what is needed of a part
-      abbrev ResultHere : ℕ → ℕ → TopLevel → Type 0
-      ResultHere c d i = (rest : List Source) × Suffix sources d (item_sources names c i ++ rest) × (k.library ≤ d) × (item_failure names k.entries k.classes c d i ≡ None) × (item_nodes tables names k c d i ≡ None)
-
-      result_class : (c d at x : ℕ) (base : Option ℕ) (base_at : ℕ) (members : List ClassMember) → ResultHere c d (Class at x base base_at members) → EachIs ResultAs d (item_entries names c (Class at x base base_at members))
-      result_class c d at x base base_at members (ss, s, near, h1, h2) =
-          (tt, result_members c (suc d) (d + 1) false members ss (suffix_one sources d (Stated None) (member_sources names c members ++ ss) s) (omega (arith, near)) h1 h2)
-
-      result_along : (c d : ℕ) (text : Program) → Suffix sources d (sources_from names c text) → k.library ≤ d → headings_failure names k.entries k.classes c d text ≡ None → nodes_failure tables names k c d text ≡ None
-          → Along ResultAs (λ x d. tt) (λ fixed x d. tt) names ResultHere result_class c d text
-      result_along c d [] s near h1 h2 = tt
-      result_along c d (i ∷ rest) s near h1 h2 =
-          let es = item_entries names c i in
-          let later = sources_from names (c + classes_in i) rest in
-          let A = item_failure names k.entries k.classes c d i in
-          let B = headings_failure names k.entries k.classes (c + classes_in i) (d + length es) rest in
-          let C = item_nodes tables names k c d i in
-          let D = nodes_failure tables names k (c + classes_in i) (d + length es) rest in
-          let s' : Suffix sources (d + length es) later = suffix_at sources (d + length (item_sources names c i)) (d + length es) later (ap (λ (j : ℕ). d + j) (item_sourced names c i)) (suffix_step sources d (item_sources names c i) later s) in
-          ((later, s, near, first A B h1, first C D h2), result_along (c + classes_in i) (d + length es) rest s' (omega (arith, near)) (last A B h1) (last C D h2))
-
-      pub result_text : (c d : ℕ) (text : Program) → Suffix sources d (sources_from names c text) → k.library ≤ d → headings_failure names k.entries k.classes c d text ≡ None → nodes_failure tables names k c d text ≡ None → EachIs ResultAs d (entries_from names c text)
-      result_text c d text s near h1 h2 = text_each ResultAs (λ x d. tt) (λ fixed x d. tt) names ResultHere result_class c d text (result_along c d text s near h1 h2)
 
 -- what is taken is of types that values have
 module _ (names : Naming) where

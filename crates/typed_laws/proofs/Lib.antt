@@ -24,6 +24,8 @@ pub mod Classes
 pub mod Routines
 pub mod Constructors
 pub mod Facts
+pub mod DeclaredTypes
+pub mod TextBehind
 pub mod Parts
 pub mod Whole
 pub mod OwnFunctions

@@ -31,7 +31,8 @@ use Rattle.typed_laws.proofs.Makings.{Placed, placed_left}
 use Rattle.typed_laws.proofs.Items.{function_counts, method_counts, field_counts, constructor_counts, class_counts, main_counts}
 use Rattle.typed_laws.proofs.Placing.{placed_at, placed_more, members_placed}
 use Rattle.typed_laws.proofs.Rounds.{kinds_proper}
-use Rattle.typed_laws.proofs.Whole.{entries_joined, numbers_joined, routines_joined, no_classes, nodes_none, front_placed, back_placed, main_is, main_there}
+use Rattle.typed_laws.proofs.TextBehind.{entries_joined, no_classes, nodes_none}
+use Rattle.typed_laws.proofs.Whole.{numbers_joined, routines_joined, front_placed, back_placed, main_is, main_there}
 
 routines_of_both : (library text : Program) → declared_routines (library ++ text) ≡ declared_routines library ++ declared_routines text
 routines_of_both [] text = refl
@@ -273,7 +274,7 @@ module _ (tables : Tables) (library text : Program) (kinds : List (Option Static
       (library_agrees tables names k numbers P is_library 0 0 0 library ok.functions (λ j lt. lt-ltb j k.library (omega (arith, lt))) ok.no_failure
       (front_placed tables library text kinds derived ok formed no_failure proper_so))
       (subst (λ (j : ℕ). Agreed j (entries_from names c0 text) (declared_routines text) (numbers_from n0 text)) z
-      (text_agrees tables names k numbers P is_library c0 k.library 0 n0 text (λ j le. le-ltb j k.library le) (nodes_none tables library text kinds derived ok formed no_failure proper_so)
+      (text_agrees tables names k numbers P is_library c0 k.library 0 n0 text (λ j le. le-ltb j k.library le) (nodes_none tables library text kinds ok.functions no_failure)
       (back_placed tables library text kinds derived ok formed no_failure proper_so)))
 
   all_agree : Agreed 0 k.entries (declared_routines (library ++ text)) numbers.routines

@@ -1,6 +1,6 @@
 -- The typed program of a text without a failure is well typed.
-use Rattle.std.proofs.Common.{◌≡◌, ℕ, zero, suc, ◌+◌, ◌<◌, ◌≤◌, ◌==◌, refl, sym, ap, ◌∙◌, subst, Bool, true, false, Option, Some, None, List, [], ◌∷◌, ◌++◌, length, drop, arith, inr, append_assoc, length-append, eq-eqb, ltb-true}
-use Rattle.std.specs.Prelude.{slice_get, nat_lt}
+use Rattle.std.proofs.Common.{◌≡◌, ℕ, zero, suc, ◌+◌, ◌≤◌, ◌==◌, refl, sym, ap, ◌∙◌, subst, true, false, Option, Some, None, List, [], ◌∷◌, ◌++◌, length, arith, inr, append_assoc, length-append, eq-eqb}
+use Rattle.std.specs.Prelude.{slice_get}
 use Rattle.sts_base.specs.declared.tables.Tables.{Tables}
 use Rattle.sts_syntax.specs.TypedTrees.{TypedStatements, TypedRoutine, TypedProgram}
 use Rattle.sts_syntax.specs.TypeRules.{entry, HasRoutine}
@@ -16,61 +16,37 @@ use Rattle.sts_scope.specs.declared.entries.DeclarationKind.{DeclarationKind}
 use Rattle.sts_scope.specs.declared.entries.Entry.{Entry}
 use Rattle.sts_scope.specs.declared.known.Known.{Known}
 use Rattle.sts_scope.specs.declared.known.This.TheVariants as this
-use Rattle.sts_scope.specs.Failures.{Failure, ◌then◌}
-use Rattle.sts_scope.specs.Entries.{Naming, classes_in, class_names, item_entries, entries_from, heads_of}
-use Rattle.sts_scope.specs.Bases.{bases_failure, chains_failure}
-use Rattle.sts_scope.specs.Globals.{names_failure}
+use Rattle.sts_scope.specs.Entries.{Naming, classes_in, item_entries, entries_from, heads_of}
 use Rattle.sts_scope.specs.Headings.{headings_failure}
-use Rattle.sts_scope.specs.Scopes.{all_names, library_classes, heading_refusal}
+use Rattle.sts_scope.specs.Scopes.{all_names, library_classes}
 use Rattle.sts_scope.specs.Rules.{kind_at}
 use Rattle.type_derive.specs.Returns.{parameter_locals, within}
-use Rattle.type_derive.specs.Derived.{Source, item_sources, sources_from, follows, at}
+use Rattle.type_derive.specs.Derived.{Source, sources_from, follows}
 use Rattle.type_derive.specs.Nodes.{statements_failure}
-use Rattle.type_derive.specs.Passes.{all_overrides, item_nodes, nodes_failure}
+use Rattle.type_derive.specs.Passes.{item_nodes, nodes_failure}
 use Rattle.type_derive.specs.Formed.{IsFormedProgram}
 use Rattle.sts_scope.specs.Handlers.{statements_handlers, item_routines, all_routines}
 use Rattle.type_derive.specs.Making.{Made as Made'}
 use Rattle.sts_scope.specs.Numbers.{Numbering, numbering, numbers_from, makers_from, item_numbers}
 use Rattle.type_derive.specs.Programs.{function_made, class_made, main_made, items_made, library_made}
-use Rattle.type_derive.specs.Limits.{limits_failure}
-use Rattle.type_derive.specs.Accepted.{known, all_sources, AreDerived, main_routine, typed, type_refusal, refusal}
+use Rattle.type_derive.specs.Accepted.{known, all_sources, AreDerived, main_routine, typed, refusal}
 use Rattle.typed_laws.specs.Stands.{IsProper}
 use Rattle.type_derive.specs.Libraries.{OnlyFunctions, library_failure, IsLibrary}
 use Rattle.typed_laws.proofs.Typed.{last, first}
 use Rattle.typed_laws.proofs.Makings.{Placed, placed_left, placed_right, kept_all}
 use Rattle.typed_laws.proofs.Suffixes.{Suffix, suffix_all, suffix_step, suffix_at}
-use Rattle.typed_laws.proofs.Searching.{entry_get, get_left, get_within}
-use Rattle.typed_laws.proofs.OneNode.{test_false}
-use Rattle.typed_laws.proofs.Items.{item_numbered, item_sourced, function_counts, class_counts, main_counts}
-use Rattle.typed_laws.proofs.Members.{SaneAs, AreChained}
+use Rattle.typed_laws.proofs.Searching.{entry_get, get_left}
+use Rattle.typed_laws.proofs.Items.{item_numbered, function_counts, class_counts, main_counts}
 use Rattle.typed_laws.proofs.Placing.{Aligned, aligned_both, text_aligned, placed_at}
 use Rattle.typed_laws.proofs.Makers.{marks_from, item_marks, item_length, AllMarked, all_marked, AllMake, text_makes, makers_heads}
 use Rattle.typed_laws.proofs.Classes.{Made, classes_sound}
 use Rattle.typed_laws.proofs.Routines.{Each, each_at, each_both, not_maker, no_maker, body_sound}
-use Rattle.typed_laws.proofs.Facts.{EachIs, each_is_both, each_is_get, sane_text, AgreesAs, agree_text, ResultAs, result_text, takes_proper, makers_proper, bases_within, all_chains_end}
+use Rattle.typed_laws.proofs.Facts.{AgreesAs, takes_proper, makers_proper}
+use Rattle.typed_laws.proofs.DeclaredTypes.{TypedAs}
+use Rattle.typed_laws.proofs.TextBehind as of_text
 use Rattle.typed_laws.proofs.Parts.{TextAt, text_sound}
 
 -- a library of functions before a text
-pub entries_joined : (names : Naming) (c : ℕ) (library text : Program) → OnlyFunctions library → entries_from names c (library ++ text) ≡ entries_from names c library ++ entries_from names c text
-entries_joined names c [] text h = refl
-entries_joined names c (Function x r ∷ rest) text h =
-    let i : TopLevel = Function x r in
-    let z : c + 0 ≡ c = omega arith in
-    ap (λ (es : List Entry). item_entries names c i ++ es) (entries_joined names (c + 0) rest text h)
-    ∙ sym (append_assoc (item_entries names c i) (entries_from names (c + 0) rest) (entries_from names (c + 0) text)) ∙ ap (λ (j : ℕ). (item_entries names c i ++ entries_from names (c + 0) rest) ++ entries_from names j text) z
-entries_joined names c (Class at x base base_at members ∷ rest) text h = absurd h
-entries_joined names c (Main a ∷ rest) text h = absurd h
-
-sources_joined : (names : Naming) (c : ℕ) (library text : Program) → OnlyFunctions library → sources_from names c (library ++ text) ≡ sources_from names c library ++ sources_from names c text
-sources_joined names c [] text h = refl
-sources_joined names c (Function x r ∷ rest) text h =
-    let i : TopLevel = Function x r in
-    let z : c + 0 ≡ c = omega arith in
-    ap (λ (es : List Source). item_sources names c i ++ es) (sources_joined names (c + 0) rest text h)
-    ∙ sym (append_assoc (item_sources names c i) (sources_from names (c + 0) rest) (sources_from names (c + 0) text)) ∙ ap (λ (j : ℕ). (item_sources names c i ++ sources_from names (c + 0) rest) ++ sources_from names j text) z
-sources_joined names c (Class at x base base_at members ∷ rest) text h = absurd h
-sources_joined names c (Main a ∷ rest) text h = absurd h
-
 marks_joined : (c : ℕ) (library text : Program) → OnlyFunctions library → marks_from c (library ++ text) ≡ marks_from c library ++ marks_from c text
 marks_joined c [] text h = refl
 marks_joined c (Function x r ∷ rest) text h =
@@ -80,18 +56,6 @@ marks_joined c (Function x r ∷ rest) text h =
     ∙ sym (append_assoc (item_marks c i) (marks_from (c + 0) rest) (marks_from (c + 0) text)) ∙ ap (λ (j : ℕ). (item_marks c i ++ marks_from (c + 0) rest) ++ marks_from j text) z
 marks_joined c (Class at x base base_at members ∷ rest) text h = absurd h
 marks_joined c (Main a ∷ rest) text h = absurd h
-
-heads_joined : (names : Naming) (library text : Program) → OnlyFunctions library → heads_of names (library ++ text) ≡ heads_of names text
-heads_joined names [] text h = refl
-heads_joined names (Function x r ∷ rest) text h = heads_joined names rest text h
-heads_joined names (Class at x base base_at members ∷ rest) text h = absurd h
-heads_joined names (Main a ∷ rest) text h = absurd h
-
-pub no_classes : (library : Program) → OnlyFunctions library → class_names library ≡ []
-no_classes [] h = refl
-no_classes (Function x r ∷ rest) h = no_classes rest h
-no_classes (Class at x base base_at members ∷ rest) h = absurd h
-no_classes (Main a ∷ rest) h = absurd h
 
 pub numbers_joined : (n : ℕ) (library text : Program) → numbers_from n (library ++ text) ≡ numbers_from n library ++ numbers_from (n + all_routines library) text
 numbers_joined n [] text = let z : n ≡ n + 0 = omega arith in ap (λ (j : ℕ). numbers_from j text) z
@@ -119,12 +83,6 @@ numbers_length names c n [] = refl
 numbers_length names c n (i ∷ rest) =
     length-append (item_numbers n i) (numbers_from (n + item_routines i) rest) ∙ ap (λ (j : ℕ). j + length (numbers_from (n + item_routines i) rest)) (item_numbered names c n i)
     ∙ ap (λ (j : ℕ). length (item_entries names c i) + j) (numbers_length names (c + classes_in i) (n + item_routines i) rest) ∙ sym (length-append (item_entries names c i) (entries_from names (c + classes_in i) rest))
-
-sources_length : (names : Naming) (c : ℕ) (text : Program) → length (sources_from names c text) ≡ length (entries_from names c text)
-sources_length names c [] = refl
-sources_length names c (i ∷ rest) =
-    length-append (item_sources names c i) (sources_from names (c + classes_in i) rest) ∙ ap (λ (j : ℕ). j + length (sources_from names (c + classes_in i) rest)) (item_sourced names c i)
-    ∙ ap (λ (j : ℕ). length (item_entries names c i) + j) (sources_length names (c + classes_in i) rest) ∙ sym (length-append (item_entries names c i) (entries_from names (c + classes_in i) rest))
 
 pub routines_joined : (library text : Program) → all_routines (library ++ text) ≡ all_routines library + all_routines text
 routines_joined [] text = let z : all_routines text ≡ 0 + all_routines text = omega arith in z
@@ -237,40 +195,8 @@ module _ (tables : Tables) (names : Naming) (k : Known) (numbers : Numbering) wh
     library_sound made marks marked c d n (Class at x base base_at members ∷ rest) tail f formed h placed s room = absurd f
     library_sound made marks marked c d n (Main a ∷ rest) tail f formed h placed s room = absurd f
 
-  library_each : (Q : DeclarationKind → Owner → ℕ → ℕ → Type 0) → ((x d : ℕ) → Q sort.Function o.Whole x d) → (c d : ℕ) (library : Program) → OnlyFunctions library → EachIs Q d (entries_from names c library)
-  library_each Q q c d [] f = tt
-  library_each Q q c d (Function x (Does j params gives all arrow) ∷ rest) f = (q x d, library_each Q q (c + 0) (suc d) rest f)
-  library_each Q q c d (Class at x base base_at members ∷ rest) f = absurd f
-  library_each Q q c d (Main a ∷ rest) f = absurd f
-
 -- what the least table of types says of one declaration
 module _ (tables : Tables) (library text : Program) (kinds : List (Option StaticType)) (derived : AreDerived tables library text kinds) where
-  kind_is_at : (ks : List (Option StaticType)) (d : ℕ) → at ks d ≡ elim (slice_get ks d) [ None ↦ None | Some kind ↦ kind ]
-  kind_is_at [] d = refl
-  kind_is_at (x ∷ ks) zero = refl
-  kind_is_at (x ∷ ks) (suc d) = kind_is_at ks d
-
-  source_within : (d : ℕ) (source : Source) → slice_get (all_sources library text) d ≡ Some source → d < length kinds
-  source_within d source h =
-      let near : d < length (all_sources library text) = get_within (all_sources library text) d source h in
-      omega (arith, near, sources_length (all_names library text) 0 (library ++ text), derived.each)
-
-  solved_at : (d : ℕ) (source : Source) → slice_get (all_sources library text) d ≡ Some source
-      → kind_at (known library text kinds) d ≡ follows (all_names library text) tables (known library text kinds) (nat_lt d (known library text kinds).library) source
-  solved_at d source h =
-      let k : Known = known library text kinds in
-      let F : Option Source → Option StaticType = λ x. elim x [ None ↦ None | Some s ↦ follows (all_names library text) tables k (nat_lt d k.library) s ] in
-      sym (kind_is_at kinds d) ∙ derived.least.solves d (source_within d source h) ∙ ap F h
-
-  not_library : (i j : ℕ) → j ≤ i → nat_lt i j ≡ false
-  not_library i j h = test_false (nat_lt i j) (λ q. let z : i < j = ltb-true i j q in absurd (omega arith))
-
-  solved : (d : ℕ) (source : Source) → slice_get (all_sources library text) d ≡ Some source → (known library text kinds).library ≤ d
-      → kind_at (known library text kinds) d ≡ follows (all_names library text) tables (known library text kinds) false source
-  solved d source h near =
-      let k : Known = known library text kinds in
-      solved_at d source h ∙ ap (λ (b : Bool). follows (all_names library text) tables k b source) (not_library d k.library near)
-
   module _ (ok : IsLibrary tables library text kinds) (formed : IsFormedProgram text) (no_failure : refusal tables library text kinds ≡ None)
       (proper : (d : ℕ) (u : StaticType) → kind_at (known library text kinds) d ≡ Some u → IsProper u) where
     abbrev names : Naming
@@ -300,62 +226,27 @@ module _ (tables : Tables) (library text : Program) (kinds : List (Option Static
     abbrev own_main : TypedRoutine
     own_main = main_routine back
 
+    -- the text behind the library
     c0_is : c0 ≡ 0
-    c0_is = ap (λ (xs : List ℕ). length xs) (no_classes library ok.functions)
+    c0_is = of_text.c0_is tables library text kinds ok.functions no_failure
 
-    -- the passes
-    abbrev pass_names : Option Failure
-    pass_names = names_failure tables.names k.entries k.library (drop k.library k.entries)
+    heads_none : headings_failure names k.entries k.classes c0 k.library text ≡ None
+    heads_none = of_text.heads_none tables library text kinds ok.functions no_failure
 
-    abbrev pass_bases : Option Failure
-    pass_bases = bases_failure (drop c0 k.classes)
+    nodes_none : nodes_failure tables names k c0 k.library text ≡ None
+    nodes_none = of_text.nodes_none tables library text kinds ok.functions no_failure
 
-    abbrev pass_chains : Option Failure
-    pass_chains = chains_failure k.classes c0 (drop c0 k.classes)
-
-    abbrev pass_headings : Option Failure
-    pass_headings = headings_failure names k.entries k.classes c0 k.library text
-
-    abbrev pass_overrides : Option Failure
-    pass_overrides = all_overrides k names c0 k.library text
-
-    abbrev pass_nodes : Option Failure
-    pass_nodes = nodes_failure tables names k c0 k.library text
-
-    abbrev pass_limits : Option Failure
-    pass_limits = limits_failure tables.texts P
-
-    headings_none : heading_refusal tables.names library text ≡ None
-    headings_none = first (heading_refusal tables.names library text) (type_refusal tables library text kinds) no_failure
-
-    types_none : type_refusal tables library text kinds ≡ None
-    types_none = last (heading_refusal tables.names library text) (type_refusal tables library text kinds) no_failure
-
-    chains_none : pass_chains ≡ None
-    chains_none = first pass_chains pass_headings (last pass_bases (pass_chains then pass_headings) (last pass_names (pass_bases then pass_chains then pass_headings) headings_none))
-
-    heads_none : pass_headings ≡ None
-    heads_none = last pass_chains pass_headings (last pass_bases (pass_chains then pass_headings) (last pass_names (pass_bases then pass_chains then pass_headings) headings_none))
-
-    overrides_none : pass_overrides ≡ None
-    overrides_none = first pass_overrides (pass_nodes then pass_limits) types_none
-
-    pub nodes_none : pass_nodes ≡ None
-    nodes_none = first pass_nodes pass_limits (last pass_overrides (pass_nodes then pass_limits) types_none)
-
-    pub limits_none : pass_limits ≡ None
-    limits_none = last pass_nodes pass_limits (last pass_overrides (pass_nodes then pass_limits) types_none)
-
-    -- the declarations of the text stand behind those of the library
     abbrev text_entries : Suffix k.entries k.library (entries_from names c0 text)
-    text_entries =
-        let same : entries_from names 0 text ≡ entries_from names c0 text = ap (λ (j : ℕ). entries_from names j text) (sym c0_is) in
-        (entries_from names 0 library, refl, entries_joined names 0 library text ok.functions ∙ ap (λ (es : List Entry). entries_from names 0 library ++ es) same)
+    text_entries = of_text.text_entries tables library text kinds ok.functions no_failure
 
     abbrev text_sources : Suffix (all_sources library text) k.library (sources_from names c0 text)
-    text_sources =
-        let same : sources_from names 0 text ≡ sources_from names c0 text = ap (λ (j : ℕ). sources_from names j text) (sym c0_is) in
-        (sources_from names 0 library, sources_length names 0 library, sources_joined names 0 library text ok.functions ∙ ap (λ (es : List Source). sources_from names 0 library ++ es) same)
+    text_sources = of_text.text_sources tables library text kinds ok.functions no_failure
+
+    abbrev text_heads : Suffix k.classes c0 (heads_of names text)
+    text_heads = of_text.text_heads tables library text kinds ok.functions no_failure
+
+    solved : (d : ℕ) (source : Source) → slice_get (all_sources library text) d ≡ Some source → k.library ≤ d → kind_at k d ≡ follows names tables k false source
+    solved = of_text.solved tables library text kinds derived
 
     abbrev text_numbers : Suffix numbers.routines k.library (numbers_from n0 text)
     text_numbers =
@@ -367,9 +258,6 @@ module _ (tables : Tables) (library text : Program) (kinds : List (Option Static
 
     abbrev text_makers : Suffix numbers.makers c0 (makers_from n0 text)
     text_makers = ([], sym c0_is, makers_are)
-
-    abbrev text_heads : Suffix k.classes c0 (heads_of names text)
-    text_heads = ([], sym c0_is, heads_joined names library text ok.functions)
 
     abbrev marks : List (Option ℕ)
     marks = marks_from 0 (library ++ text)
@@ -412,28 +300,6 @@ module _ (tables : Tables) (library text : Program) (kinds : List (Option Static
         let placed_main = placed_right P 0 (front ++ back.routines) (own_main ∷ []) all_placed in
         subst (λ (j : ℕ). HasRoutine P j own_main) z placed_main.0
 
-    sane_all : EachIs (SaneAs k) 0 k.entries
-    sane_all =
-        let (before', at', is') = text_entries in
-        subst (λ (es : List Entry). EachIs (SaneAs k) 0 es) (sym is')
-        (each_is_both (SaneAs k) 0 (entries_from names 0 library) (entries_from names c0 text) (library_each tables names k numbers (SaneAs k) (λ x d. tt) 0 0 library ok.functions)
-        (subst (λ (j : ℕ). EachIs (SaneAs k) j (entries_from names c0 text)) (let z : k.library ≡ 0 + length (entries_from names 0 library) = omega arith in z) (sane_text names k c0 k.library text text_heads heads_none)))
-
-    agree_all : EachIs (AgreesAs names k) 0 k.entries
-    agree_all =
-        let (before', at', is') = text_entries in
-        subst (λ (es : List Entry). EachIs (AgreesAs names k) 0 es) (sym is')
-        (each_is_both (AgreesAs names k) 0 (entries_from names 0 library) (entries_from names c0 text) (library_each tables names k numbers (AgreesAs names k) (λ x d. tt) 0 0 library ok.functions)
-        (subst (λ (j : ℕ). EachIs (AgreesAs names k) j (entries_from names c0 text)) (let z : k.library ≡ 0 + length (entries_from names 0 library) = omega arith in z) (agree_text names k c0 k.library text overrides_none)))
-
-    result_all : EachIs (ResultAs names k tables) 0 k.entries
-    result_all =
-        let (before', at', is') = text_entries in
-        subst (λ (es : List Entry). EachIs (ResultAs names k tables) 0 es) (sym is')
-        (each_is_both (ResultAs names k tables) 0 (entries_from names 0 library) (entries_from names c0 text) (library_each tables names k numbers (ResultAs names k tables) (λ x d. tt) 0 0 library ok.functions)
-        (subst (λ (j : ℕ). EachIs (ResultAs names k tables) j (entries_from names c0 text)) (let z : k.library ≡ 0 + length (entries_from names 0 library) = omega arith in z)
-        (result_text names k tables (all_sources library text) solved c0 k.library text text_sources (omega arith) heads_none nodes_none)))
-
     aligned_all : Aligned tables names k numbers P 0 k.entries numbers.routines
     aligned_all =
         let (before', at', is') = text_entries in
@@ -448,30 +314,23 @@ module _ (tables : Tables) (library text : Program) (kinds : List (Option Static
     makes_all = subst (λ (js : List ℕ). AllMake tables names k numbers P 0 js) (sym makers_are)
         (subst (λ (j : ℕ). AllMake tables names k numbers P j (makers_from n0 text)) c0_is (text_makes tables names k numbers P c0 k.library 0 n0 text text_heads nodes_none back_placed))
 
-    chained_all : AreChained k
-    chained_all = record {
-      ends = λ c near. all_chains_end k.classes c (subst (λ (j : ℕ). chains_failure k.classes j (drop j k.classes) ≡ None) c0_is chains_none) near;
-      bases = λ c b h. bases_within names (library ++ text) (λ x b' q. q) c b h;
-    }
-
-    at_zero : (Q : DeclarationKind → Owner → ℕ → ℕ → Type 0) (d : ℕ) (a : Entry) → EachIs Q 0 k.entries → slice_get k.entries d ≡ Some a → Q a.sort a.owner a.name d
-    at_zero Q d a h q = subst (λ (j : ℕ). Q a.sort a.owner a.name j) (let z : 0 + d ≡ d = omega arith in z) (each_is_get Q 0 k.entries d a h q)
-
     pub made_all : Made tables names k numbers P
     made_all = record {
-      sane = λ d a h. at_zero (SaneAs k) d a sane_all h;
-      chained = chained_all;
+      sane = of_text.sane tables library text kinds ok.functions no_failure;
+      chained = of_text.chained tables library text kinds ok.functions no_failure;
       classes_are = refl;
       globals_are = refl;
       aligned = aligned_all;
       makes = makes_all;
       makers_many = makers_heads names 0 (library ++ text);
       agreeing = λ d c x a h s w q.
-          let here = at_zero (AgreesAs names k) d a agree_all h in
+          let here = of_text.agreeing tables library text kinds ok.functions no_failure d a h in
           let h1 = subst (λ (y : ℕ). AgreesAs names k a.sort a.owner y d) q here in
           let h2 = subst (λ (y : Owner). AgreesAs names k a.sort y x d) w h1 in
           subst (λ (y : DeclarationKind). AgreesAs names k y (o.Class c) x d) s h2;
-      results = λ d a h s. subst (λ (y : DeclarationKind). ResultAs names k tables y a.owner a.name d) s (at_zero (ResultAs names k tables) d a result_all h);
+      results = λ d a h s.
+          let other : a.sort ≡ sort.Function → ⊥ = λ f. let z : sort.Function ≡ sort.Method = sym f ∙ s in cc in
+          subst (λ (y : DeclarationKind). TypedAs names k tables y a.owner a.name d) s (of_text.typed_other tables library text kinds ok.functions no_failure derived d a h other);
       rows = λ call f q. let (r, has, params, gives) = ok.rows call f q in (r, entry_left (front ++ back.routines) (own_main ∷ []) f r (entry_left front back.routines f r has), params, gives);
       kinds_proper = proper;
       takes_proper = λ d. takes_proper names 0 d (library ++ text);
