@@ -1,5 +1,6 @@
 -- The four parts together, and that the tokens of the library's text are those that were computed.
-use Rattle.std.proofs.Common.{◌≡◌, ◌≤◌, ℕ, take, List, ◌++◌, Option, refl, sym, ◌∙◌, subst}
+use Rattle.std.proofs.Common.{◌≡◌, ◌≤◌, ◌<◌, ℕ, take, List, ◌++◌, Option, refl, sym, ◌∙◌, subst}
+use Rattle.std.specs.Prelude.{IsSome}
 use Rattle.sts_base.specs.Distinct.{IsDistinct}
 use Rattle.sts_base.specs.declared.tables.Tables.{Tables}
 use Rattle.sts_lexer.specs.Tokens.{IsTokenization}
@@ -8,7 +9,8 @@ use Rattle.sts_syntax.specs.BoardTable.{library_size}
 use Rattle.sts_syntax.specs.Programs.{Program}
 use Rattle.sts_syntax.specs.Weights.{routines_weight}
 use Rattle.sts_scope.specs.declared.kinds.StaticType.{StaticType}
-use Rattle.type_derive.specs.Accepted.{AreDerived, typed}
+use Rattle.sts_scope.specs.Rules.{kind_at}
+use Rattle.type_derive.specs.Accepted.{known, AreDerived, typed}
 use Rattle.type_derive.specs.Libraries.{IsLibrary}
 use Rattle.sts_grammar.specs.Laws.{OneProgram}
 use Rattle.sts_grammar.specs.Texts.{no_entries}
@@ -17,7 +19,7 @@ use Rattle.sts_prelude.specs.Spelled as spelled
 use Rattle.sts_prelude.specs.declared.text.TheConstants.{LIBRARY}
 use Rattle.sts_prelude.proofs.Laws.{own, own_tokens, own_tokenized, moved, tokens_by, own_tokens_are}
 use Rattle.typed_laws.specs.LibraryLaws.{first}
-use Rattle.typed_laws.proofs.Prelude.{L, formed, no_failure}
+use Rattle.typed_laws.proofs.Prelude.{L, formed, each_typed, no_failure}
 use Rattle.typed_laws.proofs.LibraryRows.{rows}
 use Rattle.typed_laws.proofs.Weights.{light}
 use Rattle.typed_laws.proofs.First.{library_first}
@@ -41,6 +43,15 @@ prelude_so tokens names texts text kinds n x read derived =
 pub leaves_first : (one : OneProgram) (new : Tables) (program : Program) → IsDistinct new.names → IsDistinct new.texts → spelled.IsLibraryTree no_entries new program
     → (new ≡ first) × (tokens : List Token) × IsTokenization first LIBRARY.now tokens × (program ≡ l.library tokens)
 leaves_first one new program names texts h = let is = library_first one new program names texts h in (is.0, own_tokens, own_tokenized, is.1)
+
+pub functions_typed : (tokens : List Token) (names texts : List (List ℕ)) (text : Program) (kinds : List (Option StaticType)) → IsDistinct first.names → IsDistinct first.texts
+    → IsTokenization first LIBRARY.now tokens → AreDerived (record { names = first.names ++ names; texts = first.texts ++ texts }) (l.library tokens) text kinds
+    → (d : ℕ) → d < (known (l.library tokens) text kinds).library → IsSome (kind_at (known (l.library tokens) text kinds) d)
+functions_typed tokens names texts text kinds n x read derived =
+    let is : tokens ≡ own_tokens = own_tokens_are own tokens n x read ∙ unmoved in
+    subst (λ (ts : List Token). (d : ℕ) → d < (known (l.library ts) text kinds).library → IsSome (kind_at (known (l.library ts) text kinds) d)) (sym is)
+    (λ d near. each_typed names texts text kinds
+    (subst (λ (ts : List Token). AreDerived (record { names = first.names ++ names; texts = first.texts ++ texts }) (l.library ts) text kinds) is derived) d near)
 
 pub typed_light : (tokens : List Token) (names texts : List (List ℕ)) (text : Program) (kinds : List (Option StaticType)) → IsDistinct first.names → IsDistinct first.texts
     → IsTokenization first LIBRARY.now tokens → AreDerived (record { names = first.names ++ names; texts = first.texts ++ texts }) (l.library tokens) text kinds

@@ -1,6 +1,6 @@
 -- The library of the prelude is as the law of accepted texts asks.
 use Rattle.std.proofs.Common.{◌≡◌, ◌≤◌, ◌<◌, ◌+◌, ℕ, zero, suc, Bool, true, false, List, [], ◌∷◌, ◌++◌, length, cond, Option, Some, None, refl, sym, ap, ◌∙◌, subst, arith}
-use Rattle.std.specs.Prelude.{slice_get, nat_lt, if◌then◌else◌}
+use Rattle.std.specs.Prelude.{slice_get, nat_lt, if◌then◌else◌, IsSome}
 use Rattle.std.specs.List.{position_from}
 use Rattle.std.proofs.lemmas.Bool.{le-leb}
 use Rattle.sts_base.specs.declared.tables.Tables.{Tables}
@@ -12,7 +12,7 @@ use Rattle.sts_scope.specs.declared.known.Found.TheVariants as found
 use Rattle.sts_scope.specs.declared.known.This.TheVariants as this
 use Rattle.sts_scope.specs.Entries.{Naming, entries_from}
 use Rattle.sts_scope.specs.Failures.{Failure, ◌then◌}
-use Rattle.sts_scope.specs.Kinds.{number}
+use Rattle.sts_scope.specs.Kinds.{number, nothing}
 use Rattle.sts_scope.specs.Lookup.{declares, sort_of}
 use Rattle.sts_scope.specs.Places.{local, global_named, whole_found, sort_found}
 use Rattle.sts_scope.specs.Rules.{kind_at}
@@ -25,6 +25,7 @@ use Rattle.type_derive.specs.Accepted.{known, AreDerived, all_sources}
 use Rattle.type_derive.specs.Libraries.{library_failure}
 use Rattle.sts_prelude.specs.inner.Library as l
 use Rattle.sts_prelude.proofs.Laws.{own, own_tokens}
+use Rattle.typed_laws.proofs.Typed.{some}
 use Rattle.typed_laws.proofs.NoFailure.{leds, numbers, strings, lines, absolutes, least, greatest}
 
 abbrev pub L : Program
@@ -152,6 +153,20 @@ module _ (more rest : List (List ℕ)) (text : Program) (kinds : List (Option St
 
     number_6 : kind_at k 6 ≡ Some number
     number_6 = stated 6 (Some number) (omega arith) refl
+
+    -- each function has a type
+    there : (d : ℕ) (u : StaticType) → kind_at k d ≡ Some u → IsSome (kind_at k d)
+    there d u h = some (kind_at k d) (record { it = u; is = h })
+
+    pub each_typed : (d : ℕ) → d < 7 → IsSome (kind_at k d)
+    each_typed zero near = there 0 nothing (stated 0 (Some nothing) (omega arith) refl)
+    each_typed (suc zero) near = there 1 nothing (stated 1 (Some nothing) (omega arith) refl)
+    each_typed (suc (suc zero)) near = there 2 nothing (stated 2 (Some nothing) (omega arith) refl)
+    each_typed (suc (suc (suc zero))) near = there 3 nothing (stated 3 (Some nothing) (omega arith) refl)
+    each_typed (suc (suc (suc (suc zero)))) near = there 4 number number_4
+    each_typed (suc (suc (suc (suc (suc zero))))) near = there 5 number number_5
+    each_typed (suc (suc (suc (suc (suc (suc zero)))))) near = there 6 number number_6
+    each_typed (suc (suc (suc (suc (suc (suc (suc d))))))) near = absurd (omega (arith, near))
 
     all_none : (a b c d e f g : Option Failure) → a ≡ None → b ≡ None → c ≡ None → d ≡ None → e ≡ None → f ≡ None → g ≡ None
         → a then b then c then d then e then f then g then None ≡ None

@@ -1,5 +1,5 @@
 -- The library of the prelude is as the law of accepted texts asks.
-use Rattle.std.specs.Prelude.{◌≡◌, ◌≤◌, ℕ, Option, List, [], ◌∷◌, ◌++◌, take, codes}
+use Rattle.std.specs.Prelude.{◌≡◌, ◌≤◌, ◌<◌, ℕ, Option, List, [], ◌∷◌, ◌++◌, take, codes, IsSome}
 use Rattle.sts_base.specs.declared.tables.Tables.{Tables}
 use Rattle.sts_base.specs.Distinct.{IsDistinct}
 use Rattle.sts_lexer.specs.Tokens.{IsTokenization}
@@ -8,7 +8,8 @@ use Rattle.sts_syntax.specs.BoardTable.{library_size}
 use Rattle.sts_syntax.specs.Programs.{Program}
 use Rattle.sts_syntax.specs.Weights.{routines_weight}
 use Rattle.sts_scope.specs.declared.kinds.StaticType.{StaticType}
-use Rattle.type_derive.specs.Accepted.{AreDerived, typed}
+use Rattle.sts_scope.specs.Rules.{kind_at}
+use Rattle.type_derive.specs.Accepted.{known, AreDerived, typed}
 use Rattle.type_derive.specs.Libraries.{IsLibrary}
 use Rattle.sts_grammar.specs.Texts.{no_entries}
 use Rattle.sts_prelude.specs.inner.Library.{library}
@@ -35,6 +36,12 @@ PreludeIsLibrary = (tokens : List Token) (names texts : List (List ℕ)) (text :
 abbrev pub LibraryLeavesFirst : Type 0
 LibraryLeavesFirst = (new : Tables) (program : Program) → IsDistinct new.names → IsDistinct new.texts → spelled.IsLibraryTree no_entries new program
     → (new ≡ first) × (tokens : List Token) × IsTokenization first LIBRARY.now tokens × (program ≡ library tokens)
+
+-- The library's functions have types.
+abbrev pub LibraryFunctionsHaveTypes : Type 0
+LibraryFunctionsHaveTypes = (tokens : List Token) (names texts : List (List ℕ)) (text : Program) (kinds : List (Option StaticType)) → IsDistinct first.names → IsDistinct first.texts
+    → IsTokenization first LIBRARY.now tokens → AreDerived (record { names = first.names ++ names; texts = first.texts ++ texts }) (library tokens) text kinds
+    → (d : ℕ) → d < (known (library tokens) text kinds).library → IsSome (kind_at (known (library tokens) text kinds) d)
 
 -- The library's typed functions, which stand first in each program, weigh at most 600.
 abbrev pub TypedLibraryIsLight : Type 0

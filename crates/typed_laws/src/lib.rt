@@ -16,7 +16,8 @@ pub use bases::{
 pub use causes::expressions_fail_for_a_part_or_their_cause;
 pub use formed::{spelled_programs_are_formed, typed_programs_name_texts_of_their_trees};
 pub use library::{
-    library_is_read, library_leaves_first, prelude_is_library, typed_library_is_light,
+    library_functions_have_types, library_is_read, library_leaves_first, prelude_is_library,
+    typed_library_is_light,
 };
 pub use needs::{
     each_local_in_scope_has_a_spot, members_stand_among_the_names_of_their_class,

@@ -1,5 +1,5 @@
 //! Laws of the library.
-ghost use Rattle.typed_laws.specs.LibraryLaws.{LibraryIsRead, LibraryLeavesFirst, PreludeIsLibrary, TypedLibraryIsLight};
+ghost use Rattle.typed_laws.specs.LibraryLaws.{LibraryFunctionsHaveTypes, LibraryIsRead, LibraryLeavesFirst, PreludeIsLibrary, TypedLibraryIsLight};
 
 use sts_grammar::one_program;
 
@@ -24,4 +24,9 @@ pub fn library_is_read()
 /// The library's typed functions weigh at most 600, whatever text stands behind it.
 pub fn typed_library_is_light()
     ensures { TypedLibraryIsLight }
+{}
+
+/// The library's functions have types, whatever text stands behind it.
+pub fn library_functions_have_types()
+    ensures { LibraryFunctionsHaveTypes }
 {}
