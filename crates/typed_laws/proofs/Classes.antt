@@ -34,10 +34,35 @@ use Rattle.type_derive.specs.Libraries.{taken}
 use Rattle.typed_laws.proofs.OneNode.{both_true, same_types}
 use Rattle.typed_laws.proofs.Names.{some_is}
 use Rattle.typed_laws.proofs.Searching.{some_or_none, entry_get, get_within, get_left, get_map, map_get, at_place, get_listed}
-use Rattle.typed_laws.proofs.Members.{SaneAs, AreSane, AreChained, number_own, class_within, number_step, own_member, names_step, member_listed, listed_member, fields_keep, methods_keep, member_sort, own_field_alone, own_method_hides, method_is, field_is, reached}
+use Rattle.typed_laws.proofs.Members.{AreSane, AreChained, number_own, class_within, number_step, own_member, class_there, names_step, member_listed, listed_member, fields_keep, methods_keep, member_sort, own_field_alone, own_method_hides, method_is, field_is, reached}
 use Rattle.typed_laws.proofs.Chains.{comes_back}
 use Rattle.typed_laws.proofs.Placing.{HasBody, result_at, Aligned, aligned_get, Fits, FitsAs}
 use Rattle.typed_laws.proofs.Makers.{AllMake, make_get}
+
+module _ (tables : Tables) (k : Known) where
+  -- a declaration of a sort
+  pub sort_entry : (d : ℕ) (s : DeclarationKind) → sort_of k.entries d ≡ Some s → (a : Entry) × (slice_get k.entries d ≡ Some a) × (a.sort ≡ s)
+  sort_entry d s h =
+      let F : Option Entry → Option DeclarationKind = λ x. elim x [ None ↦ None | Some e ↦ Some e.sort ] in
+      some_or_none ((a : Entry) × (slice_get k.entries d ≡ Some a) × (a.sort ≡ s)) (slice_get k.entries d)
+      (λ a q. (a, q, some_is a.sort s (sym (ap F q) ∙ h))) (λ q. let z : None ≡ Some s = sym (ap F q) ∙ h in cc)
+
+  pub method_of_is : (m : Option ℕ) (d : ℕ) → method_of tables k m ≡ Some d → (m ≡ Some d) × (sort_of k.entries d ≡ Some sort.Method)
+  method_of_is None d h = cc
+  method_of_is (Some d') d h =
+      let F : Option DeclarationKind → Option ℕ = λ x. elim x [ None ↦ None | Some s ↦ elim s [ sort.Method ↦ Some d' | _ ↦ None ] ] in
+      let go : (x : Option DeclarationKind) → sort_of k.entries d' ≡ x → F x ≡ Some d → (Some d' ≡ Some d) × (sort_of k.entries d ≡ Some sort.Method) =
+      λ x. elim x as (λ y. sort_of k.entries d' ≡ y → F y ≡ Some d → (Some d' ≡ Some d) × (sort_of k.entries d ≡ Some sort.Method)) [
+        | None ↦ (λ q r. cc)
+        | Some s ↦ elim s as (λ y. sort_of k.entries d' ≡ Some y → F (Some y) ≡ Some d → (Some d' ≡ Some d) × (sort_of k.entries d ≡ Some sort.Method)) [
+          | sort.Method ↦ (λ q r. (r, ap (λ (i : ℕ). sort_of k.entries i) (sym (some_is d' d r)) ∙ q))
+          | sort.Field ↦ (λ q r. cc)
+          | sort.Function ↦ (λ q r. cc)
+          | sort.Global fixed ↦ (λ q r. cc)
+          | sort.Class i ↦ (λ q r. cc)
+        ]
+      ] in
+      go (sort_of k.entries d') refl h
 
 module _ (tables : Tables) (names : Naming) (k : Known) (numbers : Numbering) (P : TypedProgram) where
   -- what is known of the declarations, and how the program was made of them
@@ -108,12 +133,6 @@ module _ (tables : Tables) (names : Naming) (k : Known) (numbers : Numbering) (P
         ] in
         go L h
 
-    sort_entry : (d : ℕ) (s : DeclarationKind) → sort_of k.entries d ≡ Some s → (a : Entry) × (slice_get k.entries d ≡ Some a) × (a.sort ≡ s)
-    sort_entry d s h =
-        let F : Option Entry → Option DeclarationKind = λ x. elim x [ None ↦ None | Some e ↦ Some e.sort ] in
-        some_or_none ((a : Entry) × (slice_get k.entries d ≡ Some a) × (a.sort ≡ s)) (slice_get k.entries d)
-        (λ a q. (a, q, some_is a.sort s (sym (ap F q) ∙ h))) (λ q. let z : None ≡ Some s = sym (ap F q) ∙ h in cc)
-
     takes_are : (d : ℕ) (a : Entry) → slice_get k.entries d ≡ Some a → takes_at k.entries d ≡ a.takes
     takes_are d a h = let F : Option Entry → List StaticType = λ x. elim x [ None ↦ [] | Some e ↦ e.takes ] in ap F h
 
@@ -180,23 +199,6 @@ module _ (tables : Tables) (names : Naming) (k : Known) (numbers : Numbering) (P
     method_number None d h = cc
     method_number (Some d') d h = let (p, q) = part_method d' d (sort_of k.entries d') h in (ap (λ (i : ℕ). Some i) p, ap (λ (i : ℕ). sort_of k.entries i) (sym p) ∙ q)
 
-    method_of_is : (m : Option ℕ) (d : ℕ) → method_of tables k m ≡ Some d → (m ≡ Some d) × (sort_of k.entries d ≡ Some sort.Method)
-    method_of_is None d h = cc
-    method_of_is (Some d') d h =
-        let F : Option DeclarationKind → Option ℕ = λ x. elim x [ None ↦ None | Some s ↦ elim s [ sort.Method ↦ Some d' | _ ↦ None ] ] in
-        let go : (x : Option DeclarationKind) → sort_of k.entries d' ≡ x → F x ≡ Some d → (Some d' ≡ Some d) × (sort_of k.entries d ≡ Some sort.Method) =
-        λ x. elim x as (λ y. sort_of k.entries d' ≡ y → F y ≡ Some d → (Some d' ≡ Some d) × (sort_of k.entries d ≡ Some sort.Method)) [
-          | None ↦ (λ q r. cc)
-          | Some s ↦ elim s as (λ y. sort_of k.entries d' ≡ Some y → F (Some y) ≡ Some d → (Some d' ≡ Some d) × (sort_of k.entries d ≡ Some sort.Method)) [
-            | sort.Method ↦ (λ q r. (r, ap (λ (i : ℕ). sort_of k.entries i) (sym (some_is d' d r)) ∙ q))
-            | sort.Field ↦ (λ q r. cc)
-            | sort.Function ↦ (λ q r. cc)
-            | sort.Global fixed ↦ (λ q r. cc)
-            | sort.Class i ↦ (λ q r. cc)
-          ]
-        ] in
-        go (sort_of k.entries d') refl h
-
     inherited_base : (c x d : ℕ) → inherited k.entries k.classes c x ≡ Some d → (b : ℕ) × (base_of k.classes c ≡ Some b) × (member_number k.entries k.classes b x ≡ Some d)
     inherited_base c x d h =
         let F : Option ℕ → Option ℕ = λ y. elim y [ None ↦ None | Some b ↦ member_number k.entries k.classes b x ] in
@@ -228,11 +230,6 @@ module _ (tables : Tables) (names : Naming) (k : Known) (numbers : Numbering) (P
         let at_d : FitsAs tables names k numbers P a.sort a.owner a.takes d (routine_number numbers d) = subst (λ (y : ℕ). FitsAs tables names k numbers P a.sort a.owner a.takes y (routine_number numbers d)) z fits in
         subst (λ (y : DeclarationKind). FitsAs tables names k numbers P y a.owner a.takes d (routine_number numbers d)) s at_d
 
-    class_there : (d c : ℕ) (a : Entry) → slice_get k.entries d ≡ Some a → a.sort ≡ sort.Class c → c < L
-    class_there d c a h s =
-        let go : (w : Owner) → SaneAs k (sort.Class c) w a.name d → c < L = λ w. elim w as (λ y. SaneAs k (sort.Class c) y a.name d → c < L) [ o.Whole ↦ (λ z. z) | o.Class i ↦ (λ z. absurd z) ] in
-        go a.owner (subst (λ (y : DeclarationKind). SaneAs k y a.owner a.name d) s (made.sane d a h))
-
     pub maker_body : (c : ℕ) → c < L → HasBody tables names k numbers P (t.Object c ∷ value_types (maker_takes_of k.classes c)) (t.Object c) (maker_number numbers c)
     maker_body c near =
         let z : 0 + c ≡ c = omega arith in
@@ -248,32 +245,32 @@ module _ (tables : Tables) (names : Naming) (k : Known) (numbers : Numbering) (P
     pub field_listed : (c m d : ℕ) → class_part k (Some c) m ≡ part.Field d → is_listed (field_names k c) m ≡ true
     field_listed c m d h =
         let (at_m, s) = field_number (member_number k.entries k.classes c m) d h in
-        let (a, is, sa) = sort_entry d sort.Field s in
+        let (a, is, sa) = sort_entry tables k d sort.Field s in
         member_listed k made.sane made.chained is_field c m d a (member_within c m d at_m) at_m is (ap (λ (y : DeclarationKind). is_field (Some y)) sa)
 
     pub method_listed : (c m d : ℕ) → class_part k (Some c) m ≡ part.Method d → is_listed (slot_names k c) m ≡ true
     method_listed c m d h =
         let (at_m, s) = method_number (member_number k.entries k.classes c m) d h in
-        let (a, is, sa) = sort_entry d sort.Method s in
+        let (a, is, sa) = sort_entry tables k d sort.Method s in
         member_listed k made.sane made.chained is_method c m d a (member_within c m d at_m) at_m is (ap (λ (y : DeclarationKind). is_method (Some y)) sa)
 
     pub stands : Stands tables k numbers P
     stands = record {
       bases = λ c b h. (class c, class_at c (base_within c b h), h);
-      globals = λ d fixed u h q. let (a, is, s) = sort_entry d (sort.Global fixed) h in
+      globals = λ d fixed u h q. let (a, is, s) = sort_entry tables k d (sort.Global fixed) h in
           ap (λ (us : List ValueType). entry us (global_number k d)) made.globals_are ∙ global_at 0 k.entries d a fixed is s ∙ ap (λ (i : ℕ). Some (result_at tables names k numbers P i)) (let z : 0 + d ≡ d = omega arith in z)
           ∙ ap (λ (y : ValueType). Some y) (result_is d u q);
-      fields = λ c m d u h q. let (at_m, s) = field_number (member_number k.entries k.classes c m) d h in let (a, is, sa) = sort_entry d sort.Field s in
+      fields = λ c m d u h q. let (at_m, s) = field_number (member_number k.entries k.classes c m) d h in let (a, is, sa) = sort_entry tables k d sort.Field s in
           subst (λ (y : ValueType). HasField P c (place_among (field_names k c) m) y) (result_is d u q) (field_at c m d a at_m is sa);
-      methods = λ c m d u h q. let (at_m, s) = method_number (member_number k.entries k.classes c m) d h in let (a, is, sa) = sort_entry d sort.Method s in
+      methods = λ c m d u h q. let (at_m, s) = method_number (member_number k.entries k.classes c m) d h in let (a, is, sa) = sort_entry tables k d sort.Method s in
           subst (λ (y : ValueType). HasMethod P c (place_among (slot_names k c) m) (value_types (takes_at k.entries d)) y) (result_is d u q)
           (subst (λ (us : List StaticType). HasMethod P c (place_among (slot_names k c) m) (value_types us) (result_at tables names k numbers P d)) (sym (takes_are d a is)) (method_at c m d a at_m is sa));
-      functions = λ d u h q. let (a, is, s) = sort_entry d sort.Function h in let (r, has, params, gives) = function_body d a is s in
+      functions = λ d u h q. let (a, is, s) = sort_entry tables k d sort.Function h in let (r, has, params, gives) = function_body d a is s in
           (r, has, params ∙ ap (λ (us : List StaticType). value_types us) (sym (takes_are d a is)), gives ∙ result_is d u q);
-      makers = λ d c h. let (a, is, s) = sort_entry d (sort.Class c) h in let near = class_there d c a is s in let (r, has, params, gives) = maker_body c near in
+      makers = λ d c h. let (a, is, s) = sort_entry tables k d (sort.Class c) h in let near = class_there k made.sane made.chained d c a is s in let (r, has, params, gives) = maker_body c near in
           (class c, class_at c near, (r, c, has, params, below_here c, gives));
       supers = λ c m d u h q.
-          let (at_m, s) = method_of_is (inherited k.entries k.classes c m) d h in let (b, qb, at_b) = inherited_base c m d at_m in let (a, is, sa) = sort_entry d sort.Method s in
+          let (at_m, s) = method_of_is tables k (inherited k.entries k.classes c m) d h in let (b, qb, at_b) = inherited_base c m d at_m in let (a, is, sa) = sort_entry tables k d sort.Method s in
           let (above', f, has, at_slot, member) = method_at b m d a at_b is sa in
           let (near_b, above_is) = class_is b above' has in
           let member_u : IsMember P b (routine_number numbers d) (value_types a.takes) (value_type u) = subst (λ (y : ValueType). IsMember P b (routine_number numbers d) (value_types a.takes) y) (result_is d u q) (method_member b m d a at_b is sa) in

@@ -28,6 +28,7 @@ pub mod DeclaredTypes
 pub mod TextBehind
 pub mod Parts
 pub mod Whole
+mod WholePrograms
 pub mod OwnFunctions
 pub mod Rounds
 pub mod Accepting

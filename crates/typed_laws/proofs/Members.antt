@@ -86,6 +86,12 @@ module _ (k : Known) where
         ] in
         go a.sort (subst (λ (w : Owner). SaneAs a.sort w a.name d) q (sane d a h))
 
+    -- and so is one that is declared
+    pub class_there : (d c : ℕ) (a : Entry) → slice_get k.entries d ≡ Some a → a.sort ≡ sort.Class c → c < length k.classes
+    class_there d c a h s =
+        let go : (w : Owner) → SaneAs (sort.Class c) w a.name d → c < length k.classes = λ w. elim w as (λ y. SaneAs (sort.Class c) y a.name d → c < length k.classes) [ o.Whole ↦ (λ z. z) | o.Class i ↦ (λ z. absurd z) ] in
+        go a.owner (subst (λ (y : DeclarationKind). SaneAs y a.owner a.name d) s (sane d a h))
+
     -- names of a class's own members
     module _ (W : Option DeclarationKind → Bool) where
       own_listed : (es : List Entry) (c x : ℕ) → is_listed (own_names W es c) x ≡ true → (i : ℕ) × (a : Entry) × (slice_get es i ≡ Some a) × (a.owner ≡ o.Class c) × (W (Some a.sort) ≡ true) × (a.name ≡ x)

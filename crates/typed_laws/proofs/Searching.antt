@@ -92,6 +92,12 @@ get_listed (y ∷ xs) zero x h = let q : (y == x) ≡ true = eq-eqb y x (let z :
 get_listed (y ∷ xs) (suc i) x h = or_right (y == x) (list_any (λ z. z == x) xs) (get_listed xs i x h)
 
 -- the place of a name among names
+pub place_there : (xs : List ℕ) (x : ℕ) → is_listed xs x ≡ true → slice_get xs (place_among xs x) ≡ Some x
+place_there xs x h =
+    let (i, at, is) = listed_position xs 0 x h in
+    let q : place_among xs x ≡ i = ap (λ (o : Option ℕ). unwrap_or o 0) at ∙ (let z : 0 + i ≡ i = omega arith in z) in
+    ap (λ (j : ℕ). slice_get xs j) q ∙ is
+
 pub at_place : {B : Type 0} (f : ℕ → B) (xs : List ℕ) (x : ℕ) → is_listed xs x ≡ true → entry (map f xs) (place_among xs x) ≡ Some (f x)
 at_place {B} f xs x h =
     let (i, at, is) = listed_position xs 0 x h in

@@ -6,3 +6,4 @@ pub mod Needs
 pub mod OwnFunctions
 pub mod Rows
 pub mod Stands
+pub mod WholePrograms

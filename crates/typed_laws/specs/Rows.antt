@@ -7,6 +7,7 @@ use Rattle.sts_syntax.specs.Trees.{none, more, present, done, also, ended, next,
 use Rattle.sts_syntax.specs.Programs.{Field, Method, Class, Function, Main, Program}
 use Rattle.sts_syntax.specs.TypedTrees.{TypedProgram}
 use Rattle.sts_scope.specs.declared.kinds.StaticType.{StaticType}
+use Rattle.sts_scope.specs.declared.known.Known.{Known}
 use Rattle.sts_scope.specs.Failures.{Failure}
 use Rattle.type_derive.specs.Accepted.{refusal, typed, derivation, known}
 
@@ -24,6 +25,10 @@ given_from tables text kinds d (o ∷ rest) = derivation tables [] text kinds d 
 abbrev pub rounds : Tables → Program → ℕ → List (Option StaticType)
 rounds tables text zero = hollow (known [] text []).entries
 rounds tables text (suc n) = let kinds = rounds tables text n in given_from tables text kinds 0 kinds
+
+-- the declarations, with these types
+abbrev pub known_at_last : Tables → Program → Known
+known_at_last tables text = known [] text (rounds tables text 4)
 
 abbrev pub refused : Tables → Program → Option Failure
 refused tables text = refusal tables [] text (rounds tables text 4)

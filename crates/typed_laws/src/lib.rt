@@ -20,10 +20,12 @@ pub use library::{
     typed_library_is_light,
 };
 pub use needs::{
-    each_local_in_scope_has_a_spot, members_stand_among_the_names_of_their_class,
-    nodes_without_a_failure_are_whole,
+    accepted_programs_look_for_nothing_in_vain, each_local_in_scope_has_a_spot,
+    members_stand_among_the_names_of_their_class, nodes_without_a_failure_are_whole,
 };
-pub use rows::{rows_of_accepted, rows_of_failures, rows_of_functions, rows_of_limits};
+pub use rows::{
+    rows_of_accepted, rows_of_declarations, rows_of_failures, rows_of_functions, rows_of_limits,
+};
 pub use theorems::{
     accepted_texts_are_well_typed, functions_are_those_of_their_declarations, no_failure_has_a_type,
 };

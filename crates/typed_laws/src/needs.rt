@@ -1,4 +1,4 @@
-//! What the making of typed trees looks for is there, where a tree has no failure.
+//! What the making of typed trees looks for is there, where a tree has no failure, and that of typed programs, where a text is accepted.
 ghost use Rattle.std.specs.Prelude.{◌≡◌, ℕ, Bool, true, Option, Some, None, List, [], ◌∷◌, ◌++◌, IsSome};
 ghost use Rattle.sts_base.specs.declared.tables.Tables.{Tables};
 ghost use Rattle.sts_syntax.specs.declared.typed.Spot.TheVariants.{Local};
@@ -6,13 +6,16 @@ ghost use Rattle.sts_syntax.specs.Annotations.{Annotation};
 ghost use Rattle.sts_syntax.specs.Programs.{Program};
 ghost use Rattle.sts_syntax.specs.Trees.{Parameter, Tree, Statement, ForOf, Statements, OptionalTree, Declare};
 ghost use Rattle.sts_scope.specs.declared.kinds.StaticType.{StaticType};
+ghost use Rattle.sts_scope.specs.declared.entries.DeclarationKind.TheVariants as sort;
 ghost use Rattle.sts_scope.specs.declared.known.Known.{Known};
 ghost use Rattle.sts_scope.specs.declared.known.Part.TheVariants as part;
 ghost use Rattle.sts_scope.specs.declared.known.This.{This};
 ghost use Rattle.sts_scope.specs.Entries.{Naming};
-ghost use Rattle.sts_scope.specs.Numbers.{Numbering, is_listed, field_names, slot_names};
+ghost use Rattle.sts_scope.specs.Lookup.{sort_of};
+ghost use Rattle.sts_scope.specs.Numbers.{Numbering, numbering, is_listed, field_names, slot_names};
 ghost use Rattle.sts_scope.specs.Places.{NameScope, inner, outside};
 ghost use Rattle.sts_scope.specs.Rules.{class_part};
+ghost use Rattle.sts_scope.specs.Scopes.{all_names, library_classes};
 ghost use Rattle.type_derive.specs.declared.roles.Role.{Role};
 ghost use Rattle.type_derive.specs.declared.roles.Role.TheVariants.{Free};
 ghost use Rattle.type_derive.specs.Accepted.{AreDerived, known, refusal};
@@ -22,9 +25,10 @@ ghost use Rattle.type_derive.specs.Libraries.{IsLibrary};
 ghost use Rattle.type_derive.specs.Nodes.{failure, declaration_failure, statement_failure};
 ghost use Rattle.type_derive.specs.Programs.{site};
 ghost use Rattle.type_derive.specs.Returns.{bound, looped, items_of};
-ghost use Rattle.type_derive.specs.Typing.{type_of};
+ghost use Rattle.type_derive.specs.Typing.{finds, super_method, type_of};
 ghost use Rattle.typed_laws.specs.Laws.{IsRead};
 ghost use Rattle.typed_laws.specs.Needs.{IsWholeNode, HasSpots};
+ghost use Rattle.typed_laws.specs.WholePrograms.{IsAcceptedWith, DeclarationsHaveTypes, NamesAreMembers, IsDeclaredSo, NumbersAreThere, IsWholeText};
 
 /// At a node that is read and has no failure all is there that the making of its typed tree looks for; so is the type of a name that is declared, and of the items
 /// that a loop goes through. The parts of such a node have no failure, so the same holds of them.
@@ -57,4 +61,18 @@ pub fn members_stand_among_the_names_of_their_class()
     ensures slots { (tables : Tables) (library text : Program) (kinds : List (Option StaticType)) → IsFormedProgram text → AreDerived tables library text kinds →
         IsLibrary tables library text kinds → refusal tables library text kinds ≡ None → (c m d : ℕ) → class_part (known library text kinds) (Some c) m ≡ part.Method d →
         is_listed (slot_names (known library text kinds) c) m ≡ true }
+{}
+
+/// In an accepted text the making of the typed program looks for nothing in vain among the declarations, so what it gives where something is missing stands nowhere. Fields, methods, globals and
+/// functions of the text have a type, and so has each parameter. What stands among the names of a class's fields or slots is a field or a method that the class has, and its own stand there.
+/// A name and `super.m` stand for what is declared so. A constructor of a class with a base begins with `super(..)`. The numbers of globals, functions and constructors are there for each text.
+pub fn accepted_programs_look_for_nothing_in_vain()
+    ensures types { (tables : Tables) (library text : Program) (kinds : List (Option StaticType)) → IsAcceptedWith tables library text kinds → DeclarationsHaveTypes (known library text kinds) }
+    ensures members { (tables : Tables) (library text : Program) (kinds : List (Option StaticType)) → IsAcceptedWith tables library text kinds → NamesAreMembers (known library text kinds) }
+    ensures names { (tables : Tables) (library text : Program) (kinds : List (Option StaticType)) → IsAcceptedWith tables library text kinds →
+        (p : NameScope) (x : ℕ) → IsDeclaredSo (known library text kinds) (finds tables (known library text kinds) p x) }
+    ensures routines { (tables : Tables) (library text : Program) (kinds : List (Option StaticType)) → IsAcceptedWith tables library text kinds →
+        IsWholeText (all_names library text) (known library text kinds) (library_classes library text) text }
+    ensures supers { (tables : Tables) (k : Known) (this : This) (m d : ℕ) → super_method tables k this m ≡ Some d → sort_of k.entries d ≡ Some sort.Method }
+    ensures numbers { (library text : Program) (kinds : List (Option StaticType)) → NumbersAreThere (known library text kinds) (numbering (library ++ text)) }
 {}

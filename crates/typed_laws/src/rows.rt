@@ -6,7 +6,11 @@ ghost use Rattle.sts_syntax.specs.TypedTrees as e;
 ghost use Rattle.sts_syntax.specs.declared.typed.Callee.TheVariants as c;
 ghost use Rattle.sts_syntax.specs.declared.board_calls.BoardCall.TheVariants.{WriteNumber};
 ghost use Rattle.sts_scope.specs.Failures.{failure_at};
-ghost use Rattle.typed_laws.specs.Rows.{refused, built, sum_names, written_sum, unknown_names, unknown, v_names, null_alone, a_names, own_base, array_names, arrays, captured_names, captured, empties, no_names, overriding_names, overriding, handler_names, bad_handler, call_names, calling, calling_itself};
+ghost use Rattle.sts_scope.specs.Kinds.{number};
+ghost use Rattle.sts_scope.specs.Lookup.{member_number};
+ghost use Rattle.sts_scope.specs.Numbers.{field_names, global_number};
+ghost use Rattle.sts_scope.specs.Rules.{kind_at};
+ghost use Rattle.typed_laws.specs.Rows.{known_at_last, refused, built, sum_names, written_sum, unknown_names, unknown, v_names, null_alone, a_names, own_base, array_names, arrays, captured_names, captured, empties, no_names, overriding_names, overriding, handler_names, bad_handler, call_names, calling, calling_itself};
 
 /// Texts with one failure.
 pub fn rows_of_failures()
@@ -34,6 +38,15 @@ pub fn rows_of_functions()
     ensures bad_handler { refused handler_names bad_handler ≡ failure_at BadHandler 47 }
     ensures derived { refused call_names calling ≡ None }
     ensures underived { refused call_names calling_itself ≡ failure_at NeedsType 22 }
+{}
+
+/// Of two classes, of which the second has its base's field alone, and two globals, declarations 3 and 4; and of a function whose result can't be derived.
+pub fn rows_of_declarations()
+    ensures inherited { field_names (known_at_last array_names arrays) 1 ≡ 1 ∷ [] }
+    ensures member { member_number (known_at_last array_names arrays).entries (known_at_last array_names arrays).classes 1 1 ≡ Some 1 }
+    ensures typed { kind_at (known_at_last array_names arrays) 1 ≡ Some number }
+    ensures counted { global_number (known_at_last array_names arrays) 4 ≡ 1 }
+    ensures untyped { kind_at (known_at_last call_names calling_itself) 0 ≡ None }
 {}
 
 /// The weight of the main program: 4 and 1 a statement.
