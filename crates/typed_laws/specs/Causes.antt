@@ -46,12 +46,16 @@ module _ (tables : Tables) (names : Naming) (k : Known) (p : NameScope) where
   parts_failure (Binary at op a b) = failure tables names k p Free a then failure tables names k p Free b
   parts_failure (Both at a b) = failure tables names k p Free a then failure tables names k p Free b
   parts_failure (Either at a b) = failure tables names k p Free a then failure tables names k p Free b
-  parts_failure (Choice at c a b) = failure tables names k p Free c then failure tables names k p Free a then failure tables names k p Free b
+  parts_failure (Choice at c a b) =
+      failure tables names k p Free c then failure tables names k p Free a then failure tables names k p Free b
   parts_failure (Set at op x a) = failure tables names k p Free x then failure tables names k p Given a
   parts_failure (Bump at x by late) = failure tables names k p Free x
   parts_failure (Member at a m) = elim (constant_of tables k p a m) [
     | Some z ↦ None
-    | None ↦ elim (board_callee tables k p (Member at a m)) [ Some call ↦ None | None ↦ failure tables names k p Free a ]
+    | None ↦ elim (board_callee tables k p (Member at a m)) [
+      | Some call ↦ None
+      | None ↦ failure tables names k p Free a
+    ]
   ]
   parts_failure (Item at a i) = failure tables names k p Free a then failure tables names k p Free i
   parts_failure (Items at (more a rest)) = failure tables names k p Free a then failures tables names k p [] rest
@@ -83,7 +87,10 @@ module _ (tables : Tables) (names : Naming) (k : Known) (p : NameScope) where
   abbrev pub cause_of : Tree → Code
   cause_of (This at) = why_this p.this
   cause_of (Name at x) = why_name (finds tables k p x)
-  cause_of (Member at a m) = elim (board_callee tables k p (Member at a m)) [ Some call ↦ BadHandler | None ↦ cause_of_member m (type_of tables k p Free a) ]
+  cause_of (Member at a m) = elim (board_callee tables k p (Member at a m)) [
+    | Some call ↦ BadHandler
+    | None ↦ cause_of_member m (type_of tables k p Free a)
+  ]
   cause_of (Call at f args) = elim (board_callee tables k p f) [
     | Some call ↦ if lacks_handler tables names k p (row_of call).takes args then BadHandler else Mismatch
     | None ↦ cause_of_call (callee_of tables k p f)

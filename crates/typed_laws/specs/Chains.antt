@@ -21,7 +21,9 @@ ComesBack classes c = (a : ℕ) × HasAbove classes c a × (n : ℕ) × (above c
 
 -- of a class and those above it, the nearest that has something has this
 abbrev pub IsNearest : {A : Type 0} → List ClassHead → (ℕ → Option A) → ℕ → A → Type 0
-IsNearest classes has c it = (n a : ℕ) × (above classes n c ≡ Some a) × (has a ≡ Some it) × ((m b : ℕ) → m < n → above classes m c ≡ Some b → has b ≡ None)
+IsNearest classes has c it =
+    (n a : ℕ) × (above classes n c ≡ Some a) × (has a ≡ Some it)
+    × ((m b : ℕ) → m < n → above classes m c ≡ Some b → has b ≡ None)
 
 -- the member of this name, by its number among the declarations: the class's own one, else that of the nearest class above it that declares one
 abbrev pub IsMemberOf : List Entry → List ClassHead → ℕ → ℕ → ℕ → Type 0

@@ -27,7 +27,9 @@ IsRead Served = ⊥
 
 -- an expression without a failure has a type, where it is read
 abbrev pub HasTypes : Type 0
-HasTypes = (tables : Tables) (names : Naming) (k : Known) (p : NameScope) (r : Role) (e : Tree) → IsRead r → failure tables names k p r e ≡ None → IsSome (type_of tables k p r e)
+HasTypes =
+    (tables : Tables) (names : Naming) (k : Known) (p : NameScope) (r : Role) (e : Tree) → IsRead r
+    → failure tables names k p r e ≡ None → IsSome (type_of tables k p r e)
 
 -- The typed program of an accepted text is well typed and within the counted limits, where the text has a tree as the grammar gives it, behind a library of functions
 -- that have no failure.
@@ -38,5 +40,8 @@ AcceptedIsWellTyped = (tables : Tables) (library text : Program) (P : TypedProgr
 
 -- In the typed program of an accepted text, with the types that its declarations have, the function at the number of a declaration is the typed function of this declaration.
 abbrev pub FunctionsAreTheirs : Type 0
-FunctionsAreTheirs = (tables : Tables) (library text : Program) (kinds : List (Option StaticType)) → IsFormedProgram text → AreDerived tables library text kinds
-    → IsLibrary tables library text kinds → refusal tables library text kinds ≡ None → FunctionsAreDeclared tables library text kinds
+FunctionsAreTheirs =
+    (tables : Tables) (library text : Program) (kinds : List (Option StaticType)) → IsFormedProgram text
+    → AreDerived tables library text kinds
+    → IsLibrary tables library text kinds → refusal tables library text kinds ≡ None
+    → FunctionsAreDeclared tables library text kinds

@@ -28,25 +28,36 @@ first = record {
 
 -- The library's functions stand before any text: where its names and its text are the first of the tables, it is a library as the law of accepted texts asks.
 abbrev pub PreludeIsLibrary : Type 0
-PreludeIsLibrary = (tokens : List Token) (names texts : List (List ℕ)) (text : Program) (kinds : List (Option StaticType)) → IsDistinct first.names → IsDistinct first.texts
-    → IsTokenization first LIBRARY.now tokens → AreDerived (record { names = first.names ++ names; texts = first.texts ++ texts }) (library tokens) text kinds
+PreludeIsLibrary =
+    (tokens : List Token) (names texts : List (List ℕ)) (text : Program) (kinds : List (Option StaticType))
+    → IsDistinct first.names → IsDistinct first.texts
+    → IsTokenization first LIBRARY.now tokens
+    → AreDerived (record { names = first.names ++ names; texts = first.texts ++ texts }) (library tokens) text kinds
     → IsLibrary (record { names = first.names ++ names; texts = first.texts ++ texts }) (library tokens) text kinds
 
 -- Where no entry stood before the library, it leaves these tables, and its tree is the one that its tokens spell.
 abbrev pub LibraryLeavesFirst : Type 0
-LibraryLeavesFirst = (new : Tables) (program : Program) → IsDistinct new.names → IsDistinct new.texts → spelled.IsLibraryTree no_entries new program
+LibraryLeavesFirst =
+    (new : Tables) (program : Program) → IsDistinct new.names → IsDistinct new.texts
+    → spelled.IsLibraryTree no_entries new program
     → (new ≡ first) × (tokens : List Token) × IsTokenization first LIBRARY.now tokens × (program ≡ library tokens)
 
 -- The library's functions have types.
 abbrev pub LibraryFunctionsHaveTypes : Type 0
-LibraryFunctionsHaveTypes = (tokens : List Token) (names texts : List (List ℕ)) (text : Program) (kinds : List (Option StaticType)) → IsDistinct first.names → IsDistinct first.texts
-    → IsTokenization first LIBRARY.now tokens → AreDerived (record { names = first.names ++ names; texts = first.texts ++ texts }) (library tokens) text kinds
+LibraryFunctionsHaveTypes =
+    (tokens : List Token) (names texts : List (List ℕ)) (text : Program) (kinds : List (Option StaticType))
+    → IsDistinct first.names → IsDistinct first.texts
+    → IsTokenization first LIBRARY.now tokens
+    → AreDerived (record { names = first.names ++ names; texts = first.texts ++ texts }) (library tokens) text kinds
     → (d : ℕ) → d < (known (library tokens) text kinds).library → IsSome (kind_at (known (library tokens) text kinds) d)
 
 -- The library's typed functions, which stand first in each program, weigh at most 600.
 abbrev pub TypedLibraryIsLight : Type 0
-TypedLibraryIsLight = (tokens : List Token) (names texts : List (List ℕ)) (text : Program) (kinds : List (Option StaticType)) → IsDistinct first.names → IsDistinct first.texts
-    → IsTokenization first LIBRARY.now tokens → AreDerived (record { names = first.names ++ names; texts = first.texts ++ texts }) (library tokens) text kinds
+TypedLibraryIsLight =
+    (tokens : List Token) (names texts : List (List ℕ)) (text : Program) (kinds : List (Option StaticType))
+    → IsDistinct first.names → IsDistinct first.texts
+    → IsTokenization first LIBRARY.now tokens
+    → AreDerived (record { names = first.names ++ names; texts = first.texts ++ texts }) (library tokens) text kinds
     → routines_weight (take library_size (typed (record { names = first.names ++ names; texts = first.texts ++ texts }) (library tokens) text kinds).functions) ≤ 600
 
 -- Where no entry stood before, the library's text has tokens that spell a tree, and its names and its text are distinct.

@@ -49,12 +49,14 @@ module _ (tables : Tables) (k : Known) (p : NameScope) where
   -- what is called, but for calls of the board
   abbrev pub IsCalledTree : Tree → Type 0
   IsCalledTree (Name at x) = IsCalledName (finds tables k p x)
-  IsCalledTree (Member at a m) = (u : StaticType) × (type_of tables k p Free a ≡ Some u) × IsCalledPart u (part_of tables.names k u m)
+  IsCalledTree (Member at a m) =
+      (u : StaticType) × (type_of tables k p Free a ≡ Some u) × IsCalledPart u (part_of tables.names k u m)
   IsCalledTree _ = ⊥
 
   -- arguments for what takes these: as many, and each goes there
   abbrev pub ArgumentsGo : List StaticType → Trees → Type 0
-  ArgumentsGo takes args = (us : List StaticType) × (types_of tables k p args ≡ Some us) × (all_go k.classes us takes ≡ true)
+  ArgumentsGo takes args =
+      (us : List StaticType) × (types_of tables k p args ≡ Some us) × (all_go k.classes us takes ≡ true)
 
   -- what is looked for at a node that is read
   abbrev pub IsWholeNode : Role → Tree → Type 0
@@ -69,8 +71,10 @@ module _ (tables : Tables) (k : Known) (p : NameScope) where
     | None ↦ IsCalledTree f × (d : Callee) × (callee_of tables k p f ≡ Some d) × ArgumentsGo d.takes args
   ]
   IsWholeNode r (SuperCall at None args) = ⊥
-  IsWholeNode r (SuperCall at (Some m) args) = (d : ℕ) × (super_method tables k p.this m ≡ Some d) × ArgumentsGo (takes_at k.entries d) args
-  IsWholeNode r (Make at x args) = (c : ℕ) × (finds tables k p x ≡ found.Class c) × ArgumentsGo (maker_takes_of k.classes c) args
+  IsWholeNode r (SuperCall at (Some m) args) =
+      (d : ℕ) × (super_method tables k p.this m ≡ Some d) × ArgumentsGo (takes_at k.entries d) args
+  IsWholeNode r (Make at x args) =
+      (c : ℕ) × (finds tables k p x ≡ found.Class c) × ArgumentsGo (maker_takes_of k.classes c) args
   IsWholeNode r (Handler at body) = ⊥
   IsWholeNode r e = Unit {0}
 

@@ -50,8 +50,10 @@ StandFrom P n [] = Unit {0}
 StandFrom P n (r ∷ rest) = HasRoutine P n r × StandFrom P (suc n) rest
 
 -- The typed function of a routine that is the whole text's or a class's, and behind it those of the function expressions in it. The library's know the library's names alone.
-abbrev pub own_functions : Tables → Naming → Known → Numbering → Owner → (library : Bool) → ℕ → Option StaticType → Routine → List TypedRoutine
-own_functions tables names k numbers o.Whole library n result r = function_made tables names k numbers library n result r
+abbrev pub own_functions : Tables → Naming → Known → Numbering → Owner → (library : Bool) → ℕ → Option StaticType
+    → Routine → List TypedRoutine
+own_functions tables names k numbers o.Whole library n result r =
+    function_made tables names k numbers library n result r
 own_functions tables names k numbers (o.Class c) library n result r = method_made tables names k numbers c n result r
 
 abbrev pub is_function_or_method : DeclarationKind → Bool
@@ -61,15 +63,18 @@ is_function_or_method _ = false
 
 -- A declaration without a routine is no function and no method. With one it is this routine's, by its place and what it takes; and at the declaration's number stands the
 -- typed function of the routine.
-abbrev pub HasItsFunction : Tables → Naming → Known → Numbering → TypedProgram → (library : Bool) → (d : ℕ) → Entry → (n : ℕ) → Option Routine → Type 0
+abbrev pub HasItsFunction : Tables → Naming → Known → Numbering → TypedProgram → (library : Bool) → (d : ℕ) → Entry
+    → (n : ℕ) → Option Routine → Type 0
 HasItsFunction tables names k numbers P library d a n None = is_function_or_method a.sort ≡ false
 HasItsFunction tables names k numbers P library d a n (Some r) =
-    (a ≡ routine_entry names a.owner a.name a.sort r) × StandFrom P n (own_functions tables names k numbers a.owner library n (kind_at k d) r)
+    (a ≡ routine_entry names a.owner a.name a.sort r)
+    × StandFrom P n (own_functions tables names k numbers a.owner library n (kind_at k d) r)
 
 -- In the typed program of a text behind a library each declaration has its function, and the main program is the last one.
 pub record FunctionsAreDeclared (tables : Tables) (library text : Program) (kinds : List (Option StaticType)) : Type 0 where
   pub as_many : length (declared_routines (library ++ text)) ≡ length (known library text kinds).entries
-  pub each : (d : ℕ) (a : Entry) (does : Option Routine) → slice_get (known library text kinds).entries d ≡ Some a → slice_get (declared_routines (library ++ text)) d ≡ Some does
+  pub each : (d : ℕ) (a : Entry) (does : Option Routine) → slice_get (known library text kinds).entries d ≡ Some a
+      → slice_get (declared_routines (library ++ text)) d ≡ Some does
       → HasItsFunction tables (all_names library text) (known library text kinds) (numbering (library ++ text)) (typed tables library text kinds)
       (nat_lt d (known library text kinds).library) d a (routine_number (numbering (library ++ text)) d) does
   pub last : (typed tables library text kinds).main ≡ all_routines (library ++ text)

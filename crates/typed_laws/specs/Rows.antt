@@ -17,9 +17,11 @@ hollow [] = []
 hollow (a ∷ rest) = None ∷ hollow rest
 
 -- what the rules give from a table
-abbrev pub given_from : Tables → Program → List (Option StaticType) → ℕ → List (Option StaticType) → List (Option StaticType)
+abbrev pub given_from : Tables → Program → List (Option StaticType) → ℕ → List (Option StaticType)
+    → List (Option StaticType)
 given_from tables text kinds d [] = []
-given_from tables text kinds d (o ∷ rest) = derivation tables [] text kinds d ∷ given_from tables text kinds (suc d) rest
+given_from tables text kinds d (o ∷ rest) =
+    derivation tables [] text kinds d ∷ given_from tables text kinds (suc d) rest
 
 -- the table after so many rounds
 abbrev pub rounds : Tables → Program → ℕ → List (Option StaticType)
@@ -93,7 +95,8 @@ arrays =
 --     })
 -- }
 abbrev pub captured_names : Tables
-captured_names = spelled (codes "g" ∷ codes "v" ∷ codes "control" ∷ codes "inBackground" ∷ codes "serial" ∷ codes "writeNumber" ∷ [])
+captured_names =
+    spelled (codes "g" ∷ codes "v" ∷ codes "control" ∷ codes "inBackground" ∷ codes "serial" ∷ codes "writeNumber" ∷ [])
 
 abbrev pub captured : Program
 captured =
@@ -139,4 +142,5 @@ calling =
     ∷ Function 1 (Does 37 [] None (also (t.Return 43 (present (t.Num 50 (pos 1)))) done) false) ∷ []
 
 abbrev pub calling_itself : Program
-calling_itself = Function 0 (Does 9 [] None (also (t.Return 15 (present (t.Call 22 (t.Name 22 0) none))) done) false) ∷ []
+calling_itself =
+    Function 0 (Does 9 [] None (also (t.Return 15 (present (t.Call 22 (t.Name 22 0) none))) done) false) ∷ []

@@ -39,17 +39,25 @@ EachProper [] = Unit {0}
 EachProper (u ∷ us) = IsProper u × EachProper us
 
 pub record Stands (tables : Tables) (k : Known) (numbers : Numbering) (P : TypedProgram) : Type 0 where
-  pub bases : (c b : ℕ) → base_of k.classes c ≡ Some b → (class : ClassEntry) × HasClass P c class × (class.base ≡ Some b)
-  pub globals : (d : ℕ) (fixed : Bool) (u : StaticType) → sort_of k.entries d ≡ Some (sort.Global fixed) → kind_at k d ≡ Some u → entry P.globals (global_number k d) ≡ Some (value_type u)
-  pub fields : (c m d : ℕ) (u : StaticType) → class_part k (Some c) m ≡ part.Field d → kind_at k d ≡ Some u → HasField P c (place_among (field_names k c) m) (value_type u)
-  pub methods : (c m d : ℕ) (u : StaticType) → class_part k (Some c) m ≡ part.Method d → kind_at k d ≡ Some u → HasMethod P c (place_among (slot_names k c) m) (value_types (takes_at k.entries d)) (value_type u)
+  pub bases : (c b : ℕ) → base_of k.classes c ≡ Some b → (class : ClassEntry) × HasClass P c class
+      × (class.base ≡ Some b)
+  pub globals : (d : ℕ) (fixed : Bool) (u : StaticType) → sort_of k.entries d ≡ Some (sort.Global fixed)
+      → kind_at k d ≡ Some u → entry P.globals (global_number k d) ≡ Some (value_type u)
+  pub fields : (c m d : ℕ) (u : StaticType) → class_part k (Some c) m ≡ part.Field d → kind_at k d ≡ Some u
+      → HasField P c (place_among (field_names k c) m) (value_type u)
+  pub methods : (c m d : ℕ) (u : StaticType) → class_part k (Some c) m ≡ part.Method d → kind_at k d ≡ Some u
+      → HasMethod P c (place_among (slot_names k c) m) (value_types (takes_at k.entries d)) (value_type u)
   pub functions : (d : ℕ) (u : StaticType) → sort_of k.entries d ≡ Some sort.Function → kind_at k d ≡ Some u
-      → (r : TypedRoutine) × HasRoutine P (routine_number numbers d) r × (r.params ≡ value_types (takes_at k.entries d)) × (r.gives ≡ value_type u)
+      → (r : TypedRoutine) × HasRoutine P (routine_number numbers d) r × (r.params ≡ value_types (takes_at k.entries d))
+      × (r.gives ≡ value_type u)
   pub makers : (d c : ℕ) → sort_of k.entries d ≡ Some (sort.Class c)
-      → (class : ClassEntry) × HasClass P c class × IsMember P c class.maker (value_types (maker_takes_of k.classes c)) (t.Object c)
+      → (class : ClassEntry) × HasClass P c class
+      × IsMember P c class.maker (value_types (maker_takes_of k.classes c)) (t.Object c)
   pub supers : (c m d : ℕ) (u : StaticType) → super_method tables k (this.Object c) m ≡ Some d → kind_at k d ≡ Some u
-      → (class : ClassEntry) × (base : ℕ) × (s : ℕ) × (above : ClassEntry) × HasClass P c class × (class.base ≡ Some base) × HasClass P base above
-      × (entry above.slots s ≡ Some (routine_number numbers d)) × IsMember P base (routine_number numbers d) (value_types (takes_at k.entries d)) (value_type u)
+      → (class : ClassEntry) × (base : ℕ) × (s : ℕ) × (above : ClassEntry) × HasClass P c class
+      × (class.base ≡ Some base) × HasClass P base above
+      × (entry above.slots s ≡ Some (routine_number numbers d))
+      × IsMember P base (routine_number numbers d) (value_types (takes_at k.entries d)) (value_type u)
   pub library : (call : BoardCall) (f : ℕ) → (row_of call).action ≡ board.Library f
       → (r : TypedRoutine) × HasRoutine P f r × (r.params ≡ taken (row_of call).takes) × (r.gives ≡ (row_of call).gives)
   pub kinds_proper : (d : ℕ) (u : StaticType) → kind_at k d ≡ Some u → IsProper u

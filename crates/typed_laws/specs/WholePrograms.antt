@@ -50,8 +50,10 @@ module _ (k : Known) where
   pub record NamesAreMembers : Type 0 where
     pub fields : (c x : ℕ) → c < length k.classes → is_listed (field_names k c) x ≡ true → HasMember c x sort.Field
     pub slots : (c x : ℕ) → c < length k.classes → is_listed (slot_names k c) x ≡ true → HasMember c x sort.Method
-    pub own_fields : (d c : ℕ) (a : Entry) → slice_get k.entries d ≡ Some a → a.owner ≡ o.Class c → a.sort ≡ sort.Field → HasItsPlace (field_names k c) a.name
-    pub own_methods : (d c : ℕ) (a : Entry) → slice_get k.entries d ≡ Some a → a.owner ≡ o.Class c → a.sort ≡ sort.Method → HasItsPlace (slot_names k c) a.name
+    pub own_fields : (d c : ℕ) (a : Entry) → slice_get k.entries d ≡ Some a → a.owner ≡ o.Class c
+        → a.sort ≡ sort.Field → HasItsPlace (field_names k c) a.name
+    pub own_methods : (d c : ℕ) (a : Entry) → slice_get k.entries d ≡ Some a → a.owner ≡ o.Class c
+        → a.sort ≡ sort.Method → HasItsPlace (slot_names k c) a.name
 
   -- what a name stands for is declared so
   abbrev pub IsDeclaredSo : Found → Type 0
@@ -62,7 +64,8 @@ module _ (k : Known) where
 
   -- A global stands at its number among the globals. Each declaration and each class has a place in the lists of functions' numbers, and each base is a class.
   pub record NumbersAreThere (numbers : Numbering) : Type 0 where
-    pub globals : (d : ℕ) (a : Entry) → slice_get k.entries d ≡ Some a → is_global a.sort ≡ true → slice_get (names_of is_global k.entries) (global_number k d) ≡ Some a.name
+    pub globals : (d : ℕ) (a : Entry) → slice_get k.entries d ≡ Some a → is_global a.sort ≡ true
+        → slice_get (names_of is_global k.entries) (global_number k d) ≡ Some a.name
     pub routines : length numbers.routines ≡ length k.entries
     pub makers : length numbers.makers ≡ length k.classes
     pub bases : BasesAreClasses k.classes
@@ -80,13 +83,15 @@ module _ (names : Naming) (k : Known) where
   -- a constructor of a class with a base begins with `super(..)`
   abbrev pub BeginsAbove : Option ℕ → Routine → Type 0
   BeginsAbove None r = Unit {0}
-  BeginsAbove (Some b) (Does at params gives all arrow) = (i j : ℕ) × (args : Trees) × (rest : Statements) × (all ≡ also (Plain i (SuperCall j None args)) rest)
+  BeginsAbove (Some b) (Does at params gives all arrow) =
+      (i j : ℕ) × (args : Trees) × (rest : Statements) × (all ≡ also (Plain i (SuperCall j None args)) rest)
 
   abbrev pub AreWholeMembers : ℕ → List ClassMember → Type 0
   AreWholeMembers c [] = Unit {0}
   AreWholeMembers c (Field a ∷ rest) = AreWholeMembers c rest
   AreWholeMembers c (Method x r ∷ rest) = IsWholeRoutine r × AreWholeMembers c rest
-  AreWholeMembers c (Constructor r ∷ rest) = IsWholeRoutine r × BeginsAbove (base_of k.classes c) r × AreWholeMembers c rest
+  AreWholeMembers c (Constructor r ∷ rest) =
+      IsWholeRoutine r × BeginsAbove (base_of k.classes c) r × AreWholeMembers c rest
 
   abbrev pub IsWholeItem : ℕ → TopLevel → Type 0
   IsWholeItem c (Class at x base base_at members) = AreWholeMembers c members
