@@ -20,3 +20,4 @@ pub mod Solved
 pub mod Heads
 pub mod Naming
 pub mod Wanted
+pub mod Groups

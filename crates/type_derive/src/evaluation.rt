@@ -1,5 +1,5 @@
 // The type of an expression: each of its parts is gone through once, those of an operator before it.
-ghost use Rattle.std.specs.Prelude.{◌≡◌, ◌&&◌, Some, None, IfOk, slice_get, if◌then◌else◌};
+ghost use Rattle.std.specs.Prelude.{◌≡◌, ◌&&◌, true, Some, None, IfOk, slice_get, if◌then◌else◌};
 ghost use Rattle.std.specs.Option.{option_map};
 ghost use Rattle.sts_scope.specs.Kinds as kind;
 ghost use Rattle.sts_syntax.specs.BoardViews.{board_parameter};
@@ -7,6 +7,7 @@ ghost use Rattle.sts_syntax.specs.Trees as t;
 ghost use Rattle.sts_syntax.specs.Views.{tree, trees};
 ghost use Rattle.sts_scope.specs.Rules as rule;
 ghost use Rattle.type_derive.specs.declared.roles.Role.TheVariants as role;
+ghost use Rattle.type_derive.specs.Groups as group;
 ghost use Rattle.type_derive.specs.Scopes.{place};
 ghost use Rattle.type_derive.specs.Shown.{shown, all_shown, fits_some, row_shown, board_given};
 ghost use Rattle.type_derive.specs.Typing as typing;
@@ -16,6 +17,7 @@ use crate::boards::{BoardTakes, board_takes, goes_at, goes_some, is_function, is
 use crate::callees::{
     Called, constant, gives_of, made, named_callee, part_callee, routine, super_method, takes_of,
 };
+use crate::context::Context;
 use crate::drawings::is_drawing;
 use crate::parts::{assigned, both, bumped, chosen, indexed, listed, operated, prefixed};
 use crate::roles::Role;
@@ -119,13 +121,12 @@ fn parameter_at(takes: &[BoardParameter], i: usize) -> Option<BoardParameter>
 #[cycle(types)]
 pub fn type_of(
     wanted: &mut Wanted,
-    tables: &Tables,
-    known: &Environment,
+    context: &Context,
     scope: &Scope,
     role: Role,
     e: &Expr,
 ) -> Result<Option<StaticType>, NoMemory>
-    ensures { IfOk result (λ u. u ≡ typing.type_of tables.now known.now (place scope.now) role (tree e.now)) }
+    ensures { IfOk result (λ u. u ≡ typing.type_of context.now.tables.now context.now.known.now (place scope.now) role (tree e.now)) }
 {
     match &e.node {
         Node::Num(_) => Ok(Some(flat(Base::Number))),
@@ -134,84 +135,86 @@ pub fn type_of(
         Node::Null => Ok(Some(flat(Base::Null))),
         Node::This => Ok(this_kind(scope.this)),
         Node::Name(x) => {
-            let found = name_found(tables, known, scope, *x);
-            wanted.note_found(known, found)?;
-            Ok(name_kind(known, scope, found))
+            let found = name_found(context.tables, context.known, scope, *x);
+            wanted.note_found(context.known, found)?;
+            Ok(name_kind(context.known, scope, found))
         }
+        Node::Unary(_, _)
+        | Node::Binary(_, _, _)
+        | Node::Both(_, _)
+        | Node::Either(_, _)
+        | Node::Choice(_, _, _)
+        | Node::Set(_, _, _)
+        | Node::Bump { .. } => operator_type(wanted, context, scope, e),
+        Node::Member(a, m) => {
+            if constant(context.tables, context.known, scope, a, *m).is_some() {
+                return Ok(Some(flat(Base::Number)));
+            }
+            let s = type_of(wanted, context, scope, Role::Free, a)?;
+            let part = part_behind(context.tables, context.known, s, *m);
+            wanted.note_part(context.known, part)?;
+            Ok(part_type(context.known, part))
+        }
+        Node::Item(a, i) => {
+            let s = type_of(wanted, context, scope, Role::Free, a)?;
+            let u = type_of(wanted, context, scope, Role::Free, i)?;
+            Ok(indexed(s, u))
+        }
+        Node::Items(all) => list_type(wanted, context, scope, role, e.at, all.as_slice()),
+        Node::Call(_, _) | Node::SuperCall(_, _) | Node::Make(_, _) => {
+            call_type(wanted, context, scope, e)
+        }
+        Node::Handler(_) => Ok(None),
+    }
+}
+
+/// The type of an operator with its operands, whatever its place does with it.
+#[cycle(types)]
+fn operator_type(
+    wanted: &mut Wanted,
+    context: &Context,
+    scope: &Scope,
+    e: &Expr,
+) -> Result<Option<StaticType>, NoMemory>
+    requires { group.is_operation (tree e.now) ≡ true }
+    ensures { IfOk result (λ u. (r : _) → u ≡ typing.type_of context.now.tables.now context.now.known.now (place scope.now) r (tree e.now)) }
+{
+    match &e.node {
         Node::Unary(op, a) => {
-            let s = type_of(wanted, tables, known, scope, Role::Free, a)?;
+            let s = type_of(wanted, context, scope, Role::Free, a)?;
             Ok(prefixed(*op, s))
         }
         Node::Binary(op, a, b) => {
-            let s = type_of(wanted, tables, known, scope, Role::Free, a)?;
-            let u = type_of(wanted, tables, known, scope, Role::Free, b)?;
-            Ok(operated(known, *op, s, u))
+            let s = type_of(wanted, context, scope, Role::Free, a)?;
+            let u = type_of(wanted, context, scope, Role::Free, b)?;
+            Ok(operated(context.known, *op, s, u))
         }
         Node::Both(a, b) => {
-            let s = type_of(wanted, tables, known, scope, Role::Free, a)?;
-            let u = type_of(wanted, tables, known, scope, Role::Free, b)?;
+            let s = type_of(wanted, context, scope, Role::Free, a)?;
+            let u = type_of(wanted, context, scope, Role::Free, b)?;
             Ok(both(s, u))
         }
         Node::Either(a, b) => {
-            let s = type_of(wanted, tables, known, scope, Role::Free, a)?;
-            let u = type_of(wanted, tables, known, scope, Role::Free, b)?;
+            let s = type_of(wanted, context, scope, Role::Free, a)?;
+            let u = type_of(wanted, context, scope, Role::Free, b)?;
             Ok(both(s, u))
         }
         Node::Choice(q, a, b) => {
-            let v = type_of(wanted, tables, known, scope, Role::Free, q)?;
-            let s = type_of(wanted, tables, known, scope, Role::Free, a)?;
-            let u = type_of(wanted, tables, known, scope, Role::Free, b)?;
-            Ok(chosen(known, v, s, u))
+            let v = type_of(wanted, context, scope, Role::Free, q)?;
+            let s = type_of(wanted, context, scope, Role::Free, a)?;
+            let u = type_of(wanted, context, scope, Role::Free, b)?;
+            Ok(chosen(context.known, v, s, u))
         }
         Node::Set(op, x, a) => {
-            let u = target_type(wanted, tables, known, scope, x)?;
-            let s = type_of(wanted, tables, known, scope, Role::Given, a)?;
-            Ok(assigned(known, *op, u, s))
+            let u = target_type(wanted, context, scope, x)?;
+            let s = type_of(wanted, context, scope, Role::Given, a)?;
+            Ok(assigned(context.known, *op, u, s))
         }
-        Node::Bump {
-            target,
-            by: _,
-            after: _,
-        } => {
-            let u = target_type(wanted, tables, known, scope, target)?;
+        Node::Bump { target, .. } => {
+            let u = target_type(wanted, context, scope, target)?;
             Ok(bumped(u))
         }
-        Node::Member(a, m) => {
-            if constant(tables, known, scope, a, *m).is_some() {
-                return Ok(Some(flat(Base::Number)));
-            }
-            let s = type_of(wanted, tables, known, scope, Role::Free, a)?;
-            let part = part_behind(tables, known, s, *m);
-            wanted.note_part(known, part)?;
-            Ok(part_type(known, part))
-        }
-        Node::Item(a, i) => {
-            let s = type_of(wanted, tables, known, scope, Role::Free, a)?;
-            let u = type_of(wanted, tables, known, scope, Role::Free, i)?;
-            Ok(indexed(s, u))
-        }
-        Node::Items(all) => { list_type(wanted, tables, known, scope, role, e.at, all.as_slice()) }
-        Node::Call(f, args) => {
-            let row = board_takes(tables, known, scope, f);
-            if row.is_some() {
-                return board_type(wanted, tables, known, scope, row, args);
-            }
-            let called = callee(wanted, tables, known, scope, f)?;
-            called_type(wanted, tables, known, scope, called, args.as_slice())
-        }
-        Node::SuperCall(method, args) => match method {
-            None => Ok(None),
-            Some(m) => {
-                let called = routine(super_method(known, scope.this, *m));
-                wanted.note_called(known, called)?;
-                called_type(wanted, tables, known, scope, called, args.as_slice())
-            }
-        },
-        Node::Make(x, args) => {
-            let called = made(name_found(tables, known, scope, *x));
-            called_type(wanted, tables, known, scope, called, args.as_slice())
-        }
-        Node::Handler(_) => Ok(None),
+        _ => unreachable!(),
     }
 }
 
@@ -219,34 +222,33 @@ pub fn type_of(
 #[cycle(types)]
 fn target_type(
     wanted: &mut Wanted,
-    tables: &Tables,
-    known: &Environment,
+    context: &Context,
     scope: &Scope,
     x: &Expr,
 ) -> Result<Option<StaticType>, NoMemory>
-    ensures { IfOk result (λ u. u ≡ bind (typing.type_of tables.now known.now (place scope.now) role.Free (tree x.now)) (λ t. if typing.settable tables.now known.now (place scope.now) (tree x.now) then Some t else None)) }
+    ensures { IfOk result (λ u. u ≡ bind (typing.type_of context.now.tables.now context.now.known.now (place scope.now) role.Free (tree x.now)) (λ t. if typing.settable context.now.tables.now context.now.known.now (place scope.now) (tree x.now) then Some t else None)) }
 {
     match &x.node {
         Node::Name(n) => {
-            let found = name_found(tables, known, scope, *n);
-            wanted.note_found(known, found)?;
-            if name_fixed(known, scope, found) {
+            let found = name_found(context.tables, context.known, scope, *n);
+            wanted.note_found(context.known, found)?;
+            if name_fixed(context.known, scope, found) {
                 return Ok(None);
             }
-            Ok(name_kind(known, scope, found))
+            Ok(name_kind(context.known, scope, found))
         }
         Node::Member(a, m) => {
-            if constant(tables, known, scope, a, *m).is_some() {
+            if constant(context.tables, context.known, scope, a, *m).is_some() {
                 return Ok(None);
             }
-            let s = type_of(wanted, tables, known, scope, Role::Free, a)?;
-            let part = part_behind(tables, known, s, *m);
-            wanted.note_part(known, part)?;
-            Ok(part_target(known, part))
+            let s = type_of(wanted, context, scope, Role::Free, a)?;
+            let part = part_behind(context.tables, context.known, s, *m);
+            wanted.note_part(context.known, part)?;
+            Ok(part_target(context.known, part))
         }
         Node::Item(a, i) => {
-            let s = type_of(wanted, tables, known, scope, Role::Free, a)?;
-            let u = type_of(wanted, tables, known, scope, Role::Free, i)?;
+            let s = type_of(wanted, context, scope, Role::Free, a)?;
+            let u = type_of(wanted, context, scope, Role::Free, i)?;
             Ok(indexed(s, u))
         }
         _ => Ok(None),
@@ -257,14 +259,13 @@ fn target_type(
 #[cycle(types)]
 fn list_type(
     wanted: &mut Wanted,
-    tables: &Tables,
-    known: &Environment,
+    context: &Context,
     scope: &Scope,
     role: Role,
     at: u32,
     all: &[Expr],
 ) -> Result<Option<StaticType>, NoMemory>
-    ensures { IfOk result (λ u. u ≡ typing.type_of tables.now known.now (place scope.now) role (t.Items at (trees all.now))) }
+    ensures { IfOk result (λ u. u ≡ typing.type_of context.now.tables.now context.now.known.now (place scope.now) role (t.Items at (trees all.now))) }
 {
     match all {
         [] => {
@@ -274,13 +275,13 @@ fn list_type(
                 Ok(None)
             }
         }
-        [first, ..] => match type_of(wanted, tables, known, scope, Role::Free, first)? {
+        [first, ..] => match type_of(wanted, context, scope, Role::Free, first)? {
             None => Ok(None),
             Some(s) => {
                 let mut fits = true;
                 for i in 1..all.len() {
-                    let u = type_of(wanted, tables, known, scope, Role::Given, &all[i])?;
-                    let goes = goes_some(known, u, s);
+                    let u = type_of(wanted, context, scope, Role::Given, &all[i])?;
+                    let goes = goes_some(context.known, u, s);
                     fits = both_hold(fits, goes);
                 }
                 Ok(listed_where(s, fits))
@@ -289,27 +290,62 @@ fn list_type(
     }
 }
 
+/// The type of a call or of `new`, whatever its place does with it.
+#[cycle(types)]
+fn call_type(
+    wanted: &mut Wanted,
+    context: &Context,
+    scope: &Scope,
+    e: &Expr,
+) -> Result<Option<StaticType>, NoMemory>
+    requires { group.is_call (tree e.now) ≡ true }
+    ensures { IfOk result (λ u. (r : _) → u ≡ typing.type_of context.now.tables.now context.now.known.now (place scope.now) r (tree e.now)) }
+{
+    match &e.node {
+        Node::Call(f, args) => {
+            let row = board_takes(context.tables, context.known, scope, f);
+            if row.is_some() {
+                return board_type(wanted, context, scope, row, args);
+            }
+            let called = callee(wanted, context, scope, f)?;
+            called_type(wanted, context, scope, called, args.as_slice())
+        }
+        Node::SuperCall(method, args) => match method {
+            None => Ok(None),
+            Some(m) => {
+                let called = routine(super_method(context.known, scope.this, *m));
+                wanted.note_called(context.known, called)?;
+                called_type(wanted, context, scope, called, args.as_slice())
+            }
+        },
+        Node::Make(x, args) => {
+            let called = made(name_found(context.tables, context.known, scope, *x));
+            called_type(wanted, context, scope, called, args.as_slice())
+        }
+        _ => unreachable!(),
+    }
+}
+
 /// What is called.
 #[cycle(types)]
 fn callee(
     wanted: &mut Wanted,
-    tables: &Tables,
-    known: &Environment,
+    context: &Context,
     scope: &Scope,
     f: &Expr,
 ) -> Result<Option<Called>, NoMemory>
-    ensures { IfOk result (λ d. all_shown known.now d ≡ typing.callee_of tables.now known.now (place scope.now) (tree f.now)) }
+    ensures { IfOk result (λ d. all_shown context.now.known.now d ≡ typing.callee_of context.now.tables.now context.now.known.now (place scope.now) (tree f.now)) }
 {
     match &f.node {
         Node::Name(x) => {
-            let found = name_found(tables, known, scope, *x);
-            wanted.note_found(known, found)?;
+            let found = name_found(context.tables, context.known, scope, *x);
+            wanted.note_found(context.known, found)?;
             Ok(named_callee(found))
         }
         Node::Member(a, m) => {
-            let s = type_of(wanted, tables, known, scope, Role::Free, a)?;
-            let part = part_behind(tables, known, s, *m);
-            wanted.note_part(known, part)?;
+            let s = type_of(wanted, context, scope, Role::Free, a)?;
+            let part = part_behind(context.tables, context.known, s, *m);
+            wanted.note_part(context.known, part)?;
             Ok(part_called(part))
         }
         _ => Ok(None),
@@ -320,26 +356,25 @@ fn callee(
 #[cycle(types)]
 fn called_type(
     wanted: &mut Wanted,
-    tables: &Tables,
-    known: &Environment,
+    context: &Context,
     scope: &Scope,
     called: Option<Called>,
     args: &[Expr],
 ) -> Result<Option<StaticType>, NoMemory>
-    ensures { IfOk result (λ u. u ≡ typing.called tables.now known.now (all_shown known.now called) (typing.types_of tables.now known.now (place scope.now) (trees args.now))) }
+    ensures { IfOk result (λ u. u ≡ typing.called context.now.tables.now context.now.known.now (all_shown context.now.known.now called) (typing.types_of context.now.tables.now context.now.known.now (place scope.now) (trees args.now))) }
 {
     match called {
         None => Ok(None),
         Some(called) => {
-            let takes = takes_of(known, &called);
+            let takes = takes_of(context.known, &called);
             let mut fits = true;
             for i in 0..args.len() {
-                let u = type_of(wanted, tables, known, scope, Role::Given, &args[i])?;
-                let goes = goes_at(known, u, takes, i);
+                let u = type_of(wanted, context, scope, Role::Given, &args[i])?;
+                let goes = goes_at(context.known, u, takes, i);
                 fits = both_hold(fits, goes);
             }
             let all = both_hold(fits, takes.len() <= args.len());
-            Ok(given_where(known, called, all))
+            Ok(given_where(context.known, called, all))
         }
     }
 }
@@ -348,36 +383,36 @@ fn called_type(
 #[cycle(types)]
 fn fits_board(
     wanted: &mut Wanted,
-    tables: &Tables,
-    known: &Environment,
+    context: &Context,
     scope: &Scope,
     to: Option<BoardParameter>,
     a: &Expr,
 ) -> Result<bool, NoMemory>
-    ensures { IfOk result (λ b. b ≡ fits_some tables.now known.now (place scope.now) (option_map board_parameter to) (tree a.now)) }
+    ensures { IfOk result (λ b. b ≡ fits_some context.now.tables.now context.now.known.now (place scope.now) (option_map board_parameter to) (tree a.now)) }
 {
     let kind = match to {
         None => return Ok(false),
-        Some(BoardParameter::Handler) => return Ok(is_function(tables, known, scope, a)),
-        Some(BoardParameter::Drawing) => return Ok(is_drawing(tables, a)),
+        Some(BoardParameter::Handler) => {
+            return Ok(is_function(context.tables, context.known, scope, a));
+        }
+        Some(BoardParameter::Drawing) => return Ok(is_drawing(context.tables, a)),
         Some(BoardParameter::Number) => flat(Base::Number),
         Some(BoardParameter::Text) => flat(Base::Text),
     };
-    let s = type_of(wanted, tables, known, scope, Role::Given, a)?;
-    Ok(goes_some(known, s, kind))
+    let s = type_of(wanted, context, scope, Role::Given, a)?;
+    Ok(goes_some(context.known, s, kind))
 }
 
 /// The type of a call of the board, if it is one.
 #[cycle(types)]
 fn board_type(
     wanted: &mut Wanted,
-    tables: &Tables,
-    known: &Environment,
+    context: &Context,
     scope: &Scope,
     row: Option<BoardTakes>,
     args: &Seq<Expr>,
 ) -> Result<Option<StaticType>, NoMemory>
-    ensures { IfOk result (λ u. u ≡ board_given tables.now known.now (place scope.now) (option_map row_shown row) (trees args.now)) }
+    ensures { IfOk result (λ u. u ≡ board_given context.now.tables.now context.now.known.now (place scope.now) (option_map row_shown row) (trees args.now)) }
 {
     match row {
         None => Ok(None),
@@ -387,7 +422,7 @@ fn board_type(
             let mut fits = true;
             for i in 0..args.len() {
                 let to = parameter_at(takes, i);
-                let goes = fits_board(wanted, tables, known, scope, to, &args[i])?;
+                let goes = fits_board(wanted, context, scope, to, &args[i])?;
                 fits = both_hold(fits, goes);
             }
             let all = both_hold(fits, takes.len() <= args.len());

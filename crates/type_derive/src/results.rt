@@ -26,14 +26,7 @@ fn first_returned(
 {
     let mut inside = handler_scope(context, &*scope, params, None)?;
     let mut wanted = Wanted::nothing(context.alloc);
-    returned_in_block(
-        &mut wanted,
-        context.classes,
-        context.tables,
-        context.known,
-        &mut inside,
-        all,
-    )
+    returned_in_block(&mut wanted, context, &mut inside, all)
 }
 
 /// The result that is written at a function expression, else that of the first value that it returns.

@@ -9,15 +9,15 @@ use Rattle.type_derive.proofs.evaluation.+types.Given as goal
 
 abbrev pub invariant-list_type-loop-i : goal.invariant-list_type-loop-i
 invariant-list_type-loop-i l =
-    (l.fits && typed_go_to l.known.classes l.s (types_of l.tables l.known (place l.scope) (trees (drop l.i l.all))))
-    ≡ typed_go_to l.known.classes l.s (types_of l.tables l.known (place l.scope) (trees (drop 1 l.all)))
+    (l.fits && typed_go_to l.context.known.now.classes l.s (types_of l.context.tables.now l.context.known.now (place l.scope) (trees (drop l.i l.all))))
+    ≡ typed_go_to l.context.known.now.classes l.s (types_of l.context.tables.now l.context.known.now (place l.scope) (trees (drop 1 l.all)))
 
 abbrev pub invariant-called_type-loop-i : goal.invariant-called_type-loop-i
 invariant-called_type-loop-i l =
-    (l.fits && typed_go l.known.classes (types_of l.tables l.known (place l.scope) (trees (drop l.i l.args))) (drop l.i l.takes))
-    ≡ typed_go l.known.classes (types_of l.tables l.known (place l.scope) (trees l.args)) l.takes
+    (l.fits && typed_go l.context.known.now.classes (types_of l.context.tables.now l.context.known.now (place l.scope) (trees (drop l.i l.args))) (drop l.i l.takes))
+    ≡ typed_go l.context.known.now.classes (types_of l.context.tables.now l.context.known.now (place l.scope) (trees l.args)) l.takes
 
 abbrev pub invariant-board_type-loop-i : goal.invariant-board_type-loop-i
 invariant-board_type-loop-i l =
-    (l.fits && are_given l.tables l.known (place l.scope) (map board_parameter (drop l.i l.takes)) (trees (drop l.i l.args)))
-    ≡ are_given l.tables l.known (place l.scope) (map board_parameter l.takes) (trees l.args)
+    (l.fits && are_given l.context.tables.now l.context.known.now (place l.scope) (map board_parameter (drop l.i l.takes)) (trees (drop l.i l.args)))
+    ≡ are_given l.context.tables.now l.context.known.now (place l.scope) (map board_parameter l.takes) (trees l.args)

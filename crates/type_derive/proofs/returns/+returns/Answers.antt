@@ -2,24 +2,24 @@ use Rattle.std.proofs.Common.{◌≡◌, ◌+◌, ◌<◌, length, drop, sym, ap
 use Rattle.std.specs.Prelude.{IfOk}
 use Rattle.sts_syntax.specs.Views.{tree, declarations, statement, statements, form_statement}
 use Rattle.sts_syntax.proofs.Laws.{let_statement}
-use Rattle.sts_scope.specs.Values.{value_at}
 use Rattle.sts_scope.specs.Places.{inner, with}
 use Rattle.type_derive.specs.declared.roles.Role.TheVariants.{Free}
 use Rattle.type_derive.specs.Typing.{type_of}
 use Rattle.type_derive.specs.Scopes.{place}
 use Rattle.type_derive.specs.Moves.{Extends}
+use Rattle.type_derive.specs.Naming.{naming}
 use Rattle.type_derive.specs.Returns as given
 use Rattle.type_derive.specs.Returns.{or_else}
 use Rattle.type_derive.proofs.Opened.{block_is}
 use Rattle.type_derive.proofs.Moves.{closed, stays, further, extends_to, after_extends, returned_step}
 use Rattle.type_derive.proofs.returns.+returns.Goals as goal
-use Rattle.type_derive.proofs.returns.+returns.Goals.{returned-in-Some-first+in_ok-after-in-For, returned-in_default}
+use Rattle.type_derive.proofs.returns.+returns.Goals.{returned_in_loop-in-Some+in_ok-after-in-For, returned_in_loop-in_default-first}
 
 pub returned-returns-in-Block-clause-value : goal.returned-returns-in-Block-clause-value
 returned-returns-in-Block-clause-value t c =
-    let s = c.args.tables.now in
-    let f = value_at c.args.classes.now.values.items in
-    let k = c.args.known.now in
+    let s = c.args.context.now.tables.now in
+    let f = naming c.args.context.now in
+    let k = c.args.context.now.known.now in
     let p = place c.args.scope.now in
     subst (λ o. IfOk c.returned_in_block.result (λ r. r ≡ o))
     (ap (λ xs. given.all_returned s f k (inner p) (statements xs)) c.as_slice.ensures ∙ sym (ap (given.returned s f k p) (block_is c.args.s.now c.in-Block.all c.in-Block.is)))
@@ -27,24 +27,24 @@ returned-returns-in-Block-clause-value t c =
 
 pub returned-returns-in_ok-declare_all-in-Let-clause-place : goal.returned-returns-in_ok-declare_all-in-Let-clause-place
 returned-returns-in_ok-declare_all-in-Let-clause-place t c =
-    let s = c.args.tables.now in
-    let f = value_at c.args.classes.now.values.items in
-    let k = c.args.known.now in
+    let s = c.args.context.now.tables.now in
+    let f = naming c.args.context.now in
+    let k = c.args.context.now.known.now in
     let p = place c.args.scope.now in
     let is = ap (form_statement c.args.s.now.at) c.in-Let.is ∙ let_statement c.args.s.now.at c.in-Let.fixed c.in-Let.each in
     c.in_ok-declare_all-in-Let.ensures ∙ ap (λ xs. given.all_declared s f k p c.in-Let.fixed (declarations xs)) c.as_slice-in-Let.ensures ∙ sym (ap (given.after s f k p) is)
 
-pub returned-returns-in_ok-kind-in-For-clause-place : goal.returned-returns-in_ok-kind-in-For-clause-place
-returned-returns-in_ok-kind-in-For-clause-place t c =
-    let s = c.args.tables.now in
-    let f = value_at c.args.classes.now.values.items in
-    let k = c.args.known.now in
+pub returned_in_loop-returns-in_ok-kind-in-For-clause-place : goal.returned_in_loop-returns-in_ok-kind-in-For-clause-place
+returned_in_loop-returns-in_ok-kind-in-For-clause-place t c =
+    let s = c.args.context.now.tables.now in
+    let f = naming c.args.context.now in
+    let k = c.args.context.now.known.now in
     let p = place c.args.scope.now in
     let q = place c.enter-mark.new.scope in
     let r = place c.match-first.scope in
     let x : Extends q r = elim c.match-first.branch [
-      | returned-in-Some-first+in_ok-after-in-For w ↦ extends_to q _ r (after_extends s f k q (statement w.deref-in-Some-first.result.now)) (ap place w.scope-is ∙ w.in_ok-after-in-For.ensures)
-      | returned-in_default w ↦ extends_to q q r (stays q) (ap place w.scope-is)
+      | returned_in_loop-in-Some+in_ok-after-in-For w ↦ extends_to q _ r (after_extends s f k q (statement w.deref-in-Some.result.now)) (ap place w.scope-is ∙ w.in_ok-after-in-For.ensures)
+      | returned_in_loop-in_default-first w ↦ extends_to q q r (stays q) (ap place w.scope-is)
     ] in
     let y = extends_to q r (place c.returned_in_branch-in-For.new.scope) x c.in_ok-kind-in-For.ensures.place in
     closed p q (place c.returned_in_branch-in-For.new.scope) (place c.leave.new.scope) c.enter-mark.result.locals c.enter-mark.result.block
@@ -53,9 +53,9 @@ returned-returns-in_ok-kind-in-For-clause-place t c =
 
 pub returned_in_block-loop-i-preserved : goal.returned_in_block-loop-i-preserved
 returned_in_block-loop-i-preserved t c =
-    let s = c.args.tables.now in
-    let f = value_at c.args.classes.now.values.items in
-    let k = c.args.known.now in
+    let s = c.args.context.now.tables.now in
+    let f = naming c.args.context.now in
+    let k = c.args.context.now.known.now in
     let xs = c.args.all.now in
     let i = c.loop-i.i in
     let lt : i < length xs = omega arith in
@@ -73,9 +73,9 @@ returned_in_block-loop-i-preserved t c =
 
 pub returned_in_branch-returns-clause-place : goal.returned_in_branch-returns-clause-place
 returned_in_branch-returns-clause-place t c =
-    let s = c.args.tables.now in
-    let f = value_at c.args.classes.now.values.items in
-    let k = c.args.known.now in
+    let s = c.args.context.now.tables.now in
+    let f = naming c.args.context.now in
+    let k = c.args.context.now.known.now in
     let p = place c.args.scope.now in
     let q = place c.enter-mark.new.scope in
     let r = place c.returned.new.scope in
@@ -83,11 +83,11 @@ returned_in_branch-returns-clause-place t c =
     closed p q r (place c.leave.new.scope) c.enter-mark.result.locals c.enter-mark.result.block
     c.enter-mark.ensures.place (extends_to q (given.after s f k q a) r (after_extends s f k q a) c.in_ok-kind.ensures.place) c.leave.ensures c.enter-mark.ensures.locals c.enter-mark.ensures.block
 
-pub returned-returns-in_ok-kind-in-ForOf-2-clause-value : goal.returned-returns-in_ok-kind-in-ForOf-2-clause-value
-returned-returns-in_ok-kind-in-ForOf-2-clause-value t c =
-    let s = c.args.tables.now in
-    let f = value_at c.args.classes.now.values.items in
-    let k = c.args.known.now in
+pub returned_in_loop-returns-in_ok-kind-in-ForOf-2-clause-value : goal.returned_in_loop-returns-in_ok-kind-in-ForOf-2-clause-value
+returned_in_loop-returns-in_ok-kind-in-ForOf-2-clause-value t c =
+    let s = c.args.context.now.tables.now in
+    let f = naming c.args.context.now in
+    let k = c.args.context.now.known.now in
     let p = place c.args.scope.now in
     let x = c.in-ForOf.name in
     let fixed = c.in-ForOf.fixed in

@@ -1,14 +1,14 @@
 use Rattle.std.proofs.Common.{◌≡◌, drop}
 use Rattle.sts_syntax.specs.Views.{statements}
-use Rattle.sts_scope.specs.Values.{value_at}
 use Rattle.type_derive.specs.Scopes.{place}
 use Rattle.type_derive.specs.Moves.{Extends}
+use Rattle.type_derive.specs.Naming.{naming}
 use Rattle.type_derive.specs.Returns as given
 use Rattle.type_derive.proofs.returns.+returns.Given as goal
 
 abbrev pub invariant-returned_in_block-loop-i : goal.invariant-returned_in_block-loop-i
 invariant-returned_in_block-loop-i l = record {
-  value : given.all_returned l.tables (value_at l.classes.values.items) l.known (place l.scope) (statements (drop l.i l.all))
-      ≡ given.all_returned l.tables (value_at l.classes.values.items) l.known (place l.initial.scope) (statements l.all);
+  value : given.all_returned l.context.tables.now (naming l.context) l.context.known.now (place l.scope) (statements (drop l.i l.all))
+      ≡ given.all_returned l.context.tables.now (naming l.context) l.context.known.now (place l.initial.scope) (statements l.all);
   here : Extends (place l.initial.scope) (place l.scope);
 }
