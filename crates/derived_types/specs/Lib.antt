@@ -1,3 +1,4 @@
 pub mod Origins
 pub mod Underway
 pub mod Work
+pub mod Rules

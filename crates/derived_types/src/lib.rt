@@ -2,6 +2,7 @@
 #![tactic(auto)]
 
 mod origins;
+mod rules;
 mod solving;
 mod work;
 

@@ -7,6 +7,8 @@ ghost use Rattle.sts_scope.specs.Places as name;
 ghost use Rattle.sts_scope.specs.Values.{value_at};
 ghost use Rattle.type_derive.specs.Derived as derived;
 ghost use Rattle.derived_types.specs.Origins.{source, sources};
+ghost use Rattle.derived_types.specs.Rules.{rule_by};
+ghost use Rattle.type_derive.specs.Naming.{naming};
 ghost use Rattle.type_derive.specs.Returns as given;
 ghost use Rattle.type_derive.specs.Scopes.{place};
 ghost use Rattle.type_derive.specs.Solved.{IsSolved};
@@ -15,6 +17,7 @@ ghost use Rattle.derived_types.specs.Underway.{Keeps};
 ghost use Rattle.derived_types.specs.Work.{IsOpen, effort};
 
 use crate::origins::{Origin, origins_of};
+use crate::rules::Rules;
 use crate::work::Work;
 use std::alloc::Global;
 use sts_base::{NoMemory, Tables};
@@ -22,7 +25,7 @@ use sts_scope::{
     Base, ByNumber, Declared, Environment, StaticType, Table, This, flat, written_kind,
 };
 use sts_syntax::{Param, Unit};
-use type_derive::{Locals, Scope, Wanted, bound, declare, kind_at, returned_in_block};
+use type_derive::{Context, Locals, Scope, Wanted, bound, declare, kind_at, returned_in_block};
 
 /// Outside all functions.
 fn outside<'a>(alloc: Global, this: This, library: bool) -> Scope<'a>
@@ -67,25 +70,22 @@ fn answered(returned: Option<Option<StaticType>>) -> Option<StaticType>
 
 /// The type that follows from an origin.
 fn follow(
-    alloc: Global,
     wanted: &mut Wanted,
-    classes: &ByNumber,
-    tables: &Tables,
-    known: &Environment,
+    context: &Context,
     library: bool,
     origin: &Origin,
 ) -> Result<Option<StaticType>, NoMemory>
-    ensures { IfOk result (λ kind. kind ≡ derived.follows (value_at classes.now.values.items) tables.now known.now library (source origin.now)) }
+    ensures { IfOk result (λ kind. kind ≡ derived.follows (naming context.now) context.now.tables.now context.now.known.now library (source origin.now)) }
 {
     match origin {
         Origin::Stated(kind) => Ok(*kind),
         Origin::Initial(this, first) => {
-            let scope = outside(alloc, *this, library);
-            bound(wanted, classes, tables, known, &scope, &None, first)
+            let scope = outside(context.alloc, *this, library);
+            bound(wanted, context, &scope, &None, first)
         }
         Origin::Returns(this, params, all) => {
-            let mut scope = within(alloc, classes, params, *this, library)?;
-            let returned = returned_in_block(wanted, classes, tables, known, &mut scope, all)?;
+            let mut scope = within(context.alloc, context.classes, params, *this, library)?;
+            let returned = returned_in_block(wanted, context, &mut scope, all)?;
             Ok(answered(returned))
         }
     }
@@ -93,26 +93,15 @@ fn follow(
 
 /// The type that the rule of a declaration gives.
 fn derive(
-    alloc: Global,
     wanted: &mut Wanted,
-    classes: &ByNumber,
-    tables: &Tables,
-    known: &Environment,
+    context: &Context,
     origins: &[Origin],
     d: usize,
 ) -> Result<Option<StaticType>, NoMemory>
-    ensures { IfOk result (λ kind. kind ≡ derived.rule tables.now (value_at classes.now.values.items) known.now (sources origins.now) known.now.kinds d) }
+    ensures { IfOk result (λ kind. kind ≡ derived.rule context.now.tables.now (naming context.now) context.now.known.now (sources origins.now) context.now.known.now.kinds d) }
 {
     if d < origins.len() {
-        follow(
-            alloc,
-            wanted,
-            classes,
-            tables,
-            known,
-            d < known.library(),
-            &origins[d],
-        )
+        follow(wanted, context, d < context.known.library(), &origins[d])
     } else {
         Ok(None)
     }
@@ -120,24 +109,27 @@ fn derive(
 
 /// Derives a declaration that has no type. Whether something new was said.
 fn advance(
-    alloc: Global,
     wanted: &mut Wanted,
-    classes: &ByNumber,
-    tables: &Tables,
+    rules: &Rules,
     known: &mut Environment,
-    origins: &[Origin],
     d: usize,
 ) -> Result<bool, NoMemory>
     requires within { d < length known.old.kinds }
-    requires underway { way.IsUnderway (derived.rule tables.now (value_at classes.now.values.items) known.old (sources origins.now)) known.old.kinds }
-    ensures moves { IfOk result (λ said. way.Moves (derived.rule tables.now (value_at classes.now.values.items) known.old (sources origins.now)) known.old.kinds known.new.kinds said) }
-    ensures still { IfOk result (λ said. said ≡ false → derived.at known.old.kinds d ≡ None → derived.rule tables.now (value_at classes.now.values.items) known.old (sources origins.now) known.old.kinds d ≡ None) }
+    requires underway { way.IsUnderway (rule_by rules.now known.old) known.old.kinds }
+    ensures moves { IfOk result (λ said. way.Moves (rule_by rules.now known.old) known.old.kinds known.new.kinds said) }
+    ensures still { IfOk result (λ said. said ≡ false → derived.at known.old.kinds d ≡ None → rule_by rules.now known.old known.old.kinds d ≡ None) }
     ensures same { OnOk result (Keeps known.old known.new) }
 {
     if kind_at(known, d).is_some() {
         return Ok(false);
     }
-    match derive(alloc, wanted, classes, tables, known, origins, d)? {
+    let context = Context {
+        alloc: rules.alloc,
+        tables: rules.tables,
+        classes: rules.classes,
+        known: &*known,
+    };
+    match derive(wanted, &context, rules.origins, d)? {
         None => Ok(false),
         Some(kind) => {
             known.set_kind(d, Some(kind));
@@ -153,61 +145,44 @@ fn either(a: bool, b: bool) -> bool
 }
 
 /// Tries all declarations. Whether something new was said.
-fn round(
-    alloc: Global,
-    wanted: &mut Wanted,
-    classes: &ByNumber,
-    tables: &Tables,
-    known: &mut Environment,
-    origins: &[Origin],
-) -> Result<bool, NoMemory>
-    requires { way.IsUnderway (derived.rule tables.now (value_at classes.now.values.items) known.old (sources origins.now)) known.old.kinds }
-    ensures moves { IfOk result (λ said. way.Moves (derived.rule tables.now (value_at classes.now.values.items) known.old (sources origins.now)) known.old.kinds known.new.kinds said) }
-    ensures still { IfOk result (λ said. said ≡ false → way.IsStill (derived.rule tables.now (value_at classes.now.values.items) known.old (sources origins.now)) known.new.kinds (length known.new.kinds)) }
+fn round(wanted: &mut Wanted, rules: &Rules, known: &mut Environment) -> Result<bool, NoMemory>
+    requires { way.IsUnderway (rule_by rules.now known.old) known.old.kinds }
+    ensures moves { IfOk result (λ said. way.Moves (rule_by rules.now known.old) known.old.kinds known.new.kinds said) }
+    ensures still { IfOk result (λ said. said ≡ false → way.IsStill (rule_by rules.now known.old) known.new.kinds (length known.new.kinds)) }
     ensures same { OnOk result (Keeps known.old known.new) }
 {
     let mut said = false;
     for d in 0..known.kinds().len() {
-        let now = advance(alloc, wanted, classes, tables, known, origins, d)?;
+        let now = advance(wanted, rules, known, d)?;
         said = either(said, now);
     }
     Ok(said)
 }
 
 /// Tries all declarations until nothing new is said.
-fn rounds(
-    alloc: Global,
-    wanted: &mut Wanted,
-    classes: &ByNumber,
-    tables: &Tables,
-    known: &mut Environment,
-    origins: &[Origin],
-) -> Result<(), NoMemory>
-    requires { way.IsUnderway (derived.rule tables.now (value_at classes.now.values.items) known.old (sources origins.now)) known.old.kinds }
-    ensures least { OnOk result (derived.IsLeast (derived.rule tables.now (value_at classes.now.values.items) known.old (sources origins.now)) known.new.kinds) }
+fn rounds(wanted: &mut Wanted, rules: &Rules, known: &mut Environment) -> Result<(), NoMemory>
+    requires { way.IsUnderway (rule_by rules.now known.old) known.old.kinds }
+    ensures least { OnOk result (derived.IsLeast (rule_by rules.now known.old) known.new.kinds) }
     ensures len { OnOk result (length known.new.kinds ≡ length known.old.kinds) }
     ensures same { OnOk result (Keeps known.old known.new) }
 {
-    while round(alloc, wanted, classes, tables, known, origins)? {}
+    while round(wanted, rules, known)? {}
     Ok(())
 }
 
 /// Tries a declaration, if there is one of this number. Whether something new was said.
 fn tried(
-    alloc: Global,
     wanted: &mut Wanted,
-    classes: &ByNumber,
-    tables: &Tables,
+    rules: &Rules,
     known: &mut Environment,
-    origins: &[Origin],
     d: usize,
 ) -> Result<bool, NoMemory>
-    requires { way.IsUnderway (derived.rule tables.now (value_at classes.now.values.items) known.old (sources origins.now)) known.old.kinds }
-    ensures moves { IfOk result (λ said. way.Moves (derived.rule tables.now (value_at classes.now.values.items) known.old (sources origins.now)) known.old.kinds known.new.kinds said) }
+    requires { way.IsUnderway (rule_by rules.now known.old) known.old.kinds }
+    ensures moves { IfOk result (λ said. way.Moves (rule_by rules.now known.old) known.old.kinds known.new.kinds said) }
     ensures same { OnOk result (Keeps known.old known.new) }
 {
     if d < known.kinds().len() {
-        advance(alloc, wanted, classes, tables, known, origins, d)
+        advance(wanted, rules, known, d)
     } else {
         Ok(false)
     }
@@ -215,24 +190,21 @@ fn tried(
 
 /// Goes on with the declaration that was asked for last. Whether something new was said; else it waits for what it asked for.
 fn resume(
-    alloc: Global,
-    classes: &ByNumber,
-    tables: &Tables,
+    rules: &Rules,
     known: &mut Environment,
-    origins: &[Origin],
     work: &mut Work,
     d: usize,
 ) -> Result<bool, NoMemory>
-    requires underway { way.IsUnderway (derived.rule tables.now (value_at classes.now.values.items) known.old (sources origins.now)) known.old.kinds }
+    requires underway { way.IsUnderway (rule_by rules.now known.old) known.old.kinds }
     requires pending { 1 ≤ length work.old.pending.items }
-    ensures moves { IfOk result (λ said. way.Moves (derived.rule tables.now (value_at classes.now.values.items) known.old (sources origins.now)) known.old.kinds known.new.kinds said) }
+    ensures moves { IfOk result (λ said. way.Moves (rule_by rules.now known.old) known.old.kinds known.new.kinds said) }
     ensures less { IfOk result (λ said. said ≡ false → effort work.new < effort work.old) }
     ensures same { OnOk result (Keeps known.old known.new) }
 {
-    let mut wanted = Wanted::each(alloc);
-    let said = tried(alloc, &mut wanted, classes, tables, known, origins, d)?;
+    let mut wanted = Wanted::each(rules.alloc);
+    let said = tried(&mut wanted, rules, known, d)?;
     if said {
-        work.answer(alloc, d)?;
+        work.answer(rules.alloc, d)?;
     } else {
         work.put_off(d, wanted.noted.as_slice())?;
     }
@@ -240,17 +212,10 @@ fn resume(
 }
 
 /// Goes on with the declaration that was asked for last, else with one that waited for a type that is known now, else with the next one in its turn. Whether something new was said.
-fn step(
-    alloc: Global,
-    classes: &ByNumber,
-    tables: &Tables,
-    known: &mut Environment,
-    origins: &[Origin],
-    work: &mut Work,
-) -> Result<bool, NoMemory>
-    requires underway { way.IsUnderway (derived.rule tables.now (value_at classes.now.values.items) known.old (sources origins.now)) known.old.kinds }
+fn step(rules: &Rules, known: &mut Environment, work: &mut Work) -> Result<bool, NoMemory>
+    requires underway { way.IsUnderway (rule_by rules.now known.old) known.old.kinds }
     requires more { IsOpen work.old }
-    ensures moves { IfOk result (λ said. way.Moves (derived.rule tables.now (value_at classes.now.values.items) known.old (sources origins.now)) known.old.kinds known.new.kinds said) }
+    ensures moves { IfOk result (λ said. way.Moves (rule_by rules.now known.old) known.old.kinds known.new.kinds said) }
     ensures less { IfOk result (λ said. said ≡ false → effort work.new < effort work.old) }
     ensures same { OnOk result (Keeps known.old known.new) }
 {
@@ -259,25 +224,18 @@ fn step(
             work.go_on()?;
             Ok(false)
         }
-        Some(d) => resume(alloc, classes, tables, known, origins, work, d),
+        Some(d) => resume(rules, known, work, d),
     }
 }
 
 /// Goes on until something new is said, or nothing is left. Whether something was said.
-fn until_said(
-    alloc: Global,
-    classes: &ByNumber,
-    tables: &Tables,
-    known: &mut Environment,
-    origins: &[Origin],
-    work: &mut Work,
-) -> Result<bool, NoMemory>
-    requires { way.IsUnderway (derived.rule tables.now (value_at classes.now.values.items) known.old (sources origins.now)) known.old.kinds }
-    ensures moves { IfOk result (λ said. way.Moves (derived.rule tables.now (value_at classes.now.values.items) known.old (sources origins.now)) known.old.kinds known.new.kinds said) }
+fn until_said(rules: &Rules, known: &mut Environment, work: &mut Work) -> Result<bool, NoMemory>
+    requires { way.IsUnderway (rule_by rules.now known.old) known.old.kinds }
+    ensures moves { IfOk result (λ said. way.Moves (rule_by rules.now known.old) known.old.kinds known.new.kinds said) }
     ensures same { OnOk result (Keeps known.old known.new) }
 {
     while work.is_open() {
-        if step(alloc, classes, tables, known, origins, work)? {
+        if step(rules, known, work)? {
             return Ok(true);
         }
     }
@@ -285,20 +243,13 @@ fn until_said(
 }
 
 /// Derives declarations, those that others ask for before them.
-fn in_order(
-    alloc: Global,
-    classes: &ByNumber,
-    tables: &Tables,
-    known: &mut Environment,
-    origins: &[Origin],
-    work: &mut Work,
-) -> Result<(), NoMemory>
-    requires { way.IsUnderway (derived.rule tables.now (value_at classes.now.values.items) known.old (sources origins.now)) known.old.kinds }
-    ensures underway { OnOk result (way.IsUnderway (derived.rule tables.now (value_at classes.now.values.items) known.old (sources origins.now)) known.new.kinds) }
+fn in_order(rules: &Rules, known: &mut Environment, work: &mut Work) -> Result<(), NoMemory>
+    requires { way.IsUnderway (rule_by rules.now known.old) known.old.kinds }
+    ensures underway { OnOk result (way.IsUnderway (rule_by rules.now known.old) known.new.kinds) }
     ensures len { OnOk result (length known.new.kinds ≡ length known.old.kinds) }
     ensures same { OnOk result (Keeps known.old known.new) }
 {
-    while until_said(alloc, classes, tables, known, origins, work)? {}
+    while until_said(rules, known, work)? {}
     Ok(())
 }
 
@@ -330,9 +281,15 @@ fn derive_all(
     let kinds = blank(alloc, count)?;
     known.set_kinds(kinds);
     let mut work = Work::of(alloc, count)?;
-    in_order(alloc, classes, tables, known, origins, &mut work)?;
+    let rules = Rules {
+        alloc,
+        tables,
+        classes,
+        origins,
+    };
+    in_order(&rules, known, &mut work)?;
     let mut wanted = Wanted::nothing(alloc);
-    rounds(alloc, &mut wanted, classes, tables, known, origins)?;
+    rounds(&mut wanted, &rules, known)?;
     Ok(())
 }
 

@@ -10,19 +10,19 @@ use Rattle.derived_types.proofs.solving.round.Goals as goal
 
 pub advance-requires-clause-underway : goal.advance-requires-clause-underway
 advance-requires-clause-underway c =
-    let t = c.args.tables.now in
-    let f = value_at c.args.classes.now.values.items in
+    let t = c.args.rules.now.tables.now in
+    let f = value_at c.args.rules.now.classes.now.values.items in
     let k = c.args.known.now in
-    let s = sources c.args.origins.now in
+    let s = sources c.args.rules.now.origins.now in
     let R = rule t f k s in
     subst (λ Q. IsUnderway Q c.loop-d.known.kinds) (sym (same_rule t f s k c.loop-d.known c.loop-d.invariant.same)) c.loop-d.invariant.moves.underway
 
 pub loop-d-preserved : goal.loop-d-preserved
 loop-d-preserved c =
-    let t = c.args.tables.now in
-    let f = value_at c.args.classes.now.values.items in
+    let t = c.args.rules.now.tables.now in
+    let f = value_at c.args.rules.now.classes.now.values.items in
     let k = c.args.known.now in
-    let s = sources c.args.origins.now in
+    let s = sources c.args.rules.now.origins.now in
     let R = rule t f k s in
     let m = c.loop-d.known in
     let n = c.advance.new.known in

@@ -9,19 +9,19 @@ use Rattle.derived_types.proofs.solving.rounds.Goals as goal
 
 pub round-requires : goal.round-requires
 round-requires c =
-    let t = c.args.tables.now in
-    let f = value_at c.args.classes.now.values.items in
+    let t = c.args.rules.now.tables.now in
+    let f = value_at c.args.rules.now.classes.now.values.items in
     let k = c.args.known.now in
-    let s = sources c.args.origins.now in
+    let s = sources c.args.rules.now.origins.now in
     let R = rule t f k s in
     subst (λ Q. IsUnderway Q c.loop.known.kinds) (sym (same_rule t f s k c.loop.known c.loop.invariant.same)) c.loop.invariant.underway
 
 pub loop-preserved : goal.loop-preserved
 loop-preserved c =
-    let t = c.args.tables.now in
-    let f = value_at c.args.classes.now.values.items in
+    let t = c.args.rules.now.tables.now in
+    let f = value_at c.args.rules.now.classes.now.values.items in
     let k = c.args.known.now in
-    let s = sources c.args.origins.now in
+    let s = sources c.args.rules.now.origins.now in
     let R = rule t f k s in
     let m = c.loop.known in
     let n = c.round.new.known in
@@ -33,10 +33,10 @@ loop-preserved c =
 
 pub returns : goal.returns
 returns c =
-    let t = c.args.tables.now in
-    let f = value_at c.args.classes.now.values.items in
+    let t = c.args.rules.now.tables.now in
+    let f = value_at c.args.rules.now.classes.now.values.items in
     let k = c.args.known.now in
-    let s = sources c.args.origins.now in
+    let s = sources c.args.rules.now.origins.now in
     let R = rule t f k s in
     let m = c.loop.known in
     let n = c.round.new.known in
