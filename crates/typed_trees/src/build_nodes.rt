@@ -12,7 +12,7 @@ use std::alloc::Global;
 use sts_base::NoMemory;
 use sts_scope::{Base, StaticType, flat};
 use sts_syntax::{Expr, Ty, TypedExpr, TypedNode};
-use type_derive::{Role, Wanted, type_of};
+use type_derive::{Context, Role, Wanted, type_of};
 
 /// A typed expression in a box of its own, and its type.
 #[derive(Drop)]
@@ -80,13 +80,12 @@ pub fn kind_of(
 ) -> Result<Option<StaticType>, NoMemory>
     ensures { IfOk result (λ u. u ≡ s.tree_kind plan.now (s.site site.now) given (tree e.now)) }
 {
+    let context = Context {
+        alloc: plan.alloc,
+        tables: plan.tables,
+        classes: plan.classes,
+        known: plan.known,
+    };
     let mut wanted = Wanted::nothing(plan.alloc);
-    type_of(
-        &mut wanted,
-        plan.tables,
-        plan.known,
-        &site.scope,
-        role_of(given),
-        e,
-    )
+    type_of(&mut wanted, &context, &site.scope, role_of(given), e)
 }
