@@ -17,6 +17,16 @@ NOT_MADE = re.compile(r"^\s*(ghost use|ghost |use|pub use|ensures|requires|pub (
 DECIDES = re.compile(r"\b(if|match|else if)\b|let (Some|Ok|\(|Form)")
 
 
+def without_clauses(lines):
+    """Returns the lines with those of clauses empty; a clause ends with its braces."""
+    kept, braces = [], 0
+    for line in lines:
+        clause = braces > 0 or re.match(r"\s*(ensures|requires)\b", line)
+        braces += line.count("{") - line.count("}") if clause else 0
+        kept.append("" if clause else line)
+    return kept
+
+
 def deciding(lines, at):
     """Returns the text that decides whether the line at that place is come to: from where the condition or the match begins."""
     line = lines[at]
@@ -36,7 +46,7 @@ found = []
 for file in sorted(glob.glob("crates/*/src/**/*.rt", recursive=True)):
     if re.search(r"_rows/", file):
         continue
-    lines = [it.partition("//")[0].rstrip() for it in open(file, encoding="utf-8").read().split("\n")]
+    lines = without_clauses([it.partition("//")[0].rstrip() for it in open(file, encoding="utf-8").read().split("\n")])
     function, converts = "", False
     for at, line in enumerate(lines):
         converts = converts and not line.startswith("}")
