@@ -74,24 +74,31 @@ Leaves devices (runs status moves behind) = DevicesAfter devices.account moves d
 
 -- The sink stopped the output of an answer: in the line that the command begins with, before any device was touched, or behind it.
 abbrev pub IsAnswerCut : {B : Type 0} → OfSink → OfDevices B → (lead : List ℕ) → Answer → Type 0
-IsAnswerCut sink devices lead (says status output) = TookPart sink.had sink.has (lead ++ output) × (devices.behind ≡ devices.before)
+IsAnswerCut sink devices lead (says status output) =
+    TookPart sink.had sink.has (lead ++ output) × (devices.behind ≡ devices.before)
 IsAnswerCut sink devices lead (runs status moves behind) =
-    (TookPart sink.had sink.has lead × (devices.behind ≡ devices.before)) ⊎ Stopped devices.account lead moves behind sink.had sink.has devices.before devices.behind
+    (TookPart sink.had sink.has lead × (devices.behind ≡ devices.before))
+    ⊎ Stopped devices.account lead moves behind sink.had sink.has devices.before devices.behind
 
 -- A call that begins with this line and may give these answers ended so: one answer was given whole, or was cut short; or memory was wanting, before
 -- anything was written or behind that line.
-abbrev pub CommandEnds : {B : Type 0} → OfSink → OfDevices B → (lead : List ℕ) → (may : Answer → Type 0) → Ending → Type 0
+abbrev pub CommandEnds : {B : Type 0} → OfSink → OfDevices B
+    → (lead : List ℕ) → (may : Answer → Type 0) → Ending → Type 0
 CommandEnds sink devices lead may (Gave status) =
-    (answer : Answer) × may answer × (status ≡ status_of answer) × Took sink.had sink.has (lead ++ output_of answer) × Leaves devices answer
+    (answer : Answer) × may answer × (status ≡ status_of answer)
+    × Took sink.had sink.has (lead ++ output_of answer) × Leaves devices answer
 CommandEnds sink devices lead may Cut = (answer : Answer) × may answer × IsAnswerCut sink devices lead answer
-CommandEnds sink devices lead may NoMemory = (Took sink.had sink.has [] ⊎ Took sink.had sink.has lead) × (devices.behind ≡ devices.before)
+CommandEnds sink devices lead may NoMemory =
+    (Took sink.had sink.has [] ⊎ Took sink.had sink.has lead) × (devices.behind ≡ devices.before)
 
 -- It ended so, and was cut short only where the sink's count of faults rose.
-pub record Concludes {B : Type 0} (sink : OfSink) (devices : OfDevices B) (lead : List ℕ) (may : Answer → Type 0) (ending : Ending) : Type 0 where
+pub record Concludes {B : Type 0} (sink : OfSink) (devices : OfDevices B) (lead : List ℕ)
+    (may : Answer → Type 0) (ending : Ending) : Type 0 where
   pub ends : CommandEnds sink devices lead may ending
   pub later : sink.failed ≤ sink.fails
   pub cut : ending ≡ Cut → Rose sink.failed sink.fails
 
 -- one of these outputs behind the line that the command begins with
 abbrev pub Led : List ℕ → (Answer → Type 0) → Answer → Type 0
-Led lead may answer = (status : Status) × (output : List ℕ) × may (says status output) × (answer ≡ says status (lead ++ output))
+Led lead may answer =
+    (status : Status) × (output : List ℕ) × may (says status output) × (answer ≡ says status (lead ++ output))

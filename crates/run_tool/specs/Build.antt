@@ -11,7 +11,8 @@ use Rattle.run_tool.specs.Programs.{OverProgram}
 
 -- `build` writes the HEX text of an image, of bytes and within flash, that implements the program.
 abbrev pub WritesImage : TypedProgram → List ByteList → Answer → Type 0
-WritesImage P texts answer = (image : List ℕ) × IsImage image × ImageImplements P texts image × (answer ≡ says Done (hextext image))
+WritesImage P texts answer =
+    (image : List ℕ) × IsImage image × ImageImplements P texts image × (answer ≡ says Done (hextext image))
 
 abbrev pub BuildsText : List ℕ → Answer → Type 0
 BuildsText = OverProgram WritesImage

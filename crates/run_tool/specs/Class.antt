@@ -24,7 +24,12 @@ use Rattle.run_tool.specs.ClassBoards.{BoardSource, OverBoards}
 abbrev pub source_member : BoardSource → world.Member Activity Heap
 source_member board =
     (let texts = board.tables.texts in
-    record { kind = source board.program texts; main = board.program.main; shared = empty board.program texts; script = world_entries board.script.entries })
+    record {
+      kind = source board.program texts;
+      main = board.program.main;
+      shared = empty board.program texts;
+      script = world_entries board.script.entries;
+    })
 
 -- the class of these boards, with the end and the losses of its file
 abbrev pub class_of_sources : ClassFile → List BoardSource → world.Class Activity Heap
@@ -55,7 +60,8 @@ RunsClass C budget answer = RunsWhole C budget answer ⊎ RunsCut C budget answe
 
 -- the answers over a class, and those of `class` to a text
 abbrev pub RunsFile : ToldFiles → (budget : ℕ) → ClassFile → Answer → Type 0
-RunsFile files budget file = OverBoards files file.end 0 file.boards (λ boards. RunsClass (class_of_sources file boards) budget)
+RunsFile files budget file =
+    OverBoards files file.end 0 file.boards (λ boards. RunsClass (class_of_sources file boards) budget)
 
 abbrev pub RunsClassText : ToldFiles → (budget : ℕ) → List ℕ → Answer → Type 0
 RunsClassText files budget = AnswersClassFile (RunsFile files budget)

@@ -30,7 +30,10 @@ board_lead b = count_text b ++ codes " "
 
 -- the answers to the text of board b's program: those to the program as which it is accepted, or its first failure behind the board's number
 abbrev pub OverBoardProgram : (b : ℕ) → (Tables → TypedProgram → Answer → Type 0) → List ℕ → Answer → Type 0
-OverBoardProgram b answers = AnswersRead programs (λ text cause. Led (board_lead b) (AnswersRefusal text cause.0 cause.1)) (λ read. answers read.0 read.1)
+OverBoardProgram b answers =
+    AnswersRead programs
+    (λ text cause. Led (board_lead b) (AnswersRefusal text cause.0 cause.1))
+    (λ read. answers read.0 read.1)
 
 -- why the text of a script doesn't serve a class: it stands for none, by this code; or for this one, which has another end than the class
 pub data Unfit : Type 0 where
@@ -43,11 +46,15 @@ IsUnfit until text (other_end script) = Tells text (Ok script) × (script.end �
 
 -- a text stands for a script that ends with the class, or doesn't serve it
 abbrev pub board_scripts : (until : ℕ) → Reading Script Unfit
-board_scripts until = record { stands_for = λ text script. Tells text (Ok script) × (script.end ≡ until); refuses = IsUnfit until }
+board_scripts until = record {
+  stands_for = λ text script. Tells text (Ok script) × (script.end ≡ until);
+  refuses = IsUnfit until;
+}
 
 -- what is told of board b's script that doesn't serve: the code behind the board's number, or that the end differs
 abbrev pub TellsUnfit : (b : ℕ) → Unfit → Answer → Type 0
-TellsUnfit b (no_script code) answer = answer ≡ says status.ScriptRefused (board_lead b ++ script_refused_line (number_of code))
+TellsUnfit b (no_script code) answer =
+    answer ≡ says status.ScriptRefused (board_lead b ++ script_refused_line (number_of code))
 TellsUnfit b (other_end script) answer = answer ≡ refuses_class EndDiffers
 
 -- the answers to the text of board b's script, by those over the script
@@ -63,9 +70,11 @@ module _ (files : ToldFiles) (until : ℕ) where
   -- over its program, and then its script,
   abbrev pub OverBoard : (b : ℕ) → Names → (BoardSource → Answer → Type 0) → Answer → Type 0
   OverBoard b names answers =
-      AnswersFile files names.program (OverBoardProgram b (λ tables P. OverBoardScript b names.script (λ script. answers (record { program = P; tables = tables; script = script }))))
+      AnswersFile files names.program (OverBoardProgram b (λ tables P.
+      OverBoardScript b names.script (λ script. answers (record { program = P; tables = tables; script = script }))))
 
   -- and over the boards from number b on, one after the other.
   abbrev pub OverBoards : (b : ℕ) → List Names → (List BoardSource → Answer → Type 0) → Answer → Type 0
   OverBoards b [] answers = answers []
-  OverBoards b (names ∷ more) answers = OverBoard b names (λ board. OverBoards (suc b) more (λ boards. answers (board ∷ boards)))
+  OverBoards b (names ∷ more) answers =
+      OverBoard b names (λ board. OverBoards (suc b) more (λ boards. answers (board ∷ boards)))

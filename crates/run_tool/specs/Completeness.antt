@@ -36,10 +36,15 @@ HoldsScript told name = (script : Script) × IsToldScript told name script
 abbrev pub HoldsFiles : (List ℕ → Option (Option (List ℕ))) → Asked → Type 0
 HoldsFiles told (check_program name) = HoldsText told IsProgramText name
 HoldsFiles told (build_program name) = HoldsText told IsProgramText name
-HoldsFiles told (run_program name script budget stats image) = HoldsText told IsProgramText name × HoldsScript told script
-HoldsFiles told (run_image name script budget) = HoldsText told IsImageText name × HoldsScript told script
-HoldsFiles told (run_at name script arrivals budget) = (tables : Tables) × (P : TypedProgram) × (read : Script) × (come : List Arrival) × AreTold told name script arrivals tables P read come
-HoldsFiles told (run_class name budget) = (file : ClassFile) × (boards : List BoardSource) × IsToldClass told name file boards
+HoldsFiles told (run_program name script budget stats image) =
+    HoldsText told IsProgramText name × HoldsScript told script
+HoldsFiles told (run_image name script budget) =
+    HoldsText told IsImageText name × HoldsScript told script
+HoldsFiles told (run_at name script arrivals budget) =
+    (tables : Tables) × (P : TypedProgram) × (read : Script) × (come : List Arrival)
+    × AreTold told name script arrivals tables P read come
+HoldsFiles told (run_class name budget) =
+    (file : ClassFile) × (boards : List BoardSource) × IsToldClass told name file boards
 HoldsFiles told (run_big size budget stats) = IsProgramText (big_text size)
 
 -- the status of a program's run: it ended, or by a panic, or its budget did first; an image's run may also end by a fault
@@ -58,4 +63,6 @@ MayEndWith other number = IsProgramStatus number
 -- Where the files are so, and no count of faults rose, of the folder or the sink, a call ends with such a status, or for want of memory.
 abbrev pub IsComplete : ToldFiles → OfSink → Option Asked → ℕ → Type 0
 IsComplete files sink asked number =
-    (order : Asked) → asked ≡ Some order → HoldsFiles files.told order → ¬ files.rose → ¬ Rose sink.failed sink.fails → MayEndWith order number ⊎ (number ≡ 30)
+    (order : Asked) → asked ≡ Some order → HoldsFiles files.told order
+    → ¬ files.rose → ¬ Rose sink.failed sink.fails
+    → MayEndWith order number ⊎ (number ≡ 30)

@@ -25,7 +25,9 @@ limit = 1048576
 -- What a fetch of the file of this name may come to: its bytes within the limit, that it is absent or too long, or a failure where the folder's
 -- count of faults rose.
 abbrev pub MayFetch : ToldFiles → List ℕ → Fetched → Type 0
-MayFetch files name (Text bytes) = ForSome (files.told name) (λ content. content ≡ Some bytes.items) × (length bytes.items ≤ limit)
+MayFetch files name (Text bytes) =
+    ForSome (files.told name) (λ content. content ≡ Some bytes.items) × (length bytes.items ≤ limit)
 MayFetch files name Absent = ForSome (files.told name) (λ content. content ≡ None)
-MayFetch files name Long = ForSome (files.told name) (λ content. (bytes : List ℕ) × (content ≡ Some bytes) × (limit < length bytes))
+MayFetch files name Long =
+    ForSome (files.told name) (λ content. (bytes : List ℕ) × (content ≡ Some bytes) × (limit < length bytes))
 MayFetch files name Failed = files.rose

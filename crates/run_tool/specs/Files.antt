@@ -15,7 +15,8 @@ AnswersFetched answers Failed answer = answer ≡ says FolderFailed (codes "fold
 
 -- the answers of a command to the file of this name
 abbrev pub AnswersFile : ToldFiles → List ℕ → (List ℕ → Answer → Type 0) → Answer → Type 0
-AnswersFile files name answers answer = (fetched : Fetched) × MayFetch files name fetched × AnswersFetched answers fetched answer
+AnswersFile files name answers answer =
+    (fetched : Fetched) × MayFetch files name fetched × AnswersFetched answers fetched answer
 
 -- A kind of texts: what one stands for, or the cause by which it stands for nothing.
 pub record Reading (T C : Type 0) : Type 1 where
@@ -23,6 +24,8 @@ pub record Reading (T C : Type 0) : Type 1 where
   pub refuses : List ℕ → C → Type 0
 
 -- the answers to a text of such a kind, by those to what it stands for, and to the cause by which it stands for nothing
-abbrev pub AnswersRead : {T C : Type 0} → Reading T C → (tells : List ℕ → C → Answer → Type 0) → (T → Answer → Type 0) → List ℕ → Answer → Type 0
+abbrev pub AnswersRead : {T C : Type 0} → Reading T C
+    → (tells : List ℕ → C → Answer → Type 0) → (T → Answer → Type 0) → List ℕ → Answer → Type 0
 AnswersRead {T} {C} reading tells answers text answer =
-    ((read : T) × reading.stands_for text read × answers read answer) ⊎ ((cause : C) × reading.refuses text cause × tells text cause answer)
+    ((read : T) × reading.stands_for text read × answers read answer)
+    ⊎ ((cause : C) × reading.refuses text cause × tells text cause answer)

@@ -36,15 +36,17 @@ pub record AskedRun : Type 0 where
 -- The script that words name, over a folder that tells this of its files: the one that the file stands for; without a name it has no entries, and ends at 1000 ms.
 abbrev pub IsToldScript : (List ℕ → Option (Option (List ℕ))) → Option (List ℕ) → Script → Type 0
 IsToldScript told None script = script ≡ default_script
-IsToldScript told (Some name) script = (text : List ℕ) × (told name ≡ Some (Some text)) × (length text ≤ limit) × Tells text (Ok script)
+IsToldScript told (Some name) script =
+    (text : List ℕ) × (told name ≡ Some (Some text)) × (length text ≤ limit) × Tells text (Ok script)
 
 -- The words ask for a run, over a folder that tells this of its files: `run P` or `run P S`, or `big N`.
 abbrev pub AsksForRun : (List ℕ → Option (Option (List ℕ))) → Option Asked → AskedRun → Type 0
 AsksForRun told (Some (run_program name script budget stats image)) r =
-    (text : List ℕ) × (told name ≡ Some (Some text)) × Accepts text r.tables r.program × IsToldScript told script r.script
-    × (r.budget ≡ budget) × (r.lead ≡ []) × (r.stats ≡ stats) × (r.image ≡ image)
+    (text : List ℕ) × (told name ≡ Some (Some text)) × Accepts text r.tables r.program
+    × IsToldScript told script r.script × (r.budget ≡ budget) × (r.lead ≡ []) × (r.stats ≡ stats) × (r.image ≡ image)
 AsksForRun told (Some (run_big size budget stats)) r =
-    Accepts (big_text size) r.tables r.program × (r.script ≡ default_script) × (r.budget ≡ budget) × (r.lead ≡ big_line size) × (r.stats ≡ stats) × (r.image ≡ false)
+    Accepts (big_text size) r.tables r.program × (r.script ≡ default_script)
+    × (r.budget ≡ budget) × (r.lead ≡ big_line size) × (r.stats ≡ stats) × (r.image ≡ false)
 AsksForRun told other r = ⊥
 
 -- What a call leaves: its status, the text that it wrote, and the devices.
@@ -64,13 +66,16 @@ source_board r steps = (source_after r.program r.tables.texts r.script steps).bo
 -- First. What was written is the transcript of the source's first counted steps: their lines, and its own closing line where it has ended by then, else the line of the budget; then what is asked for,
 -- where the number of instructions and the image are those of the second part. The steps are no more than the budget's instructions. For each n with 512 n in the budget it is the whole transcript where
 -- the source ends within n steps, else that of at least n. The status is that of the closing line. The devices have the words of what was seen, and those are gone that were unplugged.
-pub record IsTranscript {B : Type 0} (r : AskedRun) (a : Aftermath B) (steps executed : ℕ) (image : List ℕ) : Type 0 where
-  pub written : (let b = source_board r steps in a.written ≡ r.lead ++ (lines b.seen ++ (closing_line b.clock b.end ++ asked_behind r.stats r.image b executed image)))
+pub record IsTranscript {B : Type 0} (r : AskedRun) (a : Aftermath B)
+    (steps executed : ℕ) (image : List ℕ) : Type 0 where
+  pub written : (let b = source_board r steps in a.written ≡ r.lead
+      ++ (lines b.seen ++ (closing_line b.clock b.end ++ asked_behind r.stats r.image b executed image)))
   pub at_most : steps ≤ r.budget
   pub whole : (n : ℕ) → 512 * n ≤ r.budget → over (source_board r n) ≡ true → source_board r steps ≡ source_board r n
   pub at_least : (n : ℕ) → 512 * n ≤ r.budget → (n ≤ steps) ⊎ (over (source_board r steps) ≡ true)
   pub status : a.status ≡ status_number (run_status (source_board r steps).end)
-  pub devices : (let b = source_board r steps in PlacesAfter a.devices.account (entries_at (flat_map words_of b.seen)) (λ port. list_any (λ unplug. unplug.0 == port) b.unplugged) a.devices.before a.devices.behind)
+  pub devices : (let b = source_board r steps in PlacesAfter a.devices.account (entries_at (flat_map words_of b.seen))
+      (λ port. list_any (λ unplug. unplug.0 == port) b.unplugged) a.devices.before a.devices.behind)
 
 -- Second. That is the run of an image that implements the program: for some list of free words the bank machine's run of it looks the same after the instructions executed, at which it has ended,
 -- or which are the whole budget.
@@ -85,7 +90,9 @@ pub record IsRunOfImage (r : AskedRun) (steps executed : ℕ) (image : List ℕ)
 -- program's source, and that is the run of an image.
 abbrev pub Headline : {B : Type 0} → ToldFiles → OfSink → OfDevices B → Option Asked → ℕ → Type 0
 Headline {B} files sink devices asked number =
-    (r : AskedRun) → AsksForRun files.told asked r → ¬ files.rose → ¬ Rose sink.failed sink.fails → (had : List ℕ) → sink.had ≡ Some had
+    (r : AskedRun) → AsksForRun files.told asked r → ¬ files.rose → ¬ Rose sink.failed sink.fails
+    → (had : List ℕ) → sink.had ≡ Some had
     → (written : List ℕ) × (sink.has ≡ Some (had ++ written))
     × (let a : Aftermath B = record { status = number; written = written; devices = devices } in
-    LacksMemory r a ⊎ ((steps executed : ℕ) × (image : List ℕ) × IsTranscript r a steps executed image × IsRunOfImage r steps executed image))
+    LacksMemory r a ⊎ ((steps executed : ℕ) × (image : List ℕ)
+    × IsTranscript r a steps executed image × IsRunOfImage r steps executed image))

@@ -27,7 +27,8 @@ abbrev pub IsTold : (List ℕ → Option (Option (List ℕ))) → List ℕ → L
 IsTold told name bytes = (told name ≡ Some (Some bytes)) × (length bytes ≤ limit)
 
 -- The files of these names are told: a text that is accepted as this program, a script, and arrivals.
-pub record AreTold (told : List ℕ → Option (Option (List ℕ))) (name script_name arrivals_name : List ℕ) (tables : Tables) (P : TypedProgram) (read : Script) (come : List Arrival) : Type 0 where
+pub record AreTold (told : List ℕ → Option (Option (List ℕ))) (name script_name arrivals_name : List ℕ)
+    (tables : Tables) (P : TypedProgram) (read : Script) (come : List Arrival) : Type 0 where
   pub text : List ℕ
   pub text_told : IsTold told name text
   pub accepted : Accepts text tables P
@@ -41,7 +42,8 @@ pub record AreTold (told : List ℕ → Option (Option (List ℕ))) (name script
 -- The program's meaning comes so far on the script: after these counted steps, no more than the budget, and one at least for each 512 of it where it hasn't ended. The first
 -- so many arrivals come behind steps that don't fall, each at most at its number and near it; each whose number is below the budget comes, unless the program has ended
 -- within so many steps.
-pub record ComesSoFar (P : TypedProgram) (texts : List ByteList) (read : Script) (come : List Arrival) (budget : ℕ) : Type 0 where
+pub record ComesSoFar (P : TypedProgram) (texts : List ByteList) (read : Script) (come : List Arrival)
+    (budget : ℕ) : Type 0 where
   pub steps : ℕ
   pub places : List WorldArrival
   pub moves : List Move
@@ -54,7 +56,8 @@ pub record ComesSoFar (P : TypedProgram) (texts : List ByteList) (read : Script)
   pub met : HasMet moves (source_at P texts read places steps).board
 
 -- Its transcript is written, the devices have met what it has met, and the status is that of its end: 0, 3 or 4.
-pub record WritesAt {B : Type 0} (sink : OfSink) (devices : OfDevices B) (P : TypedProgram) (texts : List ByteList) (read : Script) (come : List Arrival) (budget number : ℕ) : Type 0 where
+pub record WritesAt {B : Type 0} (sink : OfSink) (devices : OfDevices B) (P : TypedProgram) (texts : List ByteList)
+    (read : Script) (come : List Arrival) (budget number : ℕ) : Type 0 where
   pub comes : ComesSoFar P texts read come budget
   pub written : Took sink.had sink.has (transcript_of (source_at P texts read comes.places comes.steps).board)
   pub met : DevicesAfter devices.account comes.moves devices.before devices.behind
@@ -64,6 +67,10 @@ pub record WritesAt {B : Type 0} (sink : OfSink) (devices : OfDevices B) (P : Ty
 -- For words that ask for it, over files that are told, and where no count of faults rose: there was no memory, and nothing was written and no device changed; or that.
 abbrev pub HeadlineAt : {B : Type 0} → ToldFiles → OfSink → OfDevices B → Option Asked → ℕ → Type 0
 HeadlineAt files sink devices asked number =
-    (name script_name arrivals_name : List ℕ) (budget : ℕ) (tables : Tables) (P : TypedProgram) (read : Script) (come : List Arrival)
-    → asked ≡ Some (run_at name script_name arrivals_name budget) → AreTold files.told name script_name arrivals_name tables P read come → ¬ files.rose → ¬ Rose sink.failed sink.fails
-    → ((number ≡ 30) × Took sink.had sink.has [] × (devices.behind ≡ devices.before)) ⊎ WritesAt sink devices P tables.texts read come budget number
+    (name script_name arrivals_name : List ℕ) (budget : ℕ)
+    (tables : Tables) (P : TypedProgram) (read : Script) (come : List Arrival)
+    → asked ≡ Some (run_at name script_name arrivals_name budget)
+    → AreTold files.told name script_name arrivals_name tables P read come
+    → ¬ files.rose → ¬ Rose sink.failed sink.fails
+    → ((number ≡ 30) × Took sink.had sink.has [] × (devices.behind ≡ devices.before))
+    ⊎ WritesAt sink devices P tables.texts read come budget number

@@ -23,7 +23,8 @@ use Rattle.run_tool.specs.ClassBoards.{BoardSource}
 use Rattle.run_tool.specs.Class.{class_of_sources}
 
 -- The files of a board are told: a text that is accepted as its program, and its script, which ends with the class.
-pub record IsToldBoard (told : List ℕ → Option (Option (List ℕ))) (until : ℕ) (names : Names) (board : BoardSource) : Type 0 where
+pub record IsToldBoard (told : List ℕ → Option (Option (List ℕ))) (until : ℕ)
+    (names : Names) (board : BoardSource) : Type 0 where
   pub text : List ℕ
   pub text_told : IsTold told names.program text
   pub accepted : Accepts text board.tables board.program
@@ -33,7 +34,8 @@ pub record IsToldBoard (told : List ℕ → Option (Option (List ℕ))) (until :
   pub ends : board.script.end ≡ until
 
 -- The file of this name is told and stands for a class, and so are the files of its boards.
-pub record IsToldClass (told : List ℕ → Option (Option (List ℕ))) (name : List ℕ) (file : ClassFile) (boards : List BoardSource) : Type 0 where
+pub record IsToldClass (told : List ℕ → Option (Option (List ℕ))) (name : List ℕ)
+    (file : ClassFile) (boards : List BoardSource) : Type 0 where
   pub text : List ℕ
   pub text_told : IsTold told name text
   pub is : class.Tells text (Ok file)
@@ -54,6 +56,11 @@ pub record WritesCut (C : Class Activity Heap) (budget : ℕ) (text : ByteList) 
 -- the two was.
 abbrev pub HeadlineClass : {B : Type 0} → ToldFiles → OfSink → OfDevices B → Option Asked → ℕ → Type 0
 HeadlineClass files sink devices asked number =
-    (name : List ℕ) (budget : ℕ) (file : ClassFile) (boards : List BoardSource) → asked ≡ Some (run_class name budget) → IsToldClass files.told name file boards → ¬ files.rose → ¬ Rose sink.failed sink.fails
-    → (devices.behind ≡ devices.before) × (((number ≡ 30) × Took sink.had sink.has [])
-    ⊎ ((text : ByteList) × Took sink.had sink.has text × (WritesWhole (class_of_sources file boards) budget text number ⊎ WritesCut (class_of_sources file boards) budget text number)))
+    (name : List ℕ) (budget : ℕ) (file : ClassFile) (boards : List BoardSource)
+    → asked ≡ Some (run_class name budget) → IsToldClass files.told name file boards
+    → ¬ files.rose → ¬ Rose sink.failed sink.fails
+    → (devices.behind ≡ devices.before)
+    × (((number ≡ 30) × Took sink.had sink.has [])
+    ⊎ ((text : ByteList) × Took sink.had sink.has text
+    × (WritesWhole (class_of_sources file boards) budget text number
+    ⊎ WritesCut (class_of_sources file boards) budget text number)))

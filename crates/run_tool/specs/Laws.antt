@@ -20,21 +20,30 @@ use Rattle.run_tool.specs.Orders.{IsStatusOf}
 -- The status of an answer of `run-hex` is that of a run where the text spells an image and no script is named, and that of a refusal where the text
 -- breaks a rule.
 pub record HexStatuses (told : List ℕ → Option (Option (List ℕ))) (budget : ℕ) (text : List ℕ) : Type 0 where
-  pub spelled : (image : List ℕ) (number : ℕ) → Spells text image → IsStatusOf (RunsHex (unfailing told) None budget text) number
+  pub spelled : (image : List ℕ) (number : ℕ) → Spells text image
+      → IsStatusOf (RunsHex (unfailing told) None budget text) number
       → (number ≡ 0) ⊎ ((number ≡ 3) ⊎ ((number ≡ 4) ⊎ (number ≡ 13)))
-  pub broken : (script : Option (List ℕ)) (code : HexCode) (number : ℕ) → Breaks text code → IsStatusOf (RunsHex (unfailing told) script budget text) number → number ≡ 12
+  pub broken : (script : Option (List ℕ)) (code : HexCode) (number : ℕ) → Breaks text code
+      → IsStatusOf (RunsHex (unfailing told) script budget text) number → number ≡ 12
 
 -- The status of an answer over a program is that of what was done, or of a run, where the text is accepted and no script is named, and that of a refusal where the text isn't accepted.
 pub record ProgramStatuses (told : List ℕ → Option (Option (List ℕ))) (text : List ℕ) : Type 0 where
-  pub checked : (tables : Tables) (P : TypedProgram) (number : ℕ) → Accepts text tables P → IsStatusOf (ChecksText text) number → number ≡ 0
-  pub built : (tables : Tables) (P : TypedProgram) (number : ℕ) → Accepts text tables P → IsStatusOf (BuildsText text) number → number ≡ 0
-  pub ran : (tables : Tables) (P : TypedProgram) (budget : ℕ) (stats image : Bool) (number : ℕ) → Accepts text tables P → IsStatusOf (RunsText (unfailing told) None budget stats image text) number
+  pub checked : (tables : Tables) (P : TypedProgram) (number : ℕ) → Accepts text tables P
+      → IsStatusOf (ChecksText text) number → number ≡ 0
+  pub built : (tables : Tables) (P : TypedProgram) (number : ℕ) → Accepts text tables P
+      → IsStatusOf (BuildsText text) number → number ≡ 0
+  pub ran : (tables : Tables) (P : TypedProgram) (budget : ℕ) (stats image : Bool) (number : ℕ) → Accepts text tables P
+      → IsStatusOf (RunsText (unfailing told) None budget stats image text) number
       → (number ≡ 0) ⊎ ((number ≡ 3) ⊎ (number ≡ 4))
-  pub not_checked : (code : Code) (at number : ℕ) → IsRefusedFor text code at → IsStatusOf (ChecksText text) number → number ≡ 10
-  pub not_built : (code : Code) (at number : ℕ) → IsRefusedFor text code at → IsStatusOf (BuildsText text) number → number ≡ 10
-  pub not_run : (code : Code) (at : ℕ) (script : Option (List ℕ)) (budget : ℕ) (stats image : Bool) (number : ℕ) → IsRefusedFor text code at
+  pub not_checked : (code : Code) (at number : ℕ) → IsRefusedFor text code at
+      → IsStatusOf (ChecksText text) number → number ≡ 10
+  pub not_built : (code : Code) (at number : ℕ) → IsRefusedFor text code at
+      → IsStatusOf (BuildsText text) number → number ≡ 10
+  pub not_run : (code : Code) (at : ℕ) (script : Option (List ℕ)) (budget : ℕ) (stats image : Bool) (number : ℕ)
+      → IsRefusedFor text code at
       → IsStatusOf (RunsText (unfailing told) script budget stats image text) number → number ≡ 10
-  pub not_run_at : (code : Code) (at : ℕ) (script arrivals : List ℕ) (budget number : ℕ) → IsRefusedFor text code at → IsStatusOf (RunsTextAt (unfailing told) script arrivals budget text) number → number ≡ 10
+  pub not_run_at : (code : Code) (at : ℕ) (script arrivals : List ℕ) (budget number : ℕ) → IsRefusedFor text code at
+      → IsStatusOf (RunsTextAt (unfailing told) script arrivals budget text) number → number ≡ 10
 
 -- What `build` writes of a program spells an image that implements it, and no other image.
 pub record WritesReadable (P : TypedProgram) (texts : List ByteList) (answer : Answer) : Type 0 where

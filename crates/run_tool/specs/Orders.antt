@@ -24,11 +24,15 @@ abbrev pub MayAnswer : ToldFiles → Option Asked → Answer → Type 0
 MayAnswer files None answer = answer ≡ says Usage (codes "usage\n")
 MayAnswer files (Some (check_program name)) answer = AnswersFile files name ChecksText answer
 MayAnswer files (Some (build_program name)) answer = AnswersFile files name BuildsText answer
-MayAnswer files (Some (run_program name script budget stats image)) answer = AnswersFile files name (RunsText files script budget stats image) answer
-MayAnswer files (Some (run_image name script budget)) answer = AnswersFile files name (RunsHex files script budget) answer
-MayAnswer files (Some (run_at name script arrivals budget)) answer = AnswersFile files name (RunsTextAt files script arrivals budget) answer
+MayAnswer files (Some (run_program name script budget stats image)) answer =
+    AnswersFile files name (RunsText files script budget stats image) answer
+MayAnswer files (Some (run_image name script budget)) answer =
+    AnswersFile files name (RunsHex files script budget) answer
+MayAnswer files (Some (run_at name script arrivals budget)) answer =
+    AnswersFile files name (RunsTextAt files script arrivals budget) answer
 MayAnswer files (Some (run_class name budget)) answer = AnswersFile files name (RunsClassText files budget) answer
-MayAnswer files (Some (run_big size budget stats)) answer = RunsText files None budget stats false (big_text size) answer
+MayAnswer files (Some (run_big size budget stats)) answer =
+    RunsText files None budget stats false (big_text size) answer
 
 -- the status of one of these answers
 abbrev pub IsStatusOf : (Answer → Type 0) → ℕ → Type 0
@@ -36,7 +40,9 @@ IsStatusOf may number = (answer : Answer) × may answer × (number ≡ status_nu
 
 -- Where no count of faults rises the status is that of an answer that is due where nothing fails, but for want of memory.
 abbrev pub CompletesCommand : ToldFiles → OfSink → Option Asked → ℕ → Type 0
-CompletesCommand files sink asked number = ¬ files.rose → ¬ Rose sink.failed sink.fails → IsStatusOf (MayAnswer (unfailing files.told) asked) number ⊎ (number ≡ 30)
+CompletesCommand files sink asked number =
+    ¬ files.rose → ¬ Rose sink.failed sink.fails
+    → IsStatusOf (MayAnswer (unfailing files.told) asked) number ⊎ (number ≡ 30)
 
 -- the words ask to check, build or run a program, or the one of `big`, or those of a class
 abbrev pub IsOfProgram : Asked → Type 0
@@ -49,12 +55,17 @@ AsksForProgram (Some asked) = IsOfProgram asked
 
 -- the words ask to run an image
 abbrev pub AsksForImage : Option Asked → Type 0
-AsksForImage asked = (name : List ℕ) × (script : Option (List ℕ)) × (budget : ℕ) × (asked ≡ Some (run_image name script budget))
+AsksForImage asked =
+    (name : List ℕ) × (script : Option (List ℕ)) × (budget : ℕ) × (asked ≡ Some (run_image name script budget))
 
 -- the words name a script behind a program or an image, which arrivals may follow; or a class, whose file names scripts
 abbrev pub NamesScript : Option Asked → Type 0
 NamesScript asked =
-    ((name : List ℕ) × (script : List ℕ) × (budget : ℕ) × (stats : Bool) × (image : Bool) × (asked ≡ Some (run_program name (Some script) budget stats image)))
-    ⊎ (((name : List ℕ) × (script : List ℕ) × (budget : ℕ) × (asked ≡ Some (run_image name (Some script) budget)))
-    ⊎ (((name : List ℕ) × (script : List ℕ) × (arrivals : List ℕ) × (budget : ℕ) × (asked ≡ Some (run_at name script arrivals budget)))
-    ⊎ ((name : List ℕ) × (budget : ℕ) × (asked ≡ Some (run_class name budget)))))
+    ((name : List ℕ) × (script : List ℕ) × (budget : ℕ) × (stats : Bool) × (image : Bool)
+    × (asked ≡ Some (run_program name (Some script) budget stats image)))
+    ⊎ (((name : List ℕ) × (script : List ℕ) × (budget : ℕ)
+    × (asked ≡ Some (run_image name (Some script) budget)))
+    ⊎ (((name : List ℕ) × (script : List ℕ) × (arrivals : List ℕ) × (budget : ℕ)
+    × (asked ≡ Some (run_at name script arrivals budget)))
+    ⊎ ((name : List ℕ) × (budget : ℕ)
+    × (asked ≡ Some (run_class name budget)))))

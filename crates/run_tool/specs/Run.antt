@@ -18,7 +18,8 @@ use Rattle.run_tool.specs.Programs.{OverProgram}
 
 -- The answer is the run of a program on a script within a budget of instructions: what the program's source has met after some counted steps, its closing line, and what is asked for behind
 -- it, with the status of its end. An image of bytes that fits into flash implements the program, and its run within the budget reaches these counted steps, for some list of free words.
-pub record RunsProgram (P : TypedProgram) (texts : List ByteList) (script : Script) (budget : ℕ) (stats with_image : Bool) (answer : Answer) : Type 0 where
+pub record RunsProgram (P : TypedProgram) (texts : List ByteList) (script : Script) (budget : ℕ)
+    (stats with_image : Bool) (answer : Answer) : Type 0 where
   pub image : List ℕ
   pub is_image : IsImage image
   pub implements : ImageImplements P texts image
@@ -28,8 +29,10 @@ pub record RunsProgram (P : TypedProgram) (texts : List ByteList) (script : Scri
   pub reaches : ImageReaches P texts image script budget free executed steps
   pub moves : List Move
   pub met : HasMet moves (source_after P texts script steps).board
-  pub is : (let b : Board = (source_after P texts script steps).board in answer ≡ runs (run_status b.end) moves (closing_line b.clock b.end ++ asked_behind stats with_image b executed image))
+  pub is : (let b : Board = (source_after P texts script steps).board in answer ≡ runs (run_status b.end) moves
+      (closing_line b.clock b.end ++ asked_behind stats with_image b executed image))
 
 -- the answers of `run` to a text: the run of the program on the script that is named
 abbrev pub RunsText : ToldFiles → Option (List ℕ) → (budget : ℕ) → (stats with_image : Bool) → List ℕ → Answer → Type 0
-RunsText files script budget stats with_image = OverProgram (λ P texts. OverScript files script (λ read. RunsProgram P texts read budget stats with_image))
+RunsText files script budget stats with_image =
+    OverProgram (λ P texts. OverScript files script (λ read. RunsProgram P texts read budget stats with_image))

@@ -20,19 +20,25 @@ use Rattle.run_tool.specs.Programs.{OverProgram}
 -- The answer is the run of a program on a script, with arrivals, within a budget of instructions: what the program's source has met after some counted steps, where each arrival that
 -- was applied comes at a step of the source's own, and its closing line, with the status of its end. An image implements the program, whose run with the arrivals within the budget
 -- reaches these counted steps, for some list of free words.
-pub record RunsProgramAt (P : TypedProgram) (texts : List ByteList) (script : Script) (arrivals : List Arrival) (budget : ℕ) (answer : Answer) : Type 0 where
+pub record RunsProgramAt (P : TypedProgram) (texts : List ByteList) (script : Script) (arrivals : List Arrival)
+    (budget : ℕ) (answer : Answer) : Type 0 where
   pub image : List ℕ
   pub implements : ImageImplements P texts image
   pub meets : MeetsAt P texts image script (world_arrivals arrivals) budget
-  pub is : (let b : Board = (source_at P texts script meets.places meets.steps).board in answer ≡ runs (run_status b.end) meets.moves (closing_line b.clock b.end))
+  pub is : (let b : Board = (source_at P texts script meets.places meets.steps).board in
+      answer ≡ runs (run_status b.end) meets.moves (closing_line b.clock b.end))
 
 -- the answers over a script: the run of the program with the arrivals that are named
-abbrev pub RunsOnScript : ToldFiles → (arrivals : List ℕ) → (budget : ℕ) → TypedProgram → List ByteList → Script → Answer → Type 0
-RunsOnScript files arrivals budget P texts script = AnswersFile files arrivals (AnswersArrivals (λ come. RunsProgramAt P texts script come budget))
+abbrev pub RunsOnScript : ToldFiles → (arrivals : List ℕ) → (budget : ℕ)
+    → TypedProgram → List ByteList → Script → Answer → Type 0
+RunsOnScript files arrivals budget P texts script =
+    AnswersFile files arrivals (AnswersArrivals (λ come. RunsProgramAt P texts script come budget))
 
 -- the same over the script that is named
-abbrev pub RunsOutside : ToldFiles → (script arrivals : List ℕ) → (budget : ℕ) → TypedProgram → List ByteList → Answer → Type 0
-RunsOutside files script arrivals budget P texts = OverScript files (Some script) (RunsOnScript files arrivals budget P texts)
+abbrev pub RunsOutside : ToldFiles → (script arrivals : List ℕ) → (budget : ℕ)
+    → TypedProgram → List ByteList → Answer → Type 0
+RunsOutside files script arrivals budget P texts =
+    OverScript files (Some script) (RunsOnScript files arrivals budget P texts)
 
 -- the answers of `run-at` to a text
 abbrev pub RunsTextAt : ToldFiles → (script arrivals : List ℕ) → (budget : ℕ) → List ℕ → Answer → Type 0

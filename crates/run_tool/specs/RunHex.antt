@@ -22,4 +22,6 @@ images = record { stands_for = Spells; refuses = Breaks }
 -- the answers of `run-hex` to a text: the run of the image that it spells, on the script that is named, or the rule that it breaks
 abbrev pub RunsHex : ToldFiles → Option (List ℕ) → (budget : ℕ) → List ℕ → Answer → Type 0
 RunsHex files script budget =
-    AnswersRead images (λ text code answer. answer ≡ says status.ImageRefused (image_refused_line (number_of code))) (λ image. OverScript files script (λ read. RunsBoard image read budget))
+    AnswersRead images
+    (λ text code answer. answer ≡ says status.ImageRefused (image_refused_line (number_of code)))
+    (λ image. OverScript files script (λ read. RunsBoard image read budget))

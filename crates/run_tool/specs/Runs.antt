@@ -26,4 +26,5 @@ pub record RunsBoard (image : List ℕ) (script : EventScript) (budget : ℕ) (a
   pub moves : List Move
   pub is_executed : IsExecuted (world_after image script free) budget executed
   pub met : HasMet moves (world_after image script free executed).board
-  pub is : (let b : Board = (world_after image script free executed).board in answer ≡ runs (run_status b.end) moves (closing_line b.clock b.end))
+  pub is : (let b : Board = (world_after image script free executed).board in
+      answer ≡ runs (run_status b.end) moves (closing_line b.clock b.end))

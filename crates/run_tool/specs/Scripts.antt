@@ -32,7 +32,8 @@ scripts = record { stands_for = λ text script. Tells text (Ok script); refuses 
 
 -- the answers to the text of a script, by those over the script
 abbrev pub AnswersScript : (Script → Answer → Type 0) → List ℕ → Answer → Type 0
-AnswersScript = AnswersRead scripts (λ text code answer. answer ≡ says status.ScriptRefused (script_refused_line (number_of code)))
+AnswersScript =
+    AnswersRead scripts (λ text code answer. answer ≡ says status.ScriptRefused (script_refused_line (number_of code)))
 
 -- the answers over the script whose file is named, or over the one of no name
 abbrev pub OverScript : ToldFiles → Option (List ℕ) → (Script → Answer → Type 0) → Answer → Type 0

@@ -25,7 +25,9 @@ none_behind text names = names ≡ []
 
 -- Behind a text of such a kind these are fetched, by what it stands for; and nothing is where it stands for nothing.
 abbrev pub Onwards : {T C : Type 0} → Reading T C → (T → List (List ℕ) → Type 0) → List ℕ → List (List ℕ) → Type 0
-Onwards {T} {C} reading next text names = ((read : T) × reading.stands_for text read × next read names) ⊎ ((cause : C) × reading.refuses text cause × (names ≡ []))
+Onwards {T} {C} reading next text names =
+    ((read : T) × reading.stands_for text read × next read names)
+    ⊎ ((cause : C) × reading.refuses text cause × (names ≡ []))
 
 -- These are fetched; or `lacking` holds, that there was no memory, and nothing is.
 abbrev pub OrLacks : (lacking : Type 0) → (List (List ℕ) → Type 0) → List (List ℕ) → Type 0
@@ -41,7 +43,9 @@ module _ (files : ToldFiles) (lacking : Type 0) where
   -- the file of this name is fetched, if there is memory for its name, and then what the fetch asks for by what it comes to;
   abbrev pub WantsFile : List ℕ → (List ℕ → List (List ℕ) → Type 0) → List (List ℕ) → Type 0
   WantsFile name next [] = lacking
-  WantsFile name next (first ∷ more) = (first ≡ name) × OrLacks lacking (λ names. (fetched : Fetched) × MayFetch files name fetched × WantsBehind next fetched names) more
+  WantsFile name next (first ∷ more) =
+      (first ≡ name) × OrLacks lacking
+      (λ names. (fetched : Fetched) × MayFetch files name fetched × WantsBehind next fetched names) more
 
   -- a script's, if one is named, and then these, where its text stands for one;
   abbrev pub WantsScript : Option (List ℕ) → (List (List ℕ) → Type 0) → List (List ℕ) → Type 0
@@ -56,15 +60,20 @@ module _ (files : ToldFiles) (lacking : Type 0) where
   abbrev pub WantsBoards : (until : ℕ) → List Names → (List (List ℕ) → Type 0) → List (List ℕ) → Type 0
   WantsBoards until [] next = next
   WantsBoards until (names ∷ boards) next =
-      WantsFile names.program (Onwards programs (λ read. WantsFile names.script (Onwards (board_scripts until) (λ script. WantsBoards until boards next))))
+      WantsFile names.program (Onwards programs (λ read.
+      WantsFile names.script (Onwards (board_scripts until) (λ script. WantsBoards until boards next))))
 
   -- What is fetched for what the words ask for, if they are taken.
   abbrev pub Wants : Option Asked → List (List ℕ) → Type 0
   Wants None = wants_none
   Wants (Some (check_program name)) = WantsFile name none_behind
   Wants (Some (build_program name)) = WantsFile name none_behind
-  Wants (Some (run_program name script budget stats image)) = WantsFile name (Onwards programs (λ read. WantsScript script wants_none))
-  Wants (Some (run_image name script budget)) = WantsFile name (Onwards images (λ image. WantsScript script wants_none))
-  Wants (Some (run_at name script arrivals budget)) = WantsFile name (Onwards programs (λ read. WantsOutside script arrivals))
-  Wants (Some (run_class name budget)) = WantsFile name (Onwards classes (λ file. WantsBoards file.end file.boards wants_none))
+  Wants (Some (run_program name script budget stats image)) =
+      WantsFile name (Onwards programs (λ read. WantsScript script wants_none))
+  Wants (Some (run_image name script budget)) =
+      WantsFile name (Onwards images (λ image. WantsScript script wants_none))
+  Wants (Some (run_at name script arrivals budget)) =
+      WantsFile name (Onwards programs (λ read. WantsOutside script arrivals))
+  Wants (Some (run_class name budget)) =
+      WantsFile name (Onwards classes (λ file. WantsBoards file.end file.boards wants_none))
   Wants (Some (run_big size budget stats)) = wants_none

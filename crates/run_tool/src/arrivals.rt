@@ -34,7 +34,8 @@ fn put_arrivals_refused<K: Sink>(out: &mut K, code: ArrivalCode) -> Result<(), P
 
 /// Gives the answer that a text stands for no arrivals.
 fn say_arrivals_refused<K: Sink>(out: &mut K, code: ArrivalCode) -> Ending
-    ensures { GivesOneOf K.taken K.faults out.old out.new (λ answer. answer ≡ says status.ArrivalsRefused (arrivals_refused_line (number_of code))) result }
+    ensures { GivesOneOf K.taken K.faults out.old out.new
+        (λ answer. answer ≡ says status.ArrivalsRefused (arrivals_refused_line (number_of code))) result }
 {
     match put_arrivals_refused(out, code) {
         Ok(()) => Ending::Gave(Status::ArrivalsRefused),
@@ -67,8 +68,11 @@ pub fn arrivals_of<F: Folder, K: Sink>(
     ensures arrivals { IfOk result (IsArrivalsOf (told_by F.holds F.faults folder.old folder.new) name.now) }
     ensures sound { IfOk result IsSound }
     ensures unwritten { OnOk result (K.taken out.new ≡ K.taken out.old) }
-    ensures none { IfErr result (GivesOneOf K.taken K.faults out.old out.new (AnswersFile (told_by F.holds F.faults folder.old folder.new) name.now (AnswersArrivals none_to_read))) }
-    ensures asked { HasAsked F.asked folder.old folder.new (WantsFile (told_by F.holds F.faults folder.old folder.new) (IsErrOf result Ending.NoMemory) name.now none_behind) }
+    ensures none { IfErr result (GivesOneOf K.taken K.faults out.old out.new
+        (AnswersFile (told_by F.holds F.faults folder.old folder.new) name.now (AnswersArrivals none_to_read))) }
+    ensures asked { HasAsked F.asked folder.old folder.new
+        (WantsFile (told_by F.holds F.faults folder.old folder.new) (IsErrOf result Ending.NoMemory)
+        name.now none_behind) }
     ensures folder_later { F.faults folder.old ≤ F.faults folder.new }
     ensures later { K.faults out.old ≤ K.faults out.new }
 {

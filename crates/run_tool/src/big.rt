@@ -117,7 +117,8 @@ fn put_big_line<K: Sink>(out: &mut K, size: u32) -> Result<(), PutFailed>
 fn refuse_big<K: Sink>(out: &mut K, size: u32, text: &[u8], code: Code, at: u32) -> Ending
     requires within { at ≤ length text.now }
     requires fits { at < 4294967295 }
-    ensures { GivesOneOf K.taken K.faults out.old out.new (Led (spec.big_line size) (AnswersRefusal text.now code at)) result }
+    ensures { GivesOneOf K.taken K.faults out.old out.new
+        (Led (spec.big_line size) (AnswersRefusal text.now code at)) result }
 {
     let (line, column) = place(text, at);
     let put = put_big_line(out, size);
@@ -130,7 +131,8 @@ fn refuse_big<K: Sink>(out: &mut K, size: u32, text: &[u8], code: Code, at: u32)
 /// The same for this reason; without memory nothing is given.
 fn say_big_refused<K: Sink>(out: &mut K, size: u32, text: &[u8], why: Refused) -> Ending
     requires { accepting.RefusesText text.now why }
-    ensures { GivesOneOf K.taken K.faults out.old out.new (Led (spec.big_line size) (OverProgram none_to_programs text.now)) result }
+    ensures { GivesOneOf K.taken K.faults out.old out.new
+        (Led (spec.big_line size) (OverProgram none_to_programs text.now)) result }
 {
     refusals_stand_in_their_texts();
     match why {
@@ -151,7 +153,9 @@ fn run_big<K: Sink, D: Device>(
     requires size { vec_len image ≤ flash_end }
     requires budget { IsBudget options.budget }
     ensures { (P : TypedProgram) (texts : List ByteList) → ImageImplements P texts image.items
-        → Concludes (of_sink K.taken K.faults out.old out.new) (of_devices D.account places.old.items places.new.items) (spec.big_line size) (RunsProgram P texts default_script options.budget options.stats options.image) result }
+        → Concludes (of_sink K.taken K.faults out.old out.new)
+        (of_devices D.account places.old.items places.new.items) (spec.big_line size)
+        (RunsProgram P texts default_script options.budget options.stats options.image) result }
 {
     match put_big_line(out, size) {
         Ok(()) => run_program(alloc, image, default_script(alloc), options, out, places),
@@ -169,8 +173,10 @@ fn big_of<K: Sink, D: Device>(
     places: &mut Vec<Option<D>>,
 ) -> Ending
     requires budget { IsBudget options.budget }
-    ensures { Concludes (of_sink K.taken K.faults out.old out.new) (of_devices D.account places.old.items places.new.items) (spec.big_line size)
-        (OverProgram (λ P texts. RunsProgram P texts default_script options.budget options.stats options.image) text.now) result }
+    ensures { Concludes (of_sink K.taken K.faults out.old out.new)
+        (of_devices D.account places.old.items places.new.items) (spec.big_line size)
+        (OverProgram (λ P texts. RunsProgram P texts default_script options.budget options.stats options.image)
+        text.now) result }
 {
     match build(alloc, text) {
         Ok(image) => run_big(alloc, size, image, options, out, places),
@@ -189,8 +195,10 @@ pub fn big<K: Sink, D: Device>(
     requires least { 1 ≤ size }
     requires most { size ≤ 200 }
     requires budget { IsBudget options.budget }
-    ensures { Concludes (of_sink K.taken K.faults out.old out.new) (of_devices D.account places.old.items places.new.items) (spec.big_line size)
-        (OverProgram (λ P texts. RunsProgram P texts default_script options.budget options.stats options.image) (spec.big_text size)) result }
+    ensures { Concludes (of_sink K.taken K.faults out.old out.new)
+        (of_devices D.account places.old.items places.new.items) (spec.big_line size)
+        (OverProgram (λ P texts. RunsProgram P texts default_script options.budget options.stats options.image)
+        (spec.big_text size)) result }
 {
     match big_text(alloc, size) {
         Ok(text) => big_of(alloc, size, &text, options, out, places),

@@ -40,7 +40,8 @@ pub fn image_of<K: Sink>(alloc: Global, text: &[u8], out: &mut K) -> Result<Vec<
 /// Writes an image that implements a program as HEX.
 fn write_image<K: Sink>(alloc: Global, image: Vec<u8>, out: &mut K) -> Ending
     requires size { vec_len image ≤ flash_end }
-    ensures { (P : TypedProgram) (texts : List ByteList) → ImageImplements P texts image.items → GivesOneOf K.taken K.faults out.old out.new (WritesImage P texts) result }
+    ensures { (P : TypedProgram) (texts : List ByteList) → ImageImplements P texts image.items
+        → GivesOneOf K.taken K.faults out.old out.new (WritesImage P texts) result }
 {
     match write_hex(alloc, &image) {
         Ok(hex) => say(out, Status::Done, &hex),
@@ -60,7 +61,8 @@ fn build_text<K: Sink>(alloc: Global, text: &[u8], out: &mut K) -> Ending
 
 /// The command `build`.
 pub fn build<F: Folder, K: Sink>(alloc: Global, name: &str, folder: &mut F, out: &mut K) -> Ending
-    ensures answer { GivesOneOf K.taken K.faults out.old out.new (AnswersFile (told_by F.holds F.faults folder.old folder.new) name.now BuildsText) result }
+    ensures answer { GivesOneOf K.taken K.faults out.old out.new
+        (AnswersFile (told_by F.holds F.faults folder.old folder.new) name.now BuildsText) result }
     ensures asked { HasAsked F.asked folder.old folder.new
         (WantsFile (told_by F.holds F.faults folder.old folder.new) (FoundNoMemory result) name.now none_behind) }
     ensures folder_later { F.faults folder.old ≤ F.faults folder.new }

@@ -28,7 +28,8 @@ fn check_text<K: Sink>(alloc: Global, text: &[u8], out: &mut K) -> Ending
 
 /// The command `check`.
 pub fn check<F: Folder, K: Sink>(alloc: Global, name: &str, folder: &mut F, out: &mut K) -> Ending
-    ensures answer { GivesOneOf K.taken K.faults out.old out.new (AnswersFile (told_by F.holds F.faults folder.old folder.new) name.now ChecksText) result }
+    ensures answer { GivesOneOf K.taken K.faults out.old out.new
+        (AnswersFile (told_by F.holds F.faults folder.old folder.new) name.now ChecksText) result }
     ensures asked { HasAsked F.asked folder.old folder.new
         (WantsFile (told_by F.holds F.faults folder.old folder.new) (FoundNoMemory result) name.now none_behind) }
     ensures folder_later { F.faults folder.old ≤ F.faults folder.new }

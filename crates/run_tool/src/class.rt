@@ -57,7 +57,8 @@ fn run_boards<K: Sink>(
     requires few { length boards.images.items ≤ 8 }
     requires ready { CanRun class.end boards }
     requires budget { IsBudget budget }
-    ensures { (sources : List BoardSource) → Paired IsBuiltAs sources (setups_of boards.images.items boards.scripts.items)
+    ensures { (sources : List BoardSource)
+        → Paired IsBuiltAs sources (setups_of boards.images.items boards.scripts.items)
         → GivesOneOf K.taken K.faults out.old out.new (RunsClass (class_of_sources class sources) budget) result }
 {
     match run_class(
@@ -85,9 +86,11 @@ fn run_file<F: Folder, K: Sink>(
     requires within { IsWithinForm class }
     requires texts { All AreTexts class.boards }
     requires budget { IsBudget budget }
-    ensures answer { GivesOneOf K.taken K.faults out.old out.new (RunsFile (told_by F.holds F.faults folder.old folder.new) budget class) result }
+    ensures answer { GivesOneOf K.taken K.faults out.old out.new
+        (RunsFile (told_by F.holds F.faults folder.old folder.new) budget class) result }
     ensures asked { HasAsked F.asked folder.old folder.new
-        (WantsBoards (told_by F.holds F.faults folder.old folder.new) (FoundNoMemory result) class.end class.boards wants_none) }
+        (WantsBoards (told_by F.holds F.faults folder.old folder.new) (FoundNoMemory result)
+        class.end class.boards wants_none) }
     ensures folder_later { F.faults folder.old ≤ F.faults folder.new }
 {
     match boards_of(alloc, class.end, class.boards.as_slice(), folder, out) {
@@ -105,9 +108,12 @@ fn run_text<F: Folder, K: Sink>(
     out: &mut K,
 ) -> Ending
     requires budget { IsBudget budget }
-    ensures answer { GivesOneOf K.taken K.faults out.old out.new (RunsClassText (told_by F.holds F.faults folder.old folder.new) budget text.now) result }
+    ensures answer { GivesOneOf K.taken K.faults out.old out.new
+        (RunsClassText (told_by F.holds F.faults folder.old folder.new) budget text.now) result }
     ensures asked { HasAsked F.asked folder.old folder.new
-        (OrLacks (FoundNoMemory result) (Onwards classes (λ file. WantsBoards (told_by F.holds F.faults folder.old folder.new) (FoundNoMemory result) file.end file.boards wants_none) text.now)) }
+        (OrLacks (FoundNoMemory result) (Onwards classes
+        (λ file. WantsBoards (told_by F.holds F.faults folder.old folder.new) (FoundNoMemory result)
+        file.end file.boards wants_none) text.now)) }
     ensures folder_later { F.faults folder.old ≤ F.faults folder.new }
 {
     match class_in(alloc, text, out) {
@@ -125,10 +131,14 @@ pub fn class<F: Folder, K: Sink>(
     out: &mut K,
 ) -> Ending
     requires budget { IsBudget budget }
-    ensures answer { GivesOneOf K.taken K.faults out.old out.new (AnswersFile (told_by F.holds F.faults folder.old folder.new) name.now
+    ensures answer { GivesOneOf K.taken K.faults out.old out.new
+        (AnswersFile (told_by F.holds F.faults folder.old folder.new) name.now
         (RunsClassText (told_by F.holds F.faults folder.old folder.new) budget)) result }
     ensures asked { HasAsked F.asked folder.old folder.new
-        (WantsFile (told_by F.holds F.faults folder.old folder.new) (FoundNoMemory result) name.now (Onwards classes (λ file. WantsBoards (told_by F.holds F.faults folder.old folder.new) (FoundNoMemory result) file.end file.boards wants_none))) }
+        (WantsFile (told_by F.holds F.faults folder.old folder.new) (FoundNoMemory result) name.now
+        (Onwards classes
+        (λ file. WantsBoards (told_by F.holds F.faults folder.old folder.new) (FoundNoMemory result)
+        file.end file.boards wants_none))) }
     ensures folder_later { F.faults folder.old ≤ F.faults folder.new }
 {
     match text_of(alloc, name, folder, out) {

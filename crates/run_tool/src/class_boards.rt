@@ -64,7 +64,8 @@ fn put_number<K: Sink>(out: &mut K, number: u32) -> Result<(), PutFailed>
 fn refuse_program<K: Sink>(out: &mut K, number: u32, text: &[u8], code: Code, at: u32) -> Ending
     requires within { at ≤ length text.now }
     requires fits { at < 4294967295 }
-    ensures { GivesOneOf K.taken K.faults out.old out.new (Led (board_lead number) (AnswersRefusal text.now code at)) result }
+    ensures { GivesOneOf K.taken K.faults out.old out.new
+        (Led (board_lead number) (AnswersRefusal text.now code at)) result }
 {
     let (line, column) = place(text, at);
     let led = put_number(out, number);
@@ -95,7 +96,8 @@ fn image_in<K: Sink>(
 ) -> Result<Vec<u8>, Ending>
     ensures built { IfOk result (λ image. Builds text.now image.items) }
     ensures unwritten { OnOk result (K.taken out.new ≡ K.taken out.old) }
-    ensures none { IfErr result (GivesOneOf K.taken K.faults out.old out.new (OverBoardProgram number none_to_boards text.now)) }
+    ensures none { IfErr result (GivesOneOf K.taken K.faults out.old out.new
+        (OverBoardProgram number none_to_boards text.now)) }
     ensures later { K.faults out.old ≤ K.faults out.new }
 {
     match build(alloc, text) {
@@ -112,13 +114,16 @@ fn image_of<F: Folder, K: Sink>(
     folder: &mut F,
     out: &mut K,
 ) -> Result<Vec<u8>, Ending>
-    ensures image { IfOk result (λ image. IsImageOf (told_by F.holds F.faults folder.old folder.new) name.now image.items) }
+    ensures image { IfOk result
+        (λ image. IsImageOf (told_by F.holds F.faults folder.old folder.new) name.now image.items) }
     ensures unwritten { OnOk result (K.taken out.new ≡ K.taken out.old) }
     ensures none { IfErr result (GivesOneOf K.taken K.faults out.old out.new
-        (AnswersFile (told_by F.holds F.faults folder.old folder.new) name.now (OverBoardProgram number none_to_boards))) }
+        (AnswersFile (told_by F.holds F.faults folder.old folder.new) name.now
+        (OverBoardProgram number none_to_boards))) }
     ensures asked { OnOk result (F.asked folder.new ≡ F.asked folder.old ++ name.now ∷ []) }
     ensures stopped { IfErr result (λ ending. HasAsked F.asked folder.old folder.new
-        (WantsFile (told_by F.holds F.faults folder.old folder.new) (FoundNoMemory ending) name.now (Onwards programs (λ read. wants_never)))) }
+        (WantsFile (told_by F.holds F.faults folder.old folder.new) (FoundNoMemory ending) name.now
+        (Onwards programs (λ read. wants_never)))) }
     ensures stays { (file : List ℕ) → F.holds folder.new file ≡ F.holds folder.old file }
     ensures folder_later { F.faults folder.old ≤ F.faults folder.new }
     ensures later { K.faults out.old ≤ K.faults out.new }
@@ -131,7 +136,8 @@ fn image_of<F: Folder, K: Sink>(
 
 /// Puts the line of a refusal of a board's script, behind its number: the code's number.
 fn put_script_refused<K: Sink>(out: &mut K, number: u32, code: ScriptCode) -> Result<(), PutFailed>
-    ensures { PutsTo K.taken K.faults out.old out.new (board_lead number ++ script_refused_line (number_of code)) result }
+    ensures { PutsTo K.taken K.faults out.old out.new
+        (board_lead number ++ script_refused_line (number_of code)) result }
 {
     let put = put_number(out, number);
     let put = then_put(put, out, b"script refused ");
@@ -141,7 +147,9 @@ fn put_script_refused<K: Sink>(out: &mut K, number: u32, code: ScriptCode) -> Re
 
 /// Gives the answer that the text of a board's script stands for none.
 fn say_script_refused<K: Sink>(out: &mut K, number: u32, code: ScriptCode) -> Ending
-    ensures { GivesOneOf K.taken K.faults out.old out.new (λ answer. answer ≡ says status.ScriptRefused (board_lead number ++ script_refused_line (number_of code))) result }
+    ensures { GivesOneOf K.taken K.faults out.old out.new
+        (λ answer. answer ≡ says status.ScriptRefused
+        (board_lead number ++ script_refused_line (number_of code))) result }
 {
     match put_script_refused(out, number, code) {
         Ok(()) => Ending::Gave(Status::ScriptRefused),
@@ -155,7 +163,8 @@ fn with_end<K: Sink>(script: Script, end: u32, out: &mut K) -> Result<Script, En
     ensures ends { OnOk result (script.end ≡ end) }
     ensures unwritten { OnOk result (K.taken out.new ≡ K.taken out.old) }
     ensures differs { IfErr result (λ ending. script.end ≢ end) }
-    ensures none { IfErr result (GivesOneOf K.taken K.faults out.old out.new (λ answer. answer ≡ refuses_class class_code.EndDiffers)) }
+    ensures none { IfErr result (GivesOneOf K.taken K.faults out.old out.new
+        (λ answer. answer ≡ refuses_class class_code.EndDiffers)) }
     ensures later { K.faults out.old ≤ K.faults out.new }
 {
     if script.end == end {
@@ -177,7 +186,8 @@ fn script_in<K: Sink>(
     ensures sound { IfOk result IsSound }
     ensures ends { IfOk result (λ script. script.end ≡ end) }
     ensures unwritten { OnOk result (K.taken out.new ≡ K.taken out.old) }
-    ensures none { IfErr result (GivesOneOf K.taken K.faults out.old out.new (AnswersBoardScript number end none_to_read text.now)) }
+    ensures none { IfErr result (GivesOneOf K.taken K.faults out.old out.new
+        (AnswersBoardScript number end none_to_read text.now)) }
     ensures later { K.faults out.old ≤ K.faults out.new }
 {
     match read_script(alloc, text) {
@@ -203,7 +213,8 @@ fn script_of<F: Folder, K: Sink>(
         (OverBoardScript (told_by F.holds F.faults folder.old folder.new) end number name.now none_to_read)) }
     ensures asked { OnOk result (F.asked folder.new ≡ F.asked folder.old ++ name.now ∷ []) }
     ensures stopped { IfErr result (λ ending. HasAsked F.asked folder.old folder.new
-        (WantsFile (told_by F.holds F.faults folder.old folder.new) (FoundNoMemory ending) name.now (Onwards (board_scripts end) (λ script. wants_never)))) }
+        (WantsFile (told_by F.holds F.faults folder.old folder.new) (FoundNoMemory ending) name.now
+        (Onwards (board_scripts end) (λ script. wants_never)))) }
     ensures stays { (file : List ℕ) → F.holds folder.new file ≡ F.holds folder.old file }
     ensures folder_later { F.faults folder.old ≤ F.faults folder.new }
     ensures later { K.faults out.old ≤ K.faults out.new }
@@ -252,13 +263,15 @@ impl Boards {
         folder: &mut F,
         out: &mut K,
     ) -> Result<(), Ending>
-        ensures added { OnOk result (HasScript (told_by F.holds F.faults folder.old folder.new) end name.now image self.old self.new) }
+        ensures added { OnOk result
+            (HasScript (told_by F.holds F.faults folder.old folder.new) end name.now image self.old self.new) }
         ensures unwritten { OnOk result (K.taken out.new ≡ K.taken out.old) }
         ensures none { IfErr result (GivesOneOf K.taken K.faults out.old out.new
             (OverBoardScript (told_by F.holds F.faults folder.old folder.new) end number name.now none_to_read)) }
         ensures asked { OnOk result (F.asked folder.new ≡ F.asked folder.old ++ name.now ∷ []) }
         ensures stopped { IfErr result (λ ending. HasAsked F.asked folder.old folder.new
-            (WantsFile (told_by F.holds F.faults folder.old folder.new) (FoundNoMemory ending) name.now (Onwards (board_scripts end) (λ script. wants_never)))) }
+            (WantsFile (told_by F.holds F.faults folder.old folder.new) (FoundNoMemory ending) name.now
+            (Onwards (board_scripts end) (λ script. wants_never)))) }
         ensures stays { (file : List ℕ) → F.holds folder.new file ≡ F.holds folder.old file }
         ensures folder_later { F.faults folder.old ≤ F.faults folder.new }
         ensures later { K.faults out.old ≤ K.faults out.new }
@@ -280,13 +293,15 @@ impl Boards {
         out: &mut K,
     ) -> Result<(), Ending>
         requires { AreTexts names.now }
-        ensures added { OnOk result (HasAdded (told_by F.holds F.faults folder.old folder.new) end names.now self.old self.new) }
+        ensures added { OnOk result
+            (HasAdded (told_by F.holds F.faults folder.old folder.new) end names.now self.old self.new) }
         ensures unwritten { OnOk result (K.taken out.new ≡ K.taken out.old) }
         ensures none { IfErr result (GivesOneOf K.taken K.faults out.old out.new
             (OverBoard (told_by F.holds F.faults folder.old folder.new) end number names.now none_to_read)) }
         ensures asked { OnOk result (F.asked folder.new ≡ F.asked folder.old ++ names_of_boards (names.now ∷ [])) }
         ensures stopped { IfErr result (λ ending. HasAsked F.asked folder.old folder.new
-            (WantsBoards (told_by F.holds F.faults folder.old folder.new) (FoundNoMemory ending) end (names.now ∷ []) wants_never)) }
+            (WantsBoards (told_by F.holds F.faults folder.old folder.new) (FoundNoMemory ending)
+            end (names.now ∷ []) wants_never)) }
         ensures stays { (file : List ℕ) → F.holds folder.new file ≡ F.holds folder.old file }
         ensures folder_later { F.faults folder.old ≤ F.faults folder.new }
         ensures later { K.faults out.old ≤ K.faults out.new }
@@ -316,7 +331,8 @@ pub fn boards_of<F: Folder, K: Sink>(
         (OverBoards (told_by F.holds F.faults folder.old folder.new) end 0 names.now none_to_read)) }
     ensures asked { OnOk result (F.asked folder.new ≡ F.asked folder.old ++ names_of_boards names.now) }
     ensures stopped { IfErr result (λ ending. HasAsked F.asked folder.old folder.new
-        (WantsBoards (told_by F.holds F.faults folder.old folder.new) (FoundNoMemory ending) end names.now wants_never)) }
+        (WantsBoards (told_by F.holds F.faults folder.old folder.new) (FoundNoMemory ending)
+        end names.now wants_never)) }
     ensures folder_later { F.faults folder.old ≤ F.faults folder.new }
     ensures later { K.faults out.old ≤ K.faults out.new }
 {

@@ -41,10 +41,13 @@ fn perform_order<F: Folder, K: Sink, D: Device>(
     places: &mut Vec<Option<D>>,
 ) -> Ending
     requires { IsInRange order }
-    ensures answer { Concludes (of_sink K.taken K.faults out.old out.new) (of_devices D.account places.old.items places.new.items) (lead_of (Some (order_view order.entry)))
+    ensures answer { Concludes (of_sink K.taken K.faults out.old out.new)
+        (of_devices D.account places.old.items places.new.items)
+        (lead_of (Some (order_view order.entry)))
         (MayAnswer (told_by F.holds F.faults folder.old folder.new) (Some (order_view order.entry))) result }
     ensures asked { HasAsked F.asked folder.old folder.new
-        (Wants (told_by F.holds F.faults folder.old folder.new) (FoundNoMemory result) (Some (order_view order.entry))) }
+        (Wants (told_by F.holds F.faults folder.old folder.new) (FoundNoMemory result)
+        (Some (order_view order.entry))) }
     ensures folder_later { F.faults folder.old ≤ F.faults folder.new }
 {
     match order {
@@ -110,10 +113,13 @@ fn perform<F: Folder, K: Sink, D: Device>(
     out: &mut K,
     places: &mut Vec<Option<D>>,
 ) -> Ending
-    ensures answer { Concludes (of_sink K.taken K.faults out.old out.new) (of_devices D.account places.old.items places.new.items) (lead_of (order_of (map string_bytes words.now)))
+    ensures answer { Concludes (of_sink K.taken K.faults out.old out.new)
+        (of_devices D.account places.old.items places.new.items)
+        (lead_of (order_of (map string_bytes words.now)))
         (MayAnswer (told_by F.holds F.faults folder.old folder.new) (order_of (map string_bytes words.now))) result }
     ensures asked { HasAsked F.asked folder.old folder.new
-        (Wants (told_by F.holds F.faults folder.old folder.new) (FoundNoMemory result) (order_of (map string_bytes words.now))) }
+        (Wants (told_by F.holds F.faults folder.old folder.new) (FoundNoMemory result)
+        (order_of (map string_bytes words.now))) }
     ensures folder_later { F.faults folder.old ≤ F.faults folder.new }
     ensures untouched { order_of (map string_bytes words.now) ≡ None → folder.new ≡ folder.old }
 {
@@ -175,17 +181,27 @@ pub fn sts_main<F: Folder, K: Sink>(
     out: &mut K,
     plugs: &mut Vec<Option<Box<dyn Device>>>,
 ) -> u8
-    ensures headline { Headline (told_by F.holds F.faults folder.old folder.new) (of_sink K.taken K.faults out.old out.new)
-        (of_devices ⟦<Box<dyn Device> as Device>⟧.account plugs.old.items plugs.new.items) (order_of (map string_bytes words.now)) result }
+    ensures headline { Headline (told_by F.holds F.faults folder.old folder.new)
+        (of_sink K.taken K.faults out.old out.new)
+        (of_devices ⟦<Box<dyn Device> as Device>⟧.account plugs.old.items plugs.new.items)
+        (order_of (map string_bytes words.now)) result }
     ensures ends { (ending : Ending) × (result ≡ ending_number ending)
-        × Concludes (of_sink K.taken K.faults out.old out.new) (of_devices ⟦<Box<dyn Device> as Device>⟧.account plugs.old.items plugs.new.items)
-        (lead_of (order_of (map string_bytes words.now))) (MayAnswer (told_by F.holds F.faults folder.old folder.new) (order_of (map string_bytes words.now))) ending }
-    ensures completes { CompletesCommand (told_by F.holds F.faults folder.old folder.new) (of_sink K.taken K.faults out.old out.new) (order_of (map string_bytes words.now)) result }
-    ensures complete { IsComplete (told_by F.holds F.faults folder.old folder.new) (of_sink K.taken K.faults out.old out.new) (order_of (map string_bytes words.now)) result }
-    ensures headline_at { HeadlineAt (told_by F.holds F.faults folder.old folder.new) (of_sink K.taken K.faults out.old out.new)
-        (of_devices ⟦<Box<dyn Device> as Device>⟧.account plugs.old.items plugs.new.items) (order_of (map string_bytes words.now)) result }
-    ensures headline_class { HeadlineClass (told_by F.holds F.faults folder.old folder.new) (of_sink K.taken K.faults out.old out.new)
-        (of_devices ⟦<Box<dyn Device> as Device>⟧.account plugs.old.items plugs.new.items) (order_of (map string_bytes words.now)) result }
+        × Concludes (of_sink K.taken K.faults out.old out.new)
+        (of_devices ⟦<Box<dyn Device> as Device>⟧.account plugs.old.items plugs.new.items)
+        (lead_of (order_of (map string_bytes words.now)))
+        (MayAnswer (told_by F.holds F.faults folder.old folder.new) (order_of (map string_bytes words.now))) ending }
+    ensures completes { CompletesCommand (told_by F.holds F.faults folder.old folder.new)
+        (of_sink K.taken K.faults out.old out.new) (order_of (map string_bytes words.now)) result }
+    ensures complete { IsComplete (told_by F.holds F.faults folder.old folder.new)
+        (of_sink K.taken K.faults out.old out.new) (order_of (map string_bytes words.now)) result }
+    ensures headline_at { HeadlineAt (told_by F.holds F.faults folder.old folder.new)
+        (of_sink K.taken K.faults out.old out.new)
+        (of_devices ⟦<Box<dyn Device> as Device>⟧.account plugs.old.items plugs.new.items)
+        (order_of (map string_bytes words.now)) result }
+    ensures headline_class { HeadlineClass (told_by F.holds F.faults folder.old folder.new)
+        (of_sink K.taken K.faults out.old out.new)
+        (of_devices ⟦<Box<dyn Device> as Device>⟧.account plugs.old.items plugs.new.items)
+        (order_of (map string_bytes words.now)) result }
     ensures refused { result ≡ 10 → AsksForProgram (order_of (map string_bytes words.now)) }
     ensures script_refused { result ≡ 11 → NamesScript (order_of (map string_bytes words.now)) }
     ensures image_refused { result ≡ 12 → AsksForImage (order_of (map string_bytes words.now)) }
@@ -194,7 +210,8 @@ pub fn sts_main<F: Folder, K: Sink>(
     ensures sink_failed { result ≡ 22 → Rose (K.faults out.old) (K.faults out.new) }
     ensures untouched { order_of (map string_bytes words.now) ≡ None → folder.new ≡ folder.old }
     ensures asked { HasAsked F.asked folder.old folder.new
-        (Wants (told_by F.holds F.faults folder.old folder.new) (result ≡ 30) (order_of (map string_bytes words.now))) }
+        (Wants (told_by F.holds F.faults folder.old folder.new) (result ≡ 30)
+        (order_of (map string_bytes words.now))) }
 {
     one_answer();
     perform(alloc, words, folder, out, plugs).number()

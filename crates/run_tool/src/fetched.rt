@@ -29,9 +29,11 @@ pub enum Fetched {
 
 /// Fetches the file of that name.
 fn fetch<F: Folder>(alloc: Global, name: &str, folder: &mut F) -> Result<Fetched, NoMemory>
-    ensures fetched { IfOk result (λ fetched. MayFetch (told_by F.holds F.faults folder.old folder.new) name.now fetched) }
+    ensures fetched { IfOk result
+        (λ fetched. MayFetch (told_by F.holds F.faults folder.old folder.new) name.now fetched) }
     ensures asked { OnOk result (F.asked folder.new ≡ F.asked folder.old ++ name.now ∷ []) }
-    ensures lacking { OnErr result ((F.asked folder.new ≡ F.asked folder.old ++ name.now ∷ []) ⊎ (F.asked folder.new ≡ F.asked folder.old)) }
+    ensures lacking { OnErr result ((F.asked folder.new ≡ F.asked folder.old ++ name.now ∷ [])
+        ⊎ (F.asked folder.new ≡ F.asked folder.old)) }
     ensures stays { (file : List ℕ) → F.holds folder.new file ≡ F.holds folder.old file }
     ensures later { F.faults folder.old ≤ F.faults folder.new }
 {
@@ -51,9 +53,11 @@ pub fn text_of<F: Folder, K: Sink>(
     folder: &mut F,
     out: &mut K,
 ) -> Result<Vec<u8>, Ending>
-    ensures text { IfOk result (λ text. MayFetch (told_by F.holds F.faults folder.old folder.new) name.now (Fetched.Text text)) }
+    ensures text { IfOk result
+        (λ text. MayFetch (told_by F.holds F.faults folder.old folder.new) name.now (Fetched.Text text)) }
     ensures unwritten { OnOk result (K.taken out.new ≡ K.taken out.old) }
-    ensures none { IfErr result (GivesOneOf K.taken K.faults out.old out.new (AnswersFile (told_by F.holds F.faults folder.old folder.new) name.now none_to_read)) }
+    ensures none { IfErr result (GivesOneOf K.taken K.faults out.old out.new
+        (AnswersFile (told_by F.holds F.faults folder.old folder.new) name.now none_to_read)) }
     ensures asked { OnOk result (F.asked folder.new ≡ F.asked folder.old ++ name.now ∷ []) }
     ensures stopped { IfErr result (λ ending. HasAsked F.asked folder.old folder.new
         (WantsFile (told_by F.holds F.faults folder.old folder.new) (FoundNoMemory ending) name.now never_behind)) }

@@ -26,7 +26,8 @@ pub fn statuses_of_programs()
 
 /// What `build` writes of a program spells an image that implements the program, and no other: so `read_hex`, which gives the image that a text spells, reads it back.
 pub fn built_texts_are_read_back()
-    ensures { (P : TypedProgram) (texts : List ByteList) (answer : Answer) → WritesImage P texts answer → WritesReadable P texts answer }
+    ensures { (P : TypedProgram) (texts : List ByteList) (answer : Answer)
+        → WritesImage P texts answer → WritesReadable P texts answer }
 {
     round_trip();
 }

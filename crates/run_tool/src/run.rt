@@ -76,7 +76,8 @@ fn then_put_count<K: Sink>(
 
 /// Puts the line of statistics.
 fn put_stats<K: Sink>(out: &mut K, stats: &Stats) -> Result<(), PutFailed>
-    ensures { PutsTo K.taken K.faults out.old out.new (stats_line stats.now.spawned stats.now.blocked stats.now.words stats.now.seats) result }
+    ensures { PutsTo K.taken K.faults out.old out.new
+        (stats_line stats.now.spawned stats.now.blocked stats.now.words stats.now.seats) result }
 {
     let put = then_put(Ok(()), out, b"stats spawned ");
     let put = then_put_count(put, out, stats.spawned);
@@ -98,7 +99,8 @@ fn then_put_image<K: Sink>(
 ) -> Result<(), PutFailed>
     ensures { (taken : Option (List ℕ)) (faults : ℕ) (text : List ℕ)
         → Puts taken (K.taken out.old) faults (K.faults out.old) text before
-        → Puts taken (K.taken out.new) faults (K.faults out.new) (text ++ (instructions_line executed ++ hex.now)) result }
+        → Puts taken (K.taken out.new) faults (K.faults out.new)
+        (text ++ (instructions_line executed ++ hex.now)) result }
 {
     let put = then_put(before, out, b"instructions ");
     let put = then_put_count(put, out, executed);
@@ -113,7 +115,8 @@ fn put_asked<K: Sink>(
     stats: &Stats,
     hex: &[u8],
 ) -> Result<(), PutFailed>
-    ensures { PutsTo K.taken K.faults out.old out.new (counted_behind options.stats options.image stats.now hex.now) result }
+    ensures { PutsTo K.taken K.faults out.old out.new
+        (counted_behind options.stats options.image stats.now hex.now) result }
 {
     if options.stats {
         let put = put_stats(out, stats);
@@ -129,7 +132,8 @@ fn put_asked<K: Sink>(
 
 /// How a call ends whose run ended so; what is asked for is put behind a run that the sink didn't stop.
 fn finish<K: Sink>(out: &mut K, end: End, options: RunOptions, stats: &Stats, hex: &[u8]) -> Ending
-    ensures { FinishesRun (K.taken out.old) (K.taken out.new) (K.faults out.old) (K.faults out.new) (ending_of end) (counted_behind options.stats options.image stats.now hex.now) result }
+    ensures { FinishesRun (K.taken out.old) (K.taken out.new) (K.faults out.old) (K.faults out.new) (ending_of end)
+        (counted_behind options.stats options.image stats.now hex.now) result }
 {
     match ending_of(end) {
         Ending::Gave(status) => match put_asked(out, options, stats, hex) {
@@ -156,7 +160,9 @@ fn run_with<K: Sink, D: Device>(
     requires script { IsSound script }
     requires budget { IsBudget options.budget }
     ensures { (P : TypedProgram) (texts : List ByteList) → ImageImplements P texts image.items
-        → Concludes (of_sink K.taken K.faults out.old out.new) (of_devices D.account places.old.items places.new.items) [] (RunsProgram P texts script options.budget options.stats options.image) result }
+        → Concludes (of_sink K.taken K.faults out.old out.new)
+        (of_devices D.account places.old.items places.new.items) []
+        (RunsProgram P texts script options.budget options.stats options.image) result }
 {
     match run_image(alloc, image, script, places, options.budget, out) {
         Ok((end, stats)) => finish(out, end, options, &stats, hex),
@@ -189,7 +195,9 @@ pub fn run_program<K: Sink, D: Device>(
     requires script { IsSound script }
     requires budget { IsBudget options.budget }
     ensures { (P : TypedProgram) (texts : List ByteList) → ImageImplements P texts image.items
-        → Concludes (of_sink K.taken K.faults out.old out.new) (of_devices D.account places.old.items places.new.items) [] (RunsProgram P texts script options.budget options.stats options.image) result }
+        → Concludes (of_sink K.taken K.faults out.old out.new)
+        (of_devices D.account places.old.items places.new.items) []
+        (RunsProgram P texts script options.budget options.stats options.image) result }
 {
     match hex_of(alloc, &image, options) {
         Ok(hex) => run_with(alloc, image, &hex, script, options, out, places),
@@ -209,11 +217,14 @@ fn run_named<F: Folder, K: Sink, D: Device>(
     requires size { vec_len image ≤ flash_end }
     requires budget { IsBudget asked.options.budget }
     ensures answer { (P : TypedProgram) (texts : List ByteList) → ImageImplements P texts image.items
-        → Concludes (of_sink K.taken K.faults out.old out.new) (of_devices D.account places.old.items places.new.items) []
+        → Concludes (of_sink K.taken K.faults out.old out.new)
+        (of_devices D.account places.old.items places.new.items) []
         (OverScript (told_by F.holds F.faults folder.old folder.new) (option_map spoken asked.entry.script)
-        (λ read. RunsProgram P texts read asked.entry.options.budget asked.entry.options.stats asked.entry.options.image)) result }
+        (λ read. RunsProgram P texts read
+        asked.entry.options.budget asked.entry.options.stats asked.entry.options.image)) result }
     ensures asked { HasAsked F.asked folder.old folder.new
-        (WantsScript (told_by F.holds F.faults folder.old folder.new) (FoundNoMemory result) (option_map spoken asked.entry.script) wants_none) }
+        (WantsScript (told_by F.holds F.faults folder.old folder.new) (FoundNoMemory result)
+        (option_map spoken asked.entry.script) wants_none) }
     ensures folder_later { F.faults folder.old ≤ F.faults folder.new }
 {
     match script_of(alloc, asked.script, folder, out) {
@@ -232,10 +243,14 @@ fn run_text<F: Folder, K: Sink, D: Device>(
     places: &mut Vec<Option<D>>,
 ) -> Ending
     requires budget { IsBudget asked.options.budget }
-    ensures answer { Concludes (of_sink K.taken K.faults out.old out.new) (of_devices D.account places.old.items places.new.items) []
-        (RunsText (told_by F.holds F.faults folder.old folder.new) (option_map spoken asked.entry.script) asked.entry.options.budget asked.entry.options.stats asked.entry.options.image text.now) result }
+    ensures answer { Concludes (of_sink K.taken K.faults out.old out.new)
+        (of_devices D.account places.old.items places.new.items) []
+        (RunsText (told_by F.holds F.faults folder.old folder.new) (option_map spoken asked.entry.script)
+        asked.entry.options.budget asked.entry.options.stats asked.entry.options.image text.now) result }
     ensures asked { HasAsked F.asked folder.old folder.new
-        (OrLacks (FoundNoMemory result) (Onwards programs (λ read. WantsScript (told_by F.holds F.faults folder.old folder.new) (FoundNoMemory result) (option_map spoken asked.entry.script) wants_none) text.now)) }
+        (OrLacks (FoundNoMemory result) (Onwards programs
+        (λ read. WantsScript (told_by F.holds F.faults folder.old folder.new) (FoundNoMemory result)
+        (option_map spoken asked.entry.script) wants_none) text.now)) }
     ensures folder_later { F.faults folder.old ≤ F.faults folder.new }
 {
     match image_of(alloc, text, out) {
@@ -254,11 +269,16 @@ pub fn run<F: Folder, K: Sink, D: Device>(
     places: &mut Vec<Option<D>>,
 ) -> Ending
     requires budget { IsBudget asked.options.budget }
-    ensures answer { Concludes (of_sink K.taken K.faults out.old out.new) (of_devices D.account places.old.items places.new.items) []
+    ensures answer { Concludes (of_sink K.taken K.faults out.old out.new)
+        (of_devices D.account places.old.items places.new.items) []
         (AnswersFile (told_by F.holds F.faults folder.old folder.new) name.now
-        (RunsText (told_by F.holds F.faults folder.old folder.new) (option_map spoken asked.entry.script) asked.entry.options.budget asked.entry.options.stats asked.entry.options.image)) result }
+        (RunsText (told_by F.holds F.faults folder.old folder.new) (option_map spoken asked.entry.script)
+        asked.entry.options.budget asked.entry.options.stats asked.entry.options.image)) result }
     ensures asked { HasAsked F.asked folder.old folder.new
-        (WantsFile (told_by F.holds F.faults folder.old folder.new) (FoundNoMemory result) name.now (Onwards programs (λ read. WantsScript (told_by F.holds F.faults folder.old folder.new) (FoundNoMemory result) (option_map spoken asked.entry.script) wants_none))) }
+        (WantsFile (told_by F.holds F.faults folder.old folder.new) (FoundNoMemory result) name.now
+        (Onwards programs
+        (λ read. WantsScript (told_by F.holds F.faults folder.old folder.new) (FoundNoMemory result)
+        (option_map spoken asked.entry.script) wants_none))) }
     ensures folder_later { F.faults folder.old ≤ F.faults folder.new }
 {
     match text_of(alloc, name, folder, out) {

@@ -54,7 +54,9 @@ fn run_board_at<K: Sink, D: Device>(
     requires arrivals { IsSound arrivals.now }
     requires budget { IsBudget budget }
     ensures { (P : TypedProgram) (texts : List ByteList) → ImageImplements P texts image.items
-        → Concludes (of_sink K.taken K.faults out.old out.new) (of_devices D.account places.old.items places.new.items) [] (RunsProgramAt P texts script arrivals.now budget) result }
+        → Concludes (of_sink K.taken K.faults out.old out.new)
+        (of_devices D.account places.old.items places.new.items) []
+        (RunsProgramAt P texts script arrivals.now budget) result }
 {
     match run_image_at(alloc, image, script, arrivals, places, budget, out) {
         Ok(end) => ending_of(end),
@@ -76,10 +78,13 @@ fn run_on_script<F: Folder, K: Sink, D: Device>(
     requires script { script_sound.IsSound script }
     requires budget { IsBudget outside.budget }
     ensures answer { (P : TypedProgram) (texts : List ByteList) → ImageImplements P texts image.items
-        → Concludes (of_sink K.taken K.faults out.old out.new) (of_devices D.account places.old.items places.new.items) []
-        (RunsOnScript (told_by F.holds F.faults folder.old folder.new) outside.entry.arrivals.now outside.entry.budget P texts script) result }
+        → Concludes (of_sink K.taken K.faults out.old out.new)
+        (of_devices D.account places.old.items places.new.items) []
+        (RunsOnScript (told_by F.holds F.faults folder.old folder.new)
+        outside.entry.arrivals.now outside.entry.budget P texts script) result }
     ensures asked { HasAsked F.asked folder.old folder.new
-        (WantsFile (told_by F.holds F.faults folder.old folder.new) (FoundNoMemory result) outside.entry.arrivals.now none_behind) }
+        (WantsFile (told_by F.holds F.faults folder.old folder.new) (FoundNoMemory result)
+        outside.entry.arrivals.now none_behind) }
     ensures folder_later { F.faults folder.old ≤ F.faults folder.new }
 {
     match arrivals_of(alloc, outside.arrivals, folder, out) {
@@ -100,10 +105,13 @@ fn run_outside<F: Folder, K: Sink, D: Device>(
     requires size { vec_len image ≤ flash_end }
     requires budget { IsBudget outside.budget }
     ensures answer { (P : TypedProgram) (texts : List ByteList) → ImageImplements P texts image.items
-        → Concludes (of_sink K.taken K.faults out.old out.new) (of_devices D.account places.old.items places.new.items) []
-        (RunsOutside (told_by F.holds F.faults folder.old folder.new) outside.entry.script.now outside.entry.arrivals.now outside.entry.budget P texts) result }
+        → Concludes (of_sink K.taken K.faults out.old out.new)
+        (of_devices D.account places.old.items places.new.items) []
+        (RunsOutside (told_by F.holds F.faults folder.old folder.new)
+        outside.entry.script.now outside.entry.arrivals.now outside.entry.budget P texts) result }
     ensures asked { HasAsked F.asked folder.old folder.new
-        (WantsOutside (told_by F.holds F.faults folder.old folder.new) (FoundNoMemory result) outside.entry.script.now outside.entry.arrivals.now) }
+        (WantsOutside (told_by F.holds F.faults folder.old folder.new) (FoundNoMemory result)
+        outside.entry.script.now outside.entry.arrivals.now) }
     ensures folder_later { F.faults folder.old ≤ F.faults folder.new }
 {
     match script_of(alloc, Some(outside.script), folder, out) {
@@ -122,10 +130,14 @@ fn run_text_at<F: Folder, K: Sink, D: Device>(
     places: &mut Vec<Option<D>>,
 ) -> Ending
     requires budget { IsBudget outside.budget }
-    ensures answer { Concludes (of_sink K.taken K.faults out.old out.new) (of_devices D.account places.old.items places.new.items) []
-        (RunsTextAt (told_by F.holds F.faults folder.old folder.new) outside.entry.script.now outside.entry.arrivals.now outside.entry.budget text.now) result }
+    ensures answer { Concludes (of_sink K.taken K.faults out.old out.new)
+        (of_devices D.account places.old.items places.new.items) []
+        (RunsTextAt (told_by F.holds F.faults folder.old folder.new)
+        outside.entry.script.now outside.entry.arrivals.now outside.entry.budget text.now) result }
     ensures asked { HasAsked F.asked folder.old folder.new
-        (OrLacks (FoundNoMemory result) (Onwards programs (λ read. WantsOutside (told_by F.holds F.faults folder.old folder.new) (FoundNoMemory result) outside.entry.script.now outside.entry.arrivals.now) text.now)) }
+        (OrLacks (FoundNoMemory result) (Onwards programs
+        (λ read. WantsOutside (told_by F.holds F.faults folder.old folder.new) (FoundNoMemory result)
+        outside.entry.script.now outside.entry.arrivals.now) text.now)) }
     ensures folder_later { F.faults folder.old ≤ F.faults folder.new }
 {
     match image_of(alloc, text, out) {
@@ -144,11 +156,16 @@ pub fn run_at<F: Folder, K: Sink, D: Device>(
     places: &mut Vec<Option<D>>,
 ) -> Ending
     requires budget { IsBudget outside.budget }
-    ensures answer { Concludes (of_sink K.taken K.faults out.old out.new) (of_devices D.account places.old.items places.new.items) []
+    ensures answer { Concludes (of_sink K.taken K.faults out.old out.new)
+        (of_devices D.account places.old.items places.new.items) []
         (AnswersFile (told_by F.holds F.faults folder.old folder.new) name.now
-        (RunsTextAt (told_by F.holds F.faults folder.old folder.new) outside.entry.script.now outside.entry.arrivals.now outside.entry.budget)) result }
+        (RunsTextAt (told_by F.holds F.faults folder.old folder.new)
+        outside.entry.script.now outside.entry.arrivals.now outside.entry.budget)) result }
     ensures asked { HasAsked F.asked folder.old folder.new
-        (WantsFile (told_by F.holds F.faults folder.old folder.new) (FoundNoMemory result) name.now (Onwards programs (λ read. WantsOutside (told_by F.holds F.faults folder.old folder.new) (FoundNoMemory result) outside.entry.script.now outside.entry.arrivals.now))) }
+        (WantsFile (told_by F.holds F.faults folder.old folder.new) (FoundNoMemory result) name.now
+        (Onwards programs
+        (λ read. WantsOutside (told_by F.holds F.faults folder.old folder.new) (FoundNoMemory result)
+        outside.entry.script.now outside.entry.arrivals.now))) }
     ensures folder_later { F.faults folder.old ≤ F.faults folder.new }
 {
     match text_of(alloc, name, folder, out) {

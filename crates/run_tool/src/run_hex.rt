@@ -44,7 +44,8 @@ fn put_image_refused<K: Sink>(out: &mut K, code: HexCode) -> Result<(), PutFaile
 
 /// Gives the answer that a text spells no image.
 fn say_image_refused<K: Sink>(out: &mut K, code: HexCode) -> Ending
-    ensures { GivesOneOf K.taken K.faults out.old out.new (λ answer. answer ≡ says status.ImageRefused (image_refused_line (number_of code))) result }
+    ensures { GivesOneOf K.taken K.faults out.old out.new
+        (λ answer. answer ≡ says status.ImageRefused (image_refused_line (number_of code))) result }
 {
     match put_image_refused(out, code) {
         Ok(()) => Ending::Gave(Status::ImageRefused),
@@ -87,7 +88,9 @@ fn run_board<K: Sink, D: Device>(
     requires size { vec_len image ≤ flash_size }
     requires script { IsSound script }
     requires budget { IsBudget budget }
-    ensures { Concludes (of_sink K.taken K.faults out.old out.new) (of_devices D.account places.old.items places.new.items) [] (RunsBoard image.items script budget) result }
+    ensures { Concludes (of_sink K.taken K.faults out.old out.new)
+        (of_devices D.account places.old.items places.new.items) []
+        (RunsBoard image.items script budget) result }
 {
     match run_image(alloc, image, script, places, budget, out) {
         Ok((end, _)) => ending_of(end),
@@ -106,10 +109,13 @@ fn run_named<F: Folder, K: Sink, D: Device>(
 ) -> Ending
     requires size { vec_len image ≤ flash_size }
     requires budget { IsBudget asked.budget }
-    ensures answer { Concludes (of_sink K.taken K.faults out.old out.new) (of_devices D.account places.old.items places.new.items) []
-        (OverScript (told_by F.holds F.faults folder.old folder.new) (option_map spoken asked.entry.script) (λ read. RunsBoard image.items read asked.entry.budget)) result }
+    ensures answer { Concludes (of_sink K.taken K.faults out.old out.new)
+        (of_devices D.account places.old.items places.new.items) []
+        (OverScript (told_by F.holds F.faults folder.old folder.new) (option_map spoken asked.entry.script)
+        (λ read. RunsBoard image.items read asked.entry.budget)) result }
     ensures asked { HasAsked F.asked folder.old folder.new
-        (WantsScript (told_by F.holds F.faults folder.old folder.new) (FoundNoMemory result) (option_map spoken asked.entry.script) wants_none) }
+        (WantsScript (told_by F.holds F.faults folder.old folder.new) (FoundNoMemory result)
+        (option_map spoken asked.entry.script) wants_none) }
     ensures folder_later { F.faults folder.old ≤ F.faults folder.new }
 {
     match script_of(alloc, asked.script, folder, out) {
@@ -128,10 +134,14 @@ fn run_hex_text<F: Folder, K: Sink, D: Device>(
     places: &mut Vec<Option<D>>,
 ) -> Ending
     requires budget { IsBudget asked.budget }
-    ensures answer { Concludes (of_sink K.taken K.faults out.old out.new) (of_devices D.account places.old.items places.new.items) []
-        (RunsHex (told_by F.holds F.faults folder.old folder.new) (option_map spoken asked.entry.script) asked.entry.budget text.now) result }
+    ensures answer { Concludes (of_sink K.taken K.faults out.old out.new)
+        (of_devices D.account places.old.items places.new.items) []
+        (RunsHex (told_by F.holds F.faults folder.old folder.new) (option_map spoken asked.entry.script)
+        asked.entry.budget text.now) result }
     ensures asked { HasAsked F.asked folder.old folder.new
-        (OrLacks (FoundNoMemory result) (Onwards images (λ image. WantsScript (told_by F.holds F.faults folder.old folder.new) (FoundNoMemory result) (option_map spoken asked.entry.script) wants_none) text.now)) }
+        (OrLacks (FoundNoMemory result) (Onwards images
+        (λ image. WantsScript (told_by F.holds F.faults folder.old folder.new) (FoundNoMemory result)
+        (option_map spoken asked.entry.script) wants_none) text.now)) }
     ensures folder_later { F.faults folder.old ≤ F.faults folder.new }
 {
     match read_hex(alloc, text) {
@@ -153,11 +163,16 @@ pub fn run_hex<F: Folder, K: Sink, D: Device>(
     places: &mut Vec<Option<D>>,
 ) -> Ending
     requires budget { IsBudget asked.budget }
-    ensures answer { Concludes (of_sink K.taken K.faults out.old out.new) (of_devices D.account places.old.items places.new.items) []
+    ensures answer { Concludes (of_sink K.taken K.faults out.old out.new)
+        (of_devices D.account places.old.items places.new.items) []
         (AnswersFile (told_by F.holds F.faults folder.old folder.new) name.now
-        (RunsHex (told_by F.holds F.faults folder.old folder.new) (option_map spoken asked.entry.script) asked.entry.budget)) result }
+        (RunsHex (told_by F.holds F.faults folder.old folder.new) (option_map spoken asked.entry.script)
+        asked.entry.budget)) result }
     ensures asked { HasAsked F.asked folder.old folder.new
-        (WantsFile (told_by F.holds F.faults folder.old folder.new) (FoundNoMemory result) name.now (Onwards images (λ image. WantsScript (told_by F.holds F.faults folder.old folder.new) (FoundNoMemory result) (option_map spoken asked.entry.script) wants_none))) }
+        (WantsFile (told_by F.holds F.faults folder.old folder.new) (FoundNoMemory result) name.now
+        (Onwards images
+        (λ image. WantsScript (told_by F.holds F.faults folder.old folder.new) (FoundNoMemory result)
+        (option_map spoken asked.entry.script) wants_none))) }
     ensures folder_later { F.faults folder.old ≤ F.faults folder.new }
 {
     match text_of(alloc, name, folder, out) {

@@ -35,7 +35,8 @@ pub fn then_put_refused<K: Sink>(
 ) -> Result<(), PutFailed>
     ensures { (taken : Option (List ℕ)) (faults : ℕ) (text : List ℕ)
         → Puts taken (K.taken out.old) faults (K.faults out.old) text before
-        → Puts taken (K.taken out.new) faults (K.faults out.new) (text ++ refused_line (number_of code) line column) result }
+        → Puts taken (K.taken out.new) faults (K.faults out.new)
+        (text ++ refused_line (number_of code) line column) result }
 {
     let put = then_put(before, out, b"refused ");
     let put = then_put_decimal(put, out, u32::from(number(code)));

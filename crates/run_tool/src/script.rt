@@ -38,7 +38,8 @@ fn put_script_refused<K: Sink>(out: &mut K, code: ScriptCode) -> Result<(), PutF
 
 /// Gives the answer that a text stands for no script.
 fn say_script_refused<K: Sink>(out: &mut K, code: ScriptCode) -> Ending
-    ensures { GivesOneOf K.taken K.faults out.old out.new (λ answer. answer ≡ says status.ScriptRefused (script_refused_line (number_of code))) result }
+    ensures { GivesOneOf K.taken K.faults out.old out.new
+        (λ answer. answer ≡ says status.ScriptRefused (script_refused_line (number_of code))) result }
 {
     match put_script_refused(out, code) {
         Ok(()) => Ending::Gave(Status::ScriptRefused),
@@ -80,14 +81,17 @@ pub fn script_of<F: Folder, K: Sink>(
     folder: &mut F,
     out: &mut K,
 ) -> Result<Script, Ending>
-    ensures script { IfOk result (IsScriptOf (told_by F.holds F.faults folder.old folder.new) (option_map spoken name.entry)) }
+    ensures script { IfOk result
+        (IsScriptOf (told_by F.holds F.faults folder.old folder.new) (option_map spoken name.entry)) }
     ensures sound { IfOk result IsSound }
     ensures unwritten { OnOk result (K.taken out.new ≡ K.taken out.old) }
     ensures none { IfErr result (GivesOneOf K.taken K.faults out.old out.new
         (OverScript (told_by F.holds F.faults folder.old folder.new) (option_map spoken name.entry) none_to_read)) }
-    ensures asked { OnOk result (F.asked folder.new ≡ F.asked folder.old ++ names_given (option_map spoken name.entry)) }
+    ensures asked { OnOk result
+        (F.asked folder.new ≡ F.asked folder.old ++ names_given (option_map spoken name.entry)) }
     ensures stopped { IfErr result (λ ending. HasAsked F.asked folder.old folder.new
-        (WantsScript (told_by F.holds F.faults folder.old folder.new) (FoundNoMemory ending) (option_map spoken name.entry) wants_never)) }
+        (WantsScript (told_by F.holds F.faults folder.old folder.new) (FoundNoMemory ending)
+        (option_map spoken name.entry) wants_never)) }
     ensures stays { (file : List ℕ) → F.holds folder.new file ≡ F.holds folder.old file }
     ensures folder_later { F.faults folder.old ≤ F.faults folder.new }
     ensures later { K.faults out.old ≤ K.faults out.new }

@@ -33,7 +33,10 @@ ending_of_class end.SinkFault = Cut
 -- what stands behind a transcript, as `asked_behind` says it, by what was counted of the run, and the HEX text
 abbrev pub counted_behind : (stats with_image : Bool) → Stats → (hex : List ℕ) → List ℕ
 counted_behind stats with_image s hex =
-    if stats then stats_line s.spawned s.blocked s.words s.seats ++ (if with_image then instructions_line s.instructions ++ hex else []) else []
+    if stats
+    then stats_line s.spawned s.blocked s.words s.seats
+    ++ (if with_image then instructions_line s.instructions ++ hex else [])
+    else []
 
 -- how a call ends whose last text was put so
 abbrev pub ending_by : Status → Result (Unit {0}) PutFailed → Ending
@@ -42,6 +45,7 @@ ending_by status (Err x) = Cut
 
 -- Where a run's ending was to be this, the text behind it was put, and the call ended so.
 abbrev pub FinishesRun : Option (List ℕ) → Option (List ℕ) → ℕ → ℕ → Ending → List ℕ → Ending → Type 0
-FinishesRun taken taken' fs fs' (Gave status) behind ending = (put : Result (Unit {0}) PutFailed) × Puts taken taken' fs fs' behind put × (ending ≡ ending_by status put)
+FinishesRun taken taken' fs fs' (Gave status) behind ending =
+    (put : Result (Unit {0}) PutFailed) × Puts taken taken' fs fs' behind put × (ending ≡ ending_by status put)
 FinishesRun taken taken' fs fs' Cut behind ending = (taken' ≡ taken) × (fs' ≡ fs) × (ending ≡ Cut)
 FinishesRun taken taken' fs fs' NoMemory behind ending = (taken' ≡ taken) × (fs' ≡ fs) × (ending ≡ NoMemory)

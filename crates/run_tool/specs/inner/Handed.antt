@@ -16,11 +16,13 @@ use Rattle.run_tool.specs.Scripts.{default_script}
 -- This is the script: the one of no name, or the one that the file of the name stands for.
 abbrev pub IsScriptOf : ToldFiles → Option (List ℕ) → Script → Type 0
 IsScriptOf files None script = script ≡ default_script
-IsScriptOf files (Some name) script = (bytes : Vec ℕ Global) × MayFetch files name (Text bytes) × scripts.Tells bytes.items (Ok script)
+IsScriptOf files (Some name) script =
+    (bytes : Vec ℕ Global) × MayFetch files name (Text bytes) × scripts.Tells bytes.items (Ok script)
 
 -- These are the arrivals of the file of that name.
 abbrev pub IsArrivalsOf : ToldFiles → List ℕ → List Arrival → Type 0
-IsArrivalsOf files name come = (bytes : Vec ℕ Global) × MayFetch files name (Text bytes) × arrivals.Tells bytes.items (Ok come)
+IsArrivalsOf files name come =
+    (bytes : Vec ℕ Global) × MayFetch files name (Text bytes) × arrivals.Tells bytes.items (Ok come)
 
 -- the call ended for want of memory
 abbrev pub FoundNoMemory : Ending → Type 0
