@@ -1,8 +1,6 @@
 -- Answers over a class, and over its boards.
 use Rattle.std.proofs.Common.{◌≡◌, ◌≢◌, ◌+◌, ℕ, suc, List, [], ◌∷◌, ◌++◌, length, inl, inr, refl, ap, ◌∙◌, subst, arith, append_assoc, codes, decimal}
 use Rattle.std.specs.Prelude.{Result, Ok, Err, IfOk, IfErr, OnOk, IsOk, MatchResult}
-use Rattle.std.specs.declared.vec.Vec.{Vec}
-use Rattle.std.specs.declared.alloc.Global.{Global}
 use Rattle.serde_json.specs.Data.{Data}
 use Rattle.sts_base.specs.declared.tables.Tables.{Tables}
 use Rattle.board_world.specs.Simulation.{Paired}
@@ -16,16 +14,15 @@ use Rattle.class_file.specs.declared.class.ClassCode.{ClassCode}
 use Rattle.class_file.specs.declared.class.ClassCode.TheVariants.{NotJson, NotClass, BadCount, EndDiffers}
 use Rattle.class_file.specs.declared.class.ClassRefused.{ClassRefused}
 use Rattle.class_file.specs.declared.class.ClassRefused.TheVariants.{Class as OfClass}
-use Rattle.run_tool.specs.declared.class_boards.Boards.{Boards}
 use Rattle.run_tool.specs.declared.fetched.Fetched.TheVariants.{Text}
 use Rattle.run_tool.specs.Fetches.{ToldFiles}
 use Rattle.run_tool.specs.Answers.{Answer}
 use Rattle.run_tool.specs.Files.{AnswersFile}
-use Rattle.run_tool.specs.Scripts.{script_refused_line, scripts}
+use Rattle.run_tool.specs.Scripts.{script_refused_line}
 use Rattle.run_tool.specs.inner.Nothing.{none_to_read, none_to_boards}
 use Rattle.run_tool.specs.ClassFiles.{RefusesClass, AnswersClassFile, class_refused_line}
 use Rattle.run_tool.specs.ClassBoards.{BoardSource, OverBoardProgram, AnswersBoardScript, OverBoardScript, OverBoard, OverBoards}
-use Rattle.run_tool.specs.inner.ClassReady.{IsImageOf, IsBoardScript, IsSourceOf, HasScript}
+use Rattle.run_tool.specs.inner.ClassReady.{IsImageOf, IsBoardScript, IsSourceOf}
 use Rattle.run_tool.proofs.Readings.{IsOnward, fetch-onwards, file-onwards, file-more}
 
 pub class-refusal-pieces : (printed code : ℕ) → printed ≡ code → [] ++ codes "class refused " ++ decimal printed ++ codes "\n" ≡ class_refused_line code
@@ -141,10 +138,6 @@ module _ (files files' : ToldFiles) (until : ℕ) (on : IsOnward files files') w
   pub source-onwards : (names : Names) (board : BoardSource) → IsSourceOf files until names board → IsSourceOf files' until names board
   source-onwards names board s =
       record { text = s.text; fetched = fetch-onwards files files' names.program (Text s.text) on s.fetched; accepted = s.accepted; script = script-onwards names.script board.script s.script }
-
-  pub has-script-onwards : (name : List ℕ) (image : Vec ℕ Global) (old new : Boards) → HasScript files until name image old new → HasScript files' until name image old new
-  has-script-onwards name image old new h =
-      record { script = h.script; is = script-onwards name h.script h.is; sound = h.sound; images = h.images; scripts = h.scripts }
 
 pub image-onwards : (files files' : ToldFiles) → IsOnward files files' → (name image : List ℕ) → IsImageOf files name image → IsImageOf files' name image
 image-onwards files files' on name image s = record { text = s.text; fetched = fetch-onwards files files' name (Text s.text) on s.fetched; builds = s.builds }

@@ -31,12 +31,12 @@ use Rattle.run_tool.specs.inner.Handed.{IsScriptOf, names_given, names_of_boards
 use Rattle.run_tool.specs.ClassFiles.{classes, AnswersClassFile}
 use Rattle.run_tool.specs.ClassBoards.{BoardSource, OverBoardProgram, Unfit, IsUnfit, board_scripts, AnswersBoardScript}
 use Rattle.run_tool.specs.declared.class_boards.Boards.{Boards}
-use Rattle.run_tool.specs.inner.ClassReady.{IsSourceOf, AreReady}
-use Rattle.run_tool.specs.Wanted.{Onwards, OrLacks, WantsBoards, WantsFile, WantsScript, wants_none}
+use Rattle.run_tool.specs.inner.ClassReady.{IsImageOf, IsSourceOf, AreReady}
+use Rattle.run_tool.specs.Wanted.{HasAsked, Onwards, OrLacks, WantsBoards, WantsFile, WantsScript, wants_none}
 use Rattle.run_tool.proofs.Readings.{IsOnward, fetch-onwards}
 use Rattle.run_tool.proofs.ClassAnswers.{source-onwards}
 use Rattle.run_tool.proofs.ClassRuns.{paired-so}
-use Rattle.run_tool.proofs.Wanting.{names-append, read-more, stops}
+use Rattle.run_tool.proofs.Wanting.{asked-behind, file-fetched, file-more, names-append, read-more, stops}
 
 -- behind a text of which an image is built
 pub accepted : (text image : List ℕ) (b : Builds text image) (next : Tables × TypedProgram → List (List ℕ) → Type 0) (names : List (List ℕ)) → next (b.tables, b.program) names → Onwards programs next text names
@@ -120,6 +120,19 @@ module _ (files : ToldFiles) (lacking : Type 0) where
 -- a script that was read stays one where the folder tells the same and failed no less
 pub script-kept : (files files' : ToldFiles) (name : List ℕ) (script : Script) → IsOnward files files' → IsScriptOf files (Some name) script → IsScriptOf files' (Some name) script
 script-kept files files' name script on h = (h.0, fetch-onwards files files' name (Text h.0) on h.1, h.2)
+
+-- a board's script was asked for behind its program, of which an image was built, and nothing is behind it
+module _ {S : Type 0} (asked : S → List (List ℕ)) (old mid new : S) (files files' : ToldFiles) (on : IsOnward files files') (lacking : Type 0) (until : ℕ) (n : Names) where
+  pub script-asked : (image : List ℕ) → IsImageOf files' n.program image → asked mid ≡ asked old ++ n.program ∷ []
+      → HasAsked asked mid new (WantsFile files lacking n.script (Onwards (board_scripts until) (λ script. wants_never)))
+      → HasAsked asked old new (WantsBoards files' lacking until (n ∷ []) wants_never)
+  script-asked image i e h =
+      (let never = Onwards (board_scripts until) (λ script. wants_never) in
+      let next = WantsFile files' lacking n.script never in
+      asked-behind asked old mid new n.program (WantsFile files lacking n.script never) (WantsFile files' lacking n.program (Onwards programs (λ read. next))) e
+      (λ more x. file-fetched files' lacking n.program (Onwards programs (λ read. next)) i.text i.text.items more refl i.fetched
+      (inl (accepted i.text.items image i.builds (λ read. next) more
+      (file-more files files' lacking lacking on (λ l. l) n.script never never more (λ text names y. y) x)))) h)
 
 -- of the names of a list of boards, the first of which are ready: those of one more, and of all up to one that stops
 pub next-names : (names : List Names) (at : ℕ) (n : Names) → at < length names → n ≡ get_or names at n → names_of_boards (take (at + 1) names) ≡ names_of_boards (take at names) ++ names_of_boards (n ∷ [])

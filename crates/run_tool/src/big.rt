@@ -1,5 +1,5 @@
 // The command `big`.
-ghost use Rattle.std.specs.Prelude.{◌≡◌, ◌++◌, ◌≤◌, ◌<◌, List, OnOk, IfOk, decimal, length, vec_len};
+ghost use Rattle.std.specs.Prelude.{◌≡◌, ◌++◌, ◌≤◌, ◌<◌, List, false, OnOk, IfOk, decimal, length, vec_len};
 ghost use Rattle.board_world.specs.Observations.{ByteList};
 ghost use Rattle.thumb_code.specs.Map.{flash_end};
 ghost use Rattle.tool_io.specs.Putting.{PutsTo};
@@ -17,7 +17,7 @@ ghost use Rattle.run_tool.specs.Run.{RunsProgram};
 ghost use Rattle.run_tool.specs.Scripts.{default_script};
 
 use crate::ending::{Ending, Status};
-use crate::run::{RunOptions, run_program};
+use crate::run::{AskedBehind, RunOptions, run_program};
 use crate::said::then_put_refused;
 use crate::script::default_script;
 use board_ports::Device;
@@ -155,7 +155,7 @@ fn run_big<K: Sink, D: Device>(
     ensures { (P : TypedProgram) (texts : List ByteList) → ImageImplements P texts image.items
         → Concludes (of_sink K.taken K.faults out.old out.new)
         (of_devices D.account places.old.items places.new.items) (spec.big_line size)
-        (RunsProgram P texts default_script options.budget options.stats options.image) result }
+        (RunsProgram P texts default_script options.budget options.behind.stats options.behind.image) result }
 {
     match put_big_line(out, size) {
         Ok(()) => run_program(alloc, image, default_script(alloc), options, out, places),
@@ -175,8 +175,8 @@ fn big_of<K: Sink, D: Device>(
     requires budget { IsBudget options.budget }
     ensures { Concludes (of_sink K.taken K.faults out.old out.new)
         (of_devices D.account places.old.items places.new.items) (spec.big_line size)
-        (OverProgram (λ P texts. RunsProgram P texts default_script options.budget options.stats options.image)
-        text.now) result }
+        (OverProgram (λ P texts. RunsProgram P texts default_script
+        options.budget options.behind.stats options.behind.image) text.now) result }
 {
     match build(alloc, text) {
         Ok(image) => run_big(alloc, size, image, options, out, places),
@@ -188,18 +188,23 @@ fn big_of<K: Sink, D: Device>(
 pub fn big<K: Sink, D: Device>(
     alloc: Global,
     size: u32,
-    options: RunOptions,
+    budget: u32,
+    stats: bool,
     out: &mut K,
     places: &mut Vec<Option<D>>,
 ) -> Ending
     requires least { 1 ≤ size }
     requires most { size ≤ 200 }
-    requires budget { IsBudget options.budget }
+    requires budget { IsBudget budget }
     ensures { Concludes (of_sink K.taken K.faults out.old out.new)
         (of_devices D.account places.old.items places.new.items) (spec.big_line size)
-        (OverProgram (λ P texts. RunsProgram P texts default_script options.budget options.stats options.image)
-        (spec.big_text size)) result }
+        (OverProgram (λ P texts. RunsProgram P texts default_script budget stats false) (spec.big_text size)) result }
 {
+    let behind = AskedBehind {
+        stats,
+        image: false,
+    };
+    let options = RunOptions { budget, behind };
     match big_text(alloc, size) {
         Ok(text) => big_of(alloc, size, &text, options, out, places),
         Err(NoMemory) => Ending::NoMemory,

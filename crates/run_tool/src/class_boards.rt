@@ -19,7 +19,7 @@ ghost use Rattle.run_tool.specs.Refusals.{AnswersRefusal};
 ghost use Rattle.run_tool.specs.Scripts.{script_refused_line};
 ghost use Rattle.run_tool.specs.ClassFiles.{refuses_class};
 ghost use Rattle.run_tool.specs.ClassBoards.{OverBoardProgram, OverBoardScript, OverBoard, OverBoards, AnswersBoardScript, board_lead, board_scripts};
-ghost use Rattle.run_tool.specs.inner.ClassReady.{IsImageOf, IsBoardScript, HasScript, HasAdded, AreReady};
+ghost use Rattle.run_tool.specs.inner.ClassReady.{IsImageOf, IsBoardScript, HasAdded, AreReady};
 ghost use Rattle.run_tool.specs.Wanted.{HasAsked, WantsBoards, Onwards, WantsFile};
 ghost use Rattle.run_tool.specs.inner.Handed.{FoundNoMemory, names_of_boards, wants_never};
 ghost use Rattle.run_tool.specs.Fetches.{told_by};
@@ -42,6 +42,13 @@ use tool_io::{PutFailed, Sink, then_put, then_put_decimal};
 pub struct Boards {
     pub images: Vec<Vec<u8>>,
     pub scripts: Vec<Script>,
+}
+
+/// A board of a class: its number, and when the class ends.
+#[derive(Clone, Copy, Drop)]
+struct BoardPlace {
+    number: u32,
+    end: u32,
 }
 
 /// A name as text.
@@ -177,22 +184,21 @@ fn with_end<K: Sink>(script: Script, end: u32, out: &mut K) -> Result<Script, En
 /// The script that the text of a board's script stands for, if it ends with the class, with nothing written. Where there is none, the answer that says so was given.
 fn script_in<K: Sink>(
     alloc: Global,
-    number: u32,
-    end: u32,
+    board: BoardPlace,
     text: &[u8],
     out: &mut K,
 ) -> Result<Script, Ending>
     ensures script { IfOk result (λ script. Tells text.now (Ok script)) }
     ensures sound { IfOk result IsSound }
-    ensures ends { IfOk result (λ script. script.end ≡ end) }
+    ensures ends { IfOk result (λ script. script.end ≡ board.end) }
     ensures unwritten { OnOk result (K.taken out.new ≡ K.taken out.old) }
     ensures none { IfErr result (GivesOneOf K.taken K.faults out.old out.new
-        (AnswersBoardScript number end none_to_read text.now)) }
+        (AnswersBoardScript board.number board.end none_to_read text.now)) }
     ensures later { K.faults out.old ≤ K.faults out.new }
 {
     match read_script(alloc, text) {
-        Ok(script) => with_end(script, end, out),
-        Err(ScriptRefused::Script(code)) => Err(say_script_refused(out, number, code)),
+        Ok(script) => with_end(script, board.end, out),
+        Err(ScriptRefused::Script(code)) => Err(say_script_refused(out, board.number, code)),
         Err(ScriptRefused::NoMemory) => Err(Ending::NoMemory),
     }
 }
@@ -200,27 +206,28 @@ fn script_in<K: Sink>(
 /// The same of the file of that name.
 fn script_of<F: Folder, K: Sink>(
     alloc: Global,
-    number: u32,
-    end: u32,
+    board: BoardPlace,
     name: &str,
     folder: &mut F,
     out: &mut K,
 ) -> Result<Script, Ending>
-    ensures script { IfOk result (IsBoardScript (told_by F.holds F.faults folder.old folder.new) end name.now) }
+    ensures script { IfOk result
+        (IsBoardScript (told_by F.holds F.faults folder.old folder.new) board.end name.now) }
     ensures sound { IfOk result IsSound }
     ensures unwritten { OnOk result (K.taken out.new ≡ K.taken out.old) }
     ensures none { IfErr result (GivesOneOf K.taken K.faults out.old out.new
-        (OverBoardScript (told_by F.holds F.faults folder.old folder.new) end number name.now none_to_read)) }
+        (OverBoardScript (told_by F.holds F.faults folder.old folder.new)
+        board.end board.number name.now none_to_read)) }
     ensures asked { OnOk result (F.asked folder.new ≡ F.asked folder.old ++ name.now ∷ []) }
     ensures stopped { IfErr result (λ ending. HasAsked F.asked folder.old folder.new
         (WantsFile (told_by F.holds F.faults folder.old folder.new) (FoundNoMemory ending) name.now
-        (Onwards (board_scripts end) (λ script. wants_never)))) }
+        (Onwards (board_scripts board.end) (λ script. wants_never)))) }
     ensures stays { (file : List ℕ) → F.holds folder.new file ≡ F.holds folder.old file }
     ensures folder_later { F.faults folder.old ≤ F.faults folder.new }
     ensures later { K.faults out.old ≤ K.faults out.new }
 {
     match text_of(alloc, name, folder, out) {
-        Ok(text) => script_in(alloc, number, end, &text, out),
+        Ok(text) => script_in(alloc, board, &text, out),
         Err(ending) => Err(ending),
     }
 }
@@ -252,64 +259,37 @@ impl Boards {
         }
     }
 
-    /// A board with this image, if there is memory, with nothing written: its script is fetched and read. Where there is none, the answer that says so was given.
-    fn add_script<F: Folder, K: Sink>(
-        &mut self,
-        alloc: Global,
-        number: u32,
-        end: u32,
-        image: Vec<u8>,
-        name: &str,
-        folder: &mut F,
-        out: &mut K,
-    ) -> Result<(), Ending>
-        ensures added { OnOk result
-            (HasScript (told_by F.holds F.faults folder.old folder.new) end name.now image self.old self.new) }
-        ensures unwritten { OnOk result (K.taken out.new ≡ K.taken out.old) }
-        ensures none { IfErr result (GivesOneOf K.taken K.faults out.old out.new
-            (OverBoardScript (told_by F.holds F.faults folder.old folder.new) end number name.now none_to_read)) }
-        ensures asked { OnOk result (F.asked folder.new ≡ F.asked folder.old ++ name.now ∷ []) }
-        ensures stopped { IfErr result (λ ending. HasAsked F.asked folder.old folder.new
-            (WantsFile (told_by F.holds F.faults folder.old folder.new) (FoundNoMemory ending) name.now
-            (Onwards (board_scripts end) (λ script. wants_never)))) }
-        ensures stays { (file : List ℕ) → F.holds folder.new file ≡ F.holds folder.old file }
-        ensures folder_later { F.faults folder.old ≤ F.faults folder.new }
-        ensures later { K.faults out.old ≤ K.faults out.new }
-    {
-        match script_of(alloc, number, end, name, folder, out) {
-            Ok(script) => self.push(image, script),
-            Err(ending) => Err(ending),
-        }
-    }
-
-    /// The board of that number, with nothing written: its program is fetched and built, and behind that its script is fetched and read. Where one can't be, the answer that says so was given.
+    /// One more board, with nothing written: its program is fetched and built, and behind that its script is fetched and read. Where one can't be, the answer that says so was given.
     fn add<F: Folder, K: Sink>(
         &mut self,
         alloc: Global,
-        number: u32,
-        end: u32,
+        board: BoardPlace,
         names: &Names,
         folder: &mut F,
         out: &mut K,
     ) -> Result<(), Ending>
         requires { AreTexts names.now }
         ensures added { OnOk result
-            (HasAdded (told_by F.holds F.faults folder.old folder.new) end names.now self.old self.new) }
+            (HasAdded (told_by F.holds F.faults folder.old folder.new) board.end names.now self.old self.new) }
         ensures unwritten { OnOk result (K.taken out.new ≡ K.taken out.old) }
         ensures none { IfErr result (GivesOneOf K.taken K.faults out.old out.new
-            (OverBoard (told_by F.holds F.faults folder.old folder.new) end number names.now none_to_read)) }
+            (OverBoard (told_by F.holds F.faults folder.old folder.new)
+            board.end board.number names.now none_to_read)) }
         ensures asked { OnOk result (F.asked folder.new ≡ F.asked folder.old ++ names_of_boards (names.now ∷ [])) }
         ensures stopped { IfErr result (λ ending. HasAsked F.asked folder.old folder.new
             (WantsBoards (told_by F.holds F.faults folder.old folder.new) (FoundNoMemory ending)
-            end (names.now ∷ []) wants_never)) }
+            board.end (names.now ∷ []) wants_never)) }
         ensures stays { (file : List ℕ) → F.holds folder.new file ≡ F.holds folder.old file }
         ensures folder_later { F.faults folder.old ≤ F.faults folder.new }
         ensures later { K.faults out.old ≤ K.faults out.new }
     {
         let program = name_text(names.program.as_slice());
         let script = name_text(names.script.as_slice());
-        match image_of(alloc, number, program, folder, out) {
-            Ok(image) => self.add_script(alloc, number, end, image, script, folder, out),
+        match image_of(alloc, board.number, program, folder, out) {
+            Ok(image) => match script_of(alloc, board, script, folder, out) {
+                Ok(read) => self.push(image, read),
+                Err(ending) => Err(ending),
+            },
             Err(ending) => Err(ending),
         }
     }
@@ -338,7 +318,9 @@ pub fn boards_of<F: Folder, K: Sink>(
 {
     let mut boards = Boards::none(alloc);
     for at in 0..names.len() {
-        match boards.add(alloc, at as u32, end, &names[at], folder, out) {
+        let number = at as u32;
+        let board = BoardPlace { number, end };
+        match boards.add(alloc, board, &names[at], folder, out) {
             Ok(()) => {}
             Err(ending) => return Err(ending),
         }

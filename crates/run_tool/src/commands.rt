@@ -19,8 +19,8 @@ use crate::build::build;
 use crate::check::check;
 use crate::class::class;
 use crate::ending::{Ending, Status};
-use crate::run::{AskedRun, RunOptions, run};
-use crate::run_at::{Outside, run_at};
+use crate::run::{AskedBehind, AskedRun, RunOptions, run};
+use crate::run_at::{AskedRunAt, Outside, run_at};
 use crate::run_hex::{AskedImageRun, run_hex};
 use crate::said::say;
 use board_ports::Device;
@@ -60,11 +60,8 @@ fn perform_order<F: Folder, K: Sink, D: Device>(
             stats,
             image,
         } => {
-            let options = RunOptions {
-                budget,
-                stats,
-                image,
-            };
+            let behind = AskedBehind { stats, image };
+            let options = RunOptions { budget, behind };
             let asked = AskedRun { script, options };
             run(alloc, program, asked, folder, out, places)
         }
@@ -82,26 +79,16 @@ fn perform_order<F: Folder, K: Sink, D: Device>(
             arrivals,
             budget,
         } => {
-            let outside = Outside {
-                script,
-                arrivals,
-                budget,
-            };
-            run_at(alloc, program, outside, folder, out, places)
+            let outside = Outside { script, arrivals };
+            let asked = AskedRunAt { outside, budget };
+            run_at(alloc, program, asked, folder, out, places)
         }
         Order::Class { name, budget } => class(alloc, name, budget, folder, out),
         Order::Big {
             size,
             budget,
             stats,
-        } => {
-            let options = RunOptions {
-                budget,
-                stats,
-                image: false,
-            };
-            big(alloc, size, options, out, places)
-        }
+        } => big(alloc, size, budget, stats, out, places),
     }
 }
 

@@ -40,15 +40,22 @@ use sts_whole::run_image;
 use tool_folder::Folder;
 use tool_io::{PutFailed, Sink, then_put};
 
+/// What is asked for behind a transcript.
+#[derive(Clone, Copy, Drop)]
+pub struct AskedBehind {
+    /// whether the line of statistics is
+    pub stats: bool,
+    /// whether the image is, behind it
+    pub image: bool,
+}
+
 /// What a run is to be done with beside its program and its script.
 #[derive(Clone, Copy, Drop)]
 pub struct RunOptions {
     /// the most instructions
     pub budget: u32,
-    /// whether the line of statistics is asked for
-    pub stats: bool,
-    /// whether the image is asked for behind it
-    pub image: bool,
+    /// what is asked for behind the transcript
+    pub behind: AskedBehind,
 }
 
 /// A run that is asked for, beside its program.
@@ -111,16 +118,16 @@ fn then_put_image<K: Sink>(
 /// Puts what stands behind a transcript: nothing, or the line of statistics, and behind it nothing, or the instructions executed and a HEX text.
 fn put_asked<K: Sink>(
     out: &mut K,
-    options: RunOptions,
+    behind: AskedBehind,
     stats: &Stats,
     hex: &[u8],
 ) -> Result<(), PutFailed>
     ensures { PutsTo K.taken K.faults out.old out.new
-        (counted_behind options.stats options.image stats.now hex.now) result }
+        (counted_behind behind.stats behind.image stats.now hex.now) result }
 {
-    if options.stats {
+    if behind.stats {
         let put = put_stats(out, stats);
-        if options.image {
+        if behind.image {
             then_put_image(put, out, stats.instructions, hex)
         } else {
             put
@@ -131,12 +138,12 @@ fn put_asked<K: Sink>(
 }
 
 /// How a call ends whose run ended so; what is asked for is put behind a run that the sink didn't stop.
-fn finish<K: Sink>(out: &mut K, end: End, options: RunOptions, stats: &Stats, hex: &[u8]) -> Ending
+fn finish<K: Sink>(out: &mut K, end: End, behind: AskedBehind, stats: &Stats, hex: &[u8]) -> Ending
     ensures { FinishesRun (K.taken out.old) (K.taken out.new) (K.faults out.old) (K.faults out.new) (ending_of end)
-        (counted_behind options.stats options.image stats.now hex.now) result }
+        (counted_behind behind.stats behind.image stats.now hex.now) result }
 {
     match ending_of(end) {
-        Ending::Gave(status) => match put_asked(out, options, stats, hex) {
+        Ending::Gave(status) => match put_asked(out, behind, stats, hex) {
             Ok(()) => Ending::Gave(status),
             Err(PutFailed) => Ending::Cut,
         },
@@ -145,37 +152,12 @@ fn finish<K: Sink>(out: &mut K, end: End, options: RunOptions, stats: &Stats, he
     }
 }
 
-/// Runs an image, and puts behind the transcript what is asked for, where this is the image's HEX text, if that is asked for.
-fn run_with<K: Sink, D: Device>(
-    alloc: Global,
-    image: Vec<u8>,
-    hex: &[u8],
-    script: Script,
-    options: RunOptions,
-    out: &mut K,
-    places: &mut Vec<Option<D>>,
-) -> Ending
-    requires size { vec_len image ≤ flash_end }
-    requires text { options.image ≡ true → hex.now ≡ hextext image.items }
-    requires script { IsSound script }
-    requires budget { IsBudget options.budget }
-    ensures { (P : TypedProgram) (texts : List ByteList) → ImageImplements P texts image.items
-        → Concludes (of_sink K.taken K.faults out.old out.new)
-        (of_devices D.account places.old.items places.new.items) []
-        (RunsProgram P texts script options.budget options.stats options.image) result }
-{
-    match run_image(alloc, image, script, places, options.budget, out) {
-        Ok((end, stats)) => finish(out, end, options, &stats, hex),
-        Err(NoMemory) => Ending::NoMemory,
-    }
-}
-
 /// The HEX text of an image, if it is asked for.
-fn hex_of(alloc: Global, image: &[u8], options: RunOptions) -> Result<Vec<u8>, NoMemory>
+fn hex_of(alloc: Global, image: &[u8], behind: AskedBehind) -> Result<Vec<u8>, NoMemory>
     requires { length image.now ≤ flash_end }
-    ensures { IfOk result (λ hex. options.image ≡ true → hex.items ≡ hextext image.now) }
+    ensures { IfOk result (λ hex. behind.image ≡ true → hex.items ≡ hextext image.now) }
 {
-    if options.image {
+    if behind.image {
         write_hex(alloc, image)
     } else {
         Ok(Vec::new(alloc))
@@ -197,10 +179,13 @@ pub fn run_program<K: Sink, D: Device>(
     ensures { (P : TypedProgram) (texts : List ByteList) → ImageImplements P texts image.items
         → Concludes (of_sink K.taken K.faults out.old out.new)
         (of_devices D.account places.old.items places.new.items) []
-        (RunsProgram P texts script options.budget options.stats options.image) result }
+        (RunsProgram P texts script options.budget options.behind.stats options.behind.image) result }
 {
-    match hex_of(alloc, &image, options) {
-        Ok(hex) => run_with(alloc, image, &hex, script, options, out, places),
+    match hex_of(alloc, &image, options.behind) {
+        Ok(hex) => match run_image(alloc, image, script, places, options.budget, out) {
+            Ok((end, stats)) => finish(out, end, options.behind, &stats, &hex),
+            Err(NoMemory) => Ending::NoMemory,
+        },
         Err(NoMemory) => Ending::NoMemory,
     }
 }
@@ -221,7 +206,7 @@ fn run_named<F: Folder, K: Sink, D: Device>(
         (of_devices D.account places.old.items places.new.items) []
         (OverScript (told_by F.holds F.faults folder.old folder.new) (option_map spoken asked.entry.script)
         (λ read. RunsProgram P texts read
-        asked.entry.options.budget asked.entry.options.stats asked.entry.options.image)) result }
+        asked.entry.options.budget asked.entry.options.behind.stats asked.entry.options.behind.image)) result }
     ensures asked { HasAsked F.asked folder.old folder.new
         (WantsScript (told_by F.holds F.faults folder.old folder.new) (FoundNoMemory result)
         (option_map spoken asked.entry.script) wants_none) }
@@ -246,7 +231,7 @@ fn run_text<F: Folder, K: Sink, D: Device>(
     ensures answer { Concludes (of_sink K.taken K.faults out.old out.new)
         (of_devices D.account places.old.items places.new.items) []
         (RunsText (told_by F.holds F.faults folder.old folder.new) (option_map spoken asked.entry.script)
-        asked.entry.options.budget asked.entry.options.stats asked.entry.options.image text.now) result }
+        asked.entry.options.budget asked.entry.options.behind.stats asked.entry.options.behind.image text.now) result }
     ensures asked { HasAsked F.asked folder.old folder.new
         (OrLacks (FoundNoMemory result) (Onwards programs
         (λ read. WantsScript (told_by F.holds F.faults folder.old folder.new) (FoundNoMemory result)
@@ -273,7 +258,7 @@ pub fn run<F: Folder, K: Sink, D: Device>(
         (of_devices D.account places.old.items places.new.items) []
         (AnswersFile (told_by F.holds F.faults folder.old folder.new) name.now
         (RunsText (told_by F.holds F.faults folder.old folder.new) (option_map spoken asked.entry.script)
-        asked.entry.options.budget asked.entry.options.stats asked.entry.options.image)) result }
+        asked.entry.options.budget asked.entry.options.behind.stats asked.entry.options.behind.image)) result }
     ensures asked { HasAsked F.asked folder.old folder.new
         (WantsFile (told_by F.holds F.faults folder.old folder.new) (FoundNoMemory result) name.now
         (Onwards programs

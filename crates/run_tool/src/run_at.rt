@@ -31,64 +31,85 @@ use sts_base::{NoMemory, Seq};
 use tool_folder::Folder;
 use tool_io::Sink;
 
-/// What a program is to meet while it runs, by the names of files, and for how many instructions at most.
+/// What a program is to meet while it runs, by the names of files.
 #[derive(Clone, Copy, Drop)]
 pub struct Outside<'a> {
     pub script: &'a str,
     pub arrivals: &'a str,
+}
+
+/// A run with arrivals that is asked for, beside its program.
+#[derive(Clone, Copy, Drop)]
+pub struct AskedRunAt<'a> {
+    /// what the program is to meet
+    pub outside: Outside<'a>,
+    /// the most instructions
     pub budget: u32,
 }
 
-/// Runs an image that implements a program on a script with arrivals, and writes the transcript.
-fn run_board_at<K: Sink, D: Device>(
-    alloc: Global,
+/// An image, and the script that it is run on.
+#[derive(Drop)]
+struct Setup {
     image: Vec<u8>,
     script: Script,
+}
+
+/// Runs an image that implements a program on its script with arrivals, and writes the transcript.
+fn run_board_at<K: Sink, D: Device>(
+    alloc: Global,
+    setup: Setup,
     arrivals: &Seq<Arrival>,
     budget: u32,
     out: &mut K,
     places: &mut Vec<Option<D>>,
 ) -> Ending
-    requires size { vec_len image ≤ flash_end }
-    requires script { script_sound.IsSound script }
+    requires size { vec_len setup.image ≤ flash_end }
+    requires script { script_sound.IsSound setup.script }
     requires arrivals { IsSound arrivals.now }
     requires budget { IsBudget budget }
-    ensures { (P : TypedProgram) (texts : List ByteList) → ImageImplements P texts image.items
+    ensures { (P : TypedProgram) (texts : List ByteList) → ImageImplements P texts setup.image.items
         → Concludes (of_sink K.taken K.faults out.old out.new)
         (of_devices D.account places.old.items places.new.items) []
-        (RunsProgramAt P texts script arrivals.now budget) result }
+        (RunsProgramAt P texts setup.script arrivals.now budget) result }
 {
-    match run_image_at(alloc, image, script, arrivals, places, budget, out) {
+    match run_image_at(
+        alloc,
+        setup.image,
+        setup.script,
+        arrivals,
+        places,
+        budget,
+        out,
+    ) {
         Ok(end) => ending_of(end),
         Err(NoMemory) => Ending::NoMemory,
     }
 }
 
-/// Runs an image that implements a program on a script, with the arrivals that are named.
+/// Runs an image that implements a program on its script, with the arrivals that are named.
 fn run_on_script<F: Folder, K: Sink, D: Device>(
     alloc: Global,
-    image: Vec<u8>,
-    script: Script,
-    outside: Outside<'_>,
+    setup: Setup,
+    asked: AskedRunAt<'_>,
     folder: &mut F,
     out: &mut K,
     places: &mut Vec<Option<D>>,
 ) -> Ending
-    requires size { vec_len image ≤ flash_end }
-    requires script { script_sound.IsSound script }
-    requires budget { IsBudget outside.budget }
-    ensures answer { (P : TypedProgram) (texts : List ByteList) → ImageImplements P texts image.items
+    requires size { vec_len setup.image ≤ flash_end }
+    requires script { script_sound.IsSound setup.script }
+    requires budget { IsBudget asked.budget }
+    ensures answer { (P : TypedProgram) (texts : List ByteList) → ImageImplements P texts setup.image.items
         → Concludes (of_sink K.taken K.faults out.old out.new)
         (of_devices D.account places.old.items places.new.items) []
         (RunsOnScript (told_by F.holds F.faults folder.old folder.new)
-        outside.entry.arrivals.now outside.entry.budget P texts script) result }
+        asked.entry.outside.arrivals.now asked.entry.budget P texts setup.script) result }
     ensures asked { HasAsked F.asked folder.old folder.new
         (WantsFile (told_by F.holds F.faults folder.old folder.new) (FoundNoMemory result)
-        outside.entry.arrivals.now none_behind) }
+        asked.entry.outside.arrivals.now none_behind) }
     ensures folder_later { F.faults folder.old ≤ F.faults folder.new }
 {
-    match arrivals_of(alloc, outside.arrivals, folder, out) {
-        Ok(arrivals) => run_board_at(alloc, image, script, &arrivals, outside.budget, out, places),
+    match arrivals_of(alloc, asked.outside.arrivals, folder, out) {
+        Ok(arrivals) => run_board_at(alloc, setup, &arrivals, asked.budget, out, places),
         Err(ending) => ending,
     }
 }
@@ -97,25 +118,28 @@ fn run_on_script<F: Folder, K: Sink, D: Device>(
 fn run_outside<F: Folder, K: Sink, D: Device>(
     alloc: Global,
     image: Vec<u8>,
-    outside: Outside<'_>,
+    asked: AskedRunAt<'_>,
     folder: &mut F,
     out: &mut K,
     places: &mut Vec<Option<D>>,
 ) -> Ending
     requires size { vec_len image ≤ flash_end }
-    requires budget { IsBudget outside.budget }
+    requires budget { IsBudget asked.budget }
     ensures answer { (P : TypedProgram) (texts : List ByteList) → ImageImplements P texts image.items
         → Concludes (of_sink K.taken K.faults out.old out.new)
         (of_devices D.account places.old.items places.new.items) []
         (RunsOutside (told_by F.holds F.faults folder.old folder.new)
-        outside.entry.script.now outside.entry.arrivals.now outside.entry.budget P texts) result }
+        asked.entry.outside.script.now asked.entry.outside.arrivals.now asked.entry.budget P texts) result }
     ensures asked { HasAsked F.asked folder.old folder.new
         (WantsOutside (told_by F.holds F.faults folder.old folder.new) (FoundNoMemory result)
-        outside.entry.script.now outside.entry.arrivals.now) }
+        asked.entry.outside.script.now asked.entry.outside.arrivals.now) }
     ensures folder_later { F.faults folder.old ≤ F.faults folder.new }
 {
-    match script_of(alloc, Some(outside.script), folder, out) {
-        Ok(script) => run_on_script(alloc, image, script, outside, folder, out, places),
+    match script_of(alloc, Some(asked.outside.script), folder, out) {
+        Ok(script) => {
+            let setup = Setup { image, script };
+            run_on_script(alloc, setup, asked, folder, out, places)
+        }
         Err(ending) => ending,
     }
 }
@@ -124,24 +148,24 @@ fn run_outside<F: Folder, K: Sink, D: Device>(
 fn run_text_at<F: Folder, K: Sink, D: Device>(
     alloc: Global,
     text: &[u8],
-    outside: Outside<'_>,
+    asked: AskedRunAt<'_>,
     folder: &mut F,
     out: &mut K,
     places: &mut Vec<Option<D>>,
 ) -> Ending
-    requires budget { IsBudget outside.budget }
+    requires budget { IsBudget asked.budget }
     ensures answer { Concludes (of_sink K.taken K.faults out.old out.new)
         (of_devices D.account places.old.items places.new.items) []
         (RunsTextAt (told_by F.holds F.faults folder.old folder.new)
-        outside.entry.script.now outside.entry.arrivals.now outside.entry.budget text.now) result }
+        asked.entry.outside.script.now asked.entry.outside.arrivals.now asked.entry.budget text.now) result }
     ensures asked { HasAsked F.asked folder.old folder.new
         (OrLacks (FoundNoMemory result) (Onwards programs
         (λ read. WantsOutside (told_by F.holds F.faults folder.old folder.new) (FoundNoMemory result)
-        outside.entry.script.now outside.entry.arrivals.now) text.now)) }
+        asked.entry.outside.script.now asked.entry.outside.arrivals.now) text.now)) }
     ensures folder_later { F.faults folder.old ≤ F.faults folder.new }
 {
     match image_of(alloc, text, out) {
-        Ok(image) => run_outside(alloc, image, outside, folder, out, places),
+        Ok(image) => run_outside(alloc, image, asked, folder, out, places),
         Err(ending) => ending,
     }
 }
@@ -150,26 +174,26 @@ fn run_text_at<F: Folder, K: Sink, D: Device>(
 pub fn run_at<F: Folder, K: Sink, D: Device>(
     alloc: Global,
     name: &str,
-    outside: Outside<'_>,
+    asked: AskedRunAt<'_>,
     folder: &mut F,
     out: &mut K,
     places: &mut Vec<Option<D>>,
 ) -> Ending
-    requires budget { IsBudget outside.budget }
+    requires budget { IsBudget asked.budget }
     ensures answer { Concludes (of_sink K.taken K.faults out.old out.new)
         (of_devices D.account places.old.items places.new.items) []
         (AnswersFile (told_by F.holds F.faults folder.old folder.new) name.now
         (RunsTextAt (told_by F.holds F.faults folder.old folder.new)
-        outside.entry.script.now outside.entry.arrivals.now outside.entry.budget)) result }
+        asked.entry.outside.script.now asked.entry.outside.arrivals.now asked.entry.budget)) result }
     ensures asked { HasAsked F.asked folder.old folder.new
         (WantsFile (told_by F.holds F.faults folder.old folder.new) (FoundNoMemory result) name.now
         (Onwards programs
         (λ read. WantsOutside (told_by F.holds F.faults folder.old folder.new) (FoundNoMemory result)
-        outside.entry.script.now outside.entry.arrivals.now))) }
+        asked.entry.outside.script.now asked.entry.outside.arrivals.now))) }
     ensures folder_later { F.faults folder.old ≤ F.faults folder.new }
 {
     match text_of(alloc, name, folder, out) {
-        Ok(text) => run_text_at(alloc, &text, outside, folder, out, places),
+        Ok(text) => run_text_at(alloc, &text, asked, folder, out, places),
         Err(ending) => ending,
     }
 }

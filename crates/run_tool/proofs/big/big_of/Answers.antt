@@ -12,7 +12,7 @@ use Rattle.run_tool.proofs.big.big_of.Goals as goal
 pub returns-in-Ok : goal.returns-in-Ok
 returns-in-Ok g c =
     let m = c.args.options in
-    let answers = λ (P : TypedProgram) (texts : List ByteList). RunsProgram P texts default_script m.budget m.stats m.image in
+    let answers = λ (P : TypedProgram) (texts : List ByteList). RunsProgram P texts default_script m.budget m.behind.stats m.behind.image in
     let b = c.in-Ok.ensures.built in
     concludes-more (answers b.program b.tables.texts) (OverProgram answers c.args.text.now) c.run_big.result
     (of-program answers c.args.text.now c.in-Ok.image.items b) (c.run_big.ensures b.program b.tables.texts b.implements)
@@ -20,7 +20,7 @@ returns-in-Ok g c =
 pub returns-in-Err : goal.returns-in-Err
 returns-in-Err g c =
     let m = c.args.options in
-    let answers = λ (P : TypedProgram) (texts : List ByteList). RunsProgram P texts default_script m.budget m.stats m.image in
+    let answers = λ (P : TypedProgram) (texts : List ByteList). RunsProgram P texts default_script m.budget m.behind.stats m.behind.image in
     let none = OverProgram none_to_programs c.args.text.now in
     concludes-more none (OverProgram answers c.args.text.now) c.say_big_refused.result
     (no-program answers c.args.text.now) (led-concludes g.D.Device.account c.args.places.now.items c.args.places.now.items refl (big_line c.args.size) none c.say_big_refused.result c.say_big_refused.ensures)

@@ -25,12 +25,12 @@ returns-in-Ok-clause-ends g c = ok-so c.with_end.result (λ it e ends. ap (λ s.
 
 pub returns-in-Ok-clause-none : goal.returns-in-Ok-clause-none
 returns-in-Ok-clause-none g c =
-    if-errs c.with_end.result (λ ending differs h. gives-more (λ answer. answer ≡ refuses_class EndDiffers) (AnswersBoardScript c.args.number c.args.end none_to_read c.args.text.now) ending
+    if-errs c.with_end.result (λ ending differs h. gives-more (λ answer. answer ≡ refuses_class EndDiffers) (AnswersBoardScript c.args.board.number c.args.board.end none_to_read c.args.text.now) ending
     (λ answer x. inr (other_end c.in-Ok.script, (c.in-Ok.ensures.ok, differs), x)) h) c.with_end.ensures.differs c.with_end.ensures.none
 
 pub returns-in-Err-Script-clause-none : goal.returns-in-Err-Script-clause-none
 returns-in-Err-Script-clause-none g c =
-    gives-more (λ answer. answer ≡ says ScriptRefused (board_lead c.args.number ++ script_refused_line (number_of c.in-Err-Script.code))) (AnswersBoardScript c.args.number c.args.end none_to_read c.args.text.now)
+    gives-more (λ answer. answer ≡ says ScriptRefused (board_lead c.args.board.number ++ script_refused_line (number_of c.in-Err-Script.code))) (AnswersBoardScript c.args.board.number c.args.board.end none_to_read c.args.text.now)
     c.say_script_refused.result
     (λ answer h. inr (
       no_script c.in-Err-Script.code,

@@ -20,13 +20,13 @@ returns-in-Ok-clause-script g c =
 pub returns-in-Ok-clause-none : goal.returns-in-Ok-clause-none
 returns-in-Ok-clause-none g c =
     let files = told_by g.F.Folder.holds g.F.Folder.faults c.args.folder.now c.text_of.new.folder in
-    if-err c.script_in.result (λ ending h. text-gives (AnswersBoardScript c.args.number c.args.end none_to_read) files c.args.name.now c.in-Ok.text c.deref.result.now ending c.in-Ok.ensures.unwritten c.in-Ok.ensures.later
+    if-err c.script_in.result (λ ending h. text-gives (AnswersBoardScript c.args.board.number c.args.board.end none_to_read) files c.args.name.now c.in-Ok.text c.deref.result.now ending c.in-Ok.ensures.unwritten c.in-Ok.ensures.later
     c.deref.ensures.value c.in-Ok.ensures.text h) c.script_in.ensures.none
 
 pub returns-in-Err-clause-none : goal.returns-in-Err-clause-none
 returns-in-Err-clause-none g c =
     let files = told_by g.F.Folder.holds g.F.Folder.faults c.args.folder.now c.text_of.new.folder in
-    no-text-gives (AnswersBoardScript c.args.number c.args.end none_to_read) files c.args.name.now c.in-Err.ending c.in-Err.ensures.none
+    no-text-gives (AnswersBoardScript c.args.board.number c.args.board.end none_to_read) files c.args.name.now c.in-Err.ending c.in-Err.ensures.none
 
 pub returns-in-Ok-clause-asked : goal.returns-in-Ok-clause-asked
 returns-in-Ok-clause-asked g c = on-ok-all c.script_in.result c.in-Ok.ensures.asked
@@ -43,7 +43,7 @@ returns-in-Ok-clause-stopped g c =
     if-err c.script_in.result (λ ending h. (
       c.args.name.now ∷ [],
       c.in-Ok.ensures.asked,
-      file-fetched files (ending ≡ NoMemory) c.args.name.now (Onwards (board_scripts c.args.end) (λ script. wants_never)) c.in-Ok.text text [] c.deref.ensures.value c.in-Ok.ensures.text (board-script-stops text ending c.args.number c.args.end (λ script. wants_never) h),
+      file-fetched files (ending ≡ NoMemory) c.args.name.now (Onwards (board_scripts c.args.board.end) (λ script. wants_never)) c.in-Ok.text text [] c.deref.ensures.value c.in-Ok.ensures.text (board-script-stops text ending c.args.board.number c.args.board.end (λ script. wants_never) h),
     )) c.script_in.ensures.none
 
 pub returns-in-Err-clause-stopped : goal.returns-in-Err-clause-stopped
@@ -55,6 +55,6 @@ returns-in-Err-clause-stopped g c =
     let new = c.text_of.new.folder in
     let files = told_by holds faults old new in
     let lacking = c.in-Err.ending ≡ NoMemory in
-    let next = Onwards (board_scripts c.args.end) (λ script. wants_never) in
+    let next = Onwards (board_scripts c.args.board.end) (λ script. wants_never) in
     asked-more asked old new (WantsFile files lacking c.args.name.now never_behind) (WantsFile files lacking c.args.name.now next)
     (λ names h. file-missed files lacking c.args.name.now next names h) c.in-Err.ensures.stopped

@@ -26,17 +26,17 @@ returns-in-Ok-clause-answer g c =
     let on = last-part holds faults old mid new c.in-Ok.ensures.stays c.in-Ok.ensures.folder_later in
     let name = option_map spoken c.args.asked.script in
     let m = c.args.asked.options in
-    text-concludes g.K.Sink.taken g.K.Sink.faults c.args.out.now c.text_of.new.out c.run_text.new.out (RunsText files name m.budget m.stats m.image) files c.args.name.now
+    text-concludes g.K.Sink.taken g.K.Sink.faults c.args.out.now c.text_of.new.out c.run_text.new.out (RunsText files name m.budget m.behind.stats m.behind.image) files c.args.name.now
     c.in-Ok.text c.deref.result.now c.run_text.result c.in-Ok.ensures.unwritten c.in-Ok.ensures.later c.deref.ensures.value c.in-Ok.ensures.text
-    (concludes-more (RunsText files_mid name m.budget m.stats m.image c.deref.result.now)
-    (RunsText files name m.budget m.stats m.image c.deref.result.now) c.run_text.result
-    (λ answer h. program-onwards files_mid files name m.budget m.stats m.image c.deref.result.now answer on h) c.run_text.ensures.answer)
+    (concludes-more (RunsText files_mid name m.budget m.behind.stats m.behind.image c.deref.result.now)
+    (RunsText files name m.budget m.behind.stats m.behind.image c.deref.result.now) c.run_text.result
+    (λ answer h. program-onwards files_mid files name m.budget m.behind.stats m.behind.image c.deref.result.now answer on h) c.run_text.ensures.answer)
 
 pub returns-in-Err-clause-answer : goal.returns-in-Err-clause-answer
 returns-in-Err-clause-answer g c =
     let files = told_by g.F.Folder.holds g.F.Folder.faults c.args.folder.now c.text_of.new.folder in
     let m = c.args.asked.options in
-    let answers = RunsText files (option_map spoken c.args.asked.script) m.budget m.stats m.image in
+    let answers = RunsText files (option_map spoken c.args.asked.script) m.budget m.behind.stats m.behind.image in
     says-concludes g.D.Device.account c.args.places.now.items c.args.places.now.items refl (AnswersFile files c.args.name.now answers) c.in-Err.ending
     (no-text-gives answers files c.args.name.now c.in-Err.ending c.in-Err.ensures.none)
 

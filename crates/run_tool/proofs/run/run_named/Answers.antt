@@ -20,20 +20,20 @@ returns-in-Ok-clause-answer g c = λ P texts implements.
     let files = told_by g.F.Folder.holds g.F.Folder.faults c.args.folder.now c.script_of.new.folder in
     let name = option_map spoken c.args.asked.script in
     let m = c.args.asked.options in
-    let may = OverScript files name (λ read. RunsProgram P texts read m.budget m.stats m.image) in
+    let may = OverScript files name (λ read. RunsProgram P texts read m.budget m.behind.stats m.behind.image) in
     concludes-after g.K.Sink.taken g.K.Sink.faults c.args.out.now c.script_of.new.out c.run_program.new.out may c.run_program.result
     (subst (λ x. Took x (g.K.Sink.taken c.script_of.new.out) []) c.in-Ok.ensures.unwritten (took-nothing (g.K.Sink.taken c.script_of.new.out))) c.in-Ok.ensures.later
-    (concludes-more (RunsProgram P texts c.in-Ok.script m.budget m.stats m.image) may c.run_program.result
-    (λ answer h. over-script files name (λ read. RunsProgram P texts read m.budget m.stats m.image) c.in-Ok.script answer c.in-Ok.ensures.script h) (c.run_program.ensures P texts implements))
+    (concludes-more (RunsProgram P texts c.in-Ok.script m.budget m.behind.stats m.behind.image) may c.run_program.result
+    (λ answer h. over-script files name (λ read. RunsProgram P texts read m.budget m.behind.stats m.behind.image) c.in-Ok.script answer c.in-Ok.ensures.script h) (c.run_program.ensures P texts implements))
 
 pub returns-in-Err-clause-answer : goal.returns-in-Err-clause-answer
 returns-in-Err-clause-answer g c = λ P texts implements.
     let files = told_by g.F.Folder.holds g.F.Folder.faults c.args.folder.now c.script_of.new.folder in
     let name = option_map spoken c.args.asked.script in
     let m = c.args.asked.options in
-    let may = OverScript files name (λ read. RunsProgram P texts read m.budget m.stats m.image) in
+    let may = OverScript files name (λ read. RunsProgram P texts read m.budget m.behind.stats m.behind.image) in
     says-concludes g.D.Device.account c.args.places.now.items c.args.places.now.items refl may c.in-Err.ending
-    (gives-more (OverScript files name none_to_read) may c.in-Err.ending (λ answer h. no-script files name (λ read. RunsProgram P texts read m.budget m.stats m.image) answer h) c.in-Err.ensures.none)
+    (gives-more (OverScript files name none_to_read) may c.in-Err.ending (λ answer h. no-script files name (λ read. RunsProgram P texts read m.budget m.behind.stats m.behind.image) answer h) c.in-Err.ensures.none)
 
 pub returns-in-Ok-clause-asked : goal.returns-in-Ok-clause-asked
 returns-in-Ok-clause-asked g c =

@@ -21,9 +21,9 @@ returns-in-Ok-clause-answer g c =
     let files = told_by g.F.Folder.holds g.F.Folder.faults c.args.folder.now c.run_named.new.folder in
     let name = option_map spoken c.args.asked.script in
     let m = c.args.asked.options in
-    let answers = λ (P : TypedProgram) (texts : List ByteList). OverScript files name (λ read. RunsProgram P texts read m.budget m.stats m.image) in
+    let answers = λ (P : TypedProgram) (texts : List ByteList). OverScript files name (λ read. RunsProgram P texts read m.budget m.behind.stats m.behind.image) in
     let b = c.in-Ok.ensures.built in
-    let may = RunsText files name m.budget m.stats m.image c.args.text.now in
+    let may = RunsText files name m.budget m.behind.stats m.behind.image c.args.text.now in
     concludes-after g.K.Sink.taken g.K.Sink.faults c.args.out.now c.image_of.new.out c.run_named.new.out may c.run_named.result
     (subst (λ x. Took x (g.K.Sink.taken c.image_of.new.out) []) c.in-Ok.ensures.unwritten (took-nothing (g.K.Sink.taken c.image_of.new.out))) c.in-Ok.ensures.later
     (concludes-more (answers b.program b.tables.texts) may c.run_named.result
@@ -34,8 +34,8 @@ returns-in-Err-clause-answer g c =
     let files = told_by g.F.Folder.holds g.F.Folder.faults c.args.folder.now c.args.folder.now in
     let name = option_map spoken c.args.asked.script in
     let m = c.args.asked.options in
-    let answers = λ (P : TypedProgram) (texts : List ByteList). OverScript files name (λ read. RunsProgram P texts read m.budget m.stats m.image) in
-    says-concludes g.D.Device.account c.args.places.now.items c.args.places.now.items refl (RunsText files name m.budget m.stats m.image c.args.text.now) c.in-Err.ending
+    let answers = λ (P : TypedProgram) (texts : List ByteList). OverScript files name (λ read. RunsProgram P texts read m.budget m.behind.stats m.behind.image) in
+    says-concludes g.D.Device.account c.args.places.now.items c.args.places.now.items refl (RunsText files name m.budget m.behind.stats m.behind.image c.args.text.now) c.in-Err.ending
     (no-program-gives answers c.args.text.now c.in-Err.ending c.in-Err.ensures.none)
 
 pub returns-in-Ok-clause-asked : goal.returns-in-Ok-clause-asked

@@ -22,9 +22,9 @@ returns-in-Ok-clause-answer g c =
     let files = told_by holds faults old new in
     let files_mid = told_by holds faults mid new in
     let on = last-part holds faults old mid new c.in-Ok.ensures.stays c.in-Ok.ensures.folder_later in
-    let script = c.args.outside.script.now in
-    let arrivals = c.args.outside.arrivals.now in
-    let budget = c.args.outside.budget in
+    let script = c.args.asked.outside.script.now in
+    let arrivals = c.args.asked.outside.arrivals.now in
+    let budget = c.args.asked.budget in
     text-concludes g.K.Sink.taken g.K.Sink.faults c.args.out.now c.text_of.new.out c.run_text_at.new.out (RunsTextAt files script arrivals budget) files c.args.name.now
     c.in-Ok.text c.deref.result.now c.run_text_at.result c.in-Ok.ensures.unwritten c.in-Ok.ensures.later c.deref.ensures.value c.in-Ok.ensures.text
     (concludes-more (RunsTextAt files_mid script arrivals budget c.deref.result.now)
@@ -34,7 +34,7 @@ returns-in-Ok-clause-answer g c =
 pub returns-in-Err-clause-answer : goal.returns-in-Err-clause-answer
 returns-in-Err-clause-answer g c =
     let files = told_by g.F.Folder.holds g.F.Folder.faults c.args.folder.now c.text_of.new.folder in
-    let answers = RunsTextAt files c.args.outside.script.now c.args.outside.arrivals.now c.args.outside.budget in
+    let answers = RunsTextAt files c.args.asked.outside.script.now c.args.asked.outside.arrivals.now c.args.asked.budget in
     says-concludes g.D.Device.account c.args.places.now.items c.args.places.now.items refl (AnswersFile files c.args.name.now answers) c.in-Err.ending
     (no-text-gives answers files c.args.name.now c.in-Err.ending c.in-Err.ensures.none)
 
@@ -51,13 +51,13 @@ returns-in-Ok-clause-asked g c =
     let on = last-part holds faults old mid new c.in-Ok.ensures.stays c.in-Ok.ensures.folder_later in
     let lacking = c.run_text_at.result ≡ NoMemory in
     let text = c.deref.result.now in
-    let next = WantsOutside files lacking c.args.outside.script.now c.args.outside.arrivals.now in
-    let next_mid = WantsOutside files_mid lacking c.args.outside.script.now c.args.outside.arrivals.now in
+    let next = WantsOutside files lacking c.args.asked.outside.script.now c.args.asked.outside.arrivals.now in
+    let next_mid = WantsOutside files_mid lacking c.args.asked.outside.script.now c.args.asked.outside.arrivals.now in
     then-behind asked holds faults old mid new lacking c.args.name.now (Onwards programs (λ read. next)) c.in-Ok.text text c.in-Ok.ensures.asked c.in-Ok.ensures.text c.deref.ensures.value
     c.run_text_at.ensures.folder_later
     (asked-more asked mid new (OrLacks lacking (Onwards programs (λ read. next_mid) text)) (OrLacks lacking (Onwards programs (λ read. next) text))
     (λ names h. or-more lacking lacking (Onwards programs (λ read. next_mid) text) (Onwards programs (λ read. next) text) names (λ l. l)
-    (λ x. onwards-more programs (λ read. next_mid) (λ read. next) text names (λ read y. outside-more files_mid files lacking lacking on (λ l. l) c.args.outside.script.now c.args.outside.arrivals.now names y) x) h) c.run_text_at.ensures.asked)
+    (λ x. onwards-more programs (λ read. next_mid) (λ read. next) text names (λ read y. outside-more files_mid files lacking lacking on (λ l. l) c.args.asked.outside.script.now c.args.asked.outside.arrivals.now names y) x) h) c.run_text_at.ensures.asked)
 
 pub returns-in-Err-clause-asked : goal.returns-in-Err-clause-asked
 returns-in-Err-clause-asked g c =
@@ -68,6 +68,6 @@ returns-in-Err-clause-asked g c =
     let new = c.text_of.new.folder in
     let files = told_by holds faults old new in
     let lacking = c.in-Err.ending ≡ NoMemory in
-    let next = WantsOutside files lacking c.args.outside.script.now c.args.outside.arrivals.now in
+    let next = WantsOutside files lacking c.args.asked.outside.script.now c.args.asked.outside.arrivals.now in
     asked-more asked old new (WantsFile files lacking c.args.name.now never_behind) (WantsFile files lacking c.args.name.now (Onwards programs (λ read. next)))
     (λ names h. file-missed files lacking c.args.name.now (Onwards programs (λ read. next)) names h) c.in-Err.ensures.stopped

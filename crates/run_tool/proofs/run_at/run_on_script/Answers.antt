@@ -17,22 +17,22 @@ use Rattle.run_tool.proofs.run_at.run_on_script.Goals as goal
 pub returns-in-Ok-clause-answer : goal.returns-in-Ok-clause-answer
 returns-in-Ok-clause-answer g c = λ P texts implements.
     let files = told_by g.F.Folder.holds g.F.Folder.faults c.args.folder.now c.arrivals_of.new.folder in
-    let name = c.args.outside.arrivals.now in
-    let budget = c.args.outside.budget in
-    let may = RunsOnScript files name budget P texts c.args.script in
+    let name = c.args.asked.outside.arrivals.now in
+    let budget = c.args.asked.budget in
+    let may = RunsOnScript files name budget P texts c.args.setup.script in
     concludes-after g.K.Sink.taken g.K.Sink.faults c.args.out.now c.arrivals_of.new.out c.run_board_at.new.out may c.run_board_at.result
     (subst (λ x. Took x (g.K.Sink.taken c.arrivals_of.new.out) []) c.in-Ok.ensures.unwritten (took-nothing (g.K.Sink.taken c.arrivals_of.new.out))) c.in-Ok.ensures.later
-    (concludes-more (RunsProgramAt P texts c.args.script c.in-Ok.arrivals budget) may c.run_board_at.result
-    (λ answer h. over-arrivals files name (λ come. RunsProgramAt P texts c.args.script come budget) c.in-Ok.arrivals answer c.in-Ok.ensures.arrivals h) (c.run_board_at.ensures P texts implements))
+    (concludes-more (RunsProgramAt P texts c.args.setup.script c.in-Ok.arrivals budget) may c.run_board_at.result
+    (λ answer h. over-arrivals files name (λ come. RunsProgramAt P texts c.args.setup.script come budget) c.in-Ok.arrivals answer c.in-Ok.ensures.arrivals h) (c.run_board_at.ensures P texts implements))
 
 pub returns-in-Err-clause-answer : goal.returns-in-Err-clause-answer
 returns-in-Err-clause-answer g c = λ P texts implements.
     let files = told_by g.F.Folder.holds g.F.Folder.faults c.args.folder.now c.arrivals_of.new.folder in
-    let name = c.args.outside.arrivals.now in
-    let budget = c.args.outside.budget in
-    let may = RunsOnScript files name budget P texts c.args.script in
+    let name = c.args.asked.outside.arrivals.now in
+    let budget = c.args.asked.budget in
+    let may = RunsOnScript files name budget P texts c.args.setup.script in
     says-concludes g.D.Device.account c.args.places.now.items c.args.places.now.items refl may c.in-Err.ending
-    (gives-more (AnswersFile files name (AnswersArrivals none_to_read)) may c.in-Err.ending (λ answer h. no-arrivals files name (λ come. RunsProgramAt P texts c.args.script come budget) answer h) c.in-Err.ensures.none)
+    (gives-more (AnswersFile files name (AnswersArrivals none_to_read)) may c.in-Err.ending (λ answer h. no-arrivals files name (λ come. RunsProgramAt P texts c.args.setup.script come budget) answer h) c.in-Err.ensures.none)
 
 pub returns-in-Ok-clause-asked : goal.returns-in-Ok-clause-asked
 returns-in-Ok-clause-asked g c =
@@ -42,7 +42,7 @@ returns-in-Ok-clause-asked g c =
     let old = c.args.folder.now in
     let new = c.arrivals_of.new.folder in
     let files = told_by holds faults old new in
-    let name = c.args.outside.arrivals.now in
+    let name = c.args.asked.outside.arrivals.now in
     let stopped = IsErrOf c.arrivals_of.result NoMemory in
     let lacking = c.run_board_at.result ≡ NoMemory in
     asked-more asked old new (WantsFile files stopped name none_behind) (WantsFile files lacking name none_behind)
@@ -56,7 +56,7 @@ returns-in-Err-clause-asked g c =
     let old = c.args.folder.now in
     let new = c.arrivals_of.new.folder in
     let files = told_by holds faults old new in
-    let name = c.args.outside.arrivals.now in
+    let name = c.args.asked.outside.arrivals.now in
     let stopped = IsErrOf c.arrivals_of.result NoMemory in
     let lacking = c.in-Err.ending ≡ NoMemory in
     asked-more asked old new (WantsFile files stopped name none_behind) (WantsFile files lacking name none_behind)

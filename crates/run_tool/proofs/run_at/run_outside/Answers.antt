@@ -25,9 +25,9 @@ returns-in-Ok-clause-answer g c = λ P texts implements.
     let files = told_by holds faults old new in
     let files_mid = told_by holds faults mid new in
     let on = last-part holds faults old mid new c.in-Ok.ensures.stays c.in-Ok.ensures.folder_later in
-    let script = c.args.outside.script.now in
-    let arrivals = c.args.outside.arrivals.now in
-    let budget = c.args.outside.budget in
+    let script = c.args.asked.outside.script.now in
+    let arrivals = c.args.asked.outside.arrivals.now in
+    let budget = c.args.asked.budget in
     let may = RunsOutside files script arrivals budget P texts in
     concludes-after g.K.Sink.taken g.K.Sink.faults c.args.out.now c.script_of.new.out c.run_on_script.new.out may c.run_on_script.result
     (subst (λ x. Took x (g.K.Sink.taken c.script_of.new.out) []) c.in-Ok.ensures.unwritten (took-nothing (g.K.Sink.taken c.script_of.new.out))) c.in-Ok.ensures.later
@@ -39,9 +39,9 @@ returns-in-Ok-clause-answer g c = λ P texts implements.
 pub returns-in-Err-clause-answer : goal.returns-in-Err-clause-answer
 returns-in-Err-clause-answer g c = λ P texts implements.
     let files = told_by g.F.Folder.holds g.F.Folder.faults c.args.folder.now c.script_of.new.folder in
-    let script = c.args.outside.script.now in
-    let answers = RunsOnScript files c.args.outside.arrivals.now c.args.outside.budget P texts in
-    let may = RunsOutside files script c.args.outside.arrivals.now c.args.outside.budget P texts in
+    let script = c.args.asked.outside.script.now in
+    let answers = RunsOnScript files c.args.asked.outside.arrivals.now c.args.asked.budget P texts in
+    let may = RunsOutside files script c.args.asked.outside.arrivals.now c.args.asked.budget P texts in
     says-concludes g.D.Device.account c.args.places.now.items c.args.places.now.items refl may c.in-Err.ending
     (gives-more (OverScript files (Some script) none_to_read) may c.in-Err.ending (λ answer h. no-script files (Some script) answers answer h) c.in-Err.ensures.none)
 
@@ -57,8 +57,8 @@ returns-in-Ok-clause-asked g c =
     let files_mid = told_by holds faults mid new in
     let on = last-part holds faults old mid new c.in-Ok.ensures.stays c.in-Ok.ensures.folder_later in
     let lacking = c.run_on_script.result ≡ NoMemory in
-    let script = c.args.outside.script.now in
-    let arrivals = c.args.outside.arrivals.now in
+    let script = c.args.asked.outside.script.now in
+    let arrivals = c.args.asked.outside.arrivals.now in
     let kept = script-kept (told_by holds faults old mid) files script c.in-Ok.script (first-part holds faults old mid new c.run_on_script.ensures.folder_later) c.in-Ok.ensures.script in
     asked-behind asked old mid new script (WantsFile files_mid lacking arrivals none_behind) (WantsOutside files lacking script arrivals) c.in-Ok.ensures.asked
     (λ names h. script-then files lacking script c.in-Ok.script (WantsFile files lacking arrivals none_behind) names kept
@@ -73,7 +73,7 @@ returns-in-Err-clause-asked g c =
     let new = c.script_of.new.folder in
     let files = told_by holds faults old new in
     let lacking = c.in-Err.ending ≡ NoMemory in
-    let script = c.args.outside.script.now in
-    let next = WantsFile files lacking c.args.outside.arrivals.now none_behind in
-    asked-more asked old new (WantsScript files lacking (Some script) wants_never) (WantsOutside files lacking script c.args.outside.arrivals.now)
+    let script = c.args.asked.outside.script.now in
+    let next = WantsFile files lacking c.args.asked.outside.arrivals.now none_behind in
+    asked-more asked old new (WantsScript files lacking (Some script) wants_never) (WantsOutside files lacking script c.args.asked.outside.arrivals.now)
     (λ names h. script-more files files lacking lacking (λ file. refl, λ r. r) (λ l. l) (Some script) wants_never next names (λ names x. absurd x) h) c.in-Err.ensures.stopped

@@ -14,9 +14,9 @@ use Rattle.run_tool.proofs.run_at.run_text_at.Goals as goal
 pub returns-in-Ok-clause-answer : goal.returns-in-Ok-clause-answer
 returns-in-Ok-clause-answer g c =
     let files = told_by g.F.Folder.holds g.F.Folder.faults c.args.folder.now c.run_outside.new.folder in
-    let answers = RunsOutside files c.args.outside.script.now c.args.outside.arrivals.now c.args.outside.budget in
+    let answers = RunsOutside files c.args.asked.outside.script.now c.args.asked.outside.arrivals.now c.args.asked.budget in
     let b = c.in-Ok.ensures.built in
-    let may = RunsTextAt files c.args.outside.script.now c.args.outside.arrivals.now c.args.outside.budget c.args.text.now in
+    let may = RunsTextAt files c.args.asked.outside.script.now c.args.asked.outside.arrivals.now c.args.asked.budget c.args.text.now in
     concludes-after g.K.Sink.taken g.K.Sink.faults c.args.out.now c.image_of.new.out c.run_outside.new.out may c.run_outside.result
     (subst (λ x. Took x (g.K.Sink.taken c.image_of.new.out) []) c.in-Ok.ensures.unwritten (took-nothing (g.K.Sink.taken c.image_of.new.out))) c.in-Ok.ensures.later
     (concludes-more (answers b.program b.tables.texts) may c.run_outside.result
@@ -25,9 +25,9 @@ returns-in-Ok-clause-answer g c =
 pub returns-in-Err-clause-answer : goal.returns-in-Err-clause-answer
 returns-in-Err-clause-answer g c =
     let files = told_by g.F.Folder.holds g.F.Folder.faults c.args.folder.now c.args.folder.now in
-    let answers = RunsOutside files c.args.outside.script.now c.args.outside.arrivals.now c.args.outside.budget in
+    let answers = RunsOutside files c.args.asked.outside.script.now c.args.asked.outside.arrivals.now c.args.asked.budget in
     says-concludes g.D.Device.account c.args.places.now.items c.args.places.now.items refl
-    (RunsTextAt files c.args.outside.script.now c.args.outside.arrivals.now c.args.outside.budget c.args.text.now) c.in-Err.ending
+    (RunsTextAt files c.args.asked.outside.script.now c.args.asked.outside.arrivals.now c.args.asked.budget c.args.text.now) c.in-Err.ending
     (no-program-gives answers c.args.text.now c.in-Err.ending c.in-Err.ensures.none)
 
 pub returns-in-Ok-clause-asked : goal.returns-in-Ok-clause-asked
@@ -40,7 +40,7 @@ returns-in-Ok-clause-asked g c =
     let files = told_by holds faults old new in
     let text = c.args.text.now in
     let lacking = c.run_outside.result ≡ NoMemory in
-    let next = WantsOutside files lacking c.args.outside.script.now c.args.outside.arrivals.now in
+    let next = WantsOutside files lacking c.args.asked.outside.script.now c.args.asked.outside.arrivals.now in
     asked-more asked old new next (OrLacks lacking (Onwards programs (λ read. next) text)) (λ names h. inl (accepted text c.in-Ok.image.items c.in-Ok.ensures.built (λ read. next) names h)) c.run_outside.ensures.asked
 
 pub returns-in-Err-clause-asked : goal.returns-in-Err-clause-asked
@@ -53,5 +53,5 @@ returns-in-Err-clause-asked g c =
     let files = told_by holds faults old new in
     let text = c.args.text.now in
     let lacking = c.in-Err.ending ≡ NoMemory in
-    let next = WantsOutside files lacking c.args.outside.script.now c.args.outside.arrivals.now in
+    let next = WantsOutside files lacking c.args.asked.outside.script.now c.args.asked.outside.arrivals.now in
     asked-none asked old (OrLacks lacking (Onwards programs (λ read. next) text)) (program-stops text c.in-Err.ending (λ read. next) c.in-Err.ensures.none)

@@ -1,123 +1,162 @@
-use Rattle.std.proofs.Common.{◌≡◌, ◌≤◌, ◌∙◌, refl, subst, rules, [], ◌++◌, ◌∷◌, List, ℕ, inl}
+use Rattle.std.proofs.Common.{◌≡◌, ◌≤◌, ◌∙◌, refl, sym, subst, rules, arith, [], ◌++◌, ◌∷◌, List, ℕ, inr}
 use Rattle.std.specs.Prelude.{vec_len}
 use Rattle.thumb_code.specs.Map.{flash_end}
 use Rattle.tool_io.specs.Putting.{Took}
 use Rattle.tool_io.proofs.Laws.{took-nothing}
 use Rattle.run_tool.specs.Files.{AnswersFile}
+use Rattle.run_tool.specs.inner.Giving.{GivesOneOf}
 use Rattle.run_tool.specs.inner.Nothing.{none_to_read, none_to_boards}
 use Rattle.run_tool.specs.ClassBoards.{OverBoardProgram, OverBoardScript, OverBoard, board_scripts}
-use Rattle.run_tool.specs.inner.ClassReady.{IsImageOf, HasScript}
+use Rattle.run_tool.specs.inner.ClassReady.{IsImageOf, IsBoardScript}
 use Rattle.run_tool.proofs.Endings.{if-err, gives-more, gives-after}
-use Rattle.run_tool.proofs.ClassAnswers.{on-ok, image-onwards, board-refused, script-answered, has-script-onwards}
+use Rattle.run_tool.proofs.ClassAnswers.{on-oks, image-onwards, board-refused, script-answered, script-onwards}
 use Rattle.run_tool.specs.declared.ending.Ending.TheVariants.{NoMemory}
 use Rattle.run_tool.specs.Wanted.{HasAsked, Onwards, WantsFile}
 use Rattle.run_tool.specs.inner.Handed.{wants_never}
-use Rattle.run_tool.proofs.Wanting.{asked-behind, asked-more, file-fetched, file-more, more-behind, read-more}
-use Rattle.run_tool.proofs.WantedReadings.{accepted}
+use Rattle.run_tool.proofs.Wanting.{asked-more, more-behind, on-ok-all, read-more}
+use Rattle.run_tool.proofs.WantedReadings.{script-asked}
 use Rattle.run_tool.proofs.Readings.{first-part, last-part}
 use Rattle.run_tool.specs.Programs.{programs}
 use Rattle.run_tool.specs.Fetches.{told_by}
 use Rattle.run_tool.proofs.class_boards.Boards.add.Goals as goal
 
-pub returns-in-Ok-clause-added : goal.returns-in-Ok-clause-added
-returns-in-Ok-clause-added g c =
+pub returns-in-Ok-script_of-clause-added : goal.returns-in-Ok-script_of-clause-added
+returns-in-Ok-script_of-clause-added g c =
     let holds = g.F.Folder.holds in
     let faults = g.F.Folder.faults in
     let old = c.args.folder.now in
     let mid = c.image_of.new.folder in
-    let new = c.add_script.new.folder in
+    let new = c.script_of.new.folder in
     let before = told_by holds faults old mid in
     let files = told_by holds faults old new in
     let files_mid = told_by holds faults mid new in
-    let was = first-part holds faults old mid new c.add_script.ensures.folder_later in
+    let was = first-part holds faults old mid new c.script_of.ensures.folder_later in
     let on = last-part holds faults old mid new c.in-Ok.ensures.stays c.in-Ok.ensures.folder_later in
     let names = c.args.names.now in
+    let until = c.args.board.end in
     let program : c.name_text-program.result.now ≡ names.program = c.name_text-program.ensures ∙ c.as_slice.ensures in
     let script : c.name_text-script.result.now ≡ names.script = c.name_text-script.ensures ∙ c.as_slice-2.ensures in
     let image = subst (λ n. IsImageOf before n c.in-Ok.image.items) program c.in-Ok.ensures.image in
+    let read = subst (λ n. IsBoardScript files_mid until n c.in-Ok-script_of.read) script c.in-Ok-script_of.ensures.script in
     let fits : vec_len c.in-Ok.image ≤ flash_end = (let room = image.builds.room in search rules) in
-    on-ok c.add_script.result (λ h. record {
+    on-oks c.push.result (λ images scripts. record {
       image = c.in-Ok.image;
       is_image = image-onwards before files was names.program c.in-Ok.image.items image;
       fits = fits;
-      more = has-script-onwards files_mid files c.args.end on names.script c.in-Ok.image
-          c.args.self.now c.add_script.new.self (subst (λ n. HasScript files_mid c.args.end n c.in-Ok.image c.args.self.now c.add_script.new.self) script h);
-    }) c.add_script.ensures.added
+      more = record {
+        script = c.in-Ok-script_of.read;
+        is = script-onwards files_mid files until on names.script c.in-Ok-script_of.read read;
+        sound = c.in-Ok-script_of.ensures.sound;
+        images = images;
+        scripts = scripts;
+      };
+    }) c.push.ensures.images c.push.ensures.scripts
 
-pub returns-in-Ok-clause-none : goal.returns-in-Ok-clause-none
-returns-in-Ok-clause-none g c =
+pub returns-in-Ok-script_of-clause-unwritten : goal.returns-in-Ok-script_of-clause-unwritten
+returns-in-Ok-script_of-clause-unwritten g c = on-ok-all c.push.result (c.in-Ok-script_of.ensures.unwritten ∙ c.in-Ok.ensures.unwritten)
+
+pub returns-in-Ok-script_of-clause-none : goal.returns-in-Ok-script_of-clause-none
+returns-in-Ok-script_of-clause-none g c =
+    let files = told_by g.F.Folder.holds g.F.Folder.faults c.args.folder.now c.script_of.new.folder in
+    let taken = g.K.Sink.taken c.script_of.new.out in
+    let may = OverBoard files c.args.board.end c.args.board.number c.args.names.now none_to_read in
+    if-err c.push.result
+    (λ ending e. subst (λ x. GivesOneOf g.K.Sink.taken g.K.Sink.faults c.args.out.now c.script_of.new.out may x) (sym e)
+    (record {
+      ends = subst (λ x. Took x taken []) (c.in-Ok-script_of.ensures.unwritten ∙ c.in-Ok.ensures.unwritten) (took-nothing taken);
+      later = omega (arith, c.in-Ok.ensures.later, c.in-Ok-script_of.ensures.later);
+      cut = λ i. absurd (cc);
+    })) c.push.ensures.memory
+
+pub returns-in-Err-script_of-clause-none : goal.returns-in-Err-script_of-clause-none
+returns-in-Err-script_of-clause-none g c =
     let holds = g.F.Folder.holds in
     let faults = g.F.Folder.faults in
     let old = c.args.folder.now in
     let mid = c.image_of.new.folder in
-    let new = c.add_script.new.folder in
+    let new = c.script_of.new.folder in
     let before = told_by holds faults old mid in
     let files = told_by holds faults old new in
     let files_mid = told_by holds faults mid new in
-    let was = first-part holds faults old mid new c.add_script.ensures.folder_later in
+    let was = first-part holds faults old mid new c.script_of.ensures.folder_later in
     let on = last-part holds faults old mid new c.in-Ok.ensures.stays c.in-Ok.ensures.folder_later in
     let names = c.args.names.now in
+    let board = c.args.board in
     let program : c.name_text-program.result.now ≡ names.program = c.name_text-program.ensures ∙ c.as_slice.ensures in
     let script : c.name_text-script.result.now ≡ names.script = c.name_text-script.ensures ∙ c.as_slice-2.ensures in
     let image = subst (λ n. IsImageOf before n c.in-Ok.image.items) program c.in-Ok.ensures.image in
-    let may = OverBoard files c.args.end c.args.number names none_to_read in
-    if-err c.add_script.result (λ ending h.
-    gives-after may ending (subst (λ x. Took x (g.K.Sink.taken c.image_of.new.out) []) c.in-Ok.ensures.unwritten (took-nothing (g.K.Sink.taken c.image_of.new.out))) c.in-Ok.ensures.later
-    (gives-more (OverBoardScript files_mid c.args.end c.args.number c.name_text-script.result.now none_to_read) may ending
-    (λ answer x. script-answered before files_mid files c.args.end on c.args.number names c.in-Ok.image.items image was answer
-    (subst (λ n. OverBoardScript files_mid c.args.end c.args.number n none_to_read answer) script x)) h)) c.add_script.ensures.none
+    let may = OverBoard files board.end board.number names none_to_read in
+    gives-after may c.in-Err-script_of.ending
+    (subst (λ x. Took x (g.K.Sink.taken c.image_of.new.out) []) c.in-Ok.ensures.unwritten (took-nothing (g.K.Sink.taken c.image_of.new.out))) c.in-Ok.ensures.later
+    (gives-more (OverBoardScript files_mid board.end board.number c.name_text-script.result.now none_to_read) may c.in-Err-script_of.ending
+    (λ answer x. script-answered before files_mid files board.end on board.number names c.in-Ok.image.items image was answer
+    (subst (λ n. OverBoardScript files_mid board.end board.number n none_to_read answer) script x)) c.in-Err-script_of.ensures.none)
 
 pub returns-in-Err-clause-none : goal.returns-in-Err-clause-none
 returns-in-Err-clause-none g c =
     let files = told_by g.F.Folder.holds g.F.Folder.faults c.args.folder.now c.image_of.new.folder in
     let names = c.args.names.now in
+    let board = c.args.board in
     let program : c.name_text-program.result.now ≡ names.program = c.name_text-program.ensures ∙ c.as_slice.ensures in
-    gives-more (AnswersFile files c.name_text-program.result.now (OverBoardProgram c.args.number none_to_boards)) (OverBoard files c.args.end c.args.number names none_to_read) c.in-Err.ending
-    (λ answer h. board-refused files c.args.end c.args.number names answer (subst (λ n. AnswersFile files n (OverBoardProgram c.args.number none_to_boards) answer) program h)) c.in-Err.ensures.none
+    gives-more (AnswersFile files c.name_text-program.result.now (OverBoardProgram board.number none_to_boards)) (OverBoard files board.end board.number names none_to_read) c.in-Err.ending
+    (λ answer h. board-refused files board.end board.number names answer (subst (λ n. AnswersFile files n (OverBoardProgram board.number none_to_boards) answer) program h)) c.in-Err.ensures.none
 
-pub returns-in-Ok-clause-asked : goal.returns-in-Ok-clause-asked
-returns-in-Ok-clause-asked g c =
+pub returns-in-Ok-script_of-clause-asked : goal.returns-in-Ok-script_of-clause-asked
+returns-in-Ok-script_of-clause-asked g c =
     let asked = g.F.Folder.asked in
-    let holds = g.F.Folder.holds in
-    let faults = g.F.Folder.faults in
     let old = c.args.folder.now in
-    let new = c.add_script.new.folder in
-    let files = told_by holds faults old new in
     let mid = c.image_of.new.folder in
+    let new = c.script_of.new.folder in
     let names = c.args.names.now in
     let program : c.name_text-program.result.now ≡ names.program = c.name_text-program.ensures ∙ c.as_slice.ensures in
     let script : c.name_text-script.result.now ≡ names.script = c.name_text-script.ensures ∙ c.as_slice-2.ensures in
-    on-ok c.add_script.result (λ e. more-behind (asked old) (asked mid) (asked new) (names.program ∷ []) (names.script ∷ [])
-    (subst (λ (n : List ℕ). asked mid ≡ asked old ++ n ∷ []) program c.in-Ok.ensures.asked) (subst (λ (n : List ℕ). asked new ≡ asked mid ++ n ∷ []) script e)) c.add_script.ensures.asked
+    on-ok-all c.push.result (more-behind (asked old) (asked mid) (asked new) (names.program ∷ []) (names.script ∷ [])
+    (subst (λ (n : List ℕ). asked mid ≡ asked old ++ n ∷ []) program c.in-Ok.ensures.asked) (subst (λ (n : List ℕ). asked new ≡ asked mid ++ n ∷ []) script c.in-Ok-script_of.ensures.asked))
 
-pub returns-in-Ok-clause-stopped : goal.returns-in-Ok-clause-stopped
-returns-in-Ok-clause-stopped g c =
+pub returns-in-Ok-script_of-clause-stopped : goal.returns-in-Ok-script_of-clause-stopped
+returns-in-Ok-script_of-clause-stopped g c =
     let asked = g.F.Folder.asked in
     let holds = g.F.Folder.holds in
     let faults = g.F.Folder.faults in
     let old = c.args.folder.now in
     let mid = c.image_of.new.folder in
-    let new = c.add_script.new.folder in
+    let new = c.script_of.new.folder in
     let before = told_by holds faults old mid in
     let files = told_by holds faults old new in
     let files_mid = told_by holds faults mid new in
-    let was = first-part holds faults old mid new c.add_script.ensures.folder_later in
+    let was = first-part holds faults old mid new c.script_of.ensures.folder_later in
     let on = last-part holds faults old mid new c.in-Ok.ensures.stays c.in-Ok.ensures.folder_later in
     let names = c.args.names.now in
-    let until = c.args.end in
     let program : c.name_text-program.result.now ≡ names.program = c.name_text-program.ensures ∙ c.as_slice.ensures in
     let script : c.name_text-script.result.now ≡ names.script = c.name_text-script.ensures ∙ c.as_slice-2.ensures in
     let image = image-onwards before files was names.program c.in-Ok.image.items (subst (λ n. IsImageOf before n c.in-Ok.image.items) program c.in-Ok.ensures.image) in
-    let never = Onwards (board_scripts until) (λ script. wants_never) in
-    if-err c.add_script.result (λ ending h.
-    let lacking = ending ≡ NoMemory in
-    let next = WantsFile files lacking names.script never in
-    asked-behind asked old mid new names.program (WantsFile files_mid lacking names.script never) (WantsFile files lacking names.program (Onwards programs (λ read. next)))
+    if-err c.push.result
+    (λ ending e. script-asked asked old mid new files_mid files on (ending ≡ NoMemory) c.args.board.end names c.in-Ok.image.items image
     (subst (λ (n : List ℕ). asked mid ≡ asked old ++ n ∷ []) program c.in-Ok.ensures.asked)
-    (λ more x. file-fetched files lacking names.program (Onwards programs (λ read. next)) image.text image.text.items more refl image.fetched
-    (inl (accepted image.text.items c.in-Ok.image.items image.builds (λ read. next) more
-    (file-more files_mid files lacking lacking on (λ l. l) names.script never never more (λ text names y. y) x))))
-    (subst (λ (n : List ℕ). HasAsked asked mid new (WantsFile files_mid lacking n never)) script h)) c.add_script.ensures.stopped
+    (names.script ∷ [], subst (λ (n : List ℕ). asked new ≡ asked mid ++ n ∷ []) script c.in-Ok-script_of.ensures.asked, (refl, inr (e, refl)))) c.push.ensures.memory
+
+pub returns-in-Err-script_of-clause-stopped : goal.returns-in-Err-script_of-clause-stopped
+returns-in-Err-script_of-clause-stopped g c =
+    let asked = g.F.Folder.asked in
+    let holds = g.F.Folder.holds in
+    let faults = g.F.Folder.faults in
+    let old = c.args.folder.now in
+    let mid = c.image_of.new.folder in
+    let new = c.script_of.new.folder in
+    let before = told_by holds faults old mid in
+    let files = told_by holds faults old new in
+    let files_mid = told_by holds faults mid new in
+    let was = first-part holds faults old mid new c.script_of.ensures.folder_later in
+    let on = last-part holds faults old mid new c.in-Ok.ensures.stays c.in-Ok.ensures.folder_later in
+    let names = c.args.names.now in
+    let until = c.args.board.end in
+    let lacking = c.in-Err-script_of.ending ≡ NoMemory in
+    let program : c.name_text-program.result.now ≡ names.program = c.name_text-program.ensures ∙ c.as_slice.ensures in
+    let script : c.name_text-script.result.now ≡ names.script = c.name_text-script.ensures ∙ c.as_slice-2.ensures in
+    let image = image-onwards before files was names.program c.in-Ok.image.items (subst (λ n. IsImageOf before n c.in-Ok.image.items) program c.in-Ok.ensures.image) in
+    script-asked asked old mid new files_mid files on lacking until names c.in-Ok.image.items image
+    (subst (λ (n : List ℕ). asked mid ≡ asked old ++ n ∷ []) program c.in-Ok.ensures.asked)
+    (subst (λ (n : List ℕ). HasAsked asked mid new (WantsFile files_mid lacking n (Onwards (board_scripts until) (λ script. wants_never)))) script c.in-Err-script_of.ensures.stopped)
 
 pub returns-in-Err-clause-stopped : goal.returns-in-Err-clause-stopped
 returns-in-Err-clause-stopped g c =
@@ -129,7 +168,7 @@ returns-in-Err-clause-stopped g c =
     let names = c.args.names.now in
     let program : c.name_text-program.result.now ≡ names.program = c.name_text-program.ensures ∙ c.as_slice.ensures in
     let never = Onwards programs (λ read. wants_never) in
-    let next = WantsFile files lacking names.script (Onwards (board_scripts c.args.end) (λ script. wants_never)) in
+    let next = WantsFile files lacking names.script (Onwards (board_scripts c.args.board.end) (λ script. wants_never)) in
     asked-more asked old new (WantsFile files lacking names.program never) (WantsFile files lacking names.program (Onwards programs (λ read. next)))
     (λ more h. read-more files files lacking lacking (λ file. refl, λ r. r) (λ l. l) programs names.program (λ read. wants_never) (λ read. next) more (λ read names x. absurd x) h)
     (subst (λ (n : List ℕ). HasAsked asked old new (WantsFile files lacking n never)) program c.in-Err.ensures.stopped)
