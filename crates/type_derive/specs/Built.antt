@@ -307,8 +307,10 @@ module _ (tables : Tables) (names : Naming) (k : Known) (numbers : Numbering) wh
         all m n
     made_statement s (ForOf at fixed x list a) = λ m n.
         let u = value_type (kind_or_nothing (items_of tables names k (type_of tables k s.place Free list))) in
-        let inside : Site =
-            record { place = inner (looped tables names k s.place fixed x list); spots = s.spots ++ Local m ∷ [] } in
+        let inside : Site = record {
+          place = inner (looped tables names k s.place fixed x list);
+          spots = s.spots ++ Local m ∷ [];
+        } in
         let all = made_tree s None list >=> λ l. a_local u (λ i. i) >=> λ i. a_local (t.ListOf u) (λ j. j)
         >=> λ j. a_local t.Number (λ j. j) >=> λ j.
         made_statement inside a >=> λ y. pure (e.ForOf fixed (Local i) l y) in
