@@ -63,7 +63,9 @@ fn add_globals<'a>(
     classes: &ByNumber,
     each: &'a [Binding],
 ) -> Result<(), NoMemory>
-    ensures { OnOk result (sources origins.new.items ≡ sources origins.old.items ++ derived.global_sources (value_at classes.now.values.items) (declarations each.now)) }
+    ensures { OnOk result (sources origins.new.items
+        ≡ sources origins.old.items ++ derived.global_sources (value_at classes.now.values.items)
+        (declarations each.now)) }
 {
     for i in 0..each.len() {
         let origin = declared(classes, This::Nowhere, &each[i]);
@@ -78,7 +80,8 @@ fn add_main<'a>(
     classes: &ByNumber,
     s: &'a Stmt,
 ) -> Result<(), NoMemory>
-    ensures { OnOk result (sources origins.new.items ≡ sources origins.old.items ++ derived.main_sources (value_at classes.now.values.items) (statement s.now)) }
+    ensures { OnOk result (sources origins.new.items
+        ≡ sources origins.old.items ++ derived.main_sources (value_at classes.now.values.items) (statement s.now)) }
 {
     match &s.form {
         Form::Let { fixed: _, each } => add_globals(origins, classes, each.as_slice()),
@@ -109,7 +112,9 @@ fn add_member<'a>(
     class: u32,
     member: &'a Member,
 ) -> Result<(), NoMemory>
-    ensures { OnOk result (sources origins.new.items ≡ sources origins.old.items ++ derived.member_sources (value_at classes.now.values.items) class (class_member member.now ∷ [])) }
+    ensures { OnOk result (sources origins.new.items
+        ≡ sources origins.old.items ++ derived.member_sources (value_at classes.now.values.items) class
+        (class_member member.now ∷ [])) }
 {
     match member {
         Member::Field(b) => {
@@ -131,7 +136,9 @@ fn add_members<'a>(
     class: u32,
     members: &'a [Member],
 ) -> Result<(), NoMemory>
-    ensures { OnOk result (sources origins.new.items ≡ sources origins.old.items ++ derived.member_sources (value_at classes.now.values.items) class (class_members members.now)) }
+    ensures { OnOk result (sources origins.new.items
+        ≡ sources origins.old.items ++ derived.member_sources (value_at classes.now.values.items) class
+        (class_members members.now)) }
 {
     for i in 0..members.len() {
         add_member(origins, classes, class, &members[i])?;
@@ -148,7 +155,9 @@ fn add_item<'a>(
     item: &'a Item,
 ) -> Result<u32, NoMemory>
     requires { count + length (item_class (top_level item.now)) < 2 ^ 32 }
-    ensures sources { OnOk result (sources origins.new.items ≡ sources origins.old.items ++ derived.item_sources (value_at classes.now.values.items) count (top_level item.now)) }
+    ensures sources { OnOk result (sources origins.new.items
+        ≡ sources origins.old.items ++ derived.item_sources (value_at classes.now.values.items) count
+        (top_level item.now)) }
     ensures count { IfOk result (λ n. n ≡ count + length (item_class (top_level item.now))) }
 {
     match item {
@@ -183,7 +192,9 @@ fn add_items<'a>(
     items: &'a [Item],
 ) -> Result<u32, NoMemory>
     requires { first + length (class_names (top_levels items.now)) < 2 ^ 32 }
-    ensures sources { OnOk result (sources origins.new.items ≡ sources origins.old.items ++ derived.sources_from (value_at classes.now.values.items) first (top_levels items.now)) }
+    ensures sources { OnOk result (sources origins.new.items
+        ≡ sources origins.old.items ++ derived.sources_from (value_at classes.now.values.items) first
+        (top_levels items.now)) }
     ensures count { IfOk result (λ n. n ≡ first + length (class_names (top_levels items.now))) }
 {
     let mut count = first;
@@ -201,7 +212,8 @@ pub fn origins_of<'a>(
     text: &'a Unit,
 ) -> Result<Vec<Origin<'a>>, NoMemory>
     requires { length (class_names (program library.now ++ program text.now)) < 2 ^ 32 }
-    ensures { IfOk result (λ origins. sources origins.items ≡ derived.sources_from (value_at classes.now.values.items) 0 (program library.now ++ program text.now)) }
+    ensures { IfOk result (λ origins. sources origins.items
+        ≡ derived.sources_from (value_at classes.now.values.items) 0 (program library.now ++ program text.now)) }
 {
     let mut origins = Vec::new(alloc);
     let count = add_items(&mut origins, classes, 0, library.items.as_slice())?;

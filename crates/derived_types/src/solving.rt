@@ -47,7 +47,9 @@ fn within<'a>(
     this: This,
     library: bool,
 ) -> Result<Scope<'a>, NoMemory>
-    ensures { IfOk result (λ scope. name.inner (place scope) ≡ given.within (given.parameter_locals (value_at classes.now.values.items) (parameters params.now)) this None library) }
+    ensures { IfOk result (λ scope. name.inner (place scope)
+        ≡ given.within (given.parameter_locals (value_at classes.now.values.items)
+        (parameters params.now)) this None library) }
 {
     let mut scope = outside(alloc, this, library);
     for i in 0..params.len() {
@@ -75,7 +77,8 @@ fn follow(
     library: bool,
     origin: &Origin,
 ) -> Result<Option<StaticType>, NoMemory>
-    ensures { IfOk result (λ kind. kind ≡ derived.follows (naming context.now) context.now.tables.now context.now.known.now library (source origin.now)) }
+    ensures { IfOk result (λ kind. kind ≡ derived.follows
+        (naming context.now) context.now.tables.now context.now.known.now library (source origin.now)) }
 {
     match origin {
         Origin::Stated(kind) => Ok(*kind),
@@ -98,7 +101,8 @@ fn derive(
     origins: &[Origin],
     d: usize,
 ) -> Result<Option<StaticType>, NoMemory>
-    ensures { IfOk result (λ kind. kind ≡ derived.rule context.now.tables.now (naming context.now) context.now.known.now (sources origins.now) context.now.known.now.kinds d) }
+    ensures { IfOk result (λ kind. kind ≡ derived.rule context.now.tables.now (naming context.now) context.now.known.now
+        (sources origins.now) context.now.known.now.kinds d) }
 {
     if d < origins.len() {
         follow(wanted, context, d < context.known.library(), &origins[d])
@@ -117,7 +121,8 @@ fn advance(
     requires within { d < length known.old.kinds }
     requires underway { way.IsUnderway (rule_by rules.now known.old) known.old.kinds }
     ensures moves { IfOk result (λ said. way.Moves (rule_by rules.now known.old) known.old.kinds known.new.kinds said) }
-    ensures still { IfOk result (λ said. said ≡ false → derived.at known.old.kinds d ≡ None → rule_by rules.now known.old known.old.kinds d ≡ None) }
+    ensures still { IfOk result (λ said. said ≡ false → derived.at known.old.kinds d ≡ None
+        → rule_by rules.now known.old known.old.kinds d ≡ None) }
     ensures same { OnOk result (Keeps known.old known.new) }
 {
     if kind_at(known, d).is_some() {
@@ -148,7 +153,8 @@ fn either(a: bool, b: bool) -> bool
 fn round(wanted: &mut Wanted, rules: &Rules, known: &mut Environment) -> Result<bool, NoMemory>
     requires { way.IsUnderway (rule_by rules.now known.old) known.old.kinds }
     ensures moves { IfOk result (λ said. way.Moves (rule_by rules.now known.old) known.old.kinds known.new.kinds said) }
-    ensures still { IfOk result (λ said. said ≡ false → way.IsStill (rule_by rules.now known.old) known.new.kinds (length known.new.kinds)) }
+    ensures still { IfOk result (λ said. said ≡ false
+        → way.IsStill (rule_by rules.now known.old) known.new.kinds (length known.new.kinds)) }
     ensures same { OnOk result (Keeps known.old known.new) }
 {
     let mut said = false;
@@ -273,7 +279,8 @@ fn derive_all(
     known: &mut Environment,
     origins: &[Origin],
 ) -> Result<(), NoMemory>
-    ensures least { OnOk result (derived.IsLeast (derived.rule tables.now (value_at classes.now.values.items) known.old (sources origins.now)) known.new.kinds) }
+    ensures least { OnOk result (derived.IsLeast
+        (derived.rule tables.now (value_at classes.now.values.items) known.old (sources origins.now)) known.new.kinds) }
     ensures len { OnOk result (length known.new.kinds ≡ length known.old.entries) }
     ensures same { OnOk result (Keeps known.old known.new) }
 {

@@ -54,7 +54,8 @@ fn unmark(marks: &mut [bool], d: usize) {
 
 /// Adds one that waits for a declaration.
 fn add_waiter(waiting: &mut Vec<Vec<usize>>, e: usize, d: usize) -> Result<(), NoMemory>
-    ensures here { OnOk result (e < length waiting.old.items → waiters waiting.new.items e ≡ waiters waiting.old.items e ++ d ∷ []) }
+    ensures here { OnOk result (e < length waiting.old.items
+        → waiters waiting.new.items e ≡ waiters waiting.old.items e ++ d ∷ []) }
     ensures others { OnOk result ((x : ℕ) → x ≢ e → waiters waiting.new.items x ≡ waiters waiting.old.items x) }
     ensures len { OnOk result (length waiting.new.items ≡ length waiting.old.items) }
 {
@@ -121,7 +122,8 @@ impl Work {
     fn ask(&mut self, d: usize) -> Result<(), NoMemory>
         ensures asks { OnOk result (AsksFor self.old self.new) }
         ensures asked { OnOk result (is_asked self.new d ≡ true) }
-        ensures one { OnOk result ((self.new.pending.items ≡ self.old.pending.items ++ d ∷ []) ⊎ (self.new.pending.items ≡ self.old.pending.items)) }
+        ensures one { OnOk result ((self.new.pending.items ≡ self.old.pending.items ++ d ∷ [])
+            ⊎ (self.new.pending.items ≡ self.old.pending.items)) }
         ensures waiting { self.new.waiting ≡ self.old.waiting }
     {
         if mark(&mut self.asked, d) {
@@ -193,7 +195,8 @@ impl Work {
     /// The declaration that is pending last has a type now: it is done, and those that wait for it are woken.
     pub fn answer(&mut self, alloc: Global, d: usize) -> Result<(), NoMemory>
         ensures done { OnOk result (HasAnswered d self.old self.new) }
-        ensures wakes { OnOk result (Wakes (waiters self.old.waiting.items d) (record self.old { pending = self.new.pending; waiting = self.new.waiting }) self.new) }
+        ensures wakes { OnOk result (Wakes (waiters self.old.waiting.items d)
+            (record self.old { pending = self.new.pending; waiting = self.new.waiting }) self.new) }
     {
         let _ = self.pending.pop();
         let all = take_waiters(alloc, &mut self.waiting, d);
@@ -204,7 +207,8 @@ impl Work {
     fn ask_next(&mut self) -> Result<(), NoMemory>
         requires { self.old.next < length self.old.asked.items }
         ensures less { OnOk result (effort self.new < effort self.old) }
-        ensures one { OnOk result ((self.new.pending.items ≡ self.old.pending.items ++ self.old.next ∷ []) ⊎ (self.new.pending.items ≡ self.old.pending.items)) }
+        ensures one { OnOk result ((self.new.pending.items ≡ self.old.pending.items ++ self.old.next ∷ [])
+            ⊎ (self.new.pending.items ≡ self.old.pending.items)) }
     {
         let next = self.next;
         self.next = next + 1;
@@ -217,7 +221,8 @@ impl Work {
         requires more { IsOpen self.old }
         requires none { length self.old.pending.items ≡ 0 }
         ensures less { OnOk result (effort self.new < effort self.old) }
-        ensures one { OnOk result ((d : ℕ) → Contains self.new.pending.items d → Contains self.old.woken.items d ⊎ (d ≡ self.old.next)) }
+        ensures one { OnOk result ((d : ℕ) → Contains self.new.pending.items d
+            → Contains self.old.woken.items d ⊎ (d ≡ self.old.next)) }
     {
         match self.woken.pop() {
             Some(d) => {

@@ -29,7 +29,10 @@ fn hidden(this: This) -> This
 
 /// Adds parameters.
 fn add_parameters(classes: &ByNumber, locals: &mut Locals, params: &[Param]) -> Result<(), NoMemory>
-    ensures { OnOk result (locals.new ≡ record locals.old { own = locals.old.own ++ parameter_locals (value_at classes.now.values.items) (parameters params.now) }) }
+    ensures { OnOk result (locals.new ≡ record locals.old {
+      own = locals.old.own
+          ++ parameter_locals (value_at classes.now.values.items) (parameters params.now);
+    }) }
 {
     for i in 0..params.len() {
         let kind = written_kind(classes, &params[i].shape);
@@ -49,7 +52,8 @@ pub fn handler_scope<'a>(
     params: &[Param],
     gives: Option<StaticType>,
 ) -> Result<Scope<'a>, NoMemory>
-    ensures { IfOk result (λ s. place s ≡ node.handler_within context.now.tables.now (naming context.now) context.now.known.now (place scope.now) (parameters params.now) gives) }
+    ensures { IfOk result (λ s. place s ≡ node.handler_within context.now.tables.now
+        (naming context.now) context.now.known.now (place scope.now) (parameters params.now) gives) }
 {
     let mut locals = scope.locals.inside(context.alloc)?;
     add_parameters(context.classes, &mut locals, params)?;
@@ -71,7 +75,8 @@ pub fn routine_scope<'a>(
     gives: Option<StaticType>,
     library: bool,
 ) -> Result<Scope<'a>, NoMemory>
-    ensures { IfOk result (λ s. place s ≡ within (parameter_locals (value_at classes.now.values.items) (parameters params.now)) this gives library) }
+    ensures { IfOk result (λ s. place s ≡ within
+        (parameter_locals (value_at classes.now.values.items) (parameters params.now)) this gives library) }
 {
     let mut locals = Locals::new(alloc);
     add_parameters(classes, &mut locals, params)?;

@@ -66,7 +66,8 @@ pub fn board_takes(
     scope: &Scope,
     f: &Expr,
 ) -> Option<BoardTakes>
-    ensures { option_map row_shown result ≡ option_map row_called (typing.board_callee tables.now known.now (place scope.now) (tree f.now)) }
+    ensures { option_map row_shown result ≡ option_map row_called
+        (typing.board_callee tables.now known.now (place scope.now) (tree f.now)) }
 {
     match board_callee(tables, known, scope, f) {
         None => None,

@@ -105,7 +105,8 @@ pub fn made(found: Found) -> Option<Called>
 
 /// A function or method that is called.
 pub fn routine(d: Option<usize>) -> Option<Called>
-    ensures { (known : Knowledge) → all_shown known result ≡ bind d (λ d. Some (typing.callee (rule.takes_at known.entries d) (rule.kind_at known d))) }
+    ensures { (known : Knowledge) → all_shown known result
+        ≡ bind d (λ d. Some (typing.callee (rule.takes_at known.entries d) (rule.kind_at known d))) }
 {
     match d {
         Some(d) => Some(Called::Routine(d)),
@@ -154,7 +155,8 @@ pub fn spelling(tables: &Tables, x: u32) -> &[u8]
 
 /// The name in front of a dot that may name a part of the board's interface.
 fn space(tables: &Tables, known: &Environment, scope: &Scope, e: &Expr) -> Option<u32>
-    ensures { option_map (typing.spelling tables.now) result ≡ typing.space tables.now known.now (place scope.now) (tree e.now) }
+    ensures { option_map (typing.spelling tables.now) result
+        ≡ typing.space tables.now known.now (place scope.now) (tree e.now) }
 {
     match &e.node {
         Node::Name(x) => match name_found(tables, known, scope, *x) {
@@ -186,7 +188,8 @@ pub fn constant(
 }
 
 fn own_call(tables: &Tables, library: bool, name: Option<u32>) -> Option<BoardCall>
-    ensures { (known : Knowledge) → result ≡ typing.own_call tables.now known library (option_map (typing.spelling tables.now) name) }
+    ensures { (known : Knowledge) → result ≡ typing.own_call tables.now known library
+        (option_map (typing.spelling tables.now) name) }
 {
     if !library {
         return None;

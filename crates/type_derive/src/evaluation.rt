@@ -56,7 +56,8 @@ fn part_type(known: &Environment, part: Option<Part>) -> Option<StaticType>
 
 /// The type of a member that may be set.
 fn part_target(known: &Environment, part: Option<Part>) -> Option<StaticType>
-    ensures { result ≡ bind part (λ part. bind (rule.part_kind known.now part) (λ u. if rule.part_settable part then Some u else None)) }
+    ensures { result ≡ bind part (λ part. bind (rule.part_kind known.now part)
+        (λ u. if rule.part_settable part then Some u else None)) }
 {
     match part {
         None => None,
@@ -72,7 +73,8 @@ fn part_target(known: &Environment, part: Option<Part>) -> Option<StaticType>
 
 /// What a member is that is called.
 fn part_called(part: Option<Part>) -> Option<Called>
-    ensures { (tables : _) → (known : _) → all_shown known result ≡ bind part (λ part. typing.part_callee tables known part) }
+    ensures { (tables : _) → (known : _) → all_shown known result
+        ≡ bind part (λ part. typing.part_callee tables known part) }
 {
     match part {
         None => None,
@@ -126,7 +128,8 @@ pub fn type_of(
     role: Role,
     e: &Expr,
 ) -> Result<Option<StaticType>, NoMemory>
-    ensures { IfOk result (λ u. u ≡ typing.type_of context.now.tables.now context.now.known.now (place scope.now) role (tree e.now)) }
+    ensures { IfOk result (λ u. u ≡ typing.type_of context.now.tables.now context.now.known.now (place scope.now) role
+        (tree e.now)) }
 {
     match &e.node {
         Node::Num(_) => Ok(Some(flat(Base::Number))),
@@ -177,7 +180,8 @@ fn operator_type(
     e: &Expr,
 ) -> Result<Option<StaticType>, NoMemory>
     requires { group.is_operation (tree e.now) ≡ true }
-    ensures { IfOk result (λ u. (r : _) → u ≡ typing.type_of context.now.tables.now context.now.known.now (place scope.now) r (tree e.now)) }
+    ensures { IfOk result (λ u. (r : _) → u ≡ typing.type_of context.now.tables.now context.now.known.now
+        (place scope.now) r (tree e.now)) }
 {
     match &e.node {
         Node::Unary(op, a) => {
@@ -226,7 +230,10 @@ fn target_type(
     scope: &Scope,
     x: &Expr,
 ) -> Result<Option<StaticType>, NoMemory>
-    ensures { IfOk result (λ u. u ≡ bind (typing.type_of context.now.tables.now context.now.known.now (place scope.now) role.Free (tree x.now)) (λ t. if typing.settable context.now.tables.now context.now.known.now (place scope.now) (tree x.now) then Some t else None)) }
+    ensures { IfOk result (λ u. u ≡ bind (typing.type_of context.now.tables.now context.now.known.now
+        (place scope.now) role.Free (tree x.now))
+        (λ t. if typing.settable context.now.tables.now context.now.known.now (place scope.now)
+        (tree x.now) then Some t else None)) }
 {
     match &x.node {
         Node::Name(n) => {
@@ -265,7 +272,8 @@ fn list_type(
     at: u32,
     all: &[Expr],
 ) -> Result<Option<StaticType>, NoMemory>
-    ensures { IfOk result (λ u. u ≡ typing.type_of context.now.tables.now context.now.known.now (place scope.now) role (t.Items at (trees all.now))) }
+    ensures { IfOk result (λ u. u ≡ typing.type_of context.now.tables.now context.now.known.now (place scope.now) role
+        (t.Items at (trees all.now))) }
 {
     match all {
         [] => {
@@ -299,7 +307,8 @@ fn call_type(
     e: &Expr,
 ) -> Result<Option<StaticType>, NoMemory>
     requires { group.is_call (tree e.now) ≡ true }
-    ensures { IfOk result (λ u. (r : _) → u ≡ typing.type_of context.now.tables.now context.now.known.now (place scope.now) r (tree e.now)) }
+    ensures { IfOk result (λ u. (r : _) → u ≡ typing.type_of context.now.tables.now context.now.known.now
+        (place scope.now) r (tree e.now)) }
 {
     match &e.node {
         Node::Call(f, args) => {
@@ -334,7 +343,8 @@ fn callee(
     scope: &Scope,
     f: &Expr,
 ) -> Result<Option<Called>, NoMemory>
-    ensures { IfOk result (λ d. all_shown context.now.known.now d ≡ typing.callee_of context.now.tables.now context.now.known.now (place scope.now) (tree f.now)) }
+    ensures { IfOk result (λ d. all_shown context.now.known.now d
+        ≡ typing.callee_of context.now.tables.now context.now.known.now (place scope.now) (tree f.now)) }
 {
     match &f.node {
         Node::Name(x) => {
@@ -361,7 +371,9 @@ fn called_type(
     called: Option<Called>,
     args: &[Expr],
 ) -> Result<Option<StaticType>, NoMemory>
-    ensures { IfOk result (λ u. u ≡ typing.called context.now.tables.now context.now.known.now (all_shown context.now.known.now called) (typing.types_of context.now.tables.now context.now.known.now (place scope.now) (trees args.now))) }
+    ensures { IfOk result (λ u. u ≡ typing.called context.now.tables.now context.now.known.now
+        (all_shown context.now.known.now called)
+        (typing.types_of context.now.tables.now context.now.known.now (place scope.now) (trees args.now))) }
 {
     match called {
         None => Ok(None),
@@ -388,7 +400,8 @@ fn fits_board(
     to: Option<BoardParameter>,
     a: &Expr,
 ) -> Result<bool, NoMemory>
-    ensures { IfOk result (λ b. b ≡ fits_some context.now.tables.now context.now.known.now (place scope.now) (option_map board_parameter to) (tree a.now)) }
+    ensures { IfOk result (λ b. b ≡ fits_some context.now.tables.now context.now.known.now (place scope.now)
+        (option_map board_parameter to) (tree a.now)) }
 {
     let kind = match to {
         None => return Ok(false),
@@ -412,7 +425,8 @@ fn board_type(
     row: Option<BoardTakes>,
     args: &Seq<Expr>,
 ) -> Result<Option<StaticType>, NoMemory>
-    ensures { IfOk result (λ u. u ≡ board_given context.now.tables.now context.now.known.now (place scope.now) (option_map row_shown row) (trees args.now)) }
+    ensures { IfOk result (λ u. u ≡ board_given context.now.tables.now context.now.known.now (place scope.now)
+        (option_map row_shown row) (trees args.now)) }
 {
     match row {
         None => Ok(None),

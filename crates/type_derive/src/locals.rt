@@ -84,7 +84,8 @@ fn take_back(
     n: usize,
 )
     ensures rest { own.new.items ≡ take n own.old.items }
-    ensures named { (around : List Local) → AreNamed around own.old.items innermost.old before.old.items → AreNamed around own.new.items innermost.new before.new.items }
+    ensures named { (around : List Local) → AreNamed around own.old.items innermost.old before.old.items
+        → AreNamed around own.new.items innermost.new before.new.items }
 {
     if n < own.len() {
         own.truncate(n);

@@ -22,7 +22,10 @@ fn first_returned(
     params: &[Param],
     all: &[Stmt],
 ) -> Result<Option<Option<StaticType>>, NoMemory>
-    ensures { IfOk result (λ r. r ≡ derive.all_returned context.now.tables.now (naming context.now) context.now.known.now (node.handler_within context.now.tables.now (naming context.now) context.now.known.now (place scope.now) (parameters params.now) None) (statements all.now)) }
+    ensures { IfOk result (λ r. r ≡ derive.all_returned context.now.tables.now
+        (naming context.now) context.now.known.now
+        (node.handler_within context.now.tables.now (naming context.now) context.now.known.now (place scope.now)
+        (parameters params.now) None) (statements all.now)) }
 {
     let mut inside = handler_scope(context, &*scope, params, None)?;
     let mut wanted = Wanted::nothing(context.alloc);
@@ -37,7 +40,9 @@ pub fn handler_result(
     gives: &Option<Shape>,
     all: &[Stmt],
 ) -> Result<Option<StaticType>, Refused>
-    ensures ok { IfOk result (λ kind. kind ≡ node.handler_result context.now.tables.now (naming context.now) context.now.known.now (place scope.now) (parameters params.now) (optional_annotation gives.now) (statements all.now)) }
+    ensures ok { IfOk result (λ kind. kind ≡ node.handler_result context.now.tables.now
+        (naming context.now) context.now.known.now (place scope.now) (parameters params.now)
+        (optional_annotation gives.now) (statements all.now)) }
     ensures err { IfErr result (λ e. e ≡ Refused.NoMemory) }
 {
     match gives {

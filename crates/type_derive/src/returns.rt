@@ -38,7 +38,8 @@ pub fn bound(
     shape: &Option<Shape>,
     first: &Option<Expr>,
 ) -> Result<Option<StaticType>, NoMemory>
-    ensures { IfOk result (λ kind. kind ≡ given.bound context.now.tables.now (naming context.now) context.now.known.now (place scope.now) (optional_annotation shape.now) (optional_expression first.now)) }
+    ensures { IfOk result (λ kind. kind ≡ given.bound context.now.tables.now (naming context.now) context.now.known.now
+        (place scope.now) (optional_annotation shape.now) (optional_expression first.now)) }
 {
     match shape {
         Some(shape) => Ok(kind_of(context.classes, shape)),
@@ -79,7 +80,8 @@ fn declare_binding(
     fixed: bool,
     b: &Binding,
 ) -> Result<(), NoMemory>
-    ensures { OnOk result (place scope.new ≡ given.all_declared context.now.tables.now (naming context.now) context.now.known.now (place scope.old) fixed (declarations (b.now ∷ []))) }
+    ensures { OnOk result (place scope.new ≡ given.all_declared context.now.tables.now
+        (naming context.now) context.now.known.now (place scope.old) fixed (declarations (b.now ∷ []))) }
 {
     let kind = bound(wanted, context, scope, &b.shape, &b.first)?;
     declare(scope, b.name, kind, fixed)
@@ -93,7 +95,8 @@ pub fn declare_all(
     fixed: bool,
     each: &[Binding],
 ) -> Result<(), NoMemory>
-    ensures { OnOk result (place scope.new ≡ given.all_declared context.now.tables.now (naming context.now) context.now.known.now (place scope.old) fixed (declarations each.now)) }
+    ensures { OnOk result (place scope.new ≡ given.all_declared context.now.tables.now
+        (naming context.now) context.now.known.now (place scope.old) fixed (declarations each.now)) }
 {
     for i in 0..each.len() {
         declare_binding(wanted, context, scope, fixed, &each[i])?;
@@ -108,7 +111,8 @@ pub fn after(
     scope: &mut Scope,
     s: &Stmt,
 ) -> Result<(), NoMemory>
-    ensures { OnOk result (place scope.new ≡ given.after context.now.tables.now (naming context.now) context.now.known.now (place scope.old) (statement s.now)) }
+    ensures { OnOk result (place scope.new ≡ given.after context.now.tables.now
+        (naming context.now) context.now.known.now (place scope.old) (statement s.now)) }
 {
     match &s.form {
         Form::Let { fixed, each } => {
@@ -169,8 +173,11 @@ fn returned(
     scope: &mut Scope,
     s: &Stmt,
 ) -> Result<Option<Option<StaticType>>, NoMemory>
-    ensures value { IfOk result (λ r. r ≡ given.returned context.now.tables.now (naming context.now) context.now.known.now (place scope.old) (statement s.now)) }
-    ensures place { OnOk result (place scope.new ≡ given.after context.now.tables.now (naming context.now) context.now.known.now (place scope.old) (statement s.now)) }
+    ensures value { IfOk result (λ r. r ≡ given.returned context.now.tables.now
+        (naming context.now) context.now.known.now (place scope.old) (statement s.now)) }
+    ensures place { OnOk result (place scope.new
+        ≡ given.after context.now.tables.now (naming context.now) context.now.known.now (place scope.old)
+        (statement s.now)) }
 {
     match &s.form {
         Form::Return(value) => match value {
@@ -210,8 +217,11 @@ fn returned_in_loop(
     s: &Stmt,
 ) -> Result<Option<Option<StaticType>>, NoMemory>
     requires { group.is_loop (statement s.now) ≡ true }
-    ensures value { IfOk result (λ r. r ≡ given.returned context.now.tables.now (naming context.now) context.now.known.now (place scope.old) (statement s.now)) }
-    ensures place { OnOk result (place scope.new ≡ given.after context.now.tables.now (naming context.now) context.now.known.now (place scope.old) (statement s.now)) }
+    ensures value { IfOk result (λ r. r ≡ given.returned context.now.tables.now
+        (naming context.now) context.now.known.now (place scope.old) (statement s.now)) }
+    ensures place { OnOk result (place scope.new
+        ≡ given.after context.now.tables.now (naming context.now) context.now.known.now (place scope.old)
+        (statement s.now)) }
 {
     match &s.form {
         Form::While(_, a) => returned_in_branch(wanted, context, scope, a),
@@ -250,7 +260,8 @@ fn returned_in_branch(
     scope: &mut Scope,
     s: &Stmt,
 ) -> Result<Option<Option<StaticType>>, NoMemory>
-    ensures value { IfOk result (λ r. r ≡ given.returned context.now.tables.now (naming context.now) context.now.known.now (name.inner (place scope.old)) (statement s.now)) }
+    ensures value { IfOk result (λ r. r ≡ given.returned context.now.tables.now
+        (naming context.now) context.now.known.now (name.inner (place scope.old)) (statement s.now)) }
     ensures place { OnOk result (place scope.new ≡ place scope.old) }
 {
     let mark = enter(scope);
@@ -267,7 +278,8 @@ pub fn returned_in_block(
     scope: &mut Scope,
     all: &[Stmt],
 ) -> Result<Option<Option<StaticType>>, NoMemory>
-    ensures value { IfOk result (λ r. r ≡ given.all_returned context.now.tables.now (naming context.now) context.now.known.now (name.inner (place scope.old)) (statements all.now)) }
+    ensures value { IfOk result (λ r. r ≡ given.all_returned context.now.tables.now
+        (naming context.now) context.now.known.now (name.inner (place scope.old)) (statements all.now)) }
     ensures place { OnOk result (place scope.new ≡ place scope.old) }
 {
     let mark = enter(scope);

@@ -15,5 +15,6 @@ ghost use Rattle.typed_laws.specs.Causes.{parts_failure, cause_of, expression_at
 /// An expression that is read fails for the first of its parts that fails, else, where it has no type, for its own cause, at its place; else it doesn't fail.
 pub fn expressions_fail_for_a_part_or_their_cause()
     ensures { (tables : Tables) (names : Naming) (k : Known) (p : NameScope) (r : Role) (e : Tree) → IsRead r →
-        failure tables names k p r e ≡ (parts_failure tables names k p e then own (type_of tables k p r e) (cause_of tables names k p e) (expression_at e)) }
+        failure tables names k p r e ≡ (parts_failure tables names k p e then own (type_of tables k p r e)
+        (cause_of tables names k p e) (expression_at e)) }
 {}

@@ -15,11 +15,15 @@ ghost use Rattle.type_derive.specs.Accepted.{typed};
 /// loops, and first in the head of a `for` stands a declaration or an expression.
 /// And its texts stand in the tables.
 pub fn spelled_programs_are_formed()
-    ensures formed { (tables : Tables) (text : List ℕ) (tokens : List Token) (program : Program) → IsTokenization tables text tokens → IsProgram (source tokens tables) program → IsFormedProgram program }
-    ensures texts { (tables : Tables) (text : List ℕ) (tokens : List Token) (program : Program) → IsTokenization tables text tokens → IsProgram (source tokens tables) program → TextsBelow (length tables.texts) program }
+    ensures formed { (tables : Tables) (text : List ℕ) (tokens : List Token) (program : Program)
+        → IsTokenization tables text tokens → IsProgram (source tokens tables) program → IsFormedProgram program }
+    ensures texts { (tables : Tables) (text : List ℕ) (tokens : List Token) (program : Program)
+        → IsTokenization tables text tokens → IsProgram (source tokens tables) program
+        → TextsBelow (length tables.texts) program }
 {}
 
 /// The texts of a typed program are those of the library and the text that it is made of.
 pub fn typed_programs_name_texts_of_their_trees()
-    ensures { (n : ℕ) (tables : Tables) (library text : Program) (kinds : List (Option StaticType)) → TextsBelow n library → TextsBelow n text → NamesTexts n (typed tables library text kinds) }
+    ensures { (n : ℕ) (tables : Tables) (library text : Program) (kinds : List (Option StaticType))
+        → TextsBelow n library → TextsBelow n text → NamesTexts n (typed tables library text kinds) }
 {}

@@ -33,33 +33,50 @@ ghost use Rattle.typed_laws.specs.WholePrograms.{IsAcceptedWith, DeclarationsHav
 /// At a node that is read and has no failure all is there that the making of its typed tree looks for; so is the type of a name that is declared, and of the items
 /// that a loop goes through. The parts of such a node have no failure, so the same holds of them.
 pub fn nodes_without_a_failure_are_whole()
-    ensures expressions { (tables : Tables) (names : Naming) (k : Known) (p : NameScope) (r : Role) (e : Tree) → IsRead r → failure tables names k p r e ≡ None → IsWholeNode tables k p r e }
-    ensures declarations { (tables : Tables) (names : Naming) (k : Known) (p : NameScope) (at x : ℕ) (shape : Option Annotation) (first : OptionalTree) →
-        declaration_failure tables names k p (Declare at x shape first) ≡ None → IsSome (bound tables names k p shape first) }
-    ensures loops { (tables : Tables) (names : Naming) (k : Known) (p : NameScope) (at x : ℕ) (fixed : Bool) (list : Tree) (a : Statement) →
-        statement_failure tables names k p (ForOf at fixed x list a) ≡ None → IsSome (items_of tables names k (type_of tables k p Free list)) }
+    ensures expressions { (tables : Tables) (names : Naming) (k : Known) (p : NameScope) (r : Role) (e : Tree)
+        → IsRead r → failure tables names k p r e ≡ None → IsWholeNode tables k p r e }
+    ensures declarations { (tables : Tables) (names : Naming) (k : Known) (p : NameScope) (at x : ℕ)
+        (shape : Option Annotation) (first : OptionalTree) →
+        declaration_failure tables names k p (Declare at x shape first) ≡ None
+        → IsSome (bound tables names k p shape first) }
+    ensures loops { (tables : Tables) (names : Naming) (k : Known) (p : NameScope) (at x : ℕ) (fixed : Bool)
+        (list : Tree) (a : Statement) →
+        statement_failure tables names k p (ForOf at fixed x list a) ≡ None
+        → IsSome (items_of tables names k (type_of tables k p Free list)) }
 {}
 
 /// Each local in scope has its spot: outside all functions and where a function or a handler without parameters begins, and then in a block, behind a statement and in a loop.
 pub fn each_local_in_scope_has_a_spot()
-    ensures outside { (this : This) (library : Bool) (gives : Option StaticType) → HasSpots (record { place = outside this library gives; spots = [] }) }
-    ensures functions { (tables : Tables) (names : Naming) (k : Known) (numbers : Numbering) (this : This) (result : Option StaticType) (library : Bool) (i : ℕ) (params : List Parameter) →
+    ensures outside { (this : This) (library : Bool) (gives : Option StaticType)
+        → HasSpots (record { place = outside this library gives; spots = [] }) }
+    ensures functions { (tables : Tables) (names : Naming) (k : Known) (numbers : Numbering) (this : This)
+        (result : Option StaticType) (library : Bool) (i : ℕ) (params : List Parameter) →
         HasSpots (site tables names k numbers this result library i params) }
-    ensures handlers { (tables : Tables) (names : Naming) (k : Known) (numbers : Numbering) (s : Site) (gives : Option Annotation) (all : Statements) →
+    ensures handlers { (tables : Tables) (names : Naming) (k : Known) (numbers : Numbering) (s : Site)
+        (gives : Option Annotation) (all : Statements) →
         HasSpots (in_handler_site tables names k numbers s [] gives all) }
     ensures blocks { (s : Site) → HasSpots s → HasSpots (in_block s) }
-    ensures statements { (tables : Tables) (names : Naming) (k : Known) (numbers : Numbering) (m : ℕ) (s : Site) (a : Statement) → HasSpots s → HasSpots (behind_statement tables names k numbers m s a) }
-    ensures loops { (tables : Tables) (names : Naming) (k : Known) (m x : ℕ) (s : Site) (fixed : Bool) (list : Tree) → HasSpots s →
-        HasSpots (record { place = inner (looped tables names k s.place fixed x list); spots = s.spots ++ Local m ∷ [] }) }
+    ensures statements { (tables : Tables) (names : Naming) (k : Known) (numbers : Numbering) (m : ℕ) (s : Site)
+        (a : Statement) → HasSpots s → HasSpots (behind_statement tables names k numbers m s a) }
+    ensures loops { (tables : Tables) (names : Naming) (k : Known) (m x : ℕ) (s : Site) (fixed : Bool) (list : Tree)
+        → HasSpots s →
+        HasSpots (record {
+          place = inner (looped tables names k s.place fixed x list);
+          spots = s.spots ++ Local m ∷ [];
+        }) }
 {}
 
 /// In an accepted text a field and a method, found by its name in a class, stands among the names of the class's fields or slots.
 pub fn members_stand_among_the_names_of_their_class()
-    ensures fields { (tables : Tables) (library text : Program) (kinds : List (Option StaticType)) → IsFormedProgram text → AreDerived tables library text kinds →
-        IsLibrary tables library text kinds → refusal tables library text kinds ≡ None → (c m d : ℕ) → class_part (known library text kinds) (Some c) m ≡ part.Field d →
+    ensures fields { (tables : Tables) (library text : Program) (kinds : List (Option StaticType))
+        → IsFormedProgram text → AreDerived tables library text kinds →
+        IsLibrary tables library text kinds → refusal tables library text kinds ≡ None → (c m d : ℕ)
+        → class_part (known library text kinds) (Some c) m ≡ part.Field d →
         is_listed (field_names (known library text kinds) c) m ≡ true }
-    ensures slots { (tables : Tables) (library text : Program) (kinds : List (Option StaticType)) → IsFormedProgram text → AreDerived tables library text kinds →
-        IsLibrary tables library text kinds → refusal tables library text kinds ≡ None → (c m d : ℕ) → class_part (known library text kinds) (Some c) m ≡ part.Method d →
+    ensures slots { (tables : Tables) (library text : Program) (kinds : List (Option StaticType)) → IsFormedProgram text
+        → AreDerived tables library text kinds →
+        IsLibrary tables library text kinds → refusal tables library text kinds ≡ None → (c m d : ℕ)
+        → class_part (known library text kinds) (Some c) m ≡ part.Method d →
         is_listed (slot_names (known library text kinds) c) m ≡ true }
 {}
 
@@ -67,12 +84,19 @@ pub fn members_stand_among_the_names_of_their_class()
 /// functions of the text have a type, and so has each parameter. What stands among the names of a class's fields or slots is a field or a method that the class has, and its own stand there.
 /// A name and `super.m` stand for what is declared so. A constructor of a class with a base begins with `super(..)`. The numbers of globals, functions and constructors are there for each text.
 pub fn accepted_programs_look_for_nothing_in_vain()
-    ensures types { (tables : Tables) (library text : Program) (kinds : List (Option StaticType)) → IsAcceptedWith tables library text kinds → DeclarationsHaveTypes (known library text kinds) }
-    ensures members { (tables : Tables) (library text : Program) (kinds : List (Option StaticType)) → IsAcceptedWith tables library text kinds → NamesAreMembers (known library text kinds) }
-    ensures names { (tables : Tables) (library text : Program) (kinds : List (Option StaticType)) → IsAcceptedWith tables library text kinds →
-        (p : NameScope) (x : ℕ) → IsDeclaredSo (known library text kinds) (finds tables (known library text kinds) p x) }
-    ensures routines { (tables : Tables) (library text : Program) (kinds : List (Option StaticType)) → IsAcceptedWith tables library text kinds →
+    ensures types { (tables : Tables) (library text : Program) (kinds : List (Option StaticType))
+        → IsAcceptedWith tables library text kinds → DeclarationsHaveTypes (known library text kinds) }
+    ensures members { (tables : Tables) (library text : Program) (kinds : List (Option StaticType))
+        → IsAcceptedWith tables library text kinds → NamesAreMembers (known library text kinds) }
+    ensures names { (tables : Tables) (library text : Program) (kinds : List (Option StaticType))
+        → IsAcceptedWith tables library text kinds →
+        (p : NameScope) (x : ℕ) → IsDeclaredSo (known library text kinds)
+        (finds tables (known library text kinds) p x) }
+    ensures routines { (tables : Tables) (library text : Program) (kinds : List (Option StaticType))
+        → IsAcceptedWith tables library text kinds →
         IsWholeText (all_names library text) (known library text kinds) (library_classes library text) text }
-    ensures supers { (tables : Tables) (k : Known) (this : This) (m d : ℕ) → super_method tables k this m ≡ Some d → sort_of k.entries d ≡ Some sort.Method }
-    ensures numbers { (library text : Program) (kinds : List (Option StaticType)) → NumbersAreThere (known library text kinds) (numbering (library ++ text)) }
+    ensures supers { (tables : Tables) (k : Known) (this : This) (m d : ℕ) → super_method tables k this m ≡ Some d
+        → sort_of k.entries d ≡ Some sort.Method }
+    ensures numbers { (library text : Program) (kinds : List (Option StaticType))
+        → NumbersAreThere (known library text kinds) (numbering (library ++ text)) }
 {}

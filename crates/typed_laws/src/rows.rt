@@ -28,7 +28,8 @@ pub fn rows_of_accepted()
       params = [];
       locals = [];
       gives = t.Nothing;
-      all = e.also (e.Plain (e.Call t.Nothing (c.Board WriteNumber) (e.more (e.Binary t.Number 13 (e.Num t.Number (pos 2147483647)) (e.Num t.Number (pos 1))) e.none))) e.done;
+      all = e.also (e.Plain (e.Call t.Nothing (c.Board WriteNumber)
+          (e.more (e.Binary t.Number 13 (e.Num t.Number (pos 2147483647)) (e.Num t.Number (pos 1))) e.none))) e.done;
     } ∷ [] }
 {}
 
@@ -43,7 +44,8 @@ pub fn rows_of_functions()
 /// Of two classes, of which the second has its base's field alone, and two globals, declarations 3 and 4; and of a function whose result can't be derived.
 pub fn rows_of_declarations()
     ensures inherited { field_names (known_at_last array_names arrays) 1 ≡ 1 ∷ [] }
-    ensures member { member_number (known_at_last array_names arrays).entries (known_at_last array_names arrays).classes 1 1 ≡ Some 1 }
+    ensures member { member_number (known_at_last array_names arrays).entries
+        (known_at_last array_names arrays).classes 1 1 ≡ Some 1 }
     ensures typed { kind_at (known_at_last array_names arrays) 1 ≡ Some number }
     ensures counted { global_number (known_at_last array_names arrays) 4 ≡ 1 }
     ensures untyped { kind_at (known_at_last call_names calling_itself) 0 ≡ None }

@@ -38,7 +38,8 @@ pub enum Planned {
 
 /// What is planned of the i-th expression of a list.
 pub fn plan_argument(plan: &Plan, site: &Site, takes: Takes, i: usize, a: &Expr) -> Planned
-    ensures { call.planned_made plan.now (s.site site.now) result (tree a.now) ≡ call.argument_made plan.now (s.site site.now) (call.places takes.entry) i (tree a.now) }
+    ensures { call.planned_made plan.now (s.site site.now) result (tree a.now)
+        ≡ call.argument_made plan.now (s.site site.now) (call.places takes.entry) i (tree a.now) }
 {
     match takes {
         Takes::Given(takes) => Planned::Built(given_at(takes, i)),
@@ -76,7 +77,8 @@ fn asked_at(takes: &[BoardParameter], i: usize) -> Option<BoardParameter>
 
 /// What is planned of an argument of a call of the board.
 fn asked_one(plan: &Plan, site: &Site, asked: Option<BoardParameter>, a: &Expr) -> Planned
-    ensures { call.planned_made plan.now (s.site site.now) result (tree a.now) ≡ call.asked_one plan.now (s.site site.now) (option_map board_parameter asked) (tree a.now) }
+    ensures { call.planned_made plan.now (s.site site.now) result (tree a.now)
+        ≡ call.asked_one plan.now (s.site site.now) (option_map board_parameter asked) (tree a.now) }
 {
     match asked {
         None => Planned::Built(None),
@@ -89,7 +91,8 @@ fn asked_one(plan: &Plan, site: &Site, asked: Option<BoardParameter>, a: &Expr) 
 
 /// What serves events: a function expression is built, else it is a function's name.
 fn served(plan: &Plan, site: &Site, a: &Expr) -> Planned
-    ensures { call.planned_made plan.now (s.site site.now) result (tree a.now) ≡ call.served plan.now (s.site site.now) (tree a.now) }
+    ensures { call.planned_made plan.now (s.site site.now) result (tree a.now)
+        ≡ call.served plan.now (s.site site.now) (tree a.now) }
 {
     match &a.node {
         Node::Handler(_) => Planned::Built(None),

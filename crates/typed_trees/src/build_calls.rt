@@ -26,7 +26,8 @@ fn build_argument(
     a: &Expr,
 ) -> Result<TypedExpr, NoMemory>
     requires { IsPlan plan.now }
-    ensures { IfOk result (λ r. IsBuilt builder.old builder.new (call.argument_made plan.now (s.site site.now) (call.places takes.entry) i (tree a.now)) (typed_tree r)) }
+    ensures { IfOk result (λ r. IsBuilt builder.old builder.new
+        (call.argument_made plan.now (s.site site.now) (call.places takes.entry) i (tree a.now)) (typed_tree r)) }
 {
     match plan_argument(plan, site, takes, i, a) {
         Planned::There(x) => Ok(x),
@@ -48,7 +49,9 @@ pub fn build_arguments(
     first: Seq<TypedExpr>,
 ) -> Result<Seq<TypedExpr>, NoMemory>
     requires { IsPlan plan.now }
-    ensures { IfOk result (λ r. IsBuilt builder.old builder.new (call.behind_made plan.now (s.site site.now) (call.places takes.entry) (typed_trees first) (trees args.now)) (typed_trees r)) }
+    ensures { IfOk result (λ r. IsBuilt builder.old builder.new
+        (call.behind_made plan.now (s.site site.now) (call.places takes.entry) (typed_trees first) (trees args.now))
+        (typed_trees r)) }
 {
     let mut all = first;
     for i in 0..args.len() {
@@ -68,7 +71,8 @@ fn build_object(
     f: &Expr,
 ) -> Result<Seq<TypedExpr>, NoMemory>
     requires { IsPlan plan.now }
-    ensures { IfOk result (λ r. IsBuilt builder.old builder.new (call.object_made plan.now (s.site site.now) wanted (tree f.now)) (typed_trees r)) }
+    ensures { IfOk result (λ r. IsBuilt builder.old builder.new
+        (call.object_made plan.now (s.site site.now) wanted (tree f.now)) (typed_trees r)) }
 {
     let mut all = Seq::new(plan.alloc);
     if wanted {
@@ -96,7 +100,8 @@ fn build_passed(
 ) -> Result<Seq<TypedExpr>, NoMemory>
     requires plan { IsPlan plan.now }
     requires list { call.has_list (tree e.now) ≡ true }
-    ensures { IfOk result (λ r. IsBuilt builder.old builder.new (call.passed_made plan.now (s.site site.now) head (tree e.now)) (typed_trees r)) }
+    ensures { IfOk result (λ r. IsBuilt builder.old builder.new
+        (call.passed_made plan.now (s.site site.now) head (tree e.now)) (typed_trees r)) }
 {
     let takes = takes_of(&*plan, &head);
     let none = Seq::new(plan.alloc);
@@ -125,7 +130,8 @@ pub fn build_call(
 ) -> Result<Noted, NoMemory>
     requires plan { IsPlan plan.now }
     requires list { call.has_list (tree e.now) ≡ true }
-    ensures built { IfOk result (λ r. IsBuilt builder.old builder.new (s.tree_made plan.now (s.site site.now) given (tree e.now)) (typed_tree r.tree)) }
+    ensures built { IfOk result (λ r. IsBuilt builder.old builder.new
+        (s.tree_made plan.now (s.site site.now) given (tree e.now)) (typed_tree r.tree)) }
     ensures kind { IfOk result (λ r. r.kind ≡ s.tree_kind plan.now (s.site site.now) given (tree e.now)) }
 {
     let list = listed(plan, site, given, e)?;

@@ -66,7 +66,8 @@ fn add_typed(builder: &mut Builder, ty: Ty) -> Result<u32, NoMemory>
 #[tactic(auto, using(crate::proofs::Values::values_append))]
 pub fn add_local(builder: &mut Builder, kind: Option<StaticType>) -> Result<u32, NoMemory>
     ensures number { IfOk result (λ i. i ≡ builder.old.local) }
-    ensures locals { OnOk result (value_types builder.new.locals ≡ value_types builder.old.locals ++ s.noted kind ∷ []) }
+    ensures locals { OnOk result (value_types builder.new.locals
+        ≡ value_types builder.old.locals ++ s.noted kind ∷ []) }
     ensures routines { OnOk result (builder.new.routines ≡ builder.old.routines) }
     ensures local { OnOk result (builder.new.local ≡ min (builder.old.local + 1) (2 ^ 32 - 1)) }
     ensures function { OnOk result (builder.new.function ≡ builder.old.function) }
@@ -85,7 +86,8 @@ fn noted_list_type(kind: Option<StaticType>) -> Ty
 #[tactic(auto, using(crate::proofs::Values::values_append, crate::proofs::Pieces::three))]
 pub fn add_loop(builder: &mut Builder, kind: Option<StaticType>) -> Result<u32, NoMemory>
     ensures number { IfOk result (λ i. i ≡ builder.old.local) }
-    ensures locals { OnOk result (value_types builder.new.locals ≡ value_types builder.old.locals ++ s.noted kind ∷ value.ListOf (s.noted kind) ∷ value.Number ∷ []) }
+    ensures locals { OnOk result (value_types builder.new.locals
+        ≡ value_types builder.old.locals ++ s.noted kind ∷ value.ListOf (s.noted kind) ∷ value.Number ∷ []) }
     ensures routines { OnOk result (builder.new.routines ≡ builder.old.routines) }
     ensures local { OnOk result (builder.new.local ≡ min (builder.old.local + 3) (2 ^ 32 - 1)) }
     ensures function { OnOk result (builder.new.function ≡ builder.old.function) }

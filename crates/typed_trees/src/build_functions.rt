@@ -39,7 +39,8 @@ fn parameter_spots(plan: &Plan, first: u32, params: &[Param]) -> Result<Spots, N
 
 /// Their types, behind others.
 pub fn add_types(plan: &Plan, all: &mut Seq<Ty>, params: &[Param]) -> Result<(), NoMemory>
-    ensures { OnOk result (value.value_types all.new ≡ value.value_types all.old ++ kind.value_types (parameter_kinds (naming plan.now) (parameters params.now))) }
+    ensures { OnOk result (value.value_types all.new
+        ≡ value.value_types all.old ++ kind.value_types (parameter_kinds (naming plan.now) (parameters params.now))) }
 {
     for param in params {
         let kind = written_kind(plan.classes, &param.shape);
@@ -58,7 +59,8 @@ pub fn function_site<'a>(
     params: &[Param],
 ) -> Result<Site<'a>, NoMemory>
     requires { first + length params.now < 2 ^ 32 }
-    ensures { IfOk result (λ site. s.site site ≡ functions.site_of plan.now this gives library first (parameters params.now)) }
+    ensures { IfOk result (λ site. s.site site
+        ≡ functions.site_of plan.now this gives library first (parameters params.now)) }
 {
     let scope = routine_scope(plan.alloc, plan.classes, params, this, gives, library)?;
     let spots = parameter_spots(plan, first, params)?;
@@ -82,9 +84,14 @@ fn build_function(
     all: &[Stmt],
 ) -> Result<Function, NoMemory>
     requires plan { IsPlan plan.now }
-    requires fits { RoutineFits n (functions.routine plan.now (value.value_types params) (value.value_type gives) (s.statements_made plan.now (s.site site.old) (statements all.now)) n) }
-    ensures own { IfOk result (λ f. typed_routine f.own ≡ (functions.routine plan.now (value.value_types params) (value.value_type gives) (s.statements_made plan.now (s.site site.old) (statements all.now)) n).it) }
-    ensures inner { IfOk result (λ f. typed_routines f.inner ≡ (functions.routine plan.now (value.value_types params) (value.value_type gives) (s.statements_made plan.now (s.site site.old) (statements all.now)) n).routines) }
+    requires fits { RoutineFits n (functions.routine plan.now (value.value_types params) (value.value_type gives)
+        (s.statements_made plan.now (s.site site.old) (statements all.now)) n) }
+    ensures own { IfOk result (λ f. typed_routine f.own
+        ≡ (functions.routine plan.now (value.value_types params) (value.value_type gives)
+        (s.statements_made plan.now (s.site site.old) (statements all.now)) n).it) }
+    ensures inner { IfOk result (λ f. typed_routines f.inner
+        ≡ (functions.routine plan.now (value.value_types params) (value.value_type gives)
+        (s.statements_made plan.now (s.site site.old) (statements all.now)) n).routines) }
 {
     let mut builder = nothing_built(plan.alloc, one_more(n));
     let stmts = build_statements(plan, site, &mut builder, all)?;
@@ -107,7 +114,8 @@ fn build_function(
 
 /// A function behind others, and those that stand in it behind it.
 pub fn add(routines: &mut Accumulator<TypedBody>, function: Function) -> Result<(), NoMemory>
-    ensures { OnOk result (typed_routines routines.new ≡ typed_routines routines.old ++ (typed_routine function.own ∷ typed_routines function.inner)) }
+    ensures { OnOk result (typed_routines routines.new
+        ≡ typed_routines routines.old ++ (typed_routine function.own ∷ typed_routines function.inner)) }
 {
     routines.push(function.own)?;
     routines.append(function.inner)
@@ -124,7 +132,8 @@ pub fn add_function(
 ) -> Result<(), NoMemory>
     requires plan { IsPlan plan.now }
     requires fits { n + numbers_taken (functions.function_made plan.now library n gives (routine body.now)) < 2 ^ 32 }
-    ensures { OnOk result (typed_routines routines.new ≡ typed_routines routines.old ++ functions.function_made plan.now library n gives (routine body.now)) }
+    ensures { OnOk result (typed_routines routines.new
+        ≡ typed_routines routines.old ++ functions.function_made plan.now library n gives (routine body.now)) }
 {
     let params = body.params.as_slice();
     let mut site = function_site(plan, This::Nowhere, gives, library, 0, params)?;
@@ -146,7 +155,8 @@ pub fn add_method(
 ) -> Result<(), NoMemory>
     requires plan { IsPlan plan.now }
     requires fits { n + numbers_taken (functions.method_made plan.now class n gives (routine body.now)) < 2 ^ 32 }
-    ensures { OnOk result (typed_routines routines.new ≡ typed_routines routines.old ++ functions.method_made plan.now class n gives (routine body.now)) }
+    ensures { OnOk result (typed_routines routines.new
+        ≡ typed_routines routines.old ++ functions.method_made plan.now class n gives (routine body.now)) }
 {
     let params = body.params.as_slice();
     let mut site = function_site(plan, This::Object(class), gives, false, 1, params)?;

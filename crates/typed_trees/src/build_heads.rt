@@ -272,7 +272,8 @@ pub fn noted_list(
     args: Seq<TypedExpr>,
 ) -> Result<Noted, NoMemory>
     requires { IsPlan plan.now }
-    ensures tree { IfOk result (λ r. typed_tree r.tree ≡ call.head_node plan.now (value_type list.ty) head (typed_trees args)) }
+    ensures tree { IfOk result (λ r. typed_tree r.tree
+        ≡ call.head_node plan.now (value_type list.ty) head (typed_trees args)) }
     ensures kind { IfOk result (λ r. r.kind ≡ list.kind) }
 {
     let tree = head_node(plan, list.ty, head, args)?;

@@ -32,7 +32,8 @@ pub fn build_value(
     e: &Option<Expr>,
 ) -> Result<Option<TypedExpr>, NoMemory>
     requires { IsPlan plan.now }
-    ensures { IfOk result (λ r. IsBuilt builder.old builder.new (s.value_made plan.now (s.site site.now) given (optional_expression e.now)) (optional_typed_tree r)) }
+    ensures { IfOk result (λ r. IsBuilt builder.old builder.new
+        (s.value_made plan.now (s.site site.now) given (optional_expression e.now)) (optional_typed_tree r)) }
 {
     match e {
         None => Ok(None),
@@ -77,8 +78,11 @@ fn build_initial(
     first: &Option<Expr>,
 ) -> Result<Initial, NoMemory>
     requires { IsPlan plan.now }
-    ensures built { IfOk result (λ r. IsBuilt builder.old builder.new (s.first_made plan.now (s.site site.now) (optional_annotation shape.now) (optional_expression first.now)) (optional_typed_tree r.first)) }
-    ensures kind { IfOk result (λ r. r.kind ≡ derive.bound plan.now.tables.now (s.naming plan.now) plan.now.known.now (place site.now.scope) (optional_annotation shape.now) (optional_expression first.now)) }
+    ensures built { IfOk result (λ r. IsBuilt builder.old builder.new
+        (s.first_made plan.now (s.site site.now) (optional_annotation shape.now) (optional_expression first.now))
+        (optional_typed_tree r.first)) }
+    ensures kind { IfOk result (λ r. r.kind ≡ derive.bound plan.now.tables.now (s.naming plan.now) plan.now.known.now
+        (place site.now.scope) (optional_annotation shape.now) (optional_expression first.now)) }
 {
     let written = written_kind(plan.classes, shape);
     match first {
@@ -106,7 +110,9 @@ pub fn build_first(
     first: &Option<Expr>,
 ) -> Result<Option<TypedExpr>, NoMemory>
     requires { IsPlan plan.now }
-    ensures { IfOk result (λ r. IsBuilt builder.old builder.new (s.first_made plan.now (s.site site.now) (optional_annotation shape.now) (optional_expression first.now)) (optional_typed_tree r)) }
+    ensures { IfOk result (λ r. IsBuilt builder.old builder.new
+        (s.first_made plan.now (s.site site.now) (optional_annotation shape.now) (optional_expression first.now))
+        (optional_typed_tree r)) }
 {
     let initial = build_initial(plan, site, builder, shape, first)?;
     Ok(initial.first)
@@ -123,8 +129,10 @@ fn build_local(
     a: &Binding,
 ) -> Result<TypedBinding, NoMemory>
     requires { IsPlan plan.now }
-    ensures built { IfOk result (λ r. IsBuilt builder.old builder.new (steps.local_made plan.now (s.site site.old) (declaration a.now)) (typed_declaration r)) }
-    ensures site { OnOk result (s.site site.new ≡ s.behind plan.now builder.old.local (s.site site.old) (t.Let 0 fixed (declarations (a.now ∷ [])))) }
+    ensures built { IfOk result (λ r. IsBuilt builder.old builder.new
+        (steps.local_made plan.now (s.site site.old) (declaration a.now)) (typed_declaration r)) }
+    ensures site { OnOk result (s.site site.new
+        ≡ s.behind plan.now builder.old.local (s.site site.old) (t.Let 0 fixed (declarations (a.now ∷ [])))) }
 {
     let number = builder.local;
     let initial = build_initial(plan, site, builder, &a.shape, &a.first)?;
@@ -147,8 +155,12 @@ pub fn build_locals(
     each: &[Binding],
 ) -> Result<Seq<TypedBinding>, NoMemory>
     requires { IsPlan plan.now }
-    ensures built { IfOk result (λ r. IsBuilt builder.old builder.new (s.locals_made plan.now (s.site site.old) fixed (declarations each.now)) (typed_declarations r)) }
-    ensures site { OnOk result (NumbersFit builder.old (s.locals_made plan.now (s.site site.old) fixed (declarations each.now) builder.old.local builder.old.function) → s.site site.new ≡ s.behind plan.now builder.old.local (s.site site.old) (t.Let 0 fixed (declarations each.now))) }
+    ensures built { IfOk result (λ r. IsBuilt builder.old builder.new
+        (s.locals_made plan.now (s.site site.old) fixed (declarations each.now)) (typed_declarations r)) }
+    ensures site { OnOk result (NumbersFit builder.old
+        (s.locals_made plan.now (s.site site.old) fixed (declarations each.now) builder.old.local builder.old.function)
+        → s.site site.new ≡ s.behind plan.now builder.old.local (s.site site.old)
+        (t.Let 0 fixed (declarations each.now))) }
     ensures grown { OnOk result (Grown (s.site site.old) (s.site site.new)) }
 {
     let mut made = Seq::new(plan.alloc);

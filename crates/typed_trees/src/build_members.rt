@@ -68,8 +68,13 @@ pub fn this_leaf(site: &Site) -> Noted
 /// A name.
 pub fn name_leaf(plan: &Plan, site: &Site, x: u32) -> Noted
     requires { IsPlan plan.now }
-    ensures tree { typed_tree result.tree ≡ e.Name (s.noted (rule.name_kind plan.now.known.now (place site.now.scope) (typing.finds plan.now.tables.now plan.now.known.now (place site.now.scope) x))) (s.spot_of plan.now (s.site site.now) (typing.finds plan.now.tables.now plan.now.known.now (place site.now.scope) x)) }
-    ensures kind { result.kind ≡ rule.name_kind plan.now.known.now (place site.now.scope) (typing.finds plan.now.tables.now plan.now.known.now (place site.now.scope) x) }
+    ensures tree { typed_tree result.tree ≡ e.Name
+        (s.noted (rule.name_kind plan.now.known.now (place site.now.scope)
+        (typing.finds plan.now.tables.now plan.now.known.now (place site.now.scope) x)))
+        (s.spot_of plan.now (s.site site.now)
+        (typing.finds plan.now.tables.now plan.now.known.now (place site.now.scope) x)) }
+    ensures kind { result.kind ≡ rule.name_kind plan.now.known.now (place site.now.scope)
+        (typing.finds plan.now.tables.now plan.now.known.now (place site.now.scope) x) }
 {
     let found = name_found(plan.tables, plan.known, &site.scope, x);
     let kind = name_kind(plan.known, &site.scope, found);
@@ -79,7 +84,8 @@ pub fn name_leaf(plan: &Plan, site: &Site, x: u32) -> Noted
 
 /// The type of a member that is read, of what has a type or none.
 fn read_kind(plan: &Plan, of: Option<StaticType>, name: u32) -> Option<StaticType>
-    ensures { result ≡ bind of (λ u. rule.part_kind plan.now.known.now (rule.part_of plan.now.tables.now.names plan.now.known.now u name)) }
+    ensures { result ≡ bind of (λ u. rule.part_kind plan.now.known.now
+        (rule.part_of plan.now.tables.now.names plan.now.known.now u name)) }
 {
     match of {
         None => None,
@@ -97,7 +103,8 @@ fn member_read(
     a: Box<TypedExpr>,
 ) -> Result<TypedExpr, NoMemory>
     requires { IsPlan plan.now }
-    ensures { IfOk result (λ r. typed_tree r ≡ s.member_read plan.now (value_type ty) part class name (typed_tree a.value)) }
+    ensures { IfOk result (λ r. typed_tree r
+        ≡ s.member_read plan.now (value_type ty) part class name (typed_tree a.value)) }
 {
     match part {
         Part::Field(_) => Ok(TypedExpr {
@@ -118,8 +125,13 @@ fn member_read(
 /// A member that is read, of its object.
 pub fn read_of(plan: &Plan, name: u32, x: Operand) -> Result<Noted, NoMemory>
     requires { IsPlan plan.now }
-    ensures tree { IfOk result (λ r. typed_tree r.tree ≡ s.member_read plan.now (s.noted (bind x.kind (λ u. rule.part_kind plan.now.known.now (rule.part_of plan.now.tables.now.names plan.now.known.now u name)))) (s.part_behind plan.now x.kind name) (s.class_behind x.kind) name (typed_tree x.tree.value)) }
-    ensures kind { IfOk result (λ r. r.kind ≡ bind x.kind (λ u. rule.part_kind plan.now.known.now (rule.part_of plan.now.tables.now.names plan.now.known.now u name))) }
+    ensures tree { IfOk result (λ r. typed_tree r.tree
+        ≡ s.member_read plan.now (s.noted
+        (bind x.kind (λ u. rule.part_kind plan.now.known.now
+        (rule.part_of plan.now.tables.now.names plan.now.known.now u name)))) (s.part_behind plan.now x.kind name)
+        (s.class_behind x.kind) name (typed_tree x.tree.value)) }
+    ensures kind { IfOk result (λ r. r.kind ≡ bind x.kind
+        (λ u. rule.part_kind plan.now.known.now (rule.part_of plan.now.tables.now.names plan.now.known.now u name))) }
 {
     let kind = read_kind(plan, x.kind, name);
     let part = part_behind(plan, x.kind, name);

@@ -47,7 +47,8 @@ pub fn build_part(
     e: &Expr,
 ) -> Result<Part, NoMemory>
     requires { IsPlan plan.now }
-    ensures built { IfOk result (λ r. IsBuilt builder.old builder.new (s.tree_made plan.now (s.site site.now) given (tree e.now)) (typed_tree r.tree.value)) }
+    ensures built { IfOk result (λ r. IsBuilt builder.old builder.new
+        (s.tree_made plan.now (s.site site.now) given (tree e.now)) (typed_tree r.tree.value)) }
     ensures kind { IfOk result (λ r. r.kind ≡ s.tree_kind plan.now (s.site site.now) given (tree e.now)) }
 {
     let x = build_tree(plan, site, builder, given, e)?;
@@ -68,8 +69,11 @@ pub fn build_last(
     x: Part,
 ) -> Result<Noted, NoMemory>
     requires { IsPlan plan.now }
-    ensures built { IfOk result (λ r. IsBuilt builder.old builder.new (operators.last_made plan.now (s.site site.now) operator x.kind (typed_tree x.tree.value) (tree b.now)) (typed_tree r.tree)) }
-    ensures kind { IfOk result (λ r. r.kind ≡ operators.operator_kind plan.now operator x.kind (s.tree_kind plan.now (s.site site.now) (operators.last_given operator x.kind) (tree b.now))) }
+    ensures built { IfOk result (λ r. IsBuilt builder.old builder.new
+        (operators.last_made plan.now (s.site site.now) operator x.kind (typed_tree x.tree.value) (tree b.now))
+        (typed_tree r.tree)) }
+    ensures kind { IfOk result (λ r. r.kind ≡ operators.operator_kind plan.now operator x.kind
+        (s.tree_kind plan.now (s.site site.now) (operators.last_given operator x.kind) (tree b.now))) }
 {
     let given = last_given(&operator, x.kind);
     let ((operator, x), y) = beside((operator, x), build_part(plan, site, builder, given, b))?;
@@ -92,7 +96,9 @@ fn last_given(operator: &Operator, before: Option<StaticType>) -> Option<StaticT
 
 /// An operator's node, of its last two operands.
 fn operation_of(plan: &Plan, operator: Operator, x: Part, y: Part) -> Noted
-    ensures tree { typed_tree result.tree ≡ operators.operator_node operator (s.noted (operators.operator_kind plan.now operator x.kind y.kind)) (typed_tree x.tree.value) (typed_tree y.tree.value) }
+    ensures tree { typed_tree result.tree ≡ operators.operator_node operator
+        (s.noted (operators.operator_kind plan.now operator x.kind y.kind)) (typed_tree x.tree.value)
+        (typed_tree y.tree.value) }
     ensures kind { result.kind ≡ operators.operator_kind plan.now operator x.kind y.kind }
 {
     let known = plan.known;
@@ -134,7 +140,8 @@ fn operation_of(plan: &Plan, operator: Operator, x: Part, y: Part) -> Noted
 
 /// A prefix operator's node, of its operand.
 pub fn prefix_of(op: u8, x: Part) -> Noted
-    ensures tree { typed_tree result.tree ≡ e.Unary (s.noted (bind x.kind (λ u. rule.prefix op u))) op (typed_tree x.tree.value) }
+    ensures tree { typed_tree result.tree ≡ e.Unary (s.noted (bind x.kind (λ u. rule.prefix op u))) op
+        (typed_tree x.tree.value) }
     ensures kind { result.kind ≡ bind x.kind (λ u. rule.prefix op u) }
 {
     let kind = prefixed(op, x.kind);

@@ -30,9 +30,20 @@ pub struct Inner {
 #[cycle(build)]
 fn build_inner(plan: &Plan, site: &Site, n: u32, body: &Body) -> Result<Inner, NoMemory>
     requires { IsPlan plan.now }
-    ensures own { IfOk result (λ r. RoutineFits n (functions.routine plan.now [] value.Nothing (s.body_made plan.now (s.site site.now) (routine body.now)) n) → typed_routine r.function.own ≡ (functions.routine plan.now [] value.Nothing (s.body_made plan.now (s.site site.now) (routine body.now)) n).it) }
-    ensures inner { IfOk result (λ r. RoutineFits n (functions.routine plan.now [] value.Nothing (s.body_made plan.now (s.site site.now) (routine body.now)) n) → typed_routines r.function.inner ≡ (functions.routine plan.now [] value.Nothing (s.body_made plan.now (s.site site.now) (routine body.now)) n).routines) }
-    ensures behind { IfOk result (λ r. RoutineFits n (functions.routine plan.now [] value.Nothing (s.body_made plan.now (s.site site.now) (routine body.now)) n) → r.behind ≡ n + 1 + length (functions.routine plan.now [] value.Nothing (s.body_made plan.now (s.site site.now) (routine body.now)) n).routines) }
+    ensures own { IfOk result (λ r. RoutineFits n
+        (functions.routine plan.now [] value.Nothing (s.body_made plan.now (s.site site.now) (routine body.now)) n)
+        → typed_routine r.function.own
+        ≡ (functions.routine plan.now [] value.Nothing
+        (s.body_made plan.now (s.site site.now) (routine body.now)) n).it) }
+    ensures inner { IfOk result (λ r. RoutineFits n
+        (functions.routine plan.now [] value.Nothing (s.body_made plan.now (s.site site.now) (routine body.now)) n)
+        → typed_routines r.function.inner
+        ≡ (functions.routine plan.now [] value.Nothing
+        (s.body_made plan.now (s.site site.now) (routine body.now)) n).routines) }
+    ensures behind { IfOk result (λ r. RoutineFits n
+        (functions.routine plan.now [] value.Nothing (s.body_made plan.now (s.site site.now) (routine body.now)) n)
+        → r.behind ≡ n + 1 + length (functions.routine plan.now [] value.Nothing
+        (s.body_made plan.now (s.site site.now) (routine body.now)) n).routines) }
 {
     let mut builder = nothing_built(plan.alloc, one_more(n));
     let stmts = build_body(plan, site, &mut builder, body)?;
@@ -66,7 +77,8 @@ pub fn build_handler(
     body: &Body,
 ) -> Result<Noted, NoMemory>
     requires { IsPlan plan.now }
-    ensures built { IfOk result (λ r. IsBuilt builder.old builder.new (steps.handler_step plan.now (s.site site.now) (routine body.now)) (typed_tree r.tree)) }
+    ensures built { IfOk result (λ r. IsBuilt builder.old builder.new
+        (steps.handler_step plan.now (s.site site.now) (routine body.now)) (typed_tree r.tree)) }
     ensures kind { IfOk result (λ r. r.kind ≡ None) }
 {
     let n = builder.function;

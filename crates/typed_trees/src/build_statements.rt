@@ -31,7 +31,8 @@ pub fn build_body(
     body: &Body,
 ) -> Result<Seq<TypedStmt>, NoMemory>
     requires { IsPlan plan.now }
-    ensures { IfOk result (λ r. IsBuilt builder.old builder.new (s.body_made plan.now (s.site site.now) (routine body.now)) (typed_statements r)) }
+    ensures { IfOk result (λ r. IsBuilt builder.old builder.new
+        (s.body_made plan.now (s.site site.now) (routine body.now)) (typed_statements r)) }
 {
     let mut inside = handler_site(plan, &*site, body)?;
     build_statements(plan, &mut inside, builder, body.stmts.as_slice())
@@ -46,7 +47,8 @@ fn build_branch(
     a: &Stmt,
 ) -> Result<Box<TypedStmt>, NoMemory>
     requires { IsPlan plan.now }
-    ensures built { IfOk result (λ r. IsBuilt builder.old builder.new (s.statement_made plan.now (b.in_block (s.site site.old)) (statement a.now)) (typed_statement r.value)) }
+    ensures built { IfOk result (λ r. IsBuilt builder.old builder.new
+        (s.statement_made plan.now (b.in_block (s.site site.old)) (statement a.now)) (typed_statement r.value)) }
     ensures site { OnOk result (s.site site.new ≡ s.site site.old) }
 {
     let around = begin(site);
@@ -73,7 +75,9 @@ fn build_turns(
 ) -> Result<Turns, NoMemory>
     requires plan { IsPlan plan.now }
     requires form { steps.is_for (statement all.now) ≡ true }
-    ensures built { IfOk result (λ r. (first : OptionalTypedStatement) → IsBuilt builder.old builder.new (steps.turns_made plan.now (s.site site.old) first (statement all.now)) (t.For first (optional_typed_tree r.test) (optional_typed_tree r.step) (typed_statement r.body.value))) }
+    ensures built { IfOk result (λ r. (first : OptionalTypedStatement)
+        → IsBuilt builder.old builder.new (steps.turns_made plan.now (s.site site.old) first (statement all.now))
+        (t.For first (optional_typed_tree r.test) (optional_typed_tree r.step) (typed_statement r.body.value))) }
     ensures site { OnOk result (s.site site.new ≡ s.site site.old) }
 {
     let Form::For(_, test, step, a) = &all.form else {
@@ -96,8 +100,10 @@ fn build_if(
 ) -> Result<TypedStmt, NoMemory>
     requires plan { IsPlan plan.now }
     requires form { steps.is_if (statement a.now) ≡ true }
-    ensures built { IfOk result (λ r. IsBuilt builder.old builder.new (s.statement_made plan.now (s.site site.old) (statement a.now)) (typed_statement r)) }
-    ensures site { OnOk result (s.site site.new ≡ s.behind plan.now builder.old.local (s.site site.old) (statement a.now)) }
+    ensures built { IfOk result (λ r. IsBuilt builder.old builder.new
+        (s.statement_made plan.now (s.site site.old) (statement a.now)) (typed_statement r)) }
+    ensures site { OnOk result (s.site site.new
+        ≡ s.behind plan.now builder.old.local (s.site site.old) (statement a.now)) }
 {
     match &a.form {
         Form::If(test, a, other) => {
@@ -126,8 +132,10 @@ fn build_while(
 ) -> Result<TypedStmt, NoMemory>
     requires plan { IsPlan plan.now }
     requires form { steps.is_while (statement a.now) ≡ true }
-    ensures built { IfOk result (λ r. IsBuilt builder.old builder.new (s.statement_made plan.now (s.site site.old) (statement a.now)) (typed_statement r)) }
-    ensures site { OnOk result (s.site site.new ≡ s.behind plan.now builder.old.local (s.site site.old) (statement a.now)) }
+    ensures built { IfOk result (λ r. IsBuilt builder.old builder.new
+        (s.statement_made plan.now (s.site site.old) (statement a.now)) (typed_statement r)) }
+    ensures site { OnOk result (s.site site.new
+        ≡ s.behind plan.now builder.old.local (s.site site.old) (statement a.now)) }
 {
     match &a.form {
         Form::While(test, a) => {
@@ -155,8 +163,10 @@ fn build_for(
 ) -> Result<TypedStmt, NoMemory>
     requires plan { IsPlan plan.now }
     requires form { steps.is_for (statement a.now) ≡ true }
-    ensures built { IfOk result (λ r. IsBuilt builder.old builder.new (s.statement_made plan.now (s.site site.old) (statement a.now)) (typed_statement r)) }
-    ensures site { OnOk result (s.site site.new ≡ s.behind plan.now builder.old.local (s.site site.old) (statement a.now)) }
+    ensures built { IfOk result (λ r. IsBuilt builder.old builder.new
+        (s.statement_made plan.now (s.site site.old) (statement a.now)) (typed_statement r)) }
+    ensures site { OnOk result (s.site site.new
+        ≡ s.behind plan.now builder.old.local (s.site site.old) (statement a.now)) }
 {
     match &a.form {
         Form::For(first, _, _, _) => {
@@ -191,8 +201,10 @@ fn build_for_of(
 ) -> Result<TypedStmt, NoMemory>
     requires plan { IsPlan plan.now }
     requires form { steps.is_for_of (statement a.now) ≡ true }
-    ensures built { IfOk result (λ r. IsBuilt builder.old builder.new (s.statement_made plan.now (s.site site.old) (statement a.now)) (typed_statement r)) }
-    ensures site { OnOk result (s.site site.new ≡ s.behind plan.now builder.old.local (s.site site.old) (statement a.now)) }
+    ensures built { IfOk result (λ r. IsBuilt builder.old builder.new
+        (s.statement_made plan.now (s.site site.old) (statement a.now)) (typed_statement r)) }
+    ensures site { OnOk result (s.site site.new
+        ≡ s.behind plan.now builder.old.local (s.site site.old) (statement a.now)) }
 {
     match &a.form {
         Form::ForOf {
@@ -230,8 +242,11 @@ pub fn build_statement(
     a: &Stmt,
 ) -> Result<TypedStmt, NoMemory>
     requires { IsPlan plan.now }
-    ensures built { IfOk result (λ r. IsBuilt builder.old builder.new (s.statement_made plan.now (s.site site.old) (statement a.now)) (typed_statement r)) }
-    ensures site { OnOk result (NumbersFit builder.old (s.statement_made plan.now (s.site site.old) (statement a.now) builder.old.local builder.old.function) → s.site site.new ≡ s.behind plan.now builder.old.local (s.site site.old) (statement a.now)) }
+    ensures built { IfOk result (λ r. IsBuilt builder.old builder.new
+        (s.statement_made plan.now (s.site site.old) (statement a.now)) (typed_statement r)) }
+    ensures site { OnOk result (NumbersFit builder.old
+        (s.statement_made plan.now (s.site site.old) (statement a.now) builder.old.local builder.old.function)
+        → s.site site.new ≡ s.behind plan.now builder.old.local (s.site site.old) (statement a.now)) }
     ensures grown { OnOk result (Grown (s.site site.old) (s.site site.new)) }
 {
     match &a.form {
@@ -281,7 +296,8 @@ pub fn build_statements(
     all: &[Stmt],
 ) -> Result<Seq<TypedStmt>, NoMemory>
     requires { IsPlan plan.now }
-    ensures built { IfOk result (λ r. IsBuilt builder.old builder.new (s.statements_made plan.now (s.site site.old) (statements all.now)) (typed_statements r)) }
+    ensures built { IfOk result (λ r. IsBuilt builder.old builder.new
+        (s.statements_made plan.now (s.site site.old) (statements all.now)) (typed_statements r)) }
     ensures site { OnOk result (s.site site.new ≡ s.site site.old) }
 {
     let around = mark(site);

@@ -52,9 +52,11 @@ pub fn build_member(
 ) -> Result<Member, NoMemory>
     requires plan { IsPlan plan.now }
     requires form { target.is_member (tree e.now) ≡ true }
-    ensures built { IfOk result (λ r. IsBuilt builder.old builder.new (s.tree_made plan.now (s.site site.now) given (tree e.now)) (typed_tree r.read.tree)) }
+    ensures built { IfOk result (λ r. IsBuilt builder.old builder.new
+        (s.tree_made plan.now (s.site site.now) given (tree e.now)) (typed_tree r.read.tree)) }
     ensures kind { IfOk result (λ r. r.read.kind ≡ s.tree_kind plan.now (s.site site.now) given (tree e.now)) }
-    ensures can { IfOk result (λ r. r.can ≡ typing.settable plan.now.tables.now plan.now.known.now (s.site site.now).place (tree e.now)) }
+    ensures can { IfOk result (λ r. r.can ≡ typing.settable plan.now.tables.now plan.now.known.now
+        (s.site site.now).place (tree e.now)) }
 {
     let Node::Member(a, m) = &e.node else {
         unreachable!();
@@ -89,9 +91,11 @@ pub fn build_target(
     e: &Expr,
 ) -> Result<Target, NoMemory>
     requires { IsPlan plan.now }
-    ensures built { IfOk result (λ r. IsBuilt builder.old builder.new (s.tree_made plan.now (s.site site.now) None (tree e.now)) (typed_tree r.part.tree.value)) }
+    ensures built { IfOk result (λ r. IsBuilt builder.old builder.new
+        (s.tree_made plan.now (s.site site.now) None (tree e.now)) (typed_tree r.part.tree.value)) }
     ensures kind { IfOk result (λ r. r.part.kind ≡ s.tree_kind plan.now (s.site site.now) None (tree e.now)) }
-    ensures can { IfOk result (λ r. r.can ≡ typing.settable plan.now.tables.now plan.now.known.now (s.site site.now).place (tree e.now)) }
+    ensures can { IfOk result (λ r. r.can ≡ typing.settable plan.now.tables.now plan.now.known.now
+        (s.site site.now).place (tree e.now)) }
 {
     match &e.node {
         Node::Member(_, _) => {

@@ -28,7 +28,8 @@ pub fn build_tree(
     e: &Expr,
 ) -> Result<Noted, NoMemory>
     requires { IsPlan plan.now }
-    ensures built { IfOk result (λ r. IsBuilt builder.old builder.new (s.tree_made plan.now (s.site site.now) given (tree e.now)) (typed_tree r.tree)) }
+    ensures built { IfOk result (λ r. IsBuilt builder.old builder.new
+        (s.tree_made plan.now (s.site site.now) given (tree e.now)) (typed_tree r.tree)) }
     ensures kind { IfOk result (λ r. r.kind ≡ s.tree_kind plan.now (s.site site.now) given (tree e.now)) }
 {
     match &e.node {
@@ -91,7 +92,8 @@ pub fn build_given(
     args: &[Expr],
 ) -> Result<Seq<TypedExpr>, NoMemory>
     requires { IsPlan plan.now }
-    ensures { IfOk result (λ r. IsBuilt builder.old builder.new (s.given_made plan.now (s.site site.now) takes.now (trees args.now)) (typed_trees r)) }
+    ensures { IfOk result (λ r. IsBuilt builder.old builder.new
+        (s.given_made plan.now (s.site site.now) takes.now (trees args.now)) (typed_trees r)) }
 {
     let none = Seq::new(plan.alloc);
     let all = build_arguments(plan, site, builder, Takes::Given(takes), args, none)?;
