@@ -124,27 +124,29 @@ fn check_field(
     check_written(classes, b.at, &b.shape)
 }
 
+/// What is known where members stand.
+#[derive(Clone, Copy)]
+struct Lent<'a> {
+    alloc: Global,
+    /// the numbers of the classes, by their names
+    classes: &'a ByNumber,
+    /// all declarations
+    known: &'a Environment,
+}
+
 /// A method.
 #[tactic(auto, using(crate::proofs::Parameters::method_at))]
-fn check_method(
-    alloc: Global,
-    classes: &ByNumber,
-    known: &Environment,
-    c: u32,
-    d: usize,
-    x: u32,
-    body: &Body,
-) -> Result<(), Refused>
-    ensures { Finds result (heading.method_failure (value_at classes.now.values.items) known.now.entries known.now.classes c d x (routine body.now)) }
+fn check_method(lent: &Lent, c: u32, d: usize, x: u32, body: &Body) -> Result<(), Refused>
+    ensures { Finds result (heading.method_failure (value_at lent.now.classes.now.values.items) lent.now.known.now.entries lent.now.known.now.classes c d x (routine body.now)) }
 {
     let at = body.at;
     unless(
-        !known.entries().is_second(d, Owner::Class(c), x),
+        !lent.known.entries().is_second(d, Owner::Class(c), x),
         Code::TwiceNamed,
         at,
     )?;
-    unless(!known.inherits_field(c, x), Code::TwiceNamed, at)?;
-    check_routine(alloc, classes, body)
+    unless(!lent.known.inherits_field(c, x), Code::TwiceNamed, at)?;
+    check_routine(lent.alloc, lent.classes, body)
 }
 
 /// A constructor is no second one.
@@ -164,29 +166,27 @@ fn check_constructor(
 
 /// A member of the class c; the d-th declaration is the next. How many are declared behind it.
 fn check_member(
-    alloc: Global,
-    classes: &ByNumber,
-    known: &Environment,
+    lent: &Lent,
     c: u32,
     d: usize,
     made: bool,
     member: &Member,
 ) -> Result<usize, Refused>
-    requires { d + length (entry.member_entry (value_at classes.now.values.items) c (class_member member.now)) < 2 ^ 64 }
-    ensures found { Finds result (heading.member_failure (value_at classes.now.values.items) known.now.entries known.now.classes c d made (class_member member.now)) }
-    ensures next { IfOk result (λ n. n ≡ d + length (entry.member_entry (value_at classes.now.values.items) c (class_member member.now))) }
+    requires { d + length (entry.member_entry (value_at lent.now.classes.now.values.items) c (class_member member.now)) < 2 ^ 64 }
+    ensures found { Finds result (heading.member_failure (value_at lent.now.classes.now.values.items) lent.now.known.now.entries lent.now.known.now.classes c d made (class_member member.now)) }
+    ensures next { IfOk result (λ n. n ≡ d + length (entry.member_entry (value_at lent.now.classes.now.values.items) c (class_member member.now))) }
 {
     match member {
         Member::Field(b) => {
-            check_field(classes, known, c, d, b)?;
+            check_field(lent.classes, lent.known, c, d, b)?;
             Ok(d + 1)
         }
         Member::Method { name, body } => {
-            check_method(alloc, classes, known, c, d, *name, body)?;
+            check_method(lent, c, d, *name, body)?;
             Ok(d + 1)
         }
         Member::Constructor(body) => {
-            check_constructor(alloc, classes, made, body)?;
+            check_constructor(lent.alloc, lent.classes, made, body)?;
             Ok(d)
         }
     }
@@ -216,10 +216,15 @@ fn check_members(
     ensures found { Finds result (heading.members_failure (value_at classes.now.values.items) known.now.entries known.now.classes c first false (class_members members.now)) }
     ensures next { IfOk result (λ n. n ≡ first + length (entry.member_entries (value_at classes.now.values.items) c (class_members members.now))) }
 {
+    let lent = Lent {
+        alloc,
+        classes,
+        known,
+    };
     let mut d = first;
     let mut made = false;
     for i in 0..members.len() {
-        d = check_member(alloc, classes, known, c, d, made, &members[i])?;
+        d = check_member(&lent, c, d, made, &members[i])?;
         made = made || is_constructor(&members[i]);
     }
     Ok(d)
