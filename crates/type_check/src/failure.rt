@@ -7,6 +7,7 @@ ghost use Rattle.sts_syntax.specs.Views.{tree, trees, routine, parameters, optio
 ghost use Rattle.sts_scope.specs.Failures.{Finds, ◌then◌};
 ghost use Rattle.sts_scope.specs.Places as name;
 ghost use Rattle.sts_scope.specs.Rules as rule;
+ghost use Rattle.type_derive.specs.declared.roles.Role.TheVariants as role;
 ghost use Rattle.type_derive.specs.Scopes.{place};
 ghost use Rattle.type_derive.specs.Typing as typing;
 ghost use Rattle.sts_scope.specs.Kinds as kind;
@@ -51,13 +52,13 @@ pub fn expression(context: &Context, scope: &Scope, role: Role, e: &Expr) -> Res
         Node::Null => Ok(always(Base::Null)),
         Node::This => this_seen(scope, at),
         Node::Name(x) => name_seen(context, scope, role, *x, at),
-        Node::Unary(op, a) => unary(context, scope, role, *op, a, at),
-        Node::Binary(op, a, b) => binary(context, scope, role, *op, a, b, at),
-        Node::Both(a, b) | Node::Either(a, b) => joined(context, scope, role, a, b, at),
-        Node::Item(a, i) => item(context, scope, role, a, i, at),
-        Node::Choice(q, a, b) => choice(context, scope, role, q, a, b, at),
-        Node::Set(op, x, a) => setting(context, scope, role, *op, x, a, at),
-        Node::Bump { target, by, after } => bumping(context, scope, role, target, *by, *after, at),
+        Node::Unary(op, a) => unary(context, scope, *op, a, at),
+        Node::Binary(op, a, b) => binary(context, scope, *op, a, b, at),
+        Node::Both(a, b) | Node::Either(a, b) => joined(context, scope, a, b, at),
+        Node::Item(a, i) => item(context, scope, a, i, at),
+        Node::Choice(q, a, b) => choice(context, scope, q, a, b, at),
+        Node::Set(op, x, a) => setting(context, scope, *op, x, a, at),
+        Node::Bump { target, by, after } => bumping(context, scope, target, *by, *after, at),
         Node::Member(a, m) => member(context, scope, role, e, a, *m),
         Node::Items(all) => items(context, scope, role, all.as_slice(), at),
         Node::Call(f, args) => call(context, scope, role, f, args.as_slice(), at),
@@ -67,18 +68,11 @@ pub fn expression(context: &Context, scope: &Scope, role: Role, e: &Expr) -> Res
     }
 }
 
-/// A prefix operator and its operand.
+/// A prefix operator and its operand. As for the other operators, it doesn't matter what their place does with it.
 #[cycle(walk)]
-fn unary(
-    context: &Context,
-    scope: &Scope,
-    role: Role,
-    op: u8,
-    a: &Expr,
-    at: u32,
-) -> Result<Seen, Refused>
-    ensures found { Finds result (c.failure context.now (place scope.now) role (t.Unary at op (tree a.now))) }
-    ensures seen { IfOk result (λ s. s ≡ c.seen_of context.now (place scope.now) role (t.Unary at op (tree a.now))) }
+fn unary(context: &Context, scope: &Scope, op: u8, a: &Expr, at: u32) -> Result<Seen, Refused>
+    ensures found { Finds result (c.failure context.now (place scope.now) role.Free (t.Unary at op (tree a.now))) }
+    ensures seen { IfOk result (λ s. s ≡ c.seen_of context.now (place scope.now) role.Free (t.Unary at op (tree a.now))) }
 {
     let s = expression(context, scope, Role::Free, a)?;
     own(prefixed(op, s.kind), Code::Mismatch, at)
@@ -89,14 +83,13 @@ fn unary(
 fn binary(
     context: &Context,
     scope: &Scope,
-    role: Role,
     op: u8,
     a: &Expr,
     b: &Expr,
     at: u32,
 ) -> Result<Seen, Refused>
-    ensures found { Finds result (c.failure context.now (place scope.now) role (t.Binary at op (tree a.now) (tree b.now))) }
-    ensures seen { IfOk result (λ s. s ≡ c.seen_of context.now (place scope.now) role (t.Binary at op (tree a.now) (tree b.now))) }
+    ensures found { Finds result (c.failure context.now (place scope.now) role.Free (t.Binary at op (tree a.now) (tree b.now))) }
+    ensures seen { IfOk result (λ s. s ≡ c.seen_of context.now (place scope.now) role.Free (t.Binary at op (tree a.now) (tree b.now))) }
 {
     let s = expression(context, scope, Role::Free, a)?;
     let u = expression(context, scope, Role::Free, b)?;
@@ -109,16 +102,9 @@ fn binary(
 
 /// `&&` and `||`, of which one fails as the other would.
 #[cycle(walk)]
-fn joined(
-    context: &Context,
-    scope: &Scope,
-    role: Role,
-    a: &Expr,
-    b: &Expr,
-    at: u32,
-) -> Result<Seen, Refused>
-    ensures found { Finds result (c.failure context.now (place scope.now) role (t.Both at (tree a.now) (tree b.now))) }
-    ensures seen { IfOk result (λ s. s ≡ c.seen_of context.now (place scope.now) role (t.Both at (tree a.now) (tree b.now))) }
+fn joined(context: &Context, scope: &Scope, a: &Expr, b: &Expr, at: u32) -> Result<Seen, Refused>
+    ensures found { Finds result (c.failure context.now (place scope.now) role.Free (t.Both at (tree a.now) (tree b.now))) }
+    ensures seen { IfOk result (λ s. s ≡ c.seen_of context.now (place scope.now) role.Free (t.Both at (tree a.now) (tree b.now))) }
 {
     let s = expression(context, scope, Role::Free, a)?;
     let u = expression(context, scope, Role::Free, b)?;
@@ -127,16 +113,9 @@ fn joined(
 
 /// An item of a list.
 #[cycle(walk)]
-fn item(
-    context: &Context,
-    scope: &Scope,
-    role: Role,
-    a: &Expr,
-    i: &Expr,
-    at: u32,
-) -> Result<Seen, Refused>
-    ensures found { Finds result (c.failure context.now (place scope.now) role (t.Item at (tree a.now) (tree i.now))) }
-    ensures seen { IfOk result (λ s. s ≡ c.seen_of context.now (place scope.now) role (t.Item at (tree a.now) (tree i.now))) }
+fn item(context: &Context, scope: &Scope, a: &Expr, i: &Expr, at: u32) -> Result<Seen, Refused>
+    ensures found { Finds result (c.failure context.now (place scope.now) role.Free (t.Item at (tree a.now) (tree i.now))) }
+    ensures seen { IfOk result (λ s. s ≡ c.seen_of context.now (place scope.now) role.Free (t.Item at (tree a.now) (tree i.now))) }
 {
     let s = expression(context, scope, Role::Free, a)?;
     let u = expression(context, scope, Role::Free, i)?;
@@ -148,14 +127,13 @@ fn item(
 fn choice(
     context: &Context,
     scope: &Scope,
-    role: Role,
     q: &Expr,
     a: &Expr,
     b: &Expr,
     at: u32,
 ) -> Result<Seen, Refused>
-    ensures found { Finds result (c.failure context.now (place scope.now) role (t.Choice at (tree q.now) (tree a.now) (tree b.now))) }
-    ensures seen { IfOk result (λ s. s ≡ c.seen_of context.now (place scope.now) role (t.Choice at (tree q.now) (tree a.now) (tree b.now))) }
+    ensures found { Finds result (c.failure context.now (place scope.now) role.Free (t.Choice at (tree q.now) (tree a.now) (tree b.now))) }
+    ensures seen { IfOk result (λ s. s ≡ c.seen_of context.now (place scope.now) role.Free (t.Choice at (tree q.now) (tree a.now) (tree b.now))) }
 {
     let v = expression(context, scope, Role::Free, q)?;
     let s = expression(context, scope, Role::Free, a)?;
@@ -172,14 +150,13 @@ fn choice(
 fn setting(
     context: &Context,
     scope: &Scope,
-    role: Role,
     op: Option<u8>,
     x: &Expr,
     a: &Expr,
     at: u32,
 ) -> Result<Seen, Refused>
-    ensures found { Finds result (c.failure context.now (place scope.now) role (t.Set at op (tree x.now) (tree a.now))) }
-    ensures seen { IfOk result (λ s. s ≡ c.seen_of context.now (place scope.now) role (t.Set at op (tree x.now) (tree a.now))) }
+    ensures found { Finds result (c.failure context.now (place scope.now) role.Free (t.Set at op (tree x.now) (tree a.now))) }
+    ensures seen { IfOk result (λ s. s ≡ c.seen_of context.now (place scope.now) role.Free (t.Set at op (tree x.now) (tree a.now))) }
 {
     let u = expression(context, scope, Role::Free, x)?;
     let s = expression(context, scope, Role::Given, a)?;
@@ -196,14 +173,13 @@ fn setting(
 fn bumping(
     context: &Context,
     scope: &Scope,
-    role: Role,
     x: &Expr,
     by: i32,
     after: bool,
     at: u32,
 ) -> Result<Seen, Refused>
-    ensures found { Finds result (c.failure context.now (place scope.now) role (t.Bump at (tree x.now) by after)) }
-    ensures seen { IfOk result (λ s. s ≡ c.seen_of context.now (place scope.now) role (t.Bump at (tree x.now) by after)) }
+    ensures found { Finds result (c.failure context.now (place scope.now) role.Free (t.Bump at (tree x.now) by after)) }
+    ensures seen { IfOk result (λ s. s ≡ c.seen_of context.now (place scope.now) role.Free (t.Bump at (tree x.now) by after)) }
 {
     let u = expression(context, scope, Role::Free, x)?;
     let can = settable(context, scope, x, u.part);
@@ -497,13 +473,22 @@ pub fn statement(context: &Context, scope: &mut Scope, s: &Stmt) -> Result<(), R
         },
         Form::While(test, a) => tested(context, scope, test, a, at),
         Form::DoWhile(a, test) => do_while(context, scope, a, test, at),
-        Form::For(first, test, step, a) => for_loop(context, scope, first, test, step, a, at),
+        Form::For(first, test, step, a) => {
+            for_loop(context, scope, Turns { first, test, step }, a, at)
+        }
         Form::ForOf {
             fixed,
             name,
             list,
             body,
-        } => for_of(context, scope, *fixed, *name, list, body, at),
+        } => {
+            let each = Each {
+                fixed: *fixed,
+                name: *name,
+                list,
+            };
+            for_of(context, scope, each, body, at)
+        }
         Form::Return(value) => match value {
             None => unless(is_nothing(scope.gives), Code::Mismatch, at),
             Some(e) => returned(context, scope, e, at),
@@ -571,24 +556,30 @@ fn do_while(
     unless(is_boolean(s.kind), Code::Mismatch, at)
 }
 
+/// `first; test; step` in front of what a loop does
+#[derive(Clone, Copy)]
+struct Turns<'a> {
+    first: &'a Option<Box<Stmt>>,
+    test: &'a Option<Expr>,
+    step: &'a Option<Expr>,
+}
+
 /// `for (first; test; step) s`
 #[cycle(walk)]
 fn for_loop(
     context: &Context,
     scope: &mut Scope,
-    first: &Option<Box<Stmt>>,
-    test: &Option<Expr>,
-    step: &Option<Expr>,
+    turns: Turns,
     a: &Stmt,
     at: u32,
 ) -> Result<(), Refused>
-    ensures found { Finds result (c.statement_failure context.now (place scope.old) (t.For at (optional_boxed first.now) (optional_expression test.now) (optional_expression step.now) (statement a.now))) }
+    ensures found { Finds result (c.statement_failure context.now (place scope.old) (t.For at (optional_boxed turns.entry.first.now) (optional_expression turns.entry.test.now) (optional_expression turns.entry.step.now) (statement a.now))) }
     ensures place { OnOk result (place scope.new ≡ place scope.old) }
 {
     let mark = enter(scope);
-    first_of(context, scope, first)?;
-    let tests = optional(context, scope, test)?;
-    optional(context, scope, step)?;
+    first_of(context, scope, turns.first)?;
+    let tests = optional(context, scope, turns.test)?;
+    optional(context, scope, turns.step)?;
     nested(context, scope, a)?;
     leave(scope, mark);
     unless(tests, Code::Mismatch, at)?;
@@ -622,25 +613,31 @@ fn optional(context: &Context, scope: &Scope, e: &Option<Expr>) -> Result<bool, 
     }
 }
 
-/// `for (let x of list) s`
+/// `let name of list` in front of what a loop does; it may be `const`
+#[derive(Clone, Copy)]
+struct Each<'a> {
+    fixed: bool,
+    name: u32,
+    list: &'a Expr,
+}
+
+/// `for (let name of list) s`
 #[cycle(walk)]
 fn for_of(
     context: &Context,
     scope: &mut Scope,
-    fixed: bool,
-    x: u32,
-    list: &Expr,
+    each: Each,
     a: &Stmt,
     at: u32,
 ) -> Result<(), Refused>
-    ensures found { Finds result (c.statement_failure context.now (place scope.old) (t.ForOf at fixed x (tree list.now) (statement a.now))) }
+    ensures found { Finds result (c.statement_failure context.now (place scope.old) (t.ForOf at each.entry.fixed each.entry.name (tree each.entry.list.now) (statement a.now))) }
     ensures place { OnOk result (place scope.new ≡ place scope.old) }
 {
-    let s = expression(context, scope, Role::Free, list)?;
-    let mark = enter_loop(scope, x, s.kind, fixed)?;
+    let s = expression(context, scope, Role::Free, each.list)?;
+    let mark = enter_loop(scope, each.name, s.kind, each.fixed)?;
     nested(context, scope, a)?;
     leave(scope, mark);
-    unless(!is_dollar(context.tables, x), Code::UnknownName, at)?;
+    unless(!is_dollar(context.tables, each.name), Code::UnknownName, at)?;
     unless(is_list(s.kind), Code::Mismatch, at)?;
     Ok(())
 }

@@ -534,14 +534,14 @@ for_loop-returns-clause-place t c =
     let r = place c.first_of.new.scope in
     let s = place c.nested.new.scope in
     closed p q s (place c.leave.new.scope) c.enter-mark.result.locals c.enter-mark.result.block
-    c.enter-mark.ensures.place (extends_to q r s (first_extends z q q r (optional_boxed c.args.first.now) refl c.in_ok-first_of.ensures.place) c.in_ok-nested.ensures.place)
+    c.enter-mark.ensures.place (extends_to q r s (first_extends z q q r (optional_boxed c.args.turns.first.now) refl c.in_ok-first_of.ensures.place) c.in_ok-nested.ensures.place)
     c.leave.ensures c.enter-mark.ensures.locals c.enter-mark.ensures.block
 
 pub for_of-returns-clause-found : goal.for_of-returns-clause-found
 for_of-returns-clause-found t c =
     let z = c.args.context.now in
     let p = place c.args.scope.now in
-    for_of_step z p (place c.enter_loop.new.scope) c.args.at c.args.x c.args.fixed (tree c.args.list.now) (statement c.args.a.now) c.in_ok-s.s.kind
+    for_of_step z p (place c.enter_loop.new.scope) c.args.at c.args.each.name c.args.each.fixed (tree c.args.each.list.now) (statement c.args.a.now) c.in_ok-s.s.kind
     c.in_ok-s.ensures.found (ap (λ (y : Seen). y.kind) c.in_ok-s.ensures.seen) c.in_ok-mark.ensures.place
     ∙ grind (arith, common_steps)
 
@@ -549,14 +549,14 @@ pub for_of-returns-in_err-nested-clause-found : goal.for_of-returns-in_err-neste
 for_of-returns-in_err-nested-clause-found t c =
     let z = c.args.context.now in
     let p = place c.args.scope.now in
-    subst (Finds c.from_residual-in_err-nested.result) (sym (for_of_step z p (place c.enter_loop.new.scope) c.args.at c.args.x c.args.fixed (tree c.args.list.now) (statement c.args.a.now) c.in_ok-s.s.kind
+    subst (Finds c.from_residual-in_err-nested.result) (sym (for_of_step z p (place c.enter_loop.new.scope) c.args.at c.args.each.name c.args.each.fixed (tree c.args.each.list.now) (statement c.args.a.now) c.in_ok-s.s.kind
     c.in_ok-s.ensures.found (ap (λ (y : Seen). y.kind) c.in_ok-s.ensures.seen) c.in_ok-mark.ensures.place)) (grind (arith, common_steps))
 
 pub for_of-returns-in_err-unless-clause-found : goal.for_of-returns-in_err-unless-clause-found
 for_of-returns-in_err-unless-clause-found t c =
     let z = c.args.context.now in
     let p = place c.args.scope.now in
-    subst (Finds c.from_residual-in_err-unless.result) (sym (for_of_step z p (place c.enter_loop.new.scope) c.args.at c.args.x c.args.fixed (tree c.args.list.now) (statement c.args.a.now) c.in_ok-s.s.kind
+    subst (Finds c.from_residual-in_err-unless.result) (sym (for_of_step z p (place c.enter_loop.new.scope) c.args.at c.args.each.name c.args.each.fixed (tree c.args.each.list.now) (statement c.args.a.now) c.in_ok-s.s.kind
     c.in_ok-s.ensures.found (ap (λ (y : Seen). y.kind) c.in_ok-s.ensures.seen) c.in_ok-mark.ensures.place)) (grind (arith, common_steps))
 
 pub returned-returns : goal.returned-returns
@@ -966,42 +966,42 @@ pub for_loop-returns-in_err-first_of : goal.for_loop-returns-in_err-first_of
 for_loop-returns-in_err-first_of t c =
     let z = c.args.context.now in
     let p = place c.args.scope.now in
-    let step = for_step z p (place c.enter-mark.new.scope) _ c.args.at (optional_boxed c.args.first.now) (optional_expression c.args.test.now) (optional_expression c.args.step.now) (statement c.args.a.now) c.enter-mark.ensures.place refl in
+    let step = for_step z p (place c.enter-mark.new.scope) _ c.args.at (optional_boxed c.args.turns.first.now) (optional_expression c.args.turns.test.now) (optional_expression c.args.turns.step.now) (statement c.args.a.now) c.enter-mark.ensures.place refl in
     record { found = subst (Finds c.from_residual.result) (sym step) (handed_first c.from_residual.result c.in_err-first_of.field-0.0 _ _ c.from_residual.ensures c.in_err-first_of.ensures.found); place = IfOk-from_err c.from_residual.result _ c.from_residual.ensures.0 }
 
 pub for_loop-returns-in_err-tests : goal.for_loop-returns-in_err-tests
 for_loop-returns-in_err-tests t c =
     let z = c.args.context.now in
     let p = place c.args.scope.now in
-    let step = for_step z p (place c.enter-mark.new.scope) (place c.first_of.new.scope) c.args.at (optional_boxed c.args.first.now) (optional_expression c.args.test.now) (optional_expression c.args.step.now) (statement c.args.a.now) c.enter-mark.ensures.place c.in_ok-first_of.ensures.place in
+    let step = for_step z p (place c.enter-mark.new.scope) (place c.first_of.new.scope) c.args.at (optional_boxed c.args.turns.first.now) (optional_expression c.args.turns.test.now) (optional_expression c.args.turns.step.now) (statement c.args.a.now) c.enter-mark.ensures.place c.in_ok-first_of.ensures.place in
     record { found = subst (Finds c.from_residual-in_err-tests.result) (sym step) (past c.from_residual-in_err-tests.result _ _ c.in_ok-first_of.ensures.found (handed_first c.from_residual-in_err-tests.result c.in_err-tests.field-0.0 _ _ c.from_residual-in_err-tests.ensures c.in_err-tests.ensures.found)); place = IfOk-from_err c.from_residual-in_err-tests.result _ c.from_residual-in_err-tests.ensures.0 }
 
 pub for_loop-returns-in_err-optional : goal.for_loop-returns-in_err-optional
 for_loop-returns-in_err-optional t c =
     let z = c.args.context.now in
     let p = place c.args.scope.now in
-    let step = for_step z p (place c.enter-mark.new.scope) (place c.first_of.new.scope) c.args.at (optional_boxed c.args.first.now) (optional_expression c.args.test.now) (optional_expression c.args.step.now) (statement c.args.a.now) c.enter-mark.ensures.place c.in_ok-first_of.ensures.place in
+    let step = for_step z p (place c.enter-mark.new.scope) (place c.first_of.new.scope) c.args.at (optional_boxed c.args.turns.first.now) (optional_expression c.args.turns.test.now) (optional_expression c.args.turns.step.now) (statement c.args.a.now) c.enter-mark.ensures.place c.in_ok-first_of.ensures.place in
     record { found = subst (Finds c.from_residual-in_err-optional.result) (sym step) (past c.from_residual-in_err-optional.result _ _ c.in_ok-first_of.ensures.found (past c.from_residual-in_err-optional.result _ _ c.in_ok-tests.ensures.found (handed_first c.from_residual-in_err-optional.result c.in_err-optional.field-0.0 _ _ c.from_residual-in_err-optional.ensures c.in_err-optional.ensures.found))); place = IfOk-from_err c.from_residual-in_err-optional.result _ c.from_residual-in_err-optional.ensures.0 }
 
 pub for_loop-returns-in_err-nested : goal.for_loop-returns-in_err-nested
 for_loop-returns-in_err-nested t c =
     let z = c.args.context.now in
     let p = place c.args.scope.now in
-    let step = for_step z p (place c.enter-mark.new.scope) (place c.first_of.new.scope) c.args.at (optional_boxed c.args.first.now) (optional_expression c.args.test.now) (optional_expression c.args.step.now) (statement c.args.a.now) c.enter-mark.ensures.place c.in_ok-first_of.ensures.place in
+    let step = for_step z p (place c.enter-mark.new.scope) (place c.first_of.new.scope) c.args.at (optional_boxed c.args.turns.first.now) (optional_expression c.args.turns.test.now) (optional_expression c.args.turns.step.now) (statement c.args.a.now) c.enter-mark.ensures.place c.in_ok-first_of.ensures.place in
     record { found = subst (Finds c.from_residual-in_err-nested.result) (sym step) (past c.from_residual-in_err-nested.result _ _ c.in_ok-first_of.ensures.found (past c.from_residual-in_err-nested.result _ _ c.in_ok-tests.ensures.found (past c.from_residual-in_err-nested.result _ _ c.in_ok-optional.ensures.found (handed_first c.from_residual-in_err-nested.result c.in_err-nested.field-0.0 _ _ c.from_residual-in_err-nested.ensures c.in_err-nested.ensures.found)))); place = IfOk-from_err c.from_residual-in_err-nested.result _ c.from_residual-in_err-nested.ensures.0 }
 
 pub for_loop-returns-in_err-unless : goal.for_loop-returns-in_err-unless
 for_loop-returns-in_err-unless t c =
     let z = c.args.context.now in
     let p = place c.args.scope.now in
-    let step = for_step z p (place c.enter-mark.new.scope) (place c.first_of.new.scope) c.args.at (optional_boxed c.args.first.now) (optional_expression c.args.test.now) (optional_expression c.args.step.now) (statement c.args.a.now) c.enter-mark.ensures.place c.in_ok-first_of.ensures.place in
+    let step = for_step z p (place c.enter-mark.new.scope) (place c.first_of.new.scope) c.args.at (optional_boxed c.args.turns.first.now) (optional_expression c.args.turns.test.now) (optional_expression c.args.turns.step.now) (statement c.args.a.now) c.enter-mark.ensures.place c.in_ok-first_of.ensures.place in
     record { found = subst (Finds c.from_residual-in_err-unless.result) (sym step) (past c.from_residual-in_err-unless.result _ _ c.in_ok-first_of.ensures.found (past c.from_residual-in_err-unless.result _ _ c.in_ok-tests.ensures.found (past c.from_residual-in_err-unless.result _ _ c.in_ok-optional.ensures.found (past c.from_residual-in_err-unless.result _ _ c.in_ok-nested.ensures.found (handed c.from_residual-in_err-unless.result c.in_err-unless.field-0.0 _ c.from_residual-in_err-unless.ensures (subst (λ b. RefusedWith c.in_err-unless.field-0.0 (unless b Mismatch c.args.at)) c.in_ok-tests.ensures.tests c.in_err-unless.ensures)))))); place = IfOk-from_err c.from_residual-in_err-unless.result _ c.from_residual-in_err-unless.ensures.0 }
 
 pub for_loop-returns-clause-found : goal.for_loop-returns-clause-found
 for_loop-returns-clause-found t c =
     let z = c.args.context.now in
     let p = place c.args.scope.now in
-    let step = for_step z p (place c.enter-mark.new.scope) (place c.first_of.new.scope) c.args.at (optional_boxed c.args.first.now) (optional_expression c.args.test.now) (optional_expression c.args.step.now) (statement c.args.a.now) c.enter-mark.ensures.place c.in_ok-first_of.ensures.place in
+    let step = for_step z p (place c.enter-mark.new.scope) (place c.first_of.new.scope) c.args.at (optional_boxed c.args.turns.first.now) (optional_expression c.args.turns.test.now) (optional_expression c.args.turns.step.now) (statement c.args.a.now) c.enter-mark.ensures.place c.in_ok-first_of.ensures.place in
     step ∙ nothing_in _ _ c.in_ok-first_of.ensures.found (nothing_in _ _ c.in_ok-tests.ensures.found (nothing_in _ _ c.in_ok-optional.ensures.found (nothing_in _ _ c.in_ok-nested.ensures.found (ap (λ b. unless b Mismatch c.args.at) (sym c.in_ok-tests.ensures.tests) ∙ c.in_ok-unless.ensures))))
 
 pub first_of-returns-in-Some : goal.first_of-returns-in-Some

@@ -96,7 +96,7 @@ abbrev pub decreases-do_while : goal.decreases-do_while
 decreases-do_while l = 8 * statement_nesting (t.DoWhile l.at (statement l.a.now) (tree l.test.now)) + 6
 
 abbrev pub decreases-for_loop : goal.decreases-for_loop
-decreases-for_loop l = 8 * statement_nesting (t.For l.at (optional_boxed l.first.now) (optional_expression l.test.now) (optional_expression l.step.now) (statement l.a.now)) + 6
+decreases-for_loop l = 8 * statement_nesting (t.For l.at (optional_boxed l.turns.first.now) (optional_expression l.turns.test.now) (optional_expression l.turns.step.now) (statement l.a.now)) + 6
 
 abbrev pub decreases-first_of : goal.decreases-first_of
 decreases-first_of l = 8 * optional_statement_nesting (optional_boxed l.first.now) + 8
@@ -105,7 +105,7 @@ abbrev pub decreases-optional : goal.decreases-optional
 decreases-optional l = 8 * optional_nesting (optional_expression l.e.now) + 8
 
 abbrev pub decreases-for_of : goal.decreases-for_of
-decreases-for_of l = 8 * statement_nesting (t.ForOf l.at l.fixed l.x (tree l.list.now) (statement l.a.now)) + 6
+decreases-for_of l = 8 * statement_nesting (t.ForOf l.at l.each.fixed l.each.name (tree l.each.list.now) (statement l.a.now)) + 6
 
 abbrev pub decreases-returned : goal.decreases-returned
 decreases-returned l = 8 * nesting (tree l.e.now) + 8
