@@ -3,7 +3,7 @@ ghost use Rattle.std.specs.Prelude.{◌≡◌, suc, ◌+◌, ◌^◌, ◌<◌, �
 ghost use Rattle.sts_syntax.specs.Types as value;
 ghost use Rattle.sts_syntax.specs.Types.{value_types};
 ghost use Rattle.sts_syntax.specs.TypedViews.{typed_trees, typed_routine, typed_routines, typed_statement, typed_statements};
-ghost use Rattle.sts_syntax.specs.Views.{trees, statements, routine};
+ghost use Rattle.sts_syntax.specs.Views.{statements, routine};
 ghost use Rattle.sts_scope.specs.Kinds as kind;
 ghost use Rattle.sts_scope.specs.Lookup.{base_of as base};
 ghost use Rattle.type_derive.specs.Programs.{passed_on as passes};
@@ -21,7 +21,7 @@ use crate::build_parts::ClassParts;
 use std::alloc::Global;
 use sts_base::{NoMemory, Seq};
 use sts_scope::{Base, StaticType, This, flat};
-use sts_syntax::{Body, Expr, Param, Spot, Stmt, Ty, TypedBody, TypedExpr, TypedNode, TypedStmt};
+use sts_syntax::{Body, Param, Spot, Stmt, Ty, TypedBody, TypedExpr, TypedNode, TypedStmt};
 use type_derive::head_of;
 use typed_numbers::base_of;
 use typed_trees::{
@@ -96,24 +96,21 @@ fn build_plain(
     Ok(made)
 }
 
-/// The call of the constructor of a base, the initialisers of a class's fields, and some statements behind them.
+/// A statement, the initialisers of a class's fields, and some statements behind them.
 fn build_headed(
     plan: &Plan,
     site: &mut Site,
     builder: &mut Builder,
     parts: &ClassParts,
-    base: u32,
-    args: &[Expr],
+    head: TypedStmt,
     rest: &[Stmt],
 ) -> Result<Seq<TypedStmt>, NoMemory>
     requires plan { IsPlan plan.now }
     requires numbered { AreNumbered plan.now parts.now }
-    ensures { IfOk result (λ r. IsBuilt builder.old builder.new (w.headed_made plan.now (s.site site.old) base (w.initials_of plan.now parts.now) (trees args.now) (statements rest.now)) (typed_statements r)) }
+    ensures { IfOk result (λ r. IsBuilt builder.old builder.new (w.behind_made plan.now (s.site site.old) (typed_statement head ∷ w.initials_of plan.now parts.now) (statements rest.now)) (typed_statements r)) }
 {
-    let takes = plan.known.maker_takes(base);
-    let args = build_given(plan, site, builder, takes, args)?;
     let mut made = Seq::new(plan.alloc);
-    add_statement(&mut made, super_called(plan, base, args))?;
+    add_statement(&mut made, head)?;
     add_initials(plan, &mut made, parts)?;
     add_statements(plan, site, builder, &mut made, rest)?;
     Ok(made)
@@ -143,7 +140,10 @@ fn build_derived(
                 Ok(made)
             }
             Some(head) => {
-                let made = build_headed(plan, site, builder, parts, base, head.args, rest)?;
+                let takes = plan.known.maker_takes(base);
+                let args = build_given(plan, site, builder, takes, head.args)?;
+                let call = super_called(plan, base, args);
+                let made = build_headed(plan, site, builder, parts, call, rest)?;
                 Ok(made)
             }
         },
