@@ -24,8 +24,10 @@ fn accept_tokens(
     requires there { 0 < length tokens.now }
     requires few { length tokens.now ≤ most_bytes + 1 }
     requires library { HasFewParts (program library.now) }
-    ensures accepted { IfOk result (λ typed. (text : List ℕ) → ReadsText text tables.now (program library.now) tokens.now → Accepts text tables.now (typed_program typed)) }
-    ensures refused { IfErr result (λ why. (text : List ℕ) → ReadsText text tables.now (program library.now) tokens.now → RefusesText text why) }
+    ensures accepted { IfOk result (λ typed. (text : List ℕ)
+        → ReadsText text tables.now (program library.now) tokens.now → Accepts text tables.now (typed_program typed)) }
+    ensures refused { IfErr result (λ why. (text : List ℕ) → ReadsText text tables.now (program library.now) tokens.now
+        → RefusesText text why) }
 {
     let text = parse(alloc, tokens, tables)?;
     check(alloc, library, &text, tables)

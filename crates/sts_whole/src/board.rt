@@ -32,7 +32,9 @@ pub fn run_image<K: Sink, D: Device>(
     requires script { IsSound script }
     requires least { 1 ≤ budget }
     requires most { budget ≤ 2147483648 }
-    ensures ran { IfOk result (λ r. RunsImage D.account image.items script budget (outside_of K.taken K.faults out.old places.old.items) (outside_of K.taken K.faults out.new places.new.items) r.0 r.1) }
+    ensures ran { IfOk result (λ r. RunsImage D.account image.items script budget
+        (outside_of K.taken K.faults out.old places.old.items)
+        (outside_of K.taken K.faults out.new places.new.items) r.0 r.1) }
     ensures counted { IfOk result (λ r. r.1.instructions ≤ budget) }
     ensures nothing { OnErr result (Took (K.taken out.old) (K.taken out.new) []) }
     ensures unchanged { OnErr result (places.new.items ≡ places.old.items) }

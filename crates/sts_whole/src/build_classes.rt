@@ -138,7 +138,8 @@ fn add_inner(
 ) -> Result<(), NoMemory>
     requires plan { IsPlan plan.now }
     requires functions { n + numbered.declared_numbered (declaration a.now) < 2 ^ 32 }
-    ensures { OnOk result (typed_routines routines.new ≡ typed_routines routines.old ++ (w.initial_made plan.now class n (declaration a.now)).routines) }
+    ensures { OnOk result (typed_routines routines.new
+        ≡ typed_routines routines.old ++ (w.initial_made plan.now class n (declaration a.now)).routines) }
 {
     let Initial { inner, .. } = build_field(plan, class, n, a)?;
     routines.append(inner)
@@ -155,7 +156,9 @@ fn add_member(
     requires plan { IsPlan plan.now }
     requires numbered { AreNumbered plan.now parts.now }
     requires functions { next.function + numbered.member_numbered (class_member member.now) < 2 ^ 32 }
-    ensures { OnOk result (typed_routines routines.new ≡ typed_routines routines.old ++ w.member_made plan.now parts.now.class (w.initials_of plan.now parts.now) next.function next.declaration (class_member member.now)) }
+    ensures { OnOk result (typed_routines routines.new
+        ≡ typed_routines routines.old ++ w.member_made plan.now parts.now.class
+        (w.initials_of plan.now parts.now) next.function next.declaration (class_member member.now)) }
 {
     let class = parts.class;
     let n = next.function;
@@ -178,9 +181,15 @@ fn add_members(
 ) -> Result<Next, NoMemory>
     requires plan { IsPlan plan.now }
     requires numbered { AreNumbered plan.now parts.now }
-    ensures routines { OnOk result (typed_routines routines.new ≡ typed_routines routines.old ++ w.members_made plan.now parts.now.class (w.initials_of plan.now parts.now) parts.now.first.function parts.now.first.declaration (class_members parts.now.members.now)) }
-    ensures declaration { IfOk result (λ n. n.declaration ≡ parts.now.first.declaration + length (entry.member_entries (naming plan.now) parts.now.class (class_members parts.now.members.now))) }
-    ensures function { IfOk result (λ n. n.function ≡ parts.now.first.function + h.members_routines (class_members parts.now.members.now)) }
+    ensures routines { OnOk result (typed_routines routines.new
+        ≡ typed_routines routines.old ++ w.members_made plan.now parts.now.class
+        (w.initials_of plan.now parts.now) parts.now.first.function parts.now.first.declaration
+        (class_members parts.now.members.now)) }
+    ensures declaration { IfOk result (λ n. n.declaration
+        ≡ parts.now.first.declaration + length
+        (entry.member_entries (naming plan.now) parts.now.class (class_members parts.now.members.now))) }
+    ensures function { IfOk result (λ n. n.function
+        ≡ parts.now.first.function + h.members_routines (class_members parts.now.members.now)) }
 {
     let mut next = parts.first;
     for member in parts.members {
@@ -199,12 +208,18 @@ pub fn add_class(
     members: &[Member],
 ) -> Result<Next, NoMemory>
     requires plan { IsPlan plan.now }
-    requires declarations { next.declaration + suc (length (entry.member_entries (naming plan.now) class (class_members members.now))) < 2 ^ 64 }
-    requires functions { next.function + (h.unwritten (class_members members.now) + numbered.members_numbered (class_members members.now)) < 2 ^ 32 }
+    requires declarations { next.declaration
+        + suc (length (entry.member_entries (naming plan.now) class (class_members members.now))) < 2 ^ 64 }
+    requires functions { next.function + (h.unwritten (class_members members.now)
+        + numbered.members_numbered (class_members members.now)) < 2 ^ 32 }
     requires takes { HasFewTakes plan.now }
-    ensures routines { OnOk result (typed_routines routines.new ≡ typed_routines routines.old ++ w.class_made plan.now class next.function (suc next.declaration) (class_members members.now)) }
-    ensures declaration { IfOk result (λ n. n.declaration ≡ next.declaration + suc (length (entry.member_entries (naming plan.now) class (class_members members.now)))) }
-    ensures function { IfOk result (λ n. n.function ≡ next.function + (h.unwritten (class_members members.now) + h.members_routines (class_members members.now))) }
+    ensures routines { OnOk result (typed_routines routines.new
+        ≡ typed_routines routines.old ++ w.class_made plan.now class next.function (suc next.declaration)
+        (class_members members.now)) }
+    ensures declaration { IfOk result (λ n. n.declaration
+        ≡ next.declaration + suc (length (entry.member_entries (naming plan.now) class (class_members members.now)))) }
+    ensures function { IfOk result (λ n. n.function
+        ≡ next.function + (h.unwritten (class_members members.now) + h.members_routines (class_members members.now))) }
 {
     let count = unwritten(members);
     let first = Next {

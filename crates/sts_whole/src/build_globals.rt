@@ -26,7 +26,8 @@ pub fn build_global(
     a: &Binding,
 ) -> Result<TypedBinding, NoMemory>
     requires { IsPlan plan.now }
-    ensures { IfOk result (λ r. IsBuilt builder.old builder.new (w.global_made plan.now (s.site site.now) number (declaration a.now)) (typed_declaration r)) }
+    ensures { IfOk result (λ r. IsBuilt builder.old builder.new
+        (w.global_made plan.now (s.site site.now) number (declaration a.now)) (typed_declaration r)) }
 {
     let first = build_first(plan, site, builder, &a.shape, &a.first)?;
     Ok(TypedBinding {
@@ -43,7 +44,8 @@ fn build_declared(
     a: &Binding,
 ) -> Result<TypedBinding, NoMemory>
     requires { IsPlan plan.now }
-    ensures { IfOk result (λ r. IsBuilt builder.old builder.new (w.declared_made plan.now d (declaration a.now)) (typed_declaration r)) }
+    ensures { IfOk result (λ r. IsBuilt builder.old builder.new (w.declared_made plan.now d (declaration a.now))
+        (typed_declaration r)) }
 {
     let site = outer_site(plan, This::Nowhere);
     let number = global_number(plan, d);
@@ -60,7 +62,8 @@ fn build_globals(
 ) -> Result<Seq<TypedBinding>, NoMemory>
     requires plan { IsPlan plan.now }
     requires numbered { first + length each.now < 2 ^ 64 }
-    ensures { IfOk result (λ r. IsBuilt builder.old builder.new (w.globals_made plan.now first (declarations each.now)) (typed_declarations r)) }
+    ensures { IfOk result (λ r. IsBuilt builder.old builder.new (w.globals_made plan.now first (declarations each.now))
+        (typed_declarations r)) }
 {
     let mut made = Seq::new(plan.alloc);
     for i in 0..each.len() {
@@ -80,7 +83,8 @@ fn build_lets(
 ) -> Result<TypedStmt, NoMemory>
     requires plan { IsPlan plan.now }
     requires numbered { d + length each.now < 2 ^ 64 }
-    ensures { IfOk result (λ r. IsBuilt builder.old builder.new (w.lets_made plan.now d fixed (declarations each.now)) (typed_statement r)) }
+    ensures { IfOk result (λ r. IsBuilt builder.old builder.new (w.lets_made plan.now d fixed (declarations each.now))
+        (typed_statement r)) }
 {
     let each = build_globals(plan, builder, d, each)?;
     Ok(TypedStmt::Let { fixed, each })
@@ -89,7 +93,8 @@ fn build_lets(
 /// A statement of the main program that declares no globals.
 fn build_outer(plan: &Plan, builder: &mut Builder, a: &Stmt) -> Result<TypedStmt, NoMemory>
     requires { IsPlan plan.now }
-    ensures { IfOk result (λ r. IsBuilt builder.old builder.new (s.statement_made plan.now (w.outer_site this.Nowhere) (statement a.now)) (typed_statement r)) }
+    ensures { IfOk result (λ r. IsBuilt builder.old builder.new
+        (s.statement_made plan.now (w.outer_site this.Nowhere) (statement a.now)) (typed_statement r)) }
 {
     let mut site = outer_site(plan, This::Nowhere);
     let made = build_statement(plan, &mut site, builder, a)?;
@@ -105,7 +110,8 @@ pub fn build_main(
 ) -> Result<TypedStmt, NoMemory>
     requires plan { IsPlan plan.now }
     requires numbered { d + length (entry.main_entries (statement a.now)) < 2 ^ 64 }
-    ensures { IfOk result (λ r. IsBuilt builder.old builder.new (w.main_made plan.now d (statement a.now)) (typed_statement r)) }
+    ensures { IfOk result (λ r. IsBuilt builder.old builder.new (w.main_made plan.now d (statement a.now))
+        (typed_statement r)) }
 {
     match lets_of(a) {
         None => {

@@ -45,8 +45,10 @@ pub fn outer_site<'a>(plan: &Plan, this: This) -> Site<'a>
 pub fn build_field(plan: &Plan, class: u32, n: u32, a: &Binding) -> Result<Initial, NoMemory>
     requires plan { IsPlan plan.now }
     requires functions { n + numbered.declared_numbered (declaration a.now) < 2 ^ 32 }
-    ensures first { IfOk result (λ r. optional_typed_tree r.first ≡ (w.initial_made plan.now class n (declaration a.now)).it) }
-    ensures inner { IfOk result (λ r. typed_routines r.inner ≡ (w.initial_made plan.now class n (declaration a.now)).routines) }
+    ensures first { IfOk result (λ r. optional_typed_tree r.first
+        ≡ (w.initial_made plan.now class n (declaration a.now)).it) }
+    ensures inner { IfOk result (λ r. typed_routines r.inner
+        ≡ (w.initial_made plan.now class n (declaration a.now)).routines) }
 {
     let site = outer_site(plan, This::Object(class));
     let mut builder = nothing_built(plan.alloc, n);
@@ -65,7 +67,9 @@ fn own_field(
     name: u32,
 ) -> Result<TypedExpr, NoMemory>
     requires { IsPlan plan.now }
-    ensures { IfOk result (λ r. typed_tree r ≡ e.Field (s.noted of) (e.This (value.Object class)) (number.place_among (number.field_names plan.now.known.now class) name)) }
+    ensures { IfOk result (λ r. typed_tree r
+        ≡ e.Field (s.noted of) (e.This (value.Object class))
+        (number.place_among (number.field_names plan.now.known.now class) name)) }
 {
     let number = field_number(plan, class, name)?;
     let ty = noted_type(of);
@@ -84,7 +88,8 @@ fn own_field(
 
 /// An assignment without an operator.
 fn set(ty: Ty, target: Box<TypedExpr>, value: Box<TypedExpr>) -> TypedStmt
-    ensures { typed_statement result ≡ e.Plain (e.Set (value_type ty) None (typed_tree target.value) (typed_tree value.value)) }
+    ensures { typed_statement result ≡ e.Plain
+        (e.Set (value_type ty) None (typed_tree target.value) (typed_tree value.value)) }
 {
     TypedStmt::Plain(TypedExpr {
         ty,
@@ -129,7 +134,9 @@ fn add_field(
 ) -> Result<(), NoMemory>
     requires plan { IsPlan plan.now }
     requires functions { next.function + numbered.declared_numbered (declaration a.now) < 2 ^ 32 }
-    ensures { OnOk result (w.typed_list all.new ≡ w.typed_list all.old ++ w.set_field plan.now class next.declaration (declaration a.now) (w.initial_made plan.now class next.function (declaration a.now)).it) }
+    ensures { OnOk result (w.typed_list all.new
+        ≡ w.typed_list all.old ++ w.set_field plan.now class next.declaration (declaration a.now)
+        (w.initial_made plan.now class next.function (declaration a.now)).it) }
 {
     let Initial { first, .. } = build_field(plan, class, next.function, a)?;
     match first {
@@ -151,7 +158,9 @@ fn add_member_initial(
 ) -> Result<(), NoMemory>
     requires plan { IsPlan plan.now }
     requires functions { next.function + numbered.member_numbered (class_member member.now) < 2 ^ 32 }
-    ensures { OnOk result (w.typed_list all.new ≡ w.typed_list all.old ++ w.member_initials plan.now class next.function next.declaration (class_member member.now)) }
+    ensures { OnOk result (w.typed_list all.new
+        ≡ w.typed_list all.old ++ w.member_initials plan.now class next.function next.declaration
+        (class_member member.now)) }
 {
     match member {
         Member::Field(a) => add_field(plan, all, class, next, a),

@@ -69,7 +69,9 @@ fn add_statements(
     all: &[Stmt],
 ) -> Result<(), NoMemory>
     requires { IsPlan plan.now }
-    ensures { OnOk result (IsBuilt builder.old builder.new (w.behind_made plan.now (s.site site.old) (w.typed_list made.old) (statements all.now)) (typed_statements made.new)) }
+    ensures { OnOk result (IsBuilt builder.old builder.new
+        (w.behind_made plan.now (s.site site.old) (w.typed_list made.old) (statements all.now))
+        (typed_statements made.new)) }
 {
     for i in 0..all.len() {
         let a = build_statement(plan, site, builder, &all[i])?;
@@ -88,7 +90,9 @@ fn build_plain(
 ) -> Result<Seq<TypedStmt>, NoMemory>
     requires plan { IsPlan plan.now }
     requires numbered { AreNumbered plan.now parts.now }
-    ensures { IfOk result (λ r. IsBuilt builder.old builder.new (w.behind_made plan.now (s.site site.old) (w.initials_of plan.now parts.now) (statements all.now)) (typed_statements r)) }
+    ensures { IfOk result (λ r. IsBuilt builder.old builder.new
+        (w.behind_made plan.now (s.site site.old) (w.initials_of plan.now parts.now) (statements all.now))
+        (typed_statements r)) }
 {
     let mut made = Seq::new(plan.alloc);
     add_initials(plan, &mut made, parts)?;
@@ -107,7 +111,9 @@ fn build_headed(
 ) -> Result<Seq<TypedStmt>, NoMemory>
     requires plan { IsPlan plan.now }
     requires numbered { AreNumbered plan.now parts.now }
-    ensures { IfOk result (λ r. IsBuilt builder.old builder.new (w.behind_made plan.now (s.site site.old) (typed_statement head ∷ w.initials_of plan.now parts.now) (statements rest.now)) (typed_statements r)) }
+    ensures { IfOk result (λ r. IsBuilt builder.old builder.new
+        (w.behind_made plan.now (s.site site.old) (typed_statement head ∷ w.initials_of plan.now parts.now)
+        (statements rest.now)) (typed_statements r)) }
 {
     let mut made = Seq::new(plan.alloc);
     add_statement(&mut made, head)?;
@@ -127,7 +133,9 @@ fn build_derived(
 ) -> Result<Seq<TypedStmt>, NoMemory>
     requires plan { IsPlan plan.now }
     requires numbered { AreNumbered plan.now parts.now }
-    ensures { IfOk result (λ r. IsBuilt builder.old builder.new (w.maker_statements plan.now (s.site site.old) (Some base) (w.initials_of plan.now parts.now) (statements all.now)) (typed_statements r)) }
+    ensures { IfOk result (λ r. IsBuilt builder.old builder.new
+        (w.maker_statements plan.now (s.site site.old) (Some base) (w.initials_of plan.now parts.now)
+        (statements all.now)) (typed_statements r)) }
 {
     match all {
         [] => {
@@ -161,7 +169,9 @@ fn build_made(
 ) -> Result<Seq<TypedStmt>, NoMemory>
     requires plan { IsPlan plan.now }
     requires numbered { AreNumbered plan.now parts.now }
-    ensures { IfOk result (λ r. IsBuilt builder.old builder.new (w.maker_statements plan.now (s.site site.old) (base plan.now.known.now.classes parts.now.class) (w.initials_of plan.now parts.now) (statements all.now)) (typed_statements r)) }
+    ensures { IfOk result (λ r. IsBuilt builder.old builder.new
+        (w.maker_statements plan.now (s.site site.old) (base plan.now.known.now.classes parts.now.class)
+        (w.initials_of plan.now parts.now) (statements all.now)) (typed_statements r)) }
 {
     match base_of(plan.known, parts.class) {
         None => {
@@ -186,9 +196,17 @@ fn build_constructor(
 ) -> Result<Function, NoMemory>
     requires plan { IsPlan plan.now }
     requires numbered { AreNumbered plan.now parts.now }
-    requires fits { RoutineFits n (functions.routine plan.now (value_types params) (value.Object parts.now.class) (w.maker_statements plan.now (s.site site.old) (base plan.now.known.now.classes parts.now.class) (w.initials_of plan.now parts.now) (statements all.now)) n) }
-    ensures own { IfOk result (λ f. typed_routine f.own ≡ (functions.routine plan.now (value_types params) (value.Object parts.now.class) (w.maker_statements plan.now (s.site site.old) (base plan.now.known.now.classes parts.now.class) (w.initials_of plan.now parts.now) (statements all.now)) n).it) }
-    ensures inner { IfOk result (λ f. typed_routines f.inner ≡ (functions.routine plan.now (value_types params) (value.Object parts.now.class) (w.maker_statements plan.now (s.site site.old) (base plan.now.known.now.classes parts.now.class) (w.initials_of plan.now parts.now) (statements all.now)) n).routines) }
+    requires fits { RoutineFits n (functions.routine plan.now (value_types params) (value.Object parts.now.class)
+        (w.maker_statements plan.now (s.site site.old) (base plan.now.known.now.classes parts.now.class)
+        (w.initials_of plan.now parts.now) (statements all.now)) n) }
+    ensures own { IfOk result (λ f. typed_routine f.own
+        ≡ (functions.routine plan.now (value_types params) (value.Object parts.now.class)
+        (w.maker_statements plan.now (s.site site.old) (base plan.now.known.now.classes parts.now.class)
+        (w.initials_of plan.now parts.now) (statements all.now)) n).it) }
+    ensures inner { IfOk result (λ f. typed_routines f.inner
+        ≡ (functions.routine plan.now (value_types params) (value.Object parts.now.class)
+        (w.maker_statements plan.now (s.site site.old) (base plan.now.known.now.classes parts.now.class)
+        (w.initials_of plan.now parts.now) (statements all.now)) n).routines) }
 {
     let mut builder = nothing_built(plan.alloc, one_more(n));
     let stmts = build_made(plan, site, &mut builder, parts, all)?;
@@ -220,7 +238,8 @@ fn types_of_this(alloc: Global, class: u32) -> Result<Seq<Ty>, NoMemory>
 
 /// What a constructor that is written takes: `this`, then its parameters.
 fn written_types(plan: &Plan, class: u32, params: &[Param]) -> Result<Seq<Ty>, NoMemory>
-    ensures { IfOk result (λ all. value_types all ≡ value.Object class ∷ kind.value_types (w.written_takes plan.now params.now)) }
+    ensures { IfOk result (λ all. value_types all
+        ≡ value.Object class ∷ kind.value_types (w.written_takes plan.now params.now)) }
 {
     let mut all = types_of_this(plan.alloc, class)?;
     add_types(plan, &mut all, params)?;
@@ -238,7 +257,9 @@ pub fn add_constructor(
     requires plan { IsPlan plan.now }
     requires numbered { AreNumbered plan.now parts.now }
     requires functions { n + suc (suc (numbered.routine_numbered (routine body.now))) < 2 ^ 32 }
-    ensures { OnOk result (typed_routines routines.new ≡ typed_routines routines.old ++ w.constructor_made plan.now parts.now.class n (w.initials_of plan.now parts.now) (routine body.now)) }
+    ensures { OnOk result (typed_routines routines.new
+        ≡ typed_routines routines.old ++ w.constructor_made plan.now parts.now.class n
+        (w.initials_of plan.now parts.now) (routine body.now)) }
 {
     let class = parts.class;
     let params = body.params.as_slice();
@@ -286,7 +307,8 @@ fn add_passed(
 fn unwritten_constructor(plan: &Plan, parts: &ClassParts) -> Result<TypedBody, NoMemory>
     requires plan { IsPlan plan.now }
     requires numbered { AreNumbered plan.now parts.now }
-    ensures { IfOk result (λ r. typed_routine r ≡ w.constructor_unwritten plan.now parts.now.class (w.initials_of plan.now parts.now)) }
+    ensures { IfOk result (λ r. typed_routine r
+        ≡ w.constructor_unwritten plan.now parts.now.class (w.initials_of plan.now parts.now)) }
 {
     let class = parts.class;
     let takes = plan.known.maker_takes(class);
@@ -313,7 +335,9 @@ pub fn add_unwritten(
 ) -> Result<(), NoMemory>
     requires plan { IsPlan plan.now }
     requires numbered { AreNumbered plan.now parts.now }
-    ensures { OnOk result (typed_routines routines.new ≡ typed_routines routines.old ++ w.unwritten_made plan.now count parts.now.class (w.initials_of plan.now parts.now)) }
+    ensures { OnOk result (typed_routines routines.new
+        ≡ typed_routines routines.old ++ w.unwritten_made plan.now count parts.now.class
+        (w.initials_of plan.now parts.now)) }
 {
     if count == 0 {
         return Ok(());

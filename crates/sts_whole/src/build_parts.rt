@@ -47,9 +47,11 @@ fn declarations_in(plan: &Plan, class: u32, member: &Member) -> usize
 
 /// Behind a member of a class.
 pub fn next_member(plan: &Plan, class: u32, next: Next, member: &Member) -> Next
-    requires declarations { next.declaration + length (entry.member_entry (naming plan.now) class (class_member member.now)) < 2 ^ 64 }
+    requires declarations { next.declaration
+        + length (entry.member_entry (naming plan.now) class (class_member member.now)) < 2 ^ 64 }
     requires functions { next.function + h.member_routines (class_member member.now) < 2 ^ 32 }
-    ensures declaration { result.declaration ≡ next.declaration + length (entry.member_entry (naming plan.now) class (class_member member.now)) }
+    ensures declaration { result.declaration
+        ≡ next.declaration + length (entry.member_entry (naming plan.now) class (class_member member.now)) }
     ensures function { result.function ≡ next.function + h.member_routines (class_member member.now) }
 {
     Next {

@@ -42,8 +42,10 @@ fn add_library_item(
     requires plan { IsPlan plan.now }
     requires numbered { next.declaration + 1 < 2 ^ 64 }
     requires functions { next.function + numbered.item_numbered (top_level item.now) < 2 ^ 32 }
-    ensures routines { OnOk result (typed_routines routines.new ≡ typed_routines routines.old ++ w.library_item plan.now next.declaration next.function (top_level item.now)) }
-    ensures declaration { IfOk result (λ n. n.declaration ≡ w.library_declaration next.declaration (top_level item.now)) }
+    ensures routines { OnOk result (typed_routines routines.new
+        ≡ typed_routines routines.old ++ w.library_item plan.now next.declaration next.function (top_level item.now)) }
+    ensures declaration { IfOk result (λ n. n.declaration
+        ≡ w.library_declaration next.declaration (top_level item.now)) }
     ensures function { IfOk result (λ n. n.function ≡ w.library_function next.function (top_level item.now)) }
 {
     let Item::Function { body, .. } = item else {
@@ -65,7 +67,8 @@ pub fn add_library(
 ) -> Result<(), NoMemory>
     requires plan { IsPlan plan.now }
     requires functions { numbered.all_numbered (top_levels items.now) < 2 ^ 32 }
-    ensures { OnOk result (typed_routines routines.new ≡ typed_routines routines.old ++ w.library_made plan.now 0 0 (top_levels items.now)) }
+    ensures { OnOk result (typed_routines routines.new
+        ≡ typed_routines routines.old ++ w.library_made plan.now 0 0 (top_levels items.now)) }
 {
     let mut next = Next {
         declaration: 0,
@@ -80,11 +83,14 @@ pub fn add_library(
 /// The functions of a class of a text.
 fn add_class_item(plan: &Plan, whole: &mut Whole, members: &[Member]) -> Result<(), NoMemory>
     requires plan { IsPlan plan.now }
-    requires declarations { whole.old.declaration + suc (length (entry.member_entries (naming plan.now) whole.old.class (class_members members.now))) < 2 ^ 64 }
-    requires functions { whole.old.builder.function + (h.unwritten (class_members members.now) + numbered.members_numbered (class_members members.now)) < 2 ^ 32 }
+    requires declarations { whole.old.declaration
+        + suc (length (entry.member_entries (naming plan.now) whole.old.class (class_members members.now))) < 2 ^ 64 }
+    requires functions { whole.old.builder.function
+        + (h.unwritten (class_members members.now) + numbered.members_numbered (class_members members.now)) < 2 ^ 32 }
     requires classes { whole.old.class + 1 < 2 ^ 32 }
     requires takes { HasFewTakes plan.now }
-    ensures { OnOk result ((at x : ℕ) (base : Option ℕ) (base_at : ℕ) → AddsPart plan.now whole.old whole.new (Class at x base base_at (class_members members.now))) }
+    ensures { OnOk result ((at x : ℕ) (base : Option ℕ) (base_at : ℕ)
+        → AddsPart plan.now whole.old whole.new (Class at x base base_at (class_members members.now))) }
 {
     let next = Next {
         declaration: whole.declaration,
@@ -134,7 +140,8 @@ fn add_main_item(plan: &Plan, whole: &mut Whole, a: &Stmt) -> Result<(), NoMemor
 /// A part of a text.
 fn add_item(plan: &Plan, whole: &mut Whole, item: &Item) -> Result<(), NoMemory>
     requires plan { IsPlan plan.now }
-    requires declarations { whole.old.declaration + length (entry.item_entries (naming plan.now) whole.old.class (top_level item.now)) < 2 ^ 64 }
+    requires declarations { whole.old.declaration
+        + length (entry.item_entries (naming plan.now) whole.old.class (top_level item.now)) < 2 ^ 64 }
     requires locals { whole.old.builder.local + numbered.item_numbered (top_level item.now) < 2 ^ 32 }
     requires functions { whole.old.builder.function + numbered.item_numbered (top_level item.now) < 2 ^ 32 }
     requires classes { whole.old.class + entry.classes_in (top_level item.now) < 2 ^ 32 }
@@ -166,14 +173,19 @@ fn add_item(plan: &Plan, whole: &mut Whole, item: &Item) -> Result<(), NoMemory>
 /// The parts of a text: its classes, its functions and the statements of the main program.
 fn add_items(plan: &Plan, whole: &mut Whole, items: &[Item]) -> Result<(), NoMemory>
     requires plan { IsPlan plan.now }
-    requires declarations { whole.old.declaration + length (entry.entries_from (naming plan.now) whole.old.class (top_levels items.now)) < 2 ^ 64 }
+    requires declarations { whole.old.declaration
+        + length (entry.entries_from (naming plan.now) whole.old.class (top_levels items.now)) < 2 ^ 64 }
     requires locals { whole.old.builder.local + numbered.all_numbered (top_levels items.now) < 2 ^ 32 }
     requires functions { whole.old.builder.function + numbered.all_numbered (top_levels items.now) < 2 ^ 32 }
     requires classes { whole.old.class + length (entry.class_names (top_levels items.now)) < 2 ^ 32 }
     requires takes { HasFewTakes plan.now }
-    ensures stmts { OnOk result (typed_statements whole.new.stmts ≡ (w.typed_list whole.old.stmts before (w.items_of plan.now whole.old (top_levels items.now)).it)) }
-    ensures locals { OnOk result (value_types whole.new.builder.locals ≡ value_types whole.old.builder.locals ++ (w.items_of plan.now whole.old (top_levels items.now)).locals) }
-    ensures routines { OnOk result (typed_routines whole.new.builder.routines ≡ typed_routines whole.old.builder.routines ++ (w.items_of plan.now whole.old (top_levels items.now)).routines) }
+    ensures stmts { OnOk result (typed_statements whole.new.stmts
+        ≡ (w.typed_list whole.old.stmts before (w.items_of plan.now whole.old (top_levels items.now)).it)) }
+    ensures locals { OnOk result (value_types whole.new.builder.locals
+        ≡ value_types whole.old.builder.locals ++ (w.items_of plan.now whole.old (top_levels items.now)).locals) }
+    ensures routines { OnOk result (typed_routines whole.new.builder.routines
+        ≡ typed_routines whole.old.builder.routines
+        ++ (w.items_of plan.now whole.old (top_levels items.now)).routines) }
 {
     for item in items {
         add_item(plan, whole, item)?;
@@ -184,7 +196,9 @@ fn add_items(plan: &Plan, whole: &mut Whole, items: &[Item]) -> Result<(), NoMem
 /// The main program behind all functions.
 #[tactic(auto, using(typed_trees::proofs::Laws::routines_append))]
 fn with_main(plan: &Plan, whole: Whole) -> Result<Seq<TypedBody>, NoMemory>
-    ensures { IfOk result (λ all. typed_routines all ≡ typed_routines whole.builder.routines ++ w.main_of (value_types whole.builder.locals) (typed_statements whole.stmts) ∷ []) }
+    ensures { IfOk result (λ all. typed_routines all
+        ≡ typed_routines whole.builder.routines
+        ++ w.main_of (value_types whole.builder.locals) (typed_statements whole.stmts) ∷ []) }
 {
     let Whole { stmts, builder, .. } = whole;
     let Builder {
@@ -220,13 +234,19 @@ fn build_whole(
 ) -> Result<Whole, NoMemory>
     requires plan { IsPlan plan.now }
     requires count { plan.now.numbers.now.library ≡ h.all_routines (top_levels library.now) }
-    requires declarations { plan.now.known.now.library + length (entry.entries_from (naming plan.now) first_class (top_levels text.now)) < 2 ^ 64 }
-    requires functions { numbered.all_numbered (top_levels library.now) + numbered.all_numbered (top_levels text.now) < 2 ^ 32 }
+    requires declarations { plan.now.known.now.library
+        + length (entry.entries_from (naming plan.now) first_class (top_levels text.now)) < 2 ^ 64 }
+    requires functions { numbered.all_numbered (top_levels library.now) + numbered.all_numbered (top_levels text.now)
+        < 2 ^ 32 }
     requires classes { first_class + length (entry.class_names (top_levels text.now)) < 2 ^ 32 }
     requires takes { HasFewTakes plan.now }
-    ensures stmts { IfOk result (λ r. typed_statements r.stmts ≡ (w.text_made plan.now first_class (top_levels library.now) (top_levels text.now)).it) }
-    ensures locals { IfOk result (λ r. value_types r.builder.locals ≡ (w.text_made plan.now first_class (top_levels library.now) (top_levels text.now)).locals) }
-    ensures routines { IfOk result (λ r. typed_routines r.builder.routines ≡ w.library_made plan.now 0 0 (top_levels library.now) ++ (w.text_made plan.now first_class (top_levels library.now) (top_levels text.now)).routines) }
+    ensures stmts { IfOk result (λ r. typed_statements r.stmts
+        ≡ (w.text_made plan.now first_class (top_levels library.now) (top_levels text.now)).it) }
+    ensures locals { IfOk result (λ r. value_types r.builder.locals
+        ≡ (w.text_made plan.now first_class (top_levels library.now) (top_levels text.now)).locals) }
+    ensures routines { IfOk result (λ r. typed_routines r.builder.routines
+        ≡ w.library_made plan.now 0 0 (top_levels library.now)
+        ++ (w.text_made plan.now first_class (top_levels library.now) (top_levels text.now)).routines) }
 {
     let mut routines = Accumulator::new(plan.alloc);
     add_library(plan, &mut routines, library)?;
@@ -255,11 +275,14 @@ fn build_program(
 ) -> Result<Typed, NoMemory>
     requires plan { IsPlan plan.now }
     requires count { plan.now.numbers.now.library ≡ h.all_routines (top_levels library.now) }
-    requires declarations { plan.now.known.now.library + length (entry.entries_from (naming plan.now) first_class (top_levels text.now)) < 2 ^ 64 }
-    requires functions { numbered.all_numbered (top_levels library.now) + numbered.all_numbered (top_levels text.now) < 2 ^ 32 }
+    requires declarations { plan.now.known.now.library
+        + length (entry.entries_from (naming plan.now) first_class (top_levels text.now)) < 2 ^ 64 }
+    requires functions { numbered.all_numbered (top_levels library.now) + numbered.all_numbered (top_levels text.now)
+        < 2 ^ 32 }
     requires classes { first_class + length (entry.class_names (top_levels text.now)) < 2 ^ 32 }
     requires takes { HasFewTakes plan.now }
-    ensures { IfOk result (λ t. typed_program t ≡ w.program_made plan.now first_class (top_levels library.now) (top_levels text.now)) }
+    ensures { IfOk result (λ t. typed_program t
+        ≡ w.program_made plan.now first_class (top_levels library.now) (top_levels text.now)) }
 {
     let classes = class_entries(plan)?;
     let globals = global_types(plan)?;
@@ -285,10 +308,13 @@ fn build_planned(
     requires count { plan.now.numbers.now.library ≡ h.all_routines (top_levels library.now) }
     requires both { AreFew (top_levels library.now) (top_levels text.now) }
     requires names { (y : ℕ) → naming plan.now y ≡ all_names (top_levels library.now) (top_levels text.now) y }
-    requires known { plan.now.known.now ≡ accepted.known (top_levels library.now) (top_levels text.now) plan.now.known.now.kinds }
-    requires numbers { numbering_of plan.now.numbers.now ≡ number.numbering (top_levels library.now ++ top_levels text.now) }
+    requires known { plan.now.known.now ≡ accepted.known (top_levels library.now)
+        (top_levels text.now) plan.now.known.now.kinds }
+    requires numbers { numbering_of plan.now.numbers.now
+        ≡ number.numbering (top_levels library.now ++ top_levels text.now) }
     requires first { first_class ≡ library_classes (top_levels library.now) (top_levels text.now) }
-    ensures { IfOk result (λ t. typed_program t ≡ accepted.typed plan.now.tables.now (top_levels library.now) (top_levels text.now) plan.now.known.now.kinds) }
+    ensures { IfOk result (λ t. typed_program t
+        ≡ accepted.typed plan.now.tables.now (top_levels library.now) (top_levels text.now) plan.now.known.now.kinds) }
 {
     let made = build_program(plan, library, text, first_class)?;
     Ok(made)
@@ -307,7 +333,8 @@ pub fn typed_of(
     requires solved { IsSolved tables.now (program library.now) (program text.now) declared.now }
     requires counts { counts_fit declared.now.known ≡ true }
     requires few { AreFew (program library.now) (program text.now) }
-    ensures { IfOk result (λ t. typed_program t ≡ accepted.typed tables.now (program library.now) (program text.now) declared.now.known.kinds) }
+    ensures { IfOk result (λ t. typed_program t
+        ≡ accepted.typed tables.now (program library.now) (program text.now) declared.now.known.kinds) }
 {
     let numbers = numbering(alloc, library, text)?;
     let names = names_of(alloc, &declared.known)?;

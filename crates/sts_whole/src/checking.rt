@@ -44,7 +44,8 @@ fn check_counts(alloc: Global, known: &Environment) -> Result<(), Refused>
 /// counted limit is passed. The library itself is never refused.
 pub fn check(alloc: Global, library: &Unit, text: &Unit, tables: &Tables) -> Result<Typed, Refused>
     requires few { AreFew (program library.now) (program text.now) }
-    ensures accepted { IfOk result (λ t. IsAccepted tables.now (program library.now) (program text.now) (typed_program t)) }
+    ensures accepted { IfOk result (λ t. IsAccepted tables.now (program library.now) (program text.now)
+        (typed_program t)) }
     ensures refused { IfErr result (λ why. RefusesTrees why tables.now (program library.now) (program text.now)) }
 {
     let mut declared = headings(alloc, library, text, tables)?;

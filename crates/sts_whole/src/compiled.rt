@@ -14,7 +14,8 @@ use lowered_code::code_is_well_formed;
 /// The image that is compiled from a program implements it: the bank machine over the image does what the program's source does, whatever the free words are, on each script
 /// and whatever arrives between two instructions, in at most 512 instructions for one counted step, and without a fault.
 pub fn compiled_images_implement_their_programs()
-    ensures { (P : TypedProgram) (texts : List ByteList) (image : List ℕ) → IsBuildable P texts → IsCompiled P texts image → ImageImplements P texts image }
+    ensures { (P : TypedProgram) (texts : List ByteList) (image : List ℕ) → IsBuildable P texts
+        → IsCompiled P texts image → ImageImplements P texts image }
 {
     code_is_well_formed();
     lowered_code_does_what_the_source_does();

@@ -53,7 +53,8 @@ pub fn run_text<K: Sink, D: Device>(
     requires least { 1 ≤ budget }
     requires most { budget ≤ 2147483648 }
     ensures ran { IfOk result (λ r. (image : List ℕ) × Builds text.now image × RunsImage D.account image script budget
-        (outside_of K.taken K.faults out.old places.old.items) (outside_of K.taken K.faults out.new places.new.items) r.0 r.1) }
+        (outside_of K.taken K.faults out.old places.old.items)
+        (outside_of K.taken K.faults out.new places.new.items) r.0 r.1) }
     ensures counted { IfOk result (λ r. r.1.instructions ≤ budget) }
     ensures faultless { IfOk result (λ r. IsFaultless r.0) }
     ensures refused { IfErr result (RefusesText text.now) }

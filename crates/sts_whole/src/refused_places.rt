@@ -5,5 +5,6 @@ ghost use Rattle.sts_whole.specs.Accepting.{IsRefusedFor};
 
 /// The place of a refusal is one of the text, or its end; and it is small enough for its line and column to be numbers of 32 bits.
 pub fn refusals_stand_in_their_texts()
-    ensures { (text : List ℕ) (code : Code) (at : ℕ) → IsRefusedFor text code at → (at ≤ length text) × (at < 4294967295) }
+    ensures { (text : List ℕ) (code : Code) (at : ℕ) → IsRefusedFor text code at
+        → (at ≤ length text) × (at < 4294967295) }
 {}

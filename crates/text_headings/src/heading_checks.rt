@@ -49,7 +49,8 @@ fn check_type(classes: &ByNumber, at: u32, shape: &Shape) -> Result<(), Refused>
 
 /// The type that is written at what stands at this place is known.
 pub fn check_written(classes: &ByNumber, at: u32, shape: &Option<Shape>) -> Result<(), Refused>
-    ensures { Finds result (heading.written_failure (value_at classes.now.values.items) at (optional_annotation shape.now)) }
+    ensures { Finds result (heading.written_failure (value_at classes.now.values.items) at
+        (optional_annotation shape.now)) }
 {
     match shape {
         None => Ok(()),
@@ -71,7 +72,9 @@ fn note(seen: &mut BTreeSet<u32>, x: u32) -> Result<bool, Refused>
 
 /// A parameter, whose name stands before it already or doesn't.
 fn check_parameter(classes: &ByNumber, twice: bool, p: &Param) -> Result<(), Refused>
-    ensures { Finds result (own (optional_annotation p.now.shape) code.NeedsType p.now.at then unless (not twice) code.TwiceNamed p.now.at then heading.written_failure (value_at classes.now.values.items) p.now.at (optional_annotation p.now.shape)) }
+    ensures { Finds result (own (optional_annotation p.now.shape) code.NeedsType p.now.at
+        then unless (not twice) code.TwiceNamed p.now.at
+        then heading.written_failure (value_at classes.now.values.items) p.now.at (optional_annotation p.now.shape)) }
 {
     unless(p.shape.is_some(), Code::NeedsType, p.at)?;
     unless(!twice, Code::TwiceNamed, p.at)?;
@@ -80,7 +83,8 @@ fn check_parameter(classes: &ByNumber, twice: bool, p: &Param) -> Result<(), Ref
 
 /// The parameters of a function.
 fn check_parameters(alloc: Global, classes: &ByNumber, params: &[Param]) -> Result<(), Refused>
-    ensures { Finds result (heading.parameters_failure (value_at classes.now.values.items) (parameters params.now) 0 (parameters params.now)) }
+    ensures { Finds result (heading.parameters_failure (value_at classes.now.values.items) (parameters params.now) 0
+        (parameters params.now)) }
 {
     let mut seen = BTreeSet::new(alloc);
     for i in 0..params.len() {
@@ -108,7 +112,8 @@ fn check_field(
     d: usize,
     b: &Binding,
 ) -> Result<(), Refused>
-    ensures { Finds result (heading.field_failure (value_at classes.now.values.items) known.now.entries known.now.classes c d (declaration b.now)) }
+    ensures { Finds result (heading.field_failure
+        (value_at classes.now.values.items) known.now.entries known.now.classes c d (declaration b.now)) }
 {
     unless(
         !known.entries().is_second(d, Owner::Class(c), b.name),
@@ -137,7 +142,9 @@ struct Lent<'a> {
 /// A method.
 #[tactic(auto, using(crate::proofs::Parameters::method_at))]
 fn check_method(lent: &Lent, c: u32, d: usize, x: u32, body: &Body) -> Result<(), Refused>
-    ensures { Finds result (heading.method_failure (value_at lent.now.classes.now.values.items) lent.now.known.now.entries lent.now.known.now.classes c d x (routine body.now)) }
+    ensures { Finds result (heading.method_failure
+        (value_at lent.now.classes.now.values.items) lent.now.known.now.entries lent.now.known.now.classes c d x
+        (routine body.now)) }
 {
     let at = body.at;
     unless(
@@ -157,7 +164,8 @@ fn check_constructor(
     made: bool,
     body: &Body,
 ) -> Result<(), Refused>
-    ensures { Finds result (unless (not made) code.TwiceNamed (heading.routine_at (routine body.now)) then heading.routine_failure (value_at classes.now.values.items) (routine body.now)) }
+    ensures { Finds result (unless (not made) code.TwiceNamed (heading.routine_at (routine body.now))
+        then heading.routine_failure (value_at classes.now.values.items) (routine body.now)) }
 {
     let at = body.at;
     unless(!made, Code::TwiceNamed, at)?;
@@ -172,9 +180,13 @@ fn check_member(
     made: bool,
     member: &Member,
 ) -> Result<usize, Refused>
-    requires { d + length (entry.member_entry (value_at lent.now.classes.now.values.items) c (class_member member.now)) < 2 ^ 64 }
-    ensures found { Finds result (heading.member_failure (value_at lent.now.classes.now.values.items) lent.now.known.now.entries lent.now.known.now.classes c d made (class_member member.now)) }
-    ensures next { IfOk result (λ n. n ≡ d + length (entry.member_entry (value_at lent.now.classes.now.values.items) c (class_member member.now))) }
+    requires { d + length (entry.member_entry (value_at lent.now.classes.now.values.items) c (class_member member.now))
+        < 2 ^ 64 }
+    ensures found { Finds result (heading.member_failure
+        (value_at lent.now.classes.now.values.items) lent.now.known.now.entries lent.now.known.now.classes c d made
+        (class_member member.now)) }
+    ensures next { IfOk result (λ n. n ≡ d + length
+        (entry.member_entry (value_at lent.now.classes.now.values.items) c (class_member member.now))) }
 {
     match member {
         Member::Field(b) => {
@@ -212,9 +224,13 @@ fn check_members(
     first: usize,
     members: &[Member],
 ) -> Result<usize, Refused>
-    requires { first + length (entry.member_entries (value_at classes.now.values.items) c (class_members members.now)) < 2 ^ 64 }
-    ensures found { Finds result (heading.members_failure (value_at classes.now.values.items) known.now.entries known.now.classes c first false (class_members members.now)) }
-    ensures next { IfOk result (λ n. n ≡ first + length (entry.member_entries (value_at classes.now.values.items) c (class_members members.now))) }
+    requires { first + length (entry.member_entries (value_at classes.now.values.items) c (class_members members.now))
+        < 2 ^ 64 }
+    ensures found { Finds result (heading.members_failure
+        (value_at classes.now.values.items) known.now.entries known.now.classes c first false
+        (class_members members.now)) }
+    ensures next { IfOk result (λ n. n ≡ first
+        + length (entry.member_entries (value_at classes.now.values.items) c (class_members members.now))) }
 {
     let lent = Lent {
         alloc,
@@ -238,10 +254,15 @@ fn check_item(
     d: usize,
     item: &Item,
 ) -> Result<usize, Refused>
-    requires room { d + length (entry.item_entries (value_at classes.now.values.items) (classes_before known.now.entries d) (top_level item.now)) < 2 ^ 64 }
+    requires room { d + length (entry.item_entries (value_at classes.now.values.items)
+        (classes_before known.now.entries d) (top_level item.now)) < 2 ^ 64 }
     requires stands { IsItemAt (value_at classes.now.values.items) known.now.entries d (top_level item.now) }
-    ensures found { Finds result (heading.item_failure (value_at classes.now.values.items) known.now.entries known.now.classes (classes_before known.now.entries d) d (top_level item.now)) }
-    ensures next { IfOk result (λ n. n ≡ d + length (entry.item_entries (value_at classes.now.values.items) (classes_before known.now.entries d) (top_level item.now))) }
+    ensures found { Finds result (heading.item_failure
+        (value_at classes.now.values.items) known.now.entries known.now.classes (classes_before known.now.entries d) d
+        (top_level item.now)) }
+    ensures next { IfOk result (λ n. n ≡ d + length
+        (entry.item_entries (value_at classes.now.values.items) (classes_before known.now.entries d)
+        (top_level item.now))) }
 {
     match item {
         Item::Class {
@@ -271,7 +292,9 @@ pub fn check_headings(
     items: &[Item],
 ) -> Result<(), Refused>
     requires { IsTextAt (value_at classes.now.values.items) known.now.entries first (top_levels items.now) }
-    ensures { Finds result (heading.headings_failure (value_at classes.now.values.items) known.now.entries known.now.classes (classes_before known.now.entries first) first (top_levels items.now)) }
+    ensures { Finds result (heading.headings_failure
+        (value_at classes.now.values.items) known.now.entries known.now.classes
+        (classes_before known.now.entries first) first (top_levels items.now)) }
 {
     // (all of them are in memory: that bounds every number of one)
     let _count = known.entries().len();

@@ -13,7 +13,8 @@ use sts_scope::{ByNumber, ClassHead, Entry, Environment, Owner, is_dollar, or_no
 
 /// Notes a declared name of the whole text.
 fn note(seen: &mut ByNumber, e: &Entry) -> Result<(), Refused>
-    ensures ok { OnOk result ((y : ℕ) → is_some (value_at seen.new.values.items y) ≡ (declares o.Whole y e.now || is_some (value_at seen.old.values.items y))) }
+    ensures ok { OnOk result ((y : ℕ) → is_some (value_at seen.new.values.items y)
+        ≡ (declares o.Whole y e.now || is_some (value_at seen.old.values.items y))) }
     ensures err { IfErr result (λ e. e ≡ Refused.NoMemory) }
 {
     match e.owner {
@@ -24,7 +25,8 @@ fn note(seen: &mut ByNumber, e: &Entry) -> Result<(), Refused>
 
 /// A declared name of the whole text begins with no `$` and is no second one.
 fn check_name(tables: &Tables, seen: &ByNumber, e: &Entry) -> Result<(), Refused>
-    ensures { Finds result (name_failure tables.now.names e.now.owner e.now.name e.now.at (is_some (value_at seen.now.values.items e.now.name))) }
+    ensures { Finds result (name_failure tables.now.names e.now.owner e.now.name e.now.at
+        (is_some (value_at seen.now.values.items e.now.name))) }
 {
     match e.owner {
         Owner::Whole => {
@@ -38,7 +40,8 @@ fn check_name(tables: &Tables, seen: &ByNumber, e: &Entry) -> Result<(), Refused
 /// All declared names of the text, behind those of the library.
 pub fn check_names(alloc: Global, tables: &Tables, known: &Environment) -> Result<(), Refused>
     requires { known.now.library ≤ length known.now.entries }
-    ensures { Finds result (names_failure tables.now.names known.now.entries known.now.library (drop known.now.library known.now.entries)) }
+    ensures { Finds result (names_failure tables.now.names known.now.entries known.now.library
+        (drop known.now.library known.now.entries)) }
 {
     let mut seen = ByNumber::new(alloc);
     let entries = known.entries().as_slice();

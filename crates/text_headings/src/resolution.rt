@@ -46,7 +46,9 @@ fn check_all(
     requires entries { declared.now.known.library ≤ length declared.now.known.entries }
     requires classes { declared.now.first_class ≤ length declared.now.known.classes }
     requires stands { IsTextDeclared (program text.now) declared.now }
-    ensures { Finds result (scope.passes tables.now.names (program text.now) (value_at declared.now.classes.values.items) declared.now.known.entries declared.now.known.classes declared.now.known.library declared.now.first_class) }
+    ensures { Finds result (scope.passes tables.now.names (program text.now)
+        (value_at declared.now.classes.values.items) declared.now.known.entries declared.now.known.classes
+        declared.now.known.library declared.now.first_class) }
 {
     let known = &declared.known;
     let first = declared.first_class;

@@ -79,7 +79,8 @@ pub fn call_type(
 
 /// Whether no function stands where a handler is wanted.
 fn lacks_here(context: &Context, scope: &Scope, to: BoardParameter, a: &Expr) -> bool
-    ensures { result ≡ lacks_here context.now.tables.now context.now.known.now (place scope.now) (board_parameter to) (tree a.now) }
+    ensures { result ≡ lacks_here context.now.tables.now context.now.known.now (place scope.now) (board_parameter to)
+        (tree a.now) }
 {
     match to {
         BoardParameter::Handler => !is_function(context.tables, context.known, scope, a),
@@ -96,7 +97,8 @@ pub fn lacks_handler(
     takes: &[BoardParameter],
     args: &[Expr],
 ) -> bool
-    ensures { result ≡ node.lacks_handler context.now.tables.now (naming context.now) context.now.known.now (place scope.now) (map board_parameter takes.now) (trees args.now) }
+    ensures { result ≡ node.lacks_handler context.now.tables.now (naming context.now) context.now.known.now
+        (place scope.now) (map board_parameter takes.now) (trees args.now) }
 {
     for i in 0..takes.len().min(args.len()) {
         if lacks_here(context, scope, takes[i], &args[i]) {
@@ -114,7 +116,8 @@ fn fits_place(
     kind: Option<StaticType>,
     a: &Expr,
 ) -> bool
-    ensures { result ≡ fits_place context.now.tables.now context.now.known.now (place scope.now) (board_parameter to) kind (tree a.now) }
+    ensures { result ≡ fits_place context.now.tables.now context.now.known.now (place scope.now)
+        (board_parameter to) kind (tree a.now) }
 {
     match to {
         BoardParameter::Number => goes_some(context.known, kind, flat(Base::Number)),
@@ -132,8 +135,10 @@ pub fn are_given(
     kinds: &[Option<StaticType>],
     args: &[Expr],
 ) -> bool
-    requires { kinds.now ≡ kinds_given context.now.tables.now context.now.known.now (place scope.now) (map board_parameter takes.now) (trees args.now) }
-    ensures { result ≡ typing.are_given context.now.tables.now context.now.known.now (place scope.now) (map board_parameter takes.now) (trees args.now) }
+    requires { kinds.now ≡ kinds_given context.now.tables.now context.now.known.now (place scope.now)
+        (map board_parameter takes.now) (trees args.now) }
+    ensures { result ≡ typing.are_given context.now.tables.now context.now.known.now (place scope.now)
+        (map board_parameter takes.now) (trees args.now) }
 {
     if takes.len() != args.len() {
         return false;

@@ -92,7 +92,8 @@ pub fn fits(known: &Environment, s: Option<StaticType>, t: Option<StaticType>) -
 
 /// A name that is declared in a block begins with no `$` and is no second one.
 pub fn check_local(context: &Context, scope: &Scope, x: u32, at: u32) -> Result<(), Refused>
-    ensures { Finds result (node.own_local context.now.tables.now (naming context.now) context.now.known.now (place scope.now) x at) }
+    ensures { Finds result (node.own_local context.now.tables.now (naming context.now) context.now.known.now
+        (place scope.now) x at) }
 {
     unless(!is_dollar(context.tables, x), Code::UnknownName, at)?;
     unless(!is_twice(scope, x), Code::TwiceNamed, at)
@@ -120,8 +121,10 @@ pub fn bound(
     first: Option<StaticType>,
     at: u32,
 ) -> Result<Option<StaticType>, Refused>
-    ensures found { Finds result (bounds.bound_failure (naming context.now) context.now.known.now (optional_annotation shape.now) there first at) }
-    ensures kind { IfOk result (λ kind. kind ≡ bounds.bound_kind (naming context.now) (optional_annotation shape.now) first) }
+    ensures found { Finds result (bounds.bound_failure (naming context.now) context.now.known.now
+        (optional_annotation shape.now) there first at) }
+    ensures kind { IfOk result (λ kind. kind
+        ≡ bounds.bound_kind (naming context.now) (optional_annotation shape.now) first) }
 {
     match shape {
         None => derived(first, at),

@@ -72,7 +72,8 @@ pub fn expression(context: &Context, scope: &Scope, role: Role, e: &Expr) -> Res
 #[cycle(walk)]
 fn unary(context: &Context, scope: &Scope, op: u8, a: &Expr, at: u32) -> Result<Seen, Refused>
     ensures found { Finds result (c.failure context.now (place scope.now) role.Free (t.Unary at op (tree a.now))) }
-    ensures seen { IfOk result (λ s. s ≡ c.seen_of context.now (place scope.now) role.Free (t.Unary at op (tree a.now))) }
+    ensures seen { IfOk result (λ s. s ≡ c.seen_of context.now (place scope.now) role.Free
+        (t.Unary at op (tree a.now))) }
 {
     let s = expression(context, scope, Role::Free, a)?;
     own(prefixed(op, s.kind), Code::Mismatch, at)
@@ -88,8 +89,10 @@ fn binary(
     b: &Expr,
     at: u32,
 ) -> Result<Seen, Refused>
-    ensures found { Finds result (c.failure context.now (place scope.now) role.Free (t.Binary at op (tree a.now) (tree b.now))) }
-    ensures seen { IfOk result (λ s. s ≡ c.seen_of context.now (place scope.now) role.Free (t.Binary at op (tree a.now) (tree b.now))) }
+    ensures found { Finds result (c.failure context.now (place scope.now) role.Free
+        (t.Binary at op (tree a.now) (tree b.now))) }
+    ensures seen { IfOk result (λ s. s ≡ c.seen_of context.now (place scope.now) role.Free
+        (t.Binary at op (tree a.now) (tree b.now))) }
 {
     let s = expression(context, scope, Role::Free, a)?;
     let u = expression(context, scope, Role::Free, b)?;
@@ -103,8 +106,10 @@ fn binary(
 /// `&&` and `||`, of which one fails as the other would.
 #[cycle(walk)]
 fn joined(context: &Context, scope: &Scope, a: &Expr, b: &Expr, at: u32) -> Result<Seen, Refused>
-    ensures found { Finds result (c.failure context.now (place scope.now) role.Free (t.Both at (tree a.now) (tree b.now))) }
-    ensures seen { IfOk result (λ s. s ≡ c.seen_of context.now (place scope.now) role.Free (t.Both at (tree a.now) (tree b.now))) }
+    ensures found { Finds result (c.failure context.now (place scope.now) role.Free
+        (t.Both at (tree a.now) (tree b.now))) }
+    ensures seen { IfOk result (λ s. s ≡ c.seen_of context.now (place scope.now) role.Free
+        (t.Both at (tree a.now) (tree b.now))) }
 {
     let s = expression(context, scope, Role::Free, a)?;
     let u = expression(context, scope, Role::Free, b)?;
@@ -114,8 +119,10 @@ fn joined(context: &Context, scope: &Scope, a: &Expr, b: &Expr, at: u32) -> Resu
 /// An item of a list.
 #[cycle(walk)]
 fn item(context: &Context, scope: &Scope, a: &Expr, i: &Expr, at: u32) -> Result<Seen, Refused>
-    ensures found { Finds result (c.failure context.now (place scope.now) role.Free (t.Item at (tree a.now) (tree i.now))) }
-    ensures seen { IfOk result (λ s. s ≡ c.seen_of context.now (place scope.now) role.Free (t.Item at (tree a.now) (tree i.now))) }
+    ensures found { Finds result (c.failure context.now (place scope.now) role.Free
+        (t.Item at (tree a.now) (tree i.now))) }
+    ensures seen { IfOk result (λ s. s ≡ c.seen_of context.now (place scope.now) role.Free
+        (t.Item at (tree a.now) (tree i.now))) }
 {
     let s = expression(context, scope, Role::Free, a)?;
     let u = expression(context, scope, Role::Free, i)?;
@@ -132,8 +139,10 @@ fn choice(
     b: &Expr,
     at: u32,
 ) -> Result<Seen, Refused>
-    ensures found { Finds result (c.failure context.now (place scope.now) role.Free (t.Choice at (tree q.now) (tree a.now) (tree b.now))) }
-    ensures seen { IfOk result (λ s. s ≡ c.seen_of context.now (place scope.now) role.Free (t.Choice at (tree q.now) (tree a.now) (tree b.now))) }
+    ensures found { Finds result (c.failure context.now (place scope.now) role.Free
+        (t.Choice at (tree q.now) (tree a.now) (tree b.now))) }
+    ensures seen { IfOk result (λ s. s ≡ c.seen_of context.now (place scope.now) role.Free
+        (t.Choice at (tree q.now) (tree a.now) (tree b.now))) }
 {
     let v = expression(context, scope, Role::Free, q)?;
     let s = expression(context, scope, Role::Free, a)?;
@@ -155,8 +164,10 @@ fn setting(
     a: &Expr,
     at: u32,
 ) -> Result<Seen, Refused>
-    ensures found { Finds result (c.failure context.now (place scope.now) role.Free (t.Set at op (tree x.now) (tree a.now))) }
-    ensures seen { IfOk result (λ s. s ≡ c.seen_of context.now (place scope.now) role.Free (t.Set at op (tree x.now) (tree a.now))) }
+    ensures found { Finds result (c.failure context.now (place scope.now) role.Free
+        (t.Set at op (tree x.now) (tree a.now))) }
+    ensures seen { IfOk result (λ s. s ≡ c.seen_of context.now (place scope.now) role.Free
+        (t.Set at op (tree x.now) (tree a.now))) }
 {
     let u = expression(context, scope, Role::Free, x)?;
     let s = expression(context, scope, Role::Given, a)?;
@@ -179,7 +190,8 @@ fn bumping(
     at: u32,
 ) -> Result<Seen, Refused>
     ensures found { Finds result (c.failure context.now (place scope.now) role.Free (t.Bump at (tree x.now) by after)) }
-    ensures seen { IfOk result (λ s. s ≡ c.seen_of context.now (place scope.now) role.Free (t.Bump at (tree x.now) by after)) }
+    ensures seen { IfOk result (λ s. s ≡ c.seen_of context.now (place scope.now) role.Free
+        (t.Bump at (tree x.now) by after)) }
 {
     let u = expression(context, scope, Role::Free, x)?;
     let can = settable(context, scope, x, u.part);
@@ -198,7 +210,8 @@ fn member(
 ) -> Result<Seen, Refused>
     requires whole { tree e.now ≡ t.Member e.now.at (tree a.now) m }
     ensures found { Finds result (c.failure context.now (place scope.now) role (t.Member e.now.at (tree a.now) m)) }
-    ensures seen { IfOk result (λ s. s ≡ c.seen_of context.now (place scope.now) role (t.Member e.now.at (tree a.now) m)) }
+    ensures seen { IfOk result (λ s. s ≡ c.seen_of context.now (place scope.now) role
+        (t.Member e.now.at (tree a.now) m)) }
 {
     let at = e.at;
     if constant(context.tables, context.known, scope, a, m).is_some() {
@@ -222,7 +235,8 @@ fn serving(
     at: u32,
 ) -> Result<Seen, Refused>
     ensures found { Finds result (c.failure context.now (place scope.now) role (t.Handler at (routine body.now))) }
-    ensures seen { IfOk result (λ s. s ≡ c.seen_of context.now (place scope.now) role (t.Handler at (routine body.now))) }
+    ensures seen { IfOk result (λ s. s ≡ c.seen_of context.now (place scope.now) role
+        (t.Handler at (routine body.now))) }
 {
     let serves = handler(context, scope, body)?;
     unless(serves_there(role, serves), Code::BadHandler, at)?;
@@ -272,8 +286,10 @@ pub fn kinds_of(
     all: &[Expr],
 ) -> Result<Seq<Option<StaticType>>, Refused>
     requires within { from ≤ length all.now }
-    ensures found { Finds result (c.failures context.now (place scope.now) (drop from (c.taken board)) (trees (drop from all.now))) }
-    ensures kinds { IfOk result (λ os. os ≡ c.kinds_of context.now (place scope.now) (drop from (c.taken board)) (trees (drop from all.now))) }
+    ensures found { Finds result (c.failures context.now (place scope.now) (drop from (c.taken board))
+        (trees (drop from all.now))) }
+    ensures kinds { IfOk result (λ os. os ≡ c.kinds_of context.now (place scope.now) (drop from (c.taken board))
+        (trees (drop from all.now))) }
 {
     let takes = taken(board);
     let mut kinds = Seq::new(context.alloc);
@@ -327,8 +343,10 @@ fn call(
     args: &[Expr],
     at: u32,
 ) -> Result<Seen, Refused>
-    ensures found { Finds result (c.failure context.now (place scope.now) role (t.Call at (tree f.now) (trees args.now))) }
-    ensures seen { IfOk result (λ s. s ≡ c.seen_of context.now (place scope.now) role (t.Call at (tree f.now) (trees args.now))) }
+    ensures found { Finds result (c.failure context.now (place scope.now) role
+        (t.Call at (tree f.now) (trees args.now))) }
+    ensures seen { IfOk result (λ s. s ≡ c.seen_of context.now (place scope.now) role
+        (t.Call at (tree f.now) (trees args.now))) }
 {
     match board_callee(context.tables, context.known, scope, f) {
         Some(board) => {
@@ -355,7 +373,8 @@ fn super_call(
     at: u32,
 ) -> Result<Seen, Refused>
     ensures found { Finds result (c.failure context.now (place scope.now) role (t.SuperCall at m (trees args.now))) }
-    ensures seen { IfOk result (λ s. s ≡ c.seen_of context.now (place scope.now) role (t.SuperCall at m (trees args.now))) }
+    ensures seen { IfOk result (λ s. s ≡ c.seen_of context.now (place scope.now) role
+        (t.SuperCall at m (trees args.now))) }
 {
     let kinds = kinds_of(context, scope, None, 0, args)?;
     match m {
@@ -405,7 +424,8 @@ fn serves_there(role: Role, serves: bool) -> bool
 #[cycle(walk)]
 fn handler(context: &Context, scope: &Scope, body: &Body) -> Result<bool, Refused>
     ensures found { Finds result (c.handler_failure context.now (place scope.now) (routine body.now)) }
-    ensures serves { IfOk result (λ b. b ≡ node.serves_itself context.now.tables.now (naming context.now) context.now.known.now (place scope.now) (routine body.now)) }
+    ensures serves { IfOk result (λ b. b ≡ node.serves_itself context.now.tables.now
+        (naming context.now) context.now.known.now (place scope.now) (routine body.now)) }
 {
     check_parameter_types(context.classes, body.params.as_slice())?;
     check_written(context.classes, body.at, &body.gives)?;
@@ -448,7 +468,8 @@ fn nested(context: &Context, scope: &mut Scope, s: &Stmt) -> Result<(), Refused>
 /// Statements that have a block of their own.
 #[cycle(walk)]
 fn block(context: &Context, scope: &mut Scope, all: &[Stmt]) -> Result<(), Refused>
-    ensures found { Finds result (c.statements_failure context.now (name.inner (place scope.old)) (statements all.now)) }
+    ensures found { Finds result (c.statements_failure context.now (name.inner (place scope.old))
+        (statements all.now)) }
     ensures place { OnOk result (place scope.new ≡ place scope.old) }
 {
     let mark = enter(scope);
@@ -512,7 +533,8 @@ fn tested(
     a: &Stmt,
     at: u32,
 ) -> Result<(), Refused>
-    ensures found { Finds result (c.statement_failure context.now (place scope.old) (t.IfOnly at (tree test.now) (statement a.now))) }
+    ensures found { Finds result (c.statement_failure context.now (place scope.old)
+        (t.IfOnly at (tree test.now) (statement a.now))) }
     ensures place { OnOk result (place scope.new ≡ place scope.old) }
 {
     let s = expression(context, scope, Role::Free, test)?;
@@ -530,7 +552,8 @@ fn if_else(
     b: &Stmt,
     at: u32,
 ) -> Result<(), Refused>
-    ensures found { Finds result (c.statement_failure context.now (place scope.old) (t.IfElse at (tree test.now) (statement a.now) (statement b.now))) }
+    ensures found { Finds result (c.statement_failure context.now (place scope.old)
+        (t.IfElse at (tree test.now) (statement a.now) (statement b.now))) }
     ensures place { OnOk result (place scope.new ≡ place scope.old) }
 {
     let s = expression(context, scope, Role::Free, test)?;
@@ -548,7 +571,8 @@ fn do_while(
     test: &Expr,
     at: u32,
 ) -> Result<(), Refused>
-    ensures found { Finds result (c.statement_failure context.now (place scope.old) (t.DoWhile at (statement a.now) (tree test.now))) }
+    ensures found { Finds result (c.statement_failure context.now (place scope.old)
+        (t.DoWhile at (statement a.now) (tree test.now))) }
     ensures place { OnOk result (place scope.new ≡ place scope.old) }
 {
     nested(context, scope, a)?;
@@ -573,7 +597,9 @@ fn for_loop(
     a: &Stmt,
     at: u32,
 ) -> Result<(), Refused>
-    ensures found { Finds result (c.statement_failure context.now (place scope.old) (t.For at (optional_boxed turns.entry.first.now) (optional_expression turns.entry.test.now) (optional_expression turns.entry.step.now) (statement a.now))) }
+    ensures found { Finds result (c.statement_failure context.now (place scope.old)
+        (t.For at (optional_boxed turns.entry.first.now) (optional_expression turns.entry.test.now)
+        (optional_expression turns.entry.step.now) (statement a.now))) }
     ensures place { OnOk result (place scope.new ≡ place scope.old) }
 {
     let mark = enter(scope);
@@ -590,7 +616,8 @@ fn for_loop(
 #[cycle(walk)]
 fn first_of(context: &Context, scope: &mut Scope, first: &Option<Box<Stmt>>) -> Result<(), Refused>
     ensures found { Finds result (c.first_failure context.now (place scope.old) (optional_boxed first.now)) }
-    ensures place { OnOk result (place scope.new ≡ c.after_first context.now (place scope.old) (optional_boxed first.now)) }
+    ensures place { OnOk result (place scope.new
+        ≡ c.after_first context.now (place scope.old) (optional_boxed first.now)) }
 {
     match first {
         None => Ok(()),
@@ -602,7 +629,8 @@ fn first_of(context: &Context, scope: &mut Scope, first: &Option<Box<Stmt>>) -> 
 #[cycle(walk)]
 fn optional(context: &Context, scope: &Scope, e: &Option<Expr>) -> Result<bool, Refused>
     ensures found { Finds result (c.optional_failure context.now (place scope.now) (optional_expression e.now)) }
-    ensures tests { IfOk result (λ b. b ≡ is_test context.now.tables.now context.now.known.now (place scope.now) (optional_expression e.now)) }
+    ensures tests { IfOk result (λ b. b ≡ is_test context.now.tables.now context.now.known.now (place scope.now)
+        (optional_expression e.now)) }
 {
     match e {
         None => Ok(true),
@@ -630,7 +658,8 @@ fn for_of(
     a: &Stmt,
     at: u32,
 ) -> Result<(), Refused>
-    ensures found { Finds result (c.statement_failure context.now (place scope.old) (t.ForOf at each.entry.fixed each.entry.name (tree each.entry.list.now) (statement a.now))) }
+    ensures found { Finds result (c.statement_failure context.now (place scope.old)
+        (t.ForOf at each.entry.fixed each.entry.name (tree each.entry.list.now) (statement a.now))) }
     ensures place { OnOk result (place scope.new ≡ place scope.old) }
 {
     let s = expression(context, scope, Role::Free, each.list)?;
@@ -659,8 +688,11 @@ pub fn initial(
     shape: &Option<Shape>,
     first: &Option<Expr>,
 ) -> Result<Option<StaticType>, Refused>
-    ensures found { Finds result (c.initial_failure context.now (place scope.now) (optional_annotation shape.now) (optional_expression first.now)) }
-    ensures kind { IfOk result (λ kind. kind ≡ initial_kind context.now.tables.now (naming context.now) context.now.known.now (place scope.now) (optional_annotation shape.now) (optional_expression first.now)) }
+    ensures found { Finds result (c.initial_failure context.now (place scope.now) (optional_annotation shape.now)
+        (optional_expression first.now)) }
+    ensures kind { IfOk result (λ kind. kind
+        ≡ initial_kind context.now.tables.now (naming context.now) context.now.known.now (place scope.now)
+        (optional_annotation shape.now) (optional_expression first.now)) }
 {
     match first {
         None => Ok(None),
@@ -701,7 +733,8 @@ fn declarations_failure(
     each: &[Binding],
 ) -> Result<(), Refused>
     ensures found { Finds result (c.declarations_failure context.now (place scope.old) fixed (declarations each.now)) }
-    ensures place { OnOk result (place scope.new ≡ c.all_declared context.now (place scope.old) fixed (declarations each.now)) }
+    ensures place { OnOk result (place scope.new
+        ≡ c.all_declared context.now (place scope.old) fixed (declarations each.now)) }
 {
     for i in 0..each.len() {
         declaration_failure(context, scope, fixed, &each[i])?;

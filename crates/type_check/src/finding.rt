@@ -21,7 +21,8 @@ pub fn find_failure(
     declared: &Declared,
 ) -> Result<(), Refused>
     requires { IsTextDeclared (program text.now) declared.now }
-    ensures { Finds result (type_failure tables.now (value_at declared.now.classes.values.items) declared.now.known declared.now.first_class (program text.now)) }
+    ensures { Finds result (type_failure tables.now
+        (value_at declared.now.classes.values.items) declared.now.known declared.now.first_class (program text.now)) }
 {
     let context = Context {
         alloc,

@@ -56,7 +56,8 @@ pub fn is_served(role: Role) -> bool
 
 /// The name of a function where a handler is wanted: its result is known, and it takes nothing and gives nothing.
 fn served_name(context: &Context, d: usize, at: u32) -> Result<Seen, Refused>
-    ensures found { (p : _) → Finds result (node.own_name context.now.tables.now (naming context.now) context.now.known.now role.Served p (found.Function d) at) }
+    ensures found { (p : _) → Finds result (node.own_name context.now.tables.now
+        (naming context.now) context.now.known.now role.Served p (found.Function d) at) }
     ensures seen { IfOk result (λ s. s ≡ plain None) }
 {
     own(kind_at(context.known, d), Code::NeedsType, at)?;
@@ -70,7 +71,8 @@ fn served_name(context: &Context, d: usize, at: u32) -> Result<Seen, Refused>
 
 /// The name of a function: where one is called, where a handler is wanted, or where it is none's place.
 fn routine_seen(context: &Context, role: Role, d: usize, at: u32) -> Result<Seen, Refused>
-    ensures found { (p : _) → Finds result (node.own_name context.now.tables.now (naming context.now) context.now.known.now role p (found.Function d) at) }
+    ensures found { (p : _) → Finds result (node.own_name context.now.tables.now
+        (naming context.now) context.now.known.now role p (found.Function d) at) }
     ensures seen { IfOk result (λ s. s ≡ plain None) }
 {
     match role {
@@ -89,8 +91,11 @@ pub fn name_seen(
     x: u32,
     at: u32,
 ) -> Result<Seen, Refused>
-    ensures found { Finds result (node.own_name context.now.tables.now (naming context.now) context.now.known.now role (place scope.now) (typing.finds context.now.tables.now context.now.known.now (place scope.now) x) at) }
-    ensures seen { IfOk result (λ s. s ≡ plain (rule.name_kind context.now.known.now (place scope.now) (typing.finds context.now.tables.now context.now.known.now (place scope.now) x))) }
+    ensures found { Finds result (node.own_name context.now.tables.now (naming context.now) context.now.known.now role
+        (place scope.now) (typing.finds context.now.tables.now context.now.known.now (place scope.now) x) at) }
+    ensures seen { IfOk result (λ s. s ≡ plain
+        (rule.name_kind context.now.known.now (place scope.now)
+        (typing.finds context.now.tables.now context.now.known.now (place scope.now) x))) }
 {
     let found = name_found(context.tables, context.known, scope, x);
     match found {
@@ -109,7 +114,8 @@ pub fn this_seen(scope: &Scope, at: u32) -> Result<Seen, Refused>
 
 /// What may be called behind a dot, where it is called.
 fn is_callee(role: Role, part: Part) -> bool
-    ensures { (tables : _) → (known : _) → result ≡ (node.is_called role && is_some (typing.part_callee tables known part)) }
+    ensures { (tables : _) → (known : _) → result
+        ≡ (node.is_called role && is_some (typing.part_callee tables known part)) }
 {
     match part {
         Part::Method(_) => is_called(role),
@@ -123,7 +129,8 @@ fn is_callee(role: Role, part: Part) -> bool
 
 /// What stands behind a dot.
 fn part_seen(context: &Context, role: Role, part: Part, at: u32) -> Result<Seen, Refused>
-    ensures found { Finds result (node.own_part context.now.tables.now (naming context.now) context.now.known.now role part at) }
+    ensures found { Finds result (node.own_part context.now.tables.now
+        (naming context.now) context.now.known.now role part at) }
     ensures seen { IfOk result (λ s. s ≡ record { kind = rule.part_kind context.now.known.now part; part = Some part }) }
 {
     let kind = part_kind(context.known, part);
@@ -144,7 +151,8 @@ pub fn member_seen(
     m: u32,
     at: u32,
 ) -> Result<Seen, Refused>
-    ensures found { Finds result (node.own_member context.now.tables.now (naming context.now) context.now.known.now role t m at) }
+    ensures found { Finds result (node.own_member context.now.tables.now
+        (naming context.now) context.now.known.now role t m at) }
     ensures seen { IfOk result (λ s. s ≡ member context.now.tables.now context.now.known.now t m) }
 {
     match t {
@@ -161,7 +169,8 @@ pub fn member_seen(
 /// What is called, by what stands behind its dot.
 pub fn callee(context: &Context, scope: &Scope, f: &Expr, part: Option<Part>) -> Option<Called>
     requires { part ≡ part_at context.now.tables.now context.now.known.now (place scope.now) (tree f.now) }
-    ensures { all_shown context.now.known.now result ≡ typing.callee_of context.now.tables.now context.now.known.now (place scope.now) (tree f.now) }
+    ensures { all_shown context.now.known.now result
+        ≡ typing.callee_of context.now.tables.now context.now.known.now (place scope.now) (tree f.now) }
 {
     match &f.node {
         Node::Name(x) => named_callee(name_found(context.tables, context.known, scope, *x)),
@@ -203,8 +212,10 @@ pub fn call_seen(
     kinds: &[Option<StaticType>],
     at: u32,
 ) -> Result<Seen, Refused>
-    ensures found { Finds result (own_called_kind context.now.known.now (all_shown context.now.known.now called) kinds.now at) }
-    ensures seen { IfOk result (λ s. s ≡ plain (called_kind context.now.known.now.classes (all_shown context.now.known.now called) kinds.now)) }
+    ensures found { Finds result (own_called_kind context.now.known.now
+        (all_shown context.now.known.now called) kinds.now at) }
+    ensures seen { IfOk result (λ s. s ≡ plain
+        (called_kind context.now.known.now.classes (all_shown context.now.known.now called) kinds.now)) }
 {
     match called {
         None => Err(Refused::Program {
@@ -227,8 +238,13 @@ pub fn super_call_seen(
     kinds: &[Option<StaticType>],
     at: u32,
 ) -> Result<Seen, Refused>
-    ensures found { Finds result (node.own_super context.now.tables.now (naming context.now) context.now.known.now (place scope.now) m (typing.super_method context.now.tables.now context.now.known.now scope.now.this m) (called_kind context.now.known.now.classes (super_callee context.now.tables.now context.now.known.now scope.now.this m) kinds.now) at) }
-    ensures seen { IfOk result (λ s. s ≡ plain (called_kind context.now.known.now.classes (super_callee context.now.tables.now context.now.known.now scope.now.this m) kinds.now)) }
+    ensures found { Finds result (node.own_super context.now.tables.now (naming context.now) context.now.known.now
+        (place scope.now) m (typing.super_method context.now.tables.now context.now.known.now scope.now.this m)
+        (called_kind context.now.known.now.classes
+        (super_callee context.now.tables.now context.now.known.now scope.now.this m) kinds.now) at) }
+    ensures seen { IfOk result (λ s. s ≡ plain
+        (called_kind context.now.known.now.classes
+        (super_callee context.now.tables.now context.now.known.now scope.now.this m) kinds.now)) }
 {
     match super_method(context.known, scope.this, m) {
         None => Err(Refused::Program {
@@ -254,8 +270,15 @@ pub fn make_seen(
     kinds: &[Option<StaticType>],
     at: u32,
 ) -> Result<Seen, Refused>
-    ensures found { let f = typing.finds context.now.tables.now context.now.known.now (place scope.now) x in Finds result (node.own_make context.now.tables.now (naming context.now) context.now.known.now f (typing.made context.now.tables.now context.now.known.now f) (called_kind context.now.known.now.classes (typing.made context.now.tables.now context.now.known.now f) kinds.now) at) }
-    ensures seen { let f = typing.finds context.now.tables.now context.now.known.now (place scope.now) x in IfOk result (λ s. s ≡ plain (called_kind context.now.known.now.classes (typing.made context.now.tables.now context.now.known.now f) kinds.now)) }
+    ensures found { let f = typing.finds context.now.tables.now context.now.known.now
+        (place scope.now) x in Finds result
+        (node.own_make context.now.tables.now (naming context.now) context.now.known.now f
+        (typing.made context.now.tables.now context.now.known.now f)
+        (called_kind context.now.known.now.classes
+        (typing.made context.now.tables.now context.now.known.now f) kinds.now) at) }
+    ensures seen { let f = typing.finds context.now.tables.now context.now.known.now (place scope.now) x in IfOk result
+        (λ s. s ≡ plain (called_kind context.now.known.now.classes
+        (typing.made context.now.tables.now context.now.known.now f) kinds.now)) }
 {
     let found = name_found(context.tables, context.known, scope, x);
     match made(found) {
@@ -276,9 +299,12 @@ pub fn board_call_seen(
     args: &[Expr],
     at: u32,
 ) -> Result<Seen, Refused>
-    requires { kinds.now ≡ kinds_given context.now.tables.now context.now.known.now (place scope.now) (row_of call).takes (trees args.now) }
-    ensures found { Finds result (node.own_board context.now.tables.now (naming context.now) context.now.known.now (place scope.now) (row_of call).takes (trees args.now) at) }
-    ensures seen { IfOk result (λ s. s ≡ plain (board_kind_of context.now.tables.now context.now.known.now (place scope.now) call (trees args.now))) }
+    requires { kinds.now ≡ kinds_given context.now.tables.now context.now.known.now (place scope.now)
+        (row_of call).takes (trees args.now) }
+    ensures found { Finds result (node.own_board context.now.tables.now (naming context.now) context.now.known.now
+        (place scope.now) (row_of call).takes (trees args.now) at) }
+    ensures seen { IfOk result (λ s. s ≡ plain
+        (board_kind_of context.now.tables.now context.now.known.now (place scope.now) call (trees args.now))) }
 {
     let takes = call.takes();
     unless(
@@ -301,7 +327,8 @@ pub fn items_seen(
     kinds: &[Option<StaticType>],
     at: u32,
 ) -> Result<Seen, Refused>
-    ensures found { Finds result (failure.own (listed_kind context.now.known.now.classes t kinds.now) code.Mismatch at) }
+    ensures found { Finds result (failure.own
+        (listed_kind context.now.known.now.classes t kinds.now) code.Mismatch at) }
     ensures seen { IfOk result (λ s. s ≡ plain (listed_kind context.now.known.now.classes t kinds.now)) }
 {
     own(items_kind(context.known, t, kinds), Code::Mismatch, at)

@@ -60,7 +60,9 @@ fn agrees(known: &Environment, d: usize, base: Option<usize>) -> bool
 
 /// A method against the nearest one of its name in its bases.
 fn check_method(known: &Environment, c: u32, d: usize, x: u32, body: &Body) -> Result<(), Refused>
-    ensures { Finds result (failure.unless (pass.agrees known.now d (look.inherited known.now.entries known.now.classes c x)) code.Mismatch (heading.routine_at (routine body.now))) }
+    ensures { Finds result (failure.unless (pass.agrees known.now d
+        (look.inherited known.now.entries known.now.classes c x)) code.Mismatch
+        (heading.routine_at (routine body.now))) }
 {
     let base = known.inherited(c, x);
     let at = body.at;
@@ -99,7 +101,8 @@ fn check_overrides(
 ) -> Result<usize, Refused>
     requires { first + length (entry.member_entries (naming context.now) c (class_members members.now)) < 2 ^ 64 }
     ensures found { Finds result (pass.overrides_failure context.now.known.now c first (class_members members.now)) }
-    ensures next { IfOk result (λ n. n ≡ first + length (entry.member_entries (naming context.now) c (class_members members.now))) }
+    ensures next { IfOk result (λ n. n ≡ first
+        + length (entry.member_entries (naming context.now) c (class_members members.now))) }
 {
     let mut d = first;
     for i in 0..members.len() {
@@ -111,10 +114,14 @@ fn check_overrides(
 
 /// A part of a text, whose first declaration is the d-th. The number of the declaration behind it.
 fn check_item_overrides(context: &Context, d: usize, item: &Item) -> Result<usize, Refused>
-    requires room { d + length (entry.item_entries (naming context.now) (classes_before context.now.known.now.entries d) (top_level item.now)) < 2 ^ 64 }
+    requires room { d + length (entry.item_entries (naming context.now) (classes_before context.now.known.now.entries d)
+        (top_level item.now)) < 2 ^ 64 }
     requires stands { IsItemAt (naming context.now) context.now.known.now.entries d (top_level item.now) }
-    ensures found { Finds result (pass.item_overrides context.now.known.now (classes_before context.now.known.now.entries d) d (top_level item.now)) }
-    ensures next { IfOk result (λ n. n ≡ d + length (entry.item_entries (naming context.now) (classes_before context.now.known.now.entries d) (top_level item.now))) }
+    ensures found { Finds result (pass.item_overrides context.now.known.now
+        (classes_before context.now.known.now.entries d) d (top_level item.now)) }
+    ensures next { IfOk result (λ n. n ≡ d + length
+        (entry.item_entries (naming context.now) (classes_before context.now.known.now.entries d)
+        (top_level item.now))) }
 {
     match item {
         Item::Class {
@@ -135,7 +142,8 @@ fn check_item_overrides(context: &Context, d: usize, item: &Item) -> Result<usiz
 /// All methods of a text, whose first declaration is this one, against those of bases.
 pub fn check_all_overrides(context: &Context, first: usize, items: &[Item]) -> Result<(), Refused>
     requires { IsTextAt (naming context.now) context.now.known.now.entries first (top_levels items.now) }
-    ensures { Finds result (pass.all_overrides context.now.known.now (naming context.now) (classes_before context.now.known.now.entries first) first (top_levels items.now)) }
+    ensures { Finds result (pass.all_overrides context.now.known.now (naming context.now)
+        (classes_before context.now.known.now.entries first) first (top_levels items.now)) }
 {
     // (all declarations are in memory: that bounds every number of one)
     let _count = context.known.entries().len();

@@ -26,7 +26,8 @@ use type_derive::{Context, Scope, head_of, kind_at, outer_scope, routine_scope};
 
 /// A field or a global, which is declared outside all functions.
 fn check_field(context: &Context, this: This, b: &Binding) -> Result<(), Refused>
-    ensures { Finds result (pass.field_failure context.now.tables.now (naming context.now) context.now.known.now this (declaration b.now)) }
+    ensures { Finds result (pass.field_failure context.now.tables.now (naming context.now) context.now.known.now this
+        (declaration b.now)) }
 {
     check_written(context.classes, b.at, &b.shape)?;
     let scope = outer_scope(context.alloc, this);
@@ -38,7 +39,8 @@ fn check_field(context: &Context, this: This, b: &Binding) -> Result<(), Refused
 
 /// Globals.
 fn check_globals(context: &Context, each: &[Binding]) -> Result<(), Refused>
-    ensures { Finds result (pass.globals_failure context.now.tables.now (naming context.now) context.now.known.now (declarations each.now)) }
+    ensures { Finds result (pass.globals_failure context.now.tables.now (naming context.now) context.now.known.now
+        (declarations each.now)) }
 {
     for i in 0..each.len() {
         check_field(context, This::Nowhere, &each[i])?;
@@ -56,7 +58,8 @@ fn check_outer(context: &Context, s: &Stmt) -> Result<(), Refused>
 
 /// A statement of the main program.
 fn check_main(context: &Context, s: &Stmt) -> Result<(), Refused>
-    ensures { Finds result (pass.main_failure context.now.tables.now (naming context.now) context.now.known.now (statement s.now)) }
+    ensures { Finds result (pass.main_failure context.now.tables.now (naming context.now) context.now.known.now
+        (statement s.now)) }
 {
     match &s.form {
         Form::Let { fixed: _, each } => check_globals(context, each.as_slice()),
@@ -86,7 +89,8 @@ fn check_body(
     gives: Option<StaticType>,
     body: &Body,
 ) -> Result<(), Refused>
-    ensures { Finds result (pass.body_failure context.now.tables.now (naming context.now) context.now.known.now this gives (routine body.now)) }
+    ensures { Finds result (pass.body_failure context.now.tables.now
+        (naming context.now) context.now.known.now this gives (routine body.now)) }
 {
     let mut scope = or_no_memory(routine_scope(
         context.alloc,
@@ -107,7 +111,8 @@ fn check_super(
     b: u32,
     args: &[Expr],
 ) -> Result<(), Refused>
-    ensures { Finds result (super_failure context.now.tables.now (naming context.now) context.now.known.now (place scope.now) at b (trees args.now)) }
+    ensures { Finds result (super_failure context.now.tables.now (naming context.now) context.now.known.now
+        (place scope.now) at b (trees args.now)) }
 {
     let kinds = kinds_of(context, scope, None, 0, args)?;
     let known = context.known;
@@ -120,7 +125,8 @@ fn check_super(
 
 /// The statements of a constructor without `super(..)` at its head, of a class with a base.
 fn check_unmade(context: &Context, scope: &mut Scope, at: u32, all: &[Stmt]) -> Result<(), Refused>
-    ensures { Finds result (unmade_failure context.now.tables.now (naming context.now) context.now.known.now (place scope.old) at (statements all.now)) }
+    ensures { Finds result (unmade_failure context.now.tables.now (naming context.now) context.now.known.now
+        (place scope.old) at (statements all.now)) }
 {
     statements(context, scope, all)?;
     Err(Refused::Program {
@@ -138,7 +144,9 @@ fn check_headed(
     args: &[Expr],
     rest: &[Stmt],
 ) -> Result<(), Refused>
-    ensures { Finds result (super_failure context.now.tables.now (naming context.now) context.now.known.now (place scope.old) at b (trees args.now) then c.statements_failure context.now (place scope.old) (statements rest.now)) }
+    ensures { Finds result (super_failure context.now.tables.now (naming context.now) context.now.known.now
+        (place scope.old) at b (trees args.now)
+        then c.statements_failure context.now (place scope.old) (statements rest.now)) }
 {
     check_super(context, scope, at, b, args)?;
     statements(context, scope, rest)
@@ -152,7 +160,8 @@ fn check_made(
     b: u32,
     all: &[Stmt],
 ) -> Result<(), Refused>
-    ensures { Finds result (pass.made_failure context.now.tables.now (naming context.now) context.now.known.now (place scope.old) at b (statements all.now)) }
+    ensures { Finds result (pass.made_failure context.now.tables.now (naming context.now) context.now.known.now
+        (place scope.old) at b (statements all.now)) }
 {
     match all {
         [] => check_unmade(context, scope, at, all),
@@ -165,7 +174,8 @@ fn check_made(
 
 /// A constructor of the class with the base b.
 fn check_derived(context: &Context, this: This, b: u32, body: &Body) -> Result<(), Refused>
-    ensures { Finds result (pass.constructor_failure context.now.tables.now (naming context.now) context.now.known.now this (Some b) (routine body.now)) }
+    ensures { Finds result (pass.constructor_failure context.now.tables.now
+        (naming context.now) context.now.known.now this (Some b) (routine body.now)) }
 {
     let mut scope = or_no_memory(routine_scope(
         context.alloc,
@@ -191,7 +201,8 @@ fn base_of(classes: &[ClassHead], c: u32) -> Option<u32>
 
 /// A constructor of the class c.
 fn check_constructor(context: &Context, c: u32, body: &Body) -> Result<(), Refused>
-    ensures { Finds result (pass.constructor_failure context.now.tables.now (naming context.now) context.now.known.now (this.Object c) (look.base_of context.now.known.now.classes c) (routine body.now)) }
+    ensures { Finds result (pass.constructor_failure context.now.tables.now (naming context.now) context.now.known.now
+        (this.Object c) (look.base_of context.now.known.now.classes c) (routine body.now)) }
 {
     match base_of(context.known.classes(), c) {
         None => check_body(context, This::Object(c), Some(flat(Base::Nothing)), body),
@@ -201,7 +212,8 @@ fn check_constructor(context: &Context, c: u32, body: &Body) -> Result<(), Refus
 
 /// A member of the class c; the d-th declaration is the next.
 fn check_member(context: &Context, c: u32, d: usize, member: &Member) -> Result<(), Refused>
-    ensures { Finds result (member_nodes context.now.tables.now (naming context.now) context.now.known.now c d (class_member member.now)) }
+    ensures { Finds result (member_nodes context.now.tables.now (naming context.now) context.now.known.now c d
+        (class_member member.now)) }
 {
     match member {
         Member::Field(b) => check_field(context, This::Object(c), b),
@@ -220,8 +232,10 @@ fn check_members(
     members: &[Member],
 ) -> Result<usize, Refused>
     requires { first + length (entry.member_entries (naming context.now) c (class_members members.now)) < 2 ^ 64 }
-    ensures found { Finds result (pass.members_nodes context.now.tables.now (naming context.now) context.now.known.now c first (class_members members.now)) }
-    ensures next { IfOk result (λ n. n ≡ first + length (entry.member_entries (naming context.now) c (class_members members.now))) }
+    ensures found { Finds result (pass.members_nodes context.now.tables.now
+        (naming context.now) context.now.known.now c first (class_members members.now)) }
+    ensures next { IfOk result (λ n. n ≡ first
+        + length (entry.member_entries (naming context.now) c (class_members members.now))) }
 {
     let mut d = first;
     for i in 0..members.len() {
@@ -233,10 +247,14 @@ fn check_members(
 
 /// A part of a text, whose first declaration is the d-th. The number of the declaration behind it.
 fn check_item(context: &Context, d: usize, item: &Item) -> Result<usize, Refused>
-    requires room { d + length (entry.item_entries (naming context.now) (classes_before context.now.known.now.entries d) (top_level item.now)) < 2 ^ 64 }
+    requires room { d + length (entry.item_entries (naming context.now) (classes_before context.now.known.now.entries d)
+        (top_level item.now)) < 2 ^ 64 }
     requires stands { IsItemAt (naming context.now) context.now.known.now.entries d (top_level item.now) }
-    ensures found { Finds result (pass.item_nodes context.now.tables.now (naming context.now) context.now.known.now (classes_before context.now.known.now.entries d) d (top_level item.now)) }
-    ensures next { IfOk result (λ n. n ≡ d + length (entry.item_entries (naming context.now) (classes_before context.now.known.now.entries d) (top_level item.now))) }
+    ensures found { Finds result (pass.item_nodes context.now.tables.now (naming context.now) context.now.known.now
+        (classes_before context.now.known.now.entries d) d (top_level item.now)) }
+    ensures next { IfOk result (λ n. n ≡ d + length
+        (entry.item_entries (naming context.now) (classes_before context.now.known.now.entries d)
+        (top_level item.now))) }
 {
     match item {
         Item::Class {
@@ -263,7 +281,8 @@ fn check_item(context: &Context, d: usize, item: &Item) -> Result<usize, Refused
 /// The nodes of a text, whose first declaration is this one.
 pub fn check_nodes(context: &Context, first: usize, items: &[Item]) -> Result<(), Refused>
     requires { IsTextAt (naming context.now) context.now.known.now.entries first (top_levels items.now) }
-    ensures { Finds result (pass.nodes_failure context.now.tables.now (naming context.now) context.now.known.now (classes_before context.now.known.now.entries first) first (top_levels items.now)) }
+    ensures { Finds result (pass.nodes_failure context.now.tables.now (naming context.now) context.now.known.now
+        (classes_before context.now.known.now.entries first) first (top_levels items.now)) }
 {
     // (all declarations are in memory: that bounds every number of one)
     let _count = context.known.entries().len();

@@ -15,7 +15,8 @@ pub fn enter_loop(
     kind: Option<StaticType>,
     fixed: bool,
 ) -> Result<Mark, Refused>
-    ensures place { OnOk result (place scope.new ≡ name.with (name.inner (place scope.old)) x (bounds.items_of kind) fixed) }
+    ensures place { OnOk result (place scope.new
+        ≡ name.with (name.inner (place scope.old)) x (bounds.items_of kind) fixed) }
     ensures locals { IfOk result (λ m. m.locals ≡ length (place scope.old).locals) }
     ensures block { IfOk result (λ m. m.block ≡ (place scope.old).block) }
     ensures err { IfErr result (λ e. e ≡ Refused.NoMemory) }
