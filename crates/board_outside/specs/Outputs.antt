@@ -5,9 +5,7 @@ use Rattle.board_world.specs.Transcript.{decimal_text}
 use Rattle.bank_model.specs.Texts.{text_at}
 use Rattle.board_outside.specs.declared.output.Output.{Output}
 use Rattle.board_outside.specs.declared.output.Output.TheVariants.{Nothing, Frame, Number, Text, Pin, Radio}
-use Rattle.board_ports.specs.Plugged.{Plugged, SettledAt}
 use Rattle.board_outside.specs.Moves.{Move, Seen}
-use Rattle.board_outside.specs.Ports.{display_port, serial_port, pin_port, radio_port}
 
 -- the moves that an instruction's output is, with this flash, at a moment
 abbrev pub moves_of : List ℕ → ℕ → Output → List Move
@@ -21,12 +19,3 @@ moves_of flash now (Radio number) = Seen (RadioSeen now number) ∷ []
 -- Something is seen.
 abbrev pub IsSeen : List ℕ → ℕ → Output → Type 0
 IsSeen flash now output = (o : Observation) × (moves_of flash now output ≡ Seen o ∷ [])
-
--- The device that the output's words go to, where it isn't marked, holds none back.
-abbrev pub HasSettled : {B : Type 0} → (B → Type 0) → Output → Plugged B → Type 0
-HasSettled settled Nothing p = Unit {0}
-HasSettled settled (Frame frame) p = SettledAt settled display_port p
-HasSettled settled (Number number) p = SettledAt settled serial_port p
-HasSettled settled (Text at) p = SettledAt settled serial_port p
-HasSettled settled (Pin pin level) p = SettledAt settled pin_port p
-HasSettled settled (Radio number) p = SettledAt settled radio_port p

@@ -5,7 +5,6 @@ ghost use Rattle.std.specs.Int.{cast_unsigned, w32};
 ghost use Rattle.bank_model.specs.Texts.{flash_bytes, text_at};
 ghost use Rattle.board_ports.specs.History.{PortMove, Word, FollowsMoves};
 ghost use Rattle.board_outside.specs.Ports.{serial_port, bytes_sent};
-ghost use Rattle.board_ports.specs.Plugged.{SettledAt};
 
 use crate::flash::{flash_byte, flash_number, image_bytes};
 use armv6m_machine::Machine;
@@ -14,14 +13,12 @@ use board_ports::{Device, Plugs};
 /// The port of the serial line.
 const SERIAL: usize = 1;
 
-/// Sends bytes to the serial port, a word for each, and lets the device there settle.
+/// Sends bytes to the serial port, a word for each.
 pub fn send_bytes<D: Device>(plugs: &mut Plugs<D>, now: u32, bytes: &[u8])
-    ensures settled { SettledAt D.settled serial_port plugs.new }
     ensures sends { (moves : List PortMove) (start : List (Option D)) → FollowsMoves D.account moves start plugs.old
         → FollowsMoves D.account (moves ++ bytes_sent now bytes.now) start plugs.new }
 {
     plugs.send_bytes(SERIAL, now, bytes);
-    plugs.settle(SERIAL);
 }
 
 /// Sends bytes of flash to the serial port, from an address on, one by one.
@@ -36,11 +33,9 @@ fn send_each<D: Device>(plugs: &mut Plugs<D>, now: u32, machine: &Machine, at: u
     }
 }
 
-/// Sends bytes of flash to the serial port, from an address on: those of the image together, and those past it one by one. Lets the device
-/// there settle.
+/// Sends bytes of flash to the serial port, from an address on: those of the image together, and those past it one by one.
 fn send_flash<D: Device>(plugs: &mut Plugs<D>, now: u32, machine: &Machine, at: u64, count: u32)
     requires small { at < 2 ^ 33 }
-    ensures settled { SettledAt D.settled serial_port plugs.new }
     ensures sends { (moves : List PortMove) (start : List (Option D)) → FollowsMoves D.account moves start plugs.old
         → FollowsMoves D.account (moves ++ bytes_sent now (flash_bytes machine.now.memory.flash count at)) start plugs.new }
 {
@@ -53,23 +48,19 @@ fn send_flash<D: Device>(plugs: &mut Plugs<D>, now: u32, machine: &Machine, at: 
         at + bytes.len() as u64,
         count - bytes.len() as u32,
     );
-    plugs.settle(SERIAL);
 }
 
-/// Sends a word to a port, and lets the device there settle.
+/// Sends a word to a port.
 pub fn send_word<D: Device>(plugs: &mut Plugs<D>, port: usize, now: u32, word: u32)
     requires { port < 4 }
-    ensures settled { SettledAt D.settled port plugs.new }
     ensures sends { (moves : List PortMove) (start : List (Option D)) → FollowsMoves D.account moves start plugs.old
         → FollowsMoves D.account (moves ++ Word port now word ∷ []) start plugs.new }
 {
     let _ = plugs.send(port, now, word);
-    plugs.settle(port);
 }
 
 /// Sends the text at an address of flash to the serial port.
 pub fn send_text<D: Device>(plugs: &mut Plugs<D>, now: u32, machine: &Machine, address: u32)
-    ensures settled { SettledAt D.settled serial_port plugs.new }
     ensures sends { (moves : List PortMove) (start : List (Option D)) → FollowsMoves D.account moves start plugs.old
         → FollowsMoves D.account (moves ++ bytes_sent now (text_at machine.now.memory.flash address)) start plugs.new }
 {

@@ -8,8 +8,7 @@ ghost use Rattle.board_world.specs.Observations.{Serial, Radio};
 ghost use Rattle.board_ports.specs.History.{PortMove, Word, FollowsMoves};
 ghost use Rattle.board_outside.specs.Moves.{seen_of};
 ghost use Rattle.board_outside.specs.Ports.{serial_port, radio_port, bytes_sent, port_moves};
-ghost use Rattle.board_ports.specs.Plugged.{SettledAt};
-ghost use Rattle.board_outside.specs.Outputs.{moves_of, IsSeen, HasSettled};
+ghost use Rattle.board_outside.specs.Outputs.{moves_of, IsSeen};
 
 use crate::lines::{
     then_put_display, then_put_pin, then_put_radio, then_put_serial, then_put_text,
@@ -59,7 +58,6 @@ fn put_output<K: Sink>(
 
 /// Sends the bytes of a number's decimal text.
 fn send_number<D: Device>(now: u32, number: i32, plugs: &mut Plugs<D>)
-    ensures settled { SettledAt D.settled serial_port plugs.new }
     ensures sends { (moves : List PortMove) (start : List (Option D)) → FollowsMoves D.account moves start plugs.old
         → FollowsMoves D.account (moves ++ (bytes_sent now (decimal_text number) ++ [])) start plugs.new }
 {
@@ -69,16 +67,14 @@ fn send_number<D: Device>(now: u32, number: i32, plugs: &mut Plugs<D>)
 
 /// Sends a number's word by radio.
 fn send_radio<D: Device>(now: u32, number: i32, plugs: &mut Plugs<D>)
-    ensures settled { SettledAt D.settled radio_port plugs.new }
     ensures sends { (moves : List PortMove) (start : List (Option D)) → FollowsMoves D.account moves start plugs.old
         → FollowsMoves D.account (moves ++ Word radio_port now (cast_unsigned w32 number) ∷ []) start plugs.new }
 {
     send_word(plugs, 3, now, number.cast_unsigned());
 }
 
-/// Sends the words of what was seen at a moment, and lets the device that they go to settle.
+/// Sends the words of what was seen at a moment.
 fn send_output<D: Device>(output: Output, now: u32, machine: &Machine, plugs: &mut Plugs<D>)
-    ensures settled { HasSettled D.settled output plugs.new }
     ensures sends { (moves : List PortMove) (start : List (Option D)) → FollowsMoves D.account moves start plugs.old
         → FollowsMoves D.account (moves ++ port_moves (moves_of machine.now.memory.flash now output)) start plugs.new }
 {
@@ -92,8 +88,7 @@ fn send_output<D: Device>(output: Output, now: u32, machine: &Machine, plugs: &m
     }
 }
 
-/// Puts the line of what was seen at a moment, in milliseconds, and then sends its words to the devices, of which none holds a word of it back
-/// then. Where the sink fails, no device is
+/// Puts the line of what was seen at a moment, in milliseconds, and then sends its words to the devices. Where the sink fails, no device is
 /// touched.
 pub fn show<K: Sink, D: Device>(
     output: Output,
@@ -106,7 +101,6 @@ pub fn show<K: Sink, D: Device>(
         (lines (seen_of (moves_of machine.now.memory.flash now output))) result }
     ensures sends { OnOk result ((moves : List PortMove) (start : List (Option D)) → FollowsMoves D.account moves start plugs.old
         → FollowsMoves D.account (moves ++ port_moves (moves_of machine.now.memory.flash now output)) start plugs.new) }
-    ensures settled { OnOk result (HasSettled D.settled output plugs.new) }
     ensures stays { OnErr result (plugs.new ≡ plugs.old) }
     ensures seen { OnErr result (IsSeen machine.now.memory.flash now output) }
 {

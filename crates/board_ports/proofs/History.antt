@@ -10,7 +10,7 @@ use Rattle.sts_base.specs.Faults.{Rose, one_more}
 use Rattle.board_ports.specs.Account.{Account, Received, FailedAmong, Failed}
 use Rattle.board_ports.specs.Counts.{some_more}
 use Rattle.board_ports.specs.Logs.{Logs, at_moment}
-use Rattle.board_ports.specs.Plugged.{Plugged, device_at, mark_at, OthersStay, Sends, SendsAt, SendsAll, SendsAllAt, Settles, SettlesAt, SettledAt}
+use Rattle.board_ports.specs.Plugged.{Plugged, device_at, mark_at, OthersStay, Sends, SendsAt, SendsAll, SendsAllAt, Settles, SettlesAt, SettlesAll}
 use Rattle.board_ports.specs.History.{PortMove, Word, Unplug, words_sent, entries_of, unplugs, entries_at, unplugged_at, Served, PlaceAfter, PlacesAfter, Taking, PlaceFollows, FollowsMoves}
 use Rattle.board_ports.proofs.Writes.{some_more_sum, some_more_within}
 use Rattle.board_ports.specs.declared.sent.Sent.{Sent}
@@ -26,6 +26,10 @@ logs_then a b c s t p q had e = q (had ++ s) (p had e) ∙ ap Some (append_assoc
 -- a count that rose later has risen
 rose_before : (a b c : ℕ) → a ≤ b → Rose b c → Rose a c
 rose_before a b c h r = omega arith
+
+-- a count that rose before stays so
+rose_after : (a b c : ℕ) → Rose a b → b ≤ c → Rose a c
+rose_after a b c r h = omega arith
 
 -- as many writes more as there are entries more
 writes_then : (entries more : List (ℕ × ℕ)) (w : ℕ) → some_more (length more) (some_more (length entries) w) ≡ some_more (length (entries ++ more)) w
@@ -288,17 +292,36 @@ module _ {B : Type 0} (account : B → Account) where
             (λ k apart h. place_as _ _ _ _ _ _ _ _ _ refl refl (others.marks k apart) (others.places k apart) (f.ports k h));
       }
 
-  -- what has settled holds nothing back
-  place_holds : (settled : B → Type 0) (old : Option B) (mark : Bool) (new : Option B) (mark' : Bool) → Settles settled account old mark new mark'
-      → (b : B) → new ≡ Some b → mark' ≡ false → settled b
-  place_holds settled None mark new mark' s b e m = none_is_not_some b (sym s.0 ∙ e)
-  place_holds settled (Some old) true new mark' s b e m = absurd (cc)
-  place_holds settled (Some old) false (Some new) false s b e m = let same : new ≡ b = cc in subst settled same s.0
-  place_holds settled (Some old) false (Some new) true s b e m = absurd (cc)
-  place_holds settled (Some old) false None mark' s b e m = absurd s
+  -- the ports below a number have settled, one behind the other, and the others are as they were
+  pub record SettledBelow (settled : B → Type 0) (n : ℕ) (first now : Plugged B) : Type 0 where
+    pub same_length : length now.places ≡ length first.places
+    pub places : (k : ℕ) → n ≤ k → device_at now.places k ≡ device_at first.places k
+    pub marks : (k : ℕ) → n ≤ k → mark_at now.marks k ≡ mark_at first.marks k
+    pub ports : (k : ℕ) → k < n → (mark : Bool) × Settles settled account (device_at first.places k) (mark_at first.marks k) (device_at now.places k) mark
 
-  pub settles_settled : (settled : B → Type 0) (old new : Plugged B) (port : ℕ) → SettlesAt settled account port old new → SettledAt settled port new
-  settles_settled settled old new port s b e m = place_holds settled (device_at old.places port) (mark_at old.marks port) (device_at new.places port) (mark_at new.marks port) s b e m
+  pub settled_none : (settled : B → Type 0) (first : Plugged B) → SettledBelow settled 0 first first
+  settled_none settled first = record { same_length = refl; places = λ k h. refl; marks = λ k h. refl; ports = λ k h. absurd (omega arith) }
+
+  pub settled_more : (settled : B → Type 0) (n : ℕ) (first old new : Plugged B) → SettledBelow settled n first old → SettlesAt settled account n old new → OthersStay n old new
+      → SettledBelow settled (n + 1) first new
+  settled_more settled n first old new b s others =
+      record {
+        same_length = others.same_length ∙ b.same_length;
+        places = λ k h. others.places k (λ e. absurd (omega arith)) ∙ b.places k (omega arith);
+        marks = λ k h. others.marks k (λ e. absurd (omega arith)) ∙ b.marks k (omega arith);
+        ports = by_port (λ k. k < n + 1 → (mark : Bool) × Settles settled account (device_at first.places k) (mark_at first.marks k) (device_at new.places k) mark) n
+            (λ h. (
+              mark_at new.marks n,
+              subst (λ m. Settles settled account (device_at first.places n) m (device_at new.places n) (mark_at new.marks n)) (b.marks n (omega arith))
+                  (subst (λ p. Settles settled account p (mark_at old.marks n) (device_at new.places n) (mark_at new.marks n)) (b.places n (omega arith)) s),
+            ))
+            (λ k apart h. let t = b.ports k (omega (arith, apart)) in
+            (t.0, subst (λ p. Settles settled account (device_at first.places k) (mark_at first.marks k) p t.0) (sym (others.places k apart)) t.1));
+      }
+
+  pub settled_all : (settled : B → Type 0) (n : ℕ) (first now : Plugged B) → n ≡ 4 → SettledBelow settled n first now → SettlesAll settled account first now.places
+  settled_all settled n first now e b =
+      record { same_length = b.same_length; above = λ k h. b.places k (omega arith); ports = λ k h. b.ports k (omega arith) }
 
   -- a port was unplugged
   pub follows_unplug : (moves : List PortMove) (start : List (Option B)) (old new : Plugged B) (port : ℕ)
@@ -338,6 +361,48 @@ module _ {B : Type 0} (account : B → Account) where
       → PlacesAfter account (entries_at moves) (unplugged_at moves) start now.places
   places_after moves start now f =
       record { same_length = f.same_length; above = f.above; ports = λ k h. place_after _ _ _ _ _ (f.ports k h) }
+
+  -- what has failed stays so where it settles
+  failed_settled : (entries : List (ℕ × ℕ)) (old mid new : B) → FailedAmong account entries old mid → (account new).log ≡ (account mid).log → (account mid).faults ≤ (account new).faults
+      → (account new).writes ≡ (account mid).writes → FailedAmong account entries old new
+  failed_settled entries old mid new f l h w =
+      record {
+        first = record { given = f.first.given; in_order = f.first.in_order; logged = λ had e. l ∙ f.first.logged had e };
+        later = omega (arith, f.later);
+        rose = rose_after (account old).faults (account mid).faults (account new).faults f.rose h;
+        most = omega (arith, f.most, w);
+      }
+
+  served_settled : (entries : List (ℕ × ℕ)) (old mid new : B) → Served account entries old mid → (account new).log ≡ (account mid).log → (account new).faults ≡ (account mid).faults
+      → (account new).writes ≡ (account mid).writes → Served account entries old new
+  served_settled entries old mid new (inl r) l f w = inl (settled_then account entries old mid new r l f w)
+  served_settled entries old mid new (inr r) l f w = inr (failed_settled entries old mid new r l (omega (arith, f)) w)
+
+  served_failed : (entries : List (ℕ × ℕ)) (old mid new : B) → Served account entries old mid → (account new).writes ≡ (account mid).writes → Failed account mid new
+      → Served account entries old new
+  served_failed entries old mid new (inl r) w f = inr (settled_failed account entries old mid new r w f)
+  served_failed entries old mid new (inr r) w f = inr (failed_settled entries old mid new r f.stays f.later w)
+
+  after_settled : (settled : B → Type 0) (entries : List (ℕ × ℕ)) (u : Bool) (old mid : Option B) (mark : Bool) (new : Option B) (mark' : Bool)
+      → PlaceAfter account entries u old mid → Settles settled account mid mark new mark' → PlaceAfter account entries u old new
+  after_settled settled entries u None None mark new mark' k s = s.0
+  after_settled settled entries u None (Some mid) mark new mark' k s = none_is_not_some mid (sym k)
+  after_settled settled entries u (Some old) None mark new mark' k s = subst (λ n. PlaceAfter account entries u (Some old) n) (sym s.0) k
+  after_settled settled entries u (Some old) (Some mid) true new mark' k s = subst (λ n. PlaceAfter account entries u (Some old) n) (sym s.0) k
+  after_settled settled entries u (Some old) (Some mid) false (Some new) false k s = (k.0, served_settled entries old mid new k.1 s.1 s.2 s.3)
+  after_settled settled entries u (Some old) (Some mid) false (Some new) true k s = (k.0, served_failed entries old mid new k.1 s.1 s.0)
+  after_settled settled entries u (Some old) (Some mid) false None mark' k s = absurd s
+
+  -- what a run leaves, where the devices then settle
+  pub places_settled : (settled : B → Type 0) (entries : ℕ → List (ℕ × ℕ)) (unplugged : ℕ → Bool) (old : List (Option B)) (mid : Plugged B) (new : List (Option B))
+      → PlacesAfter account entries unplugged old mid.places → SettlesAll settled account mid new → PlacesAfter account entries unplugged old new
+  places_settled settled entries unplugged old mid new p s =
+      record {
+        same_length = s.same_length ∙ p.same_length;
+        above = λ k h. s.above k h ∙ p.above k h;
+        ports = λ k h. let t = s.ports k h in
+            after_settled settled (entries k) (unplugged k) (device_at old k) (device_at mid.places k) (mark_at mid.marks k) (device_at new k) t.0 (p.ports k h) t.1;
+      }
 
   -- entries and unplugs that are told otherwise
   pub places_as : (entries entries' : ℕ → List (ℕ × ℕ)) (unplugged unplugged' : ℕ → Bool) (old new : List (Option B))

@@ -1,5 +1,5 @@
 -- The devices in their places, and what a word does to the place that it is sent to.
-use Rattle.std.specs.Prelude.{◌≡◌, ◌≢◌, ◌≤◌, ◌∷◌, [], ◌⊎◌, ℕ, List, length, Bool, true, false, Option, Some, None, slice_index_or, refl}
+use Rattle.std.specs.Prelude.{◌≡◌, ◌≢◌, ◌≤◌, ◌<◌, ◌∷◌, [], ◌⊎◌, ℕ, List, length, Bool, true, false, Option, Some, None, slice_index_or, refl}
 use Rattle.std.specs.Coded.{Coded, code_by, coded×, coded_list, coded_option, coded_bool}
 use Rattle.board_ports.specs.Account.{Account, Received, FailedAmong, Failed}
 use Rattle.board_ports.specs.Counts.{some_more}
@@ -61,21 +61,28 @@ abbrev pub SendsAllAt : {B : Type 0} → (B → Account) → List (ℕ × ℕ) �
 SendsAllAt account entries port old new =
     SendsAll account entries (device_at old.places port) (mark_at old.marks port) (device_at new.places port) (mark_at new.marks port)
 
--- What becomes of a place whose device hears that its words have all been sent. A place without a device and one with a mark stay as they are.
+-- What becomes of a place whose device hears that no more words come. A place without a device and one with a mark stay as they are.
 -- The device holds none back any more and had no fault, or it failed and is marked. It wasn't written to.
 abbrev pub Settles : {B : Type 0} → (B → Type 0) → (B → Account) → Option B → Bool → Option B → Bool → Type 0
 Settles settled account None mark new mark' = (new ≡ None) × (mark' ≡ mark)
 Settles settled account (Some old) true new mark' = (new ≡ Some old) × (mark' ≡ true)
 Settles settled account (Some old) false (Some new) false =
-    settled new × ((account new).log ≡ (account old).log) × ((account new).faults ≡ (account old).faults) × ((account new).writes ≡ (account old).writes)
-Settles settled account (Some old) false (Some new) true = Failed account old new × ((account new).writes ≡ (account old).writes)
+    settled new × ((account new).log ≡ (account old).log) × ((account new).faults ≡ (account old).faults)
+    × ((account new).writes ≡ (account old).writes)
+Settles settled account (Some old) false (Some new) true =
+    Failed account old new × ((account new).writes ≡ (account old).writes)
 Settles settled account (Some old) false None mark' = ⊥
 
 -- the same of all that is plugged in, before and after
 abbrev pub SettlesAt : {B : Type 0} → (B → Type 0) → (B → Account) → ℕ → Plugged B → Plugged B → Type 0
 SettlesAt settled account port old new =
-    Settles settled account (device_at old.places port) (mark_at old.marks port) (device_at new.places port) (mark_at new.marks port)
+    Settles settled account (device_at old.places port) (mark_at old.marks port) (device_at new.places port)
+    (mark_at new.marks port)
 
--- The device at the port, if one stands there without a mark, holds no word back.
-abbrev pub SettledAt : {B : Type 0} → (B → Type 0) → ℕ → Plugged B → Type 0
-SettledAt {B} settled port p = (b : B) → device_at p.places port ≡ Some b → mark_at p.marks port ≡ false → settled b
+-- What becomes of the list of places where no more words come: the place of each port settles. The ports are below 4; places above them stay,
+-- and so does the list's length.
+pub record SettlesAll {B : Type 0} (settled : B → Type 0) (account : B → Account) (old : Plugged B) (new : List (Option B)) : Type 0 where
+  pub same_length : length new ≡ length old.places
+  pub above : (k : ℕ) → 4 ≤ k → device_at new k ≡ device_at old.places k
+  pub ports : (k : ℕ) → k < 4
+      → (mark : Bool) × Settles settled account (device_at old.places k) (mark_at old.marks k) (device_at new k) mark

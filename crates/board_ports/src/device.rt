@@ -52,8 +52,8 @@ pub trait Device: Drop {
         true
     }
 
-    /// Hears that the words of one output have all been written: a device that holds words back lets them go. The log is unchanged. Where
-    /// it answers true it holds none back any more and the faults are those before, and it answers false only where the count of faults rose.
+    /// Hears that no more words come, as at the end of a run: a device that holds words back lets them go. The log is unchanged. Where it answers
+    /// true it holds none back any more and the faults are those before, and it answers false only where the count of faults rose.
     fn settle(&mut self) -> bool
         ensures settled { OnTrue result (settled self.new) }
         ensures stays { (account self.new).log ≡ (account self.old).log }

@@ -4,6 +4,7 @@ ghost use Rattle.std.specs.Bool.{OnTrue, OnFalse};
 ghost use Rattle.std.specs.Io.KnownBytes.{Appends, Keeps, append_known};
 ghost use Rattle.sts_base.specs.Faults.{Rose, one_more};
 ghost use Rattle.board_ports.specs.Counts.{some_more};
+ghost use Rattle.buffered_stream.specs.Lines.{EndsLine};
 ghost use Rattle.buffered_stream.specs.Pieces.{AppendsFront};
 
 use crate::Device;
@@ -14,13 +15,15 @@ use std::io::Write;
 use sts_base::NoMemory;
 
 /// A device that writes each word's low byte to a stream, such as standard error, and tells no log. At the serial port a
-/// word is a byte, so the stream gets the raw serial bytes. Bytes are held back until the device settles, or no room is left. A write that
-/// takes nothing is a fault, and so is every error but an interruption, after which the write is tried again.
+/// word is a byte, so the stream gets the raw serial bytes. Bytes are held back until those of a write end a line, no room is left, or the device
+/// settles: while no write to the stream has failed, all up to a line's end is on it. A write that takes nothing is a fault, and so is every error
+/// but an interruption, after which the write is tried again.
 #[derive(Drop)]
 pub struct EchoDevice<W: Write + Drop> {
     stream: BufferedStream<W>,
     faults: u64,
     writes: u64,
+    ghost written: { faults ≡ 0 → EndsLine stream.held.items → ⊥ },
 }
 
 impl<W: Write + Drop> EchoDevice<W> {
@@ -40,22 +43,20 @@ impl<W: Write + Drop> EchoDevice<W> {
             Err(_) => Err(NoMemory),
         }
     }
+}
 
-    /// Whether what was done with the stream went well. An error is counted.
-    fn went(&mut self, done: io::Result<()>) -> bool
-        ensures well { (result ≡ true) ↔ IsOk done }
-        ensures later { self.old.faults ≤ self.new.faults }
-        ensures uncounted { OnOk done (self.new.faults ≡ self.old.faults) }
-        ensures counted { OnErr done (self.new.faults ≡ one_more self.old.faults) }
-        ensures stream { self.new.stream ≡ self.old.stream }
-        ensures writes { self.new.writes ≡ self.old.writes }
-    {
-        match done {
-            Ok(()) => true,
-            Err(_) => {
-                self.faults = self.faults.saturating_add(1);
-                false
-            }
+/// Whether what was done with a stream went well. An error is counted.
+fn went(done: io::Result<()>, faults: &mut u64) -> bool
+    ensures well { (result ≡ true) ↔ IsOk done }
+    ensures later { faults.old ≤ faults.new }
+    ensures uncounted { OnOk done (faults.new ≡ faults.old) }
+    ensures counted { OnErr done (faults.new ≡ one_more faults.old) }
+{
+    match done {
+        Ok(()) => true,
+        Err(_) => {
+            *faults = faults.saturating_add(1);
+            false
         }
     }
 }
@@ -76,15 +77,16 @@ impl<W: Write + Drop> Device for EchoDevice<W> {
         ensures failed { OnFalse result (Rose self.old.faults self.new.faults) }
         ensures written { OnTrue result (Appends (append_known (W.contents self.old.stream.writer) self.old.stream.held.items)
             (append_known (W.contents self.new.stream.writer) self.new.stream.held.items) ((word % 256) ∷ [])) }
-        ensures nothing { OnFalse result (Keeps (append_known (W.contents self.old.stream.writer) self.old.stream.held.items)
-            (append_known (W.contents self.new.stream.writer) self.new.stream.held.items)) }
+        ensures front { OnFalse result (AppendsFront (append_known (W.contents self.old.stream.writer) self.old.stream.held.items)
+            (append_known (W.contents self.new.stream.writer) self.new.stream.held.items) ((word % 256) ∷ [])) }
+        ensures line { OnTrue result (word % 256 ≡ 10 → self.new.stream.held.items ≡ []) }
         ensures uncounted { OnTrue result (self.new.faults ≡ self.old.faults) }
         ensures counted { OnFalse result (self.new.faults ≡ one_more self.old.faults) }
         ensures once { self.new.writes ≡ one_more self.old.writes }
     {
         self.writes = self.writes.saturating_add(1);
-        let appended = self.stream.append(&[(word % 256) as u8]);
-        self.went(appended)
+        let appended = self.stream.append_lines(&[(word % 256) as u8]);
+        went(appended, &mut self.faults)
     }
 
     fn write_bytes(&mut self, _now: u32, bytes: &[u8]) -> bool
@@ -94,14 +96,15 @@ impl<W: Write + Drop> Device for EchoDevice<W> {
             (append_known (W.contents self.new.stream.writer) self.new.stream.held.items) bytes.now) }
         ensures front { OnFalse result (AppendsFront (append_known (W.contents self.old.stream.writer) self.old.stream.held.items)
             (append_known (W.contents self.new.stream.writer) self.new.stream.held.items) bytes.now) }
+        ensures line { OnTrue result (EndsLine bytes.now → self.new.stream.held.items ≡ []) }
         ensures uncounted { OnTrue result (self.new.faults ≡ self.old.faults) }
         ensures counted { OnFalse result (self.new.faults ≡ one_more self.old.faults) }
         ensures once { self.new.writes ≡ some_more (length bytes.now) self.old.writes }
     {
         let before = self.writes;
         self.writes = before.saturating_add(bytes.len() as u64);
-        let appended = self.stream.append(bytes);
-        self.went(appended)
+        let appended = self.stream.append_lines(bytes);
+        went(appended, &mut self.faults)
     }
 
     fn settle(&mut self) -> bool
@@ -115,6 +118,6 @@ impl<W: Write + Drop> Device for EchoDevice<W> {
         ensures counted { OnFalse result (self.new.faults ≡ one_more self.old.faults) }
     {
         let written = self.stream.write_out();
-        self.went(written)
+        went(written, &mut self.faults)
     }
 }

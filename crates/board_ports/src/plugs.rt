@@ -55,7 +55,7 @@ fn deliver_bytes<D: Device>(place: &mut Option<D>, mark: &mut bool, now: u32, by
     }
 }
 
-/// Lets the device in a place hear that its words have all been sent, unless the place's mark stands.
+/// Lets the device in a place hear that no more words come, unless the place's mark stands.
 fn settle_place<D: Device>(place: &mut Option<D>, mark: &mut bool)
     ensures { Settles D.settled D.account place.old mark.old place.new mark.new }
 {
@@ -67,7 +67,7 @@ fn settle_place<D: Device>(place: &mut Option<D>, mark: &mut bool)
 
 impl<D: Device> Plugs<D> {
     ghost use Rattle.board_ports.specs.Logs.{at_moment};
-    ghost use Rattle.board_ports.specs.Plugged.{OthersStay, SendsAt, SendsAllAt, SettlesAt, SettledAt, device_at, mark_at};
+    ghost use Rattle.board_ports.specs.Plugged.{OthersStay, SendsAt, SendsAllAt, SettlesAt, SettlesAll, device_at, mark_at};
     ghost use Rattle.board_ports.specs.History.{PortMove, Word, Unplug, words_sent, FollowsMoves, PlacesAfter, entries_at, unplugged_at};
 
     /// These places, and no mark. It is what no move has changed yet.
@@ -80,17 +80,6 @@ impl<D: Device> Plugs<D> {
             places,
             marks: [false; 4],
         }
-    }
-
-    /// The places, as the moves from the start on have left them.
-    pub fn into_places(self) -> Vec<Option<D>>
-        ensures places { result.items ≡ self.places }
-        ensures after { (moves : List PortMove) (start : List (Option D))
-            → FollowsMoves D.account moves start self
-            → PlacesAfter D.account (entries_at moves) (unplugged_at moves) start result.items }
-    {
-        let Plugs { places, marks: _ } = self;
-        places
     }
 
     /// Sends a word to the device at a port, at a moment in milliseconds. `Nobody` comes exactly where no device stands
@@ -128,12 +117,11 @@ impl<D: Device> Plugs<D> {
         deliver_bytes(&mut self.places[port], &mut self.marks[port], now, bytes);
     }
 
-    /// Lets the device at a port hear that the words of one output have all been sent: it holds none back any more then. If it fails, its count
-    /// of faults rose in this call, and the port is marked. Other ports are untouched.
-    pub fn settle(&mut self, port: usize)
+    /// Lets the device at a port hear that no more words come: it holds none back any more then. If it fails, its count of faults rose in this
+    /// call, and the port is marked. Other ports are untouched.
+    fn settle(&mut self, port: usize)
         requires { port < 4 }
         ensures settles { SettlesAt D.settled D.account port self.old self.new }
-        ensures settled { SettledAt D.settled port self.new }
         ensures others { OthersStay port self.old self.new }
         ensures follows { (moves : List PortMove) (start : List (Option D))
             → FollowsMoves D.account moves start self.old
@@ -145,7 +133,24 @@ impl<D: Device> Plugs<D> {
         settle_place(&mut self.places[port], &mut self.marks[port]);
     }
 
-    /// Drops the device at a port, if there is one. The mark and the other ports are untouched.
+    /// The places, as the moves from the start on have left them, and as no more words come: the device at each port without a mark has let go
+    /// of what it held back, or its count of faults rose.
+    pub fn into_places(self) -> Vec<Option<D>>
+        ensures settles { SettlesAll D.settled D.account self result.items }
+        ensures after { (moves : List PortMove) (start : List (Option D))
+            → FollowsMoves D.account moves start self
+            → PlacesAfter D.account (entries_at moves) (unplugged_at moves) start result.items }
+    {
+        let mut plugs = self;
+        for port in 0..4 {
+            plugs.settle(port);
+        }
+        let Plugs { places, marks: _ } = plugs;
+        places
+    }
+
+    /// Drops the device at a port, if there is one; it hears before that no more words come, unless the port is marked. The mark and the other
+    /// ports are untouched.
     pub fn unplug(&mut self, port: usize)
         requires { port < 4 }
         ensures gone { device_at self.new.places port ≡ None }
@@ -155,8 +160,13 @@ impl<D: Device> Plugs<D> {
             → FollowsMoves D.account moves start self.old
             → FollowsMoves D.account (moves ++ Unplug port ∷ []) start self.new }
     {
-        if port < self.places.len() {
-            self.places[port] = None;
+        if port >= self.places.len() {
+            return;
+        }
+        if let Some(mut device) = self.places[port].take() {
+            if !self.marks[port] {
+                let _ = device.settle();
+            }
         }
     }
 }

@@ -11,3 +11,5 @@ pub use Rattle.board_run.proofs.Stepping.{some_turning}
 pub use Rattle.board_run.proofs.ThroughFirst.{mounted_busy}
 pub use Rattle.board_run.proofs.AtMoment.{next_shown, none_up_to}
 pub use Rattle.board_run.proofs.Through.{due_rising, rising_left}
+-- a run behind which the devices settle: what they have met, and where its sink stopped it
+pub use Rattle.board_run.proofs.Closed.{closed_over, devices_closed, cut_closed}

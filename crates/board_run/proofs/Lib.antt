@@ -41,3 +41,4 @@ mod ThroughFirst
 mod LedLines
 mod AtOnce
 mod BehindClosing
+mod Closed

@@ -6,6 +6,7 @@ ghost use Rattle.thumb_code.specs.Map.{flash_end};
 ghost use Rattle.tool_io.specs.Putting.{PutsTo};
 ghost use Rattle.board_world.specs.Transcript.{lines};
 ghost use Rattle.board_ports.specs.History.{FollowsMoves};
+ghost use Rattle.board_ports.specs.Plugged.{SettlesAll};
 ghost use Rattle.event_script.specs.Sound.{IsSound};
 ghost use Rattle.board_outside.specs.Moves.{seen_of};
 ghost use Rattle.board_outside.specs.Ports.{port_moves};
@@ -282,9 +283,9 @@ impl<D: Device> Board<D> {
         self.engine.switch.count()
     }
 
-    /// The devices in their places.
+    /// The devices in their places, behind the last word: each has let go of what it held back, or its count of faults rose.
     pub fn close(self) -> Vec<Option<D>>
-        ensures { result.items ≡ self.plugs.places }
+        ensures { SettlesAll D.settled D.account self.plugs result.items }
     {
         let Board {
             engine: _,

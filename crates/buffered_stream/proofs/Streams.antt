@@ -86,6 +86,12 @@ pub on-front : {T E : Type 0} (r : Result T E) (a b : Option (List ℕ)) (held h
 on-front (Ok x) a b held held' piece n e e' p = tt
 on-front (Err x) a b held held' piece n e e' p = (n, past-known a b held held' (take n piece) e e' p)
 
+-- a write out that failed behind a piece more, all of which is its front
+pub on-whole : {T E : Type 0} (r : Result T E) (a b c : Option (List ℕ)) (piece : List ℕ) → Appends a b piece → Keeps b c → OnErr r (AppendsFront a c piece)
+on-whole (Ok x) a b c piece p k = tt
+on-whole (Err x) a b c piece p k =
+    (length piece, subst (λ s. Appends a c s) (sym (take_all (length piece) piece (omega arith))) (appends-keeps a b c piece p k))
+
 -- what is held back behind a piece more
 pub suffix-hold : (old mid new piece : List ℕ) → (mid ≡ old) ⊎ (mid ≡ []) → new ≡ mid ++ piece → IsSuffix new (old ++ piece)
 suffix-hold old mid new piece (inl e) n = ([], n ∙ ap (λ x. x ++ piece) e)

@@ -1,8 +1,9 @@
 // A stream, and the bytes for it that are held back.
-ghost use Rattle.std.specs.Prelude.{◌≡◌, ◌≢◌, ◌≤◌, ◌+◌, ◌++◌, ◌⊎◌, [], drop, OnOk, OnErr, IfOk, IfErr, length, vec_capacity, vec_len};
+ghost use Rattle.std.specs.Prelude.{◌≡◌, ◌≢◌, ◌≤◌, ◌+◌, ◌++◌, ◌⊎◌, ◌↔◌, [], true, drop, OnOk, OnErr, IfOk, IfErr, length, vec_capacity, vec_len};
 ghost use Rattle.std.specs.IoError.{error_kind};
 ghost use Rattle.std.specs.Io.KnownBytes.{Appends, Keeps, append_known};
 ghost use Rattle.buffered_stream.specs.Pieces.{AppendsFront, IsSuffix};
+ghost use Rattle.buffered_stream.specs.Lines.{EndsLine};
 ghost use Rattle.buffered_stream.specs.declared.stream.TheConstants.{ROOM};
 
 use crate::writing::write_front;
@@ -86,6 +87,24 @@ impl<W: Write + Drop> BufferedStream<W> {
         }
     }
 
+    /// Appends a piece, and writes out what is held back where the piece ends a line. After an error the front of the piece was appended, which
+    /// may be all of it. Where what is held back ended no line before, it ends none behind a call that went well.
+    pub fn append_lines(&mut self, piece: &[u8]) -> io::Result<()>
+        ensures appended { OnOk result (Appends (append_known (W.contents self.old.writer) self.old.held.items)
+            (append_known (W.contents self.new.writer) self.new.held.items) piece.now) }
+        ensures front { OnErr result (AppendsFront (append_known (W.contents self.old.writer) self.old.held.items)
+            (append_known (W.contents self.new.writer) self.new.held.items) piece.now) }
+        ensures line { OnOk result (EndsLine piece.now → self.new.held.items ≡ []) }
+        ensures written { OnOk result (EndsLine self.new.held.items → EndsLine self.old.held.items) }
+        ensures retried { IfErr result (λ error. error_kind error ≢ ErrorKind.Interrupted) }
+    {
+        self.append(piece)?;
+        if ends_line(piece) {
+            self.write_out()?;
+        }
+        Ok(())
+    }
+
     /// Writes out what is held back. After an error the rest of it still is.
     pub fn write_out(&mut self) -> io::Result<()>
         ensures stays { Keeps (append_known (W.contents self.old.writer) self.old.held.items)
@@ -100,6 +119,16 @@ impl<W: Write + Drop> BufferedStream<W> {
             forget_front(&mut self.held, done);
         }
         result
+    }
+}
+
+/// Whether a text ends with a line's end.
+fn ends_line(text: &[u8]) -> bool
+    ensures { (result ≡ true) ↔ EndsLine text.now }
+{
+    match text.last() {
+        Some(byte) => *byte == b'\n',
+        None => false,
     }
 }
 

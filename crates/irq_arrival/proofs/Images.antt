@@ -12,7 +12,7 @@ use Rattle.board_outside.specs.Moves.{Move, HasMet}
 use Rattle.board_outside.specs.Cuts.{Stopped}
 use Rattle.sts_syntax.specs.TypedTrees.{TypedProgram}
 use Rattle.sts_implements.specs.Images.{ImageImplements, LooksLike}
-use Rattle.board_run.specs.Outside.{Outside, OverSink, around}
+use Rattle.board_run.specs.Outside.{Outside, OverSink}
 use Rattle.board_run.specs.Ran.{IsExecuted, HasRun, IsCut, Ran}
 use Rattle.board_run.specs.declared.end.End.{End}
 use Rattle.board_run.specs.declared.end.End.TheVariants.{Quiet, Script, Panic, Budget, Fault, SinkFault}
@@ -20,11 +20,13 @@ use Rattle.irq_arrival.specs.ImageRuns.{world_at, RunsToAt, RunsImageAt}
 use Rattle.irq_arrival.specs.SourceRuns.{source_at, MeetsAt, RunsSourceTo, CutsSource, RunsSourceAt}
 use Rattle.irq_arrival.proofs.Reaching.{reaches, faultless}
 use Rattle.board_ports.specs.Account.{Account}
+use Rattle.board_ports.specs.Plugged.{SettlesAll}
+use Rattle.board_run.proofs.Laws.{closed_over, devices_closed, cut_closed}
 
 module _ {B : Type 0} (account : B → Account) (image : List ℕ) (script : EventScript) (arrivals : List Arrival) (budget : ℕ) where
   -- a board's run along the worlds of an image's run
-  module _ (old : Outside B) (new : OverSink B) where
-    runs_to : (end : Option RunEnd) → HasRun account image (world_at image script arrivals) budget old new end → RunsToAt account image script arrivals budget old (around new) end
+  module _ (old : Outside B) (new : OverSink B) (settled : B → Type 0) (places : List (Option B)) (closes : SettlesAll settled account new.board.plugs places) where
+    runs_to : (end : Option RunEnd) → HasRun account image (world_at image script arrivals) budget old new end → RunsToAt account image script arrivals budget old (closed_over new places) end
     runs_to end h = record {
       free = h.used ++ [];
       executed = new.board.instructions;
@@ -33,16 +35,16 @@ module _ {B : Type 0} (account : B → Account) (image : List ℕ) (script : Eve
       met = h.met [];
       ended = h.ended [];
       written = h.written [];
-      devices = h.devices;
+      devices = devices_closed settled account new places closes h.moves old.places h.devices;
     }
 
-    pub runs_image : (end : End) → Ran account image (world_at image script arrivals) budget old new end → RunsImageAt account image script arrivals budget old (around new) end
+    pub runs_image : (end : End) → Ran account image (world_at image script arrivals) budget old new end → RunsImageAt account image script arrivals budget old (closed_over new places) end
     runs_image Quiet h = runs_to _ h
     runs_image Script h = runs_to _ h
     runs_image (Panic code) h = runs_to _ h
     runs_image (Fault fault address) h = runs_to _ h
     runs_image Budget h = runs_to _ h
-    runs_image SinkFault h = h
+    runs_image SinkFault h = (cut_closed settled account new places closes (world_at image script arrivals) budget old h.0, h.1)
 
   -- of an image that implements a program it is the run of the program's source
   module _ (old new : Outside B) (P : TypedProgram) (texts : List ByteList) (implements : ImageImplements P texts image) (rises : Rises 0 arrivals) where

@@ -4,13 +4,12 @@ ghost use Rattle.std.specs.IoError.{error_kind};
 ghost use Rattle.std.specs.Io.KnownBytes.{append_known};
 ghost use Rattle.sts_base.specs.Faults.{one_more};
 ghost use Rattle.tool_io.specs.Putting.{Took, TookPart, Puts};
-ghost use Rattle.tool_io.specs.Lines.{EndsLine};
+ghost use Rattle.buffered_stream.specs.Lines.{EndsLine};
 
 use crate::{PutFailed, Sink};
 use buffered_stream::BufferedStream;
 use std::alloc::Global;
-use std::io;
-use std::io::{ErrorKind, Write};
+use std::io::Write;
 use sts_base::NoMemory;
 
 /// A stream, such as standard output. Pieces are gathered until one ends a line, or no room is left, and then written in one piece. What it has
@@ -38,33 +37,6 @@ impl<W: Write + Drop> StdSink<W> {
     }
 }
 
-/// Whether a text ends with a line's end.
-fn ends_line(text: &[u8]) -> bool
-    ensures { (result ≡ true) ↔ EndsLine text.now }
-{
-    match text.last() {
-        Some(byte) => *byte == b'\n',
-        None => false,
-    }
-}
-
-/// Appends a piece, and writes out what is held back where the piece ends a line.
-fn write_lines<W: Write + Drop>(stream: &mut BufferedStream<W>, piece: &[u8]) -> io::Result<()>
-    ensures took { OnOk result (Took (append_known (W.contents stream.old.writer) stream.old.held.items)
-        (append_known (W.contents stream.new.writer) stream.new.held.items) piece.now) }
-    ensures part { OnErr result (TookPart (append_known (W.contents stream.old.writer) stream.old.held.items)
-        (append_known (W.contents stream.new.writer) stream.new.held.items) piece.now) }
-    ensures line { OnOk result (EndsLine piece.now → stream.new.held.items ≡ []) }
-    ensures written { OnOk result (EndsLine stream.new.held.items → EndsLine stream.old.held.items) }
-    ensures retried { IfErr result (λ error. error_kind error ≢ ErrorKind.Interrupted) }
-{
-    stream.append(piece)?;
-    if ends_line(piece) {
-        stream.write_out()?;
-    }
-    Ok(())
-}
-
 impl<W: Write + Drop> Sink for StdSink<W> {
     ghost taken = { λ sink. append_known (W.contents sink.stream.writer) sink.stream.held.items };
 
@@ -77,7 +49,7 @@ impl<W: Write + Drop> Sink for StdSink<W> {
         ensures counted { OnErr result (self.new.faults ≡ one_more self.old.faults) }
         ensures uncounted { OnOk result (self.new.faults ≡ self.old.faults) }
     {
-        match write_lines(&mut self.stream, piece) {
+        match self.stream.append_lines(piece) {
             Ok(()) => Ok(()),
             Err(_) => {
                 self.faults = self.faults.saturating_add(1);

@@ -1,9 +1,8 @@
-use Rattle.std.proofs.Common.{◌≡◌, List, Option, ap, subst, sym}
+use Rattle.std.proofs.Common.{◌≡◌, List, Option, ap, subst}
 use Rattle.std.specs.declared.vec.Vec.{Vec}
 use Rattle.std.specs.declared.alloc.Global.{Global}
 use Rattle.board_run.specs.Outside.{outside_of, over_sink}
 use Rattle.board_run.specs.Ran.{world_after, Ran}
-use Rattle.sts_whole.specs.Runs.{RunsImage}
 use Rattle.sts_whole.proofs.Boards.{runs_image}
 use Rattle.sts_whole.proofs.board.run_image.Goals as goal
 
@@ -15,7 +14,5 @@ returns-in-Ok-clause-ran g c =
     let ran : Ran g.D.Device.account c.args.image.items (world_after c.args.image.items c.args.script) c.args.budget (outside_of g.K.Sink.taken g.K.Sink.faults c.args.out.now given) last c.run-end.result =
     c.run-end.ensures.ran c.args.image.items c.args.script given c.in-Ok.ensures.mounted c.in-Ok.ensures.plugged.1 in
     let before = outside_of g.K.Sink.taken g.K.Sink.faults c.args.out.now c.args.places.now.items in
-    subst (λ (l : List (Option g.row.D.Denot)). RunsImage g.D.Device.account c.args.image.items c.args.script c.args.budget before (outside_of g.K.Sink.taken g.K.Sink.faults c.run-end.new.out l) c.run-end.result c.stats-stats.result)
-    (sym c.close.ensures)
-    (runs_image g.D.Device.account c.args.image.items c.args.script c.args.budget before last c.stats-stats.result c.stats-stats.ensures c.run-end.result
-    (subst (λ (l : List (Option g.row.D.Denot)). Ran g.D.Device.account c.args.image.items (world_after c.args.image.items c.args.script) c.args.budget (outside_of g.K.Sink.taken g.K.Sink.faults c.args.out.now l) last c.run-end.result) had ran))
+    runs_image g.D.Device.account c.args.image.items c.args.script c.args.budget before last c.stats-stats.result c.stats-stats.ensures g.D.Device.settled c.close.result.items c.close.ensures c.run-end.result
+    (subst (λ (l : List (Option g.row.D.Denot)). Ran g.D.Device.account c.args.image.items (world_after c.args.image.items c.args.script) c.args.budget (outside_of g.K.Sink.taken g.K.Sink.faults c.args.out.now l) last c.run-end.result) had ran)
