@@ -55,7 +55,8 @@ outgoing_of code [] = 0
 outgoing_of code (f ∷ fs) = outgoing_at (slice_get code f.function)
 
 -- Is v w: the word w, in a register or in memory, stands for the value v. return_to: the return address to a frame that waits.
-module _ {V : Type 0} (Is : V → ℕ → Type 0) (code : List Function) (places : ℕ → ℕ → Place) (return_to : List (Frame V) → ℕ) (ws : List ℕ) where
+module _ {V : Type 0} (Is : V → ℕ → Type 0) (code : List Function)
+    (places : ℕ → ℕ → Place) (return_to : List (Frame V) → ℕ) (ws : List ℕ) where
   -- the frame of fn whose words begin at k, with r4 to r7 as it has them, holds what it needs
   pub record HasFrame (fn : Function) (place : ℕ → Place) (need : ℕ → Type 0) (temps : ℕ → V) (fs : List (Frame V))
       (kept : List ℕ) (k : ℕ) : Type 0 where

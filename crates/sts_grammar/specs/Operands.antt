@@ -57,8 +57,7 @@ HasArrow s true i j = IsMark s i m.Arrow × (j ≡ i + 1)
 abbrev pub IsRoutine : Source → List Parameter → (gives : Option Annotation) → (arrow : Bool) → (Held : Stands) → Stands
 IsRoutine s params gives arrow Held i j =
     (n o p : ℕ) × IsMark s i m.OpenParenthesis × AreParameters s params (i + 1) n × HasResult s gives n o ×
-    HasArrow s arrow o p ×
-    IsMark s p m.OpenBrace × Held (p + 1) j
+    HasArrow s arrow o p × IsMark s p m.OpenBrace × Held (p + 1) j
 
 -- An expression as a statement doesn't begin like a block, a function or a class.
 pub record BeginsPlain (s : Source) (i : ℕ) : Type 0 where

@@ -41,22 +41,19 @@ abbrev mutual
       IsMark s o m.Colon × IsOperand s assignment_level b (IsBare s b) (o + 1) j
   IsBare s (Set at op x a) i j =
       (n : ℕ) × (mark : Mark) × (at ≡ place s i) × IsTarget x × IsOperand s primary_level x (IsBare s x) i n ×
-      IsMark s n mark ×
-      (assignment mark ≡ Some op) × IsOperand s assignment_level a (IsBare s a) (n + 1) j
+      IsMark s n mark × (assignment mark ≡ Some op) × IsOperand s assignment_level a (IsBare s a) (n + 1) j
   IsBare s (Bump at x by false) i j =
       (mark : Mark) × (at ≡ place s i) × IsMark s i mark × (bump_by mark ≡ Some by) × IsTarget x
       × IsOperand s prefix_level x (IsBare s x) (i + 1) j
   IsBare s (Bump at x by true) i j =
       (n : ℕ) × (mark : Mark) × (at ≡ place s i) × IsTarget x × IsOperand s primary_level x (IsBare s x) i n ×
-      IsMark s n mark ×
-      (bump_by mark ≡ Some by) × (broken s n ≡ false) × (j ≡ n + 1)
+      IsMark s n mark × (bump_by mark ≡ Some by) × (broken s n ≡ false) × (j ≡ n + 1)
   IsBare s (Member at a name) i j =
       (n : ℕ) × (at ≡ place s i) × IsOperand s primary_level a (IsBare s a) i n × IsMark s n m.Dot
       × IsMemberName s (n + 1) name × (j ≡ n + 2)
   IsBare s (Item at a b) i j =
       (n o : ℕ) × (at ≡ place s i) × IsOperand s primary_level a (IsBare s a) i n × IsMark s n m.OpenBracket ×
-      IsOperand s assignment_level b (IsBare s b) (n + 1) o ×
-      IsMark s o m.CloseBracket × (j ≡ o + 1)
+      IsOperand s assignment_level b (IsBare s b) (n + 1) o × IsMark s o m.CloseBracket × (j ≡ o + 1)
   IsBare s (Call at a args) i j =
       (n : ℕ) × (at ≡ place s i) × IsOperand s primary_level a (IsBare s a) i n × IsMark s n m.OpenParenthesis
       × AreListed s args m.CloseParenthesis (n + 1) j
@@ -65,8 +62,7 @@ abbrev mutual
       × AreListed s args m.CloseParenthesis (i + 2) j
   IsBare s (SuperCall at (Some method) args) i j =
       (at ≡ place s i) × IsWord s i w.Super × IsMark s (i + 1) m.Dot × IsMemberName s (i + 2) method ×
-      IsMark s (i + 3) m.OpenParenthesis ×
-      AreListed s args m.CloseParenthesis (i + 4) j
+      IsMark s (i + 3) m.OpenParenthesis × AreListed s args m.CloseParenthesis (i + 4) j
   IsBare s (Make at class args) i j =
       (at ≡ place s i) × IsWord s i w.New × IsName s (i + 1) class × IsMark s (i + 2) m.OpenParenthesis
       × AreListed s args m.CloseParenthesis (i + 3) j
@@ -131,8 +127,7 @@ abbrev mutual
       (n : ℕ) × (at ≡ place s i) × IsWord s i w.For × IsMark s (i + 1) m.OpenParenthesis × IsLet s fixed (i + 2) ×
       IsName s (i + 3) name ×
       IsSpelled s (i + 4) (codes "of") × IsOperand s assignment_level list (IsBare s list) (i + 5) n ×
-      IsMark s n m.CloseParenthesis ×
-      IsStatement s f true a (n + 1) j
+      IsMark s n m.CloseParenthesis × IsStatement s f true a (n + 1) j
   IsStatement s f l (Return at value) i j =
       (at ≡ place s i) × IsTrue f × IsWord s i w.Return × IsReturned s value (i + 1) j
   IsStatement s f l (Break at) i j = (at ≡ place s i) × IsTrue l × IsWord s i w.Break × Ends s false (i + 1) j
